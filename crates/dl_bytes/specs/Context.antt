@@ -1,0 +1,9 @@
+-- What contracts see of a context's handle.
+use Rattle.std.specs.Prelude.{ℕ, List}
+
+-- the application's number, the place among its contexts, and both ids
+pub record Context : Type 0 where
+  pub app : ℕ
+  pub place : ℕ
+  pub apid : List ℕ
+  pub ctid : List ℕ

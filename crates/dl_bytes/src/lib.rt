@@ -1,0 +1,30 @@
+//! The plain types that every other crate names: ids, levels, payloads, frames, and bytes.
+#![tactic(auto)]
+
+mod boxed;
+mod buffer;
+mod context;
+mod cursor;
+mod frame;
+mod htyp;
+mod id;
+mod item;
+mod level;
+mod list;
+mod moment;
+mod payload;
+mod user;
+
+pub use boxed::Boxed;
+pub use buffer::Buffer;
+pub use context::Ctx;
+pub use cursor::{Cursor, Order};
+pub use frame::{FRAME_LIMIT, Frame};
+pub use htyp::Htyp;
+pub use id::{Id, IdFault};
+pub use item::{Injection, Item};
+pub use level::{Level, OwnLevel, Severity};
+pub use list::{Bytes, Sequence};
+pub use moment::Moment;
+pub use payload::{ARGS_LIMIT, PAYLOAD_LIMIT, Payload};
+pub use user::{TEXT_LIMIT, UserMsg};

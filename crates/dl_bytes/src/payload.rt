@@ -1,0 +1,80 @@
+//! What a log call carries: the bytes of its arguments, and how many arguments they are.
+
+ghost use Rattle.std.specs.Prelude.{◌≡◌, ◌<◌, ◌≤◌, ◌+◌, ◌-◌, ◌++◌, [], length};
+
+use arrayvec::ArrayVec;
+use std::marker::Model;
+
+/// The most bytes that the arguments of one log call take.
+pub const PAYLOAD_LIMIT: usize = 1390;
+
+/// The most arguments of one log call: the field NOAR has one byte.
+pub const ARGS_LIMIT: u8 = 255;
+
+/// The arguments of a log call as a message carries them, kept in place.
+#[derive(Debug, Drop)]
+pub struct Payload {
+    bytes: ArrayVec<u8, 1390>,
+    args: u8,
+}
+
+impl Model for Payload {
+    ghost use Rattle.std.specs.Prelude.{◌≤◌, length};
+    ghost use Rattle.dl_bytes.specs.Payload.{Arguments};
+
+    ghost Value = { Arguments };
+
+    ghost view = { λ p. record { bytes = p.bytes.items; args = p.args } };
+
+    ghost invariant = { λ p. length p.bytes.items ≤ 1390 };
+}
+
+impl Payload {
+    /// No argument.
+    pub fn new() -> Payload
+        ensures { result ≡ record { bytes = []; args = 0 } }
+    {
+        Payload {
+            bytes: ArrayVec::new(),
+            args: 0,
+        }
+    }
+
+    /// The arguments' bytes.
+    pub fn bytes(&self) -> &[u8]
+        ensures value { result.now ≡ self.now.bytes }
+        ensures limit { length self.now.bytes ≤ 1390 }
+    {
+        self.bytes.as_slice()
+    }
+
+    /// How many arguments there are: the field NOAR.
+    pub fn args(&self) -> u8
+        ensures { result ≡ self.now.args }
+    {
+        self.args
+    }
+
+    /// How many more bytes it can take.
+    pub fn room(&self) -> usize
+        ensures value { result + length self.now.bytes ≡ 1390 }
+    {
+        self.bytes.remaining_capacity()
+    }
+
+    /// Adds bytes of an argument that is being written.
+    pub fn extend_from_slice(&mut self, bytes: &[u8])
+        requires { length self.old.bytes + length bytes.now ≤ 1390 }
+        ensures { self.new ≡ record { bytes = self.old.bytes ++ bytes.now; args = self.old.args } }
+    {
+        self.bytes.try_extend_from_slice(bytes).unwrap();
+    }
+
+    /// Counts an argument whose bytes are all there.
+    pub fn count_argument(&mut self)
+        requires { self.old.args < 255 }
+        ensures { self.new ≡ record { bytes = self.old.bytes; args = self.old.args + 1 } }
+    {
+        self.args += 1;
+    }
+}

@@ -1,0 +1,99 @@
+//! What a program outside the daemon tells it: user messages.
+
+ghost use Rattle.std.specs.Prelude.{◌↔◌, IsTrue};
+ghost use Rattle.dl_bytes.specs.UserMessage.{IsFit, IsMessage};
+
+use crate::frame::FRAME_LIMIT;
+use crate::htyp::Htyp;
+use crate::id::Id;
+use crate::level::{Level, OwnLevel};
+use crate::list::Bytes;
+use crate::payload::PAYLOAD_LIMIT;
+use byteorder::{BigEndian, ByteOrder};
+
+/// The most bytes of the description of an application or a context.
+pub const TEXT_LIMIT: usize = 255;
+
+/// A user message, by its kind.
+#[derive(Debug, Drop)]
+pub enum UserMsg {
+    /// Kind 1: a whole message, from its standard header on.
+    Log(Bytes),
+    /// Kind 2: an application is there, with its process id and its description.
+    RegisterApp {
+        apid: Id,
+        pid: u32,
+        text: Bytes,
+    },
+    /// Kind 3: an application is gone.
+    UnregisterApp {
+        apid: Id,
+        pid: u32,
+    },
+    /// Kind 4: an application has a context, with its place in the application's own table, the log level and the
+    /// trace status that it asks for, and its description.
+    RegisterContext {
+        apid: Id,
+        ctid: Id,
+        position: u32,
+        level: OwnLevel,
+        trace: i8,
+        pid: u32,
+        text: Bytes,
+    },
+    /// Kind 5: an application has a context no longer.
+    UnregisterContext {
+        apid: Id,
+        ctid: Id,
+        pid: u32,
+    },
+    /// Kind 6: the daemon tells an application the log level and the trace status of a context.
+    LogLevel {
+        level: Level,
+        trace: i8,
+        position: u32,
+    },
+    /// Kind 7: the daemon hands a context the data of a service.
+    Injection {
+        position: u32,
+        service: u32,
+        body: Bytes,
+    },
+    /// Kind 8: an application lost this many messages.
+    Overflow {
+        counter: u32,
+        apid: Id,
+    },
+}
+
+impl UserMsg {
+    /// Whether it is within the limits: a text of at most 255 bytes, a body of at most 1390, and in a log message
+    /// one whole message of at most 1984 bytes.
+    pub fn is_fit(&self) -> bool
+        ensures { IsTrue result ↔ IsFit self.now }
+    {
+        match self {
+            UserMsg::Log(message) => is_message(message.all()),
+            UserMsg::RegisterApp { text, .. } | UserMsg::RegisterContext { text, .. } => {
+                text.all().len() <= TEXT_LIMIT
+            }
+            UserMsg::Injection { body, .. } => body.all().len() <= PAYLOAD_LIMIT,
+            UserMsg::UnregisterApp { .. }
+            | UserMsg::UnregisterContext { .. }
+            | UserMsg::LogLevel { .. }
+            | UserMsg::Overflow { .. } => true,
+        }
+    }
+}
+
+/// Whether the bytes are one whole message, as far as HTYP and LEN tell.
+fn is_message(bytes: &[u8]) -> bool
+    ensures { IsTrue result ↔ IsMessage bytes.now }
+{
+    if bytes.len() < 4 || FRAME_LIMIT < bytes.len() {
+        return false;
+    }
+    let htyp = Htyp(bytes[0]);
+    let len = BigEndian::read_u16(&bytes[2..]);
+    htyp.version() == 1 && len >= htyp.header_len() && len as usize == bytes.len()
+}

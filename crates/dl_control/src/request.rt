@@ -1,0 +1,150 @@
+//! Control requests, read from the payload of a control message.
+
+ghost use Rattle.std.specs.Prelude.{◌≡◌, IfOk, IfErr, Ok, Some};
+ghost use Rattle.dl_bytes.specs.Number.{at, Gives, number_at};
+ghost use Rattle.dl_control.specs.declared.request.Request.{Request};
+ghost use Rattle.dl_control.specs.Request.{IsLaidOut, IsAdmitted, IsFault};
+ghost use Rattle.dl_control.specs.Reading.{log_level_at, log_info_at, default_level_at, injection_of, request_of, request_in};
+
+use dl_bytes::{Cursor, Id, Order, PAYLOAD_LIMIT, Payload};
+
+/// What a diagnostic client asks. In `SetLogLevel` and `GetLogInfo` an id of zero bytes stands for all ids.
+#[derive(Debug, Drop)]
+pub enum Request {
+    /// Service 0x01: sets the log level of contexts, 0 to 6, or -1 for the default level. Other levels are read too.
+    SetLogLevel { apid: Id, ctid: Id, level: i8 },
+    /// Service 0x03: asks which applications and contexts there are. The options say what is told of them.
+    GetLogInfo { options: u8, apid: Id, ctid: Id },
+    /// Service 0x04: asks for the default level.
+    GetDefault,
+    /// Service 0x05: stores the configuration.
+    Store,
+    /// Service 0x06: resets to the factory default.
+    Reset,
+    /// Service 0x11: sets the default level, 0 to 6. Other levels are read too.
+    SetDefault { level: u8 },
+    /// Service 0x13: asks for the version of the software.
+    Version,
+    /// A service from 0xFFF on: at most 1390 bytes for an application. They are no arguments: `body` counts none.
+    Inject { service: u32, body: Payload },
+    /// Any other service. What follows the service id is not looked at.
+    Other { service: u32 },
+}
+
+/// Why a payload is no request. Each names the service.
+#[derive(Clone, Copy, Debug, PartialEq, Eq)]
+pub enum RequestFault {
+    /// Bytes are missing. Where they are bytes of the service id, it is told as 0.
+    Short { service: u32 },
+    /// There are more bytes than the service has, or an injection tells a length above 1390.
+    Excess { service: u32 },
+}
+
+/// The first service id of injections.
+const FIRST_INJECTION: u32 = 0xfff;
+
+/// The reserved bytes behind the fields of a request, whatever they are.
+const RESERVED: usize = 4;
+
+/// The request that a payload is, its numbers in this order.
+#[tactic(auto, unfolding(crate::specs::Reading::request_of))]
+pub fn read_request(payload: &[u8], order: Order) -> Result<Request, RequestFault>
+    // What is read is laid out so.
+    ensures found { IfOk result (λ request. IsLaidOut order request payload.now × IsAdmitted request) }
+    // What is laid out so is read.
+    ensures only { (request : Request) → IsLaidOut order request payload.now → IsAdmitted request → result ≡ Ok request }
+    // Short comes only where more bytes would make a request, Excess only where none of at most 1390 bytes would.
+    ensures fault { IfErr result (IsFault order payload.now) }
+    // Which of them it is.
+    ensures exact { result ≡ request_in order payload.now }
+{
+    let mut cursor = Cursor {
+        rest: payload,
+        order,
+    };
+    let Some(service) = cursor.u32() else {
+        return Err(RequestFault::Short { service: 0 });
+    };
+    request_of_service(service, &mut cursor)
+}
+
+/// The request behind its service id.
+#[tactic(auto, unfolding(crate::specs::Reading::request_of))]
+fn request_of_service(service: u32, cursor: &mut Cursor) -> Result<Request, RequestFault>
+    ensures { result ≡ request_of (Some (service, at cursor.old)) }
+{
+    let request = match service {
+        0x01 => log_level(cursor),
+        0x03 => log_info(cursor),
+        0x04 => return Ok(Request::GetDefault),
+        0x05 => return Ok(Request::Store),
+        0x06 => return Ok(Request::Reset),
+        0x11 => default_level(cursor),
+        0x13 => return Ok(Request::Version),
+        FIRST_INJECTION.. => return injection(service, cursor),
+        _ => return Ok(Request::Other { service }),
+    };
+    match request {
+        None => Err(RequestFault::Short { service }),
+        Some(_) if !cursor.rest.is_empty() => Err(RequestFault::Excess { service }),
+        Some(request) => Ok(request),
+    }
+}
+
+#[tactic(auto, unfolding(crate::specs::Reading::log_level_at))]
+fn log_level(cursor: &mut Cursor) -> Option<Request>
+    ensures { Gives (λ x. x) result cursor.new (log_level_at (at cursor.old)) }
+{
+    let apid = cursor.id()?;
+    let ctid = cursor.id()?;
+    let level = cursor.u8()?.cast_signed();
+    let _reserved = cursor.bytes(RESERVED)?;
+    Some(Request::SetLogLevel { apid, ctid, level })
+}
+
+#[tactic(auto, unfolding(crate::specs::Reading::log_info_at))]
+fn log_info(cursor: &mut Cursor) -> Option<Request>
+    ensures { Gives (λ x. x) result cursor.new (log_info_at (at cursor.old)) }
+{
+    let options = cursor.u8()?;
+    let apid = cursor.id()?;
+    let ctid = cursor.id()?;
+    let _reserved = cursor.bytes(RESERVED)?;
+    Some(Request::GetLogInfo {
+        options,
+        apid,
+        ctid,
+    })
+}
+
+#[tactic(auto, unfolding(crate::specs::Reading::default_level_at))]
+fn default_level(cursor: &mut Cursor) -> Option<Request>
+    ensures { Gives (λ x. x) result cursor.new (default_level_at (at cursor.old)) }
+{
+    let level = cursor.u8()?;
+    let _reserved = cursor.bytes(RESERVED)?;
+    Some(Request::SetDefault { level })
+}
+
+/// An injection, from its length on.
+#[tactic(auto, unfolding(crate::specs::Reading::injection_of, crate::specs::Reading::body_at))]
+fn injection(service: u32, cursor: &mut Cursor) -> Result<Request, RequestFault>
+    ensures { result ≡ injection_of service (number_at 4 (at cursor.old)) }
+{
+    let Some(length) = cursor.u32() else {
+        return Err(RequestFault::Short { service });
+    };
+    let length = length as usize;
+    if length > PAYLOAD_LIMIT {
+        return Err(RequestFault::Excess { service });
+    }
+    let Some(bytes) = cursor.bytes(length) else {
+        return Err(RequestFault::Short { service });
+    };
+    if !cursor.rest.is_empty() {
+        return Err(RequestFault::Excess { service });
+    }
+    let mut body = Payload::new();
+    body.extend_from_slice(bytes);
+    Ok(Request::Inject { service, body })
+}

@@ -1,0 +1,5 @@
+pub mod Header
+pub mod Message
+pub mod Reply
+pub mod Reading
+pub mod Msin

@@ -1,0 +1,4 @@
+pub mod Joined
+pub mod Pieces
+pub mod Cuts
+pub mod Given

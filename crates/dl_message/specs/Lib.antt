@@ -1,0 +1,5 @@
+pub mod Frames
+pub mod Parts
+pub mod Cut
+pub mod Cutting
+pub mod Requests

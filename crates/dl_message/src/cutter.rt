@@ -1,0 +1,151 @@
+//! A stream of messages that comes in any pieces, cut into its messages.
+
+ghost use Rattle.std.specs.Prelude.{◌≡◌, ◌≤◌, ◌<◌, ◌+◌, ◌-◌, ◌++◌, [], length, take, min, None, Some, IfOk, IfSome};
+ghost use Rattle.std.specs.Result.{result_err};
+ghost use Rattle.dl_message.specs.Cut.{without_serial, message_fault, IsShort, IsWhole};
+
+use dl_bytes::Buffer;
+use dl_headers::{HeaderFault, read_front};
+use std::alloc::{AllocError, Global};
+use std::marker::Model;
+
+/// The greatest LEN of a message that a client may send.
+pub const CLIENT_LIMIT: u16 = 2048;
+
+/// Four bytes that may stand before a message, as on a serial line.
+const SERIAL_HEADER: [u8; 4] = [0x44, 0x4c, 0x53, 0x01];
+
+/// What a cutter found in the bytes that it was fed.
+#[derive(Clone, Copy, Debug, PartialEq, Eq)]
+pub enum Cut {
+    /// The next message, which `Cutter::message` lends.
+    Message,
+    /// What is left is no whole message yet.
+    NeedMore,
+    /// No message begins with what is left. This stays so for good.
+    Bad(HeaderFault),
+}
+
+/// Cuts a stream into its messages, in whatever pieces it comes. It has room for one message of the greatest length and
+/// takes memory in `make` alone. Each byte is copied once and moved at most once more.
+#[derive(Debug, Drop)]
+pub struct Cutter {
+    buffer: Buffer,
+    limit: u16,
+    /// How many of the buffer's first bytes are the message last given.
+    given: usize,
+    /// Whether a bad header was met.
+    closed: bool,
+}
+
+impl Model for Cutter {
+    ghost use Rattle.std.specs.Prelude.{take, drop, if◌then◌else◌};
+    ghost use Rattle.dl_message.specs.Cutting.{Cutting, IsKept};
+
+    ghost Value = { Cutting };
+
+    ghost view = { λ c. record {
+      limit = c.limit;
+      rest = drop c.given c.buffer.bytes;
+      message = take c.given c.buffer.bytes;
+      room = if c.closed then 0 else c.buffer.room;
+    } };
+
+    ghost invariant = { λ c. IsKept c.limit c.given c.buffer c.closed };
+}
+
+impl Cutter {
+    ghost use Rattle.dl_message.specs.Cutting.{Answers};
+
+    /// A cutter of messages whose LEN is at most the limit.
+    pub fn make(alloc: Global, limit: u16) -> Result<Cutter, AllocError>
+        requires { 30 ≤ limit }
+        ensures { IfOk result (λ cutter. cutter ≡ record { limit = limit; rest = []; message = []; room = limit + 4 }) }
+    {
+        Ok(Cutter {
+            buffer: Buffer::make(alloc, limit as usize + SERIAL_HEADER.len())?,
+            limit,
+            given: 0,
+            closed: false,
+        })
+    }
+
+    /// Takes as many of the first bytes of the piece as there is room for, and answers how many.
+    pub fn feed(&mut self, piece: &[u8]) -> usize
+        ensures count { result ≡ min (length piece.now) self.old.room }
+        ensures taken { self.new ≡ record {
+          limit = self.old.limit;
+          rest = self.old.rest ++ take result piece.now;
+          message = [];
+          room = self.old.room - result;
+        } }
+    {
+        self.buffer.consume(self.given);
+        self.given = 0;
+        if self.closed {
+            return 0;
+        }
+        self.buffer.feed(piece)
+    }
+
+    /// Finds what begins the bytes that were fed and not given: a message, which may have a serial header before it, less
+    /// than a message, or a bad header. Feed more only after `NeedMore`: until then there may be no room.
+    pub fn next(&mut self) -> Cut
+        ensures answer { Answers self.old result self.new }
+        ensures whole { result ≡ Cut.Message → IsWhole self.new.limit self.new.message }
+    {
+        self.buffer.consume(self.given);
+        self.given = 0;
+        let held = self.buffer.bytes();
+        let front = without_serial(held);
+        match whole_len(front, self.limit) {
+            Ok(Some(len)) => {
+                let serial_len = held.len() - front.len();
+                self.buffer.consume(serial_len);
+                self.given = len;
+                Cut::Message
+            }
+            Ok(None) => {
+                self.buffer.compact();
+                Cut::NeedMore
+            }
+            Err(fault) => {
+                self.closed = true;
+                Cut::Bad(fault)
+            }
+        }
+    }
+
+    /// The message last given, without a serial header. The next `feed` or `next` lets it go: then it is empty, or the
+    /// next message.
+    pub fn message(&self) -> &[u8]
+        ensures { result.now ≡ self.now.message }
+    {
+        &self.buffer.bytes()[..self.given]
+    }
+}
+
+/// What stands behind a serial header, where there is one.
+fn without_serial(bytes: &[u8]) -> &[u8]
+    ensures { result.now ≡ without_serial bytes.now }
+{
+    bytes.strip_prefix(&SERIAL_HEADER).unwrap_or(bytes)
+}
+
+/// How long the whole message is with which the bytes begin; None where they are less than a message.
+fn whole_len(bytes: &[u8], limit: u16) -> Result<Option<usize>, HeaderFault>
+    ensures fault { result_err result ≡ message_fault limit bytes.now }
+    ensures short { result ≡ Ok None → IsShort bytes.now }
+    ensures within { IfOk result (λ found. IfSome found (λ len. len ≤ length bytes.now)) }
+    ensures whole { IfOk result (λ found. IfSome found (λ len. IsWhole limit (take len bytes.now))) }
+{
+    if bytes.len() < 4 {
+        return Ok(None);
+    }
+    let front = read_front(bytes)?;
+    if front.len > limit {
+        return Err(HeaderFault::Length(front.len));
+    }
+    let len = front.len as usize;
+    Ok(if bytes.len() < len { None } else { Some(len) })
+}

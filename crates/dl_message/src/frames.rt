@@ -1,0 +1,83 @@
+//! The messages that the daemon makes.
+
+ghost use Rattle.std.specs.Prelude.{◌≡◌};
+ghost use Rattle.dl_message.specs.Frames.{log_message, overflow_record};
+
+use byteorder::{ByteOrder, LittleEndian};
+use dl_bytes::{Frame, Htyp, Id, Item};
+use dl_headers::{Extended, Standard, write_extended, write_standard};
+
+/// HTYP of a log message: all parts of the headers, a little-endian payload, version 1.
+const LOG_HTYP: u8 = 0x3d;
+
+/// HTYP of an overflow record: an extended header and the ECU, a little-endian payload, version 1.
+const REPLY_HTYP: u8 = 0x25;
+
+/// MSIN of a reply: a control message that responds.
+const REPLY_MSIN: u8 = 0x26;
+
+/// The service of an overflow record.
+const OVERFLOW_SERVICE: u32 = 0x14;
+
+/// The frame of a log call, as the daemon stores and sends it.
+pub fn log_frame(ecu: Id, item: &Item) -> Frame
+    ensures { result ≡ log_message ecu item.now }
+{
+    let mut frame = Frame::new();
+    let payload = item.payload.bytes();
+    write_standard(
+        &mut frame,
+        &Standard {
+            htyp: LOG_HTYP,
+            mcnt: item.mcnt,
+            len: Htyp(LOG_HTYP).header_len() + payload.len() as u16,
+            ecu: Some(ecu),
+            session: Some(item.writer as u32),
+            ticks: Some(item.at),
+        },
+    );
+    write_extended(
+        &mut frame,
+        &Extended {
+            msin: 16 * item.severity.number() + 1,
+            noar: item.payload.args(),
+            apid: item.apid,
+            ctid: item.ctid,
+        },
+    );
+    frame.extend_from_slice(payload);
+    frame
+}
+
+/// The frame that reports lost messages of an application, `counter` of them since the report before.
+pub fn overflow_frame(ecu: Id, apid: Id, ctid: Id, counter: u32) -> Frame
+    ensures { result ≡ overflow_record ecu apid ctid counter }
+{
+    let mut payload = [0; 10];
+    LittleEndian::write_u32(&mut payload[..4], OVERFLOW_SERVICE);
+    payload[5] = 1;
+    LittleEndian::write_u32(&mut payload[6..], counter);
+    let mut frame = Frame::new();
+    write_standard(
+        &mut frame,
+        &Standard {
+            htyp: REPLY_HTYP,
+            mcnt: 0,
+            len: Htyp(REPLY_HTYP).header_len() + payload.len() as u16,
+            ecu: Some(ecu),
+            session: None,
+            ticks: None,
+        },
+    );
+    write_extended(
+        &mut frame,
+        &Extended {
+            msin: REPLY_MSIN,
+            noar: 1,
+            apid,
+            ctid,
+        },
+    );
+    frame.extend_from_slice(&payload);
+    frame
+}

@@ -1,0 +1,5 @@
+pub mod Events
+pub mod Frames
+pub mod ClientStream
+pub mod Steps
+pub mod Report

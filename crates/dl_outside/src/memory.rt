@@ -1,0 +1,140 @@
+//! Objects in memory. None fails by itself, but that a sink that keeps bytes may want memory, which it counts as a fault.
+
+ghost use Rattle.std.specs.Prelude.{◌≡◌, ◌<◌, [], Some, None};
+
+use crate::sink::{Sink, Took};
+use crate::source::{Got, Source};
+use std::alloc::Global;
+use std::marker::Model;
+
+/// Bytes in memory, read in pieces.
+#[derive(Debug, Drop)]
+pub struct MemorySource {
+    bytes: Vec<u8>,
+    at: usize,
+    piece: usize,
+}
+
+impl Model for MemorySource {
+    ghost use Rattle.std.specs.Prelude.{List, ℕ, ◌≤◌, ◌<◌, drop, length};
+
+    ghost Value = { List ℕ };
+
+    ghost view = { λ s. drop s.at s.bytes.items };
+
+    ghost invariant = { λ s. (s.at ≤ length s.bytes.items) × (0 < s.piece) };
+}
+
+impl MemorySource {
+    /// A source of these bytes, which gives at most `piece` of them in one read.
+    pub fn make(bytes: Vec<u8>, piece: usize) -> MemorySource
+        requires { 0 < piece }
+        ensures { result ≡ bytes.items }
+    {
+        MemorySource {
+            bytes,
+            at: 0,
+            piece,
+        }
+    }
+}
+
+impl Source for MemorySource {
+    ghost left = { λ s. Some s };
+
+    ghost faults = { λ _. 0 };
+
+    fn read(&mut self, into: &mut [u8]) -> Got {
+        let rest = &self.bytes[self.at..];
+        let n = rest.len().min(into.len()).min(self.piece);
+        if n == 0 {
+            return Got::End;
+        }
+        into[..n].copy_from_slice(&rest[..n]);
+        self.at += n;
+        Got::Bytes(n)
+    }
+
+    fn faults(&self) -> u64 {
+        0
+    }
+}
+
+/// A sink in memory, which takes at most so many bytes in one write. Its only fault is want of memory.
+#[derive(Debug, Drop)]
+pub struct MemorySink {
+    bytes: Vec<u8>,
+    piece: usize,
+    faults: u64,
+}
+
+impl Model for MemorySink {
+    ghost use Rattle.std.specs.Prelude.{List, ℕ, ◌<◌};
+    ghost use Rattle.dl_outside.specs.Kept.{Kept};
+
+    ghost Value = { Kept };
+
+    ghost view = { λ s. record { bytes = s.bytes.items; faults = s.faults } };
+
+    ghost invariant = { λ s. 0 < s.piece };
+}
+
+impl MemorySink {
+    /// An empty sink.
+    pub fn make(alloc: Global, piece: usize) -> MemorySink
+        requires { 0 < piece }
+        ensures { result ≡ record { bytes = []; faults = 0 } }
+    {
+        MemorySink {
+            bytes: Vec::new(alloc),
+            piece,
+            faults: 0,
+        }
+    }
+
+    /// What it holds.
+    pub fn bytes(&self) -> &[u8]
+        ensures { result.now ≡ self.now.bytes }
+    {
+        self.bytes.as_slice()
+    }
+}
+
+impl Sink for MemorySink {
+    ghost held = { λ s. Some s.bytes };
+
+    ghost faults = { λ s. s.faults };
+
+    fn write(&mut self, piece: &[u8]) -> Took {
+        let n = piece.len().min(self.piece);
+        match self.bytes.extend_from_slice(&piece[..n]) {
+            Ok(()) => Took::Bytes(n),
+            Err(_) => {
+                self.faults = self.faults.saturating_add(1);
+                Took::Failed
+            }
+        }
+    }
+
+    fn faults(&self) -> u64 {
+        self.faults
+    }
+}
+
+/// A sink that takes everything and keeps nothing. It never fails.
+#[derive(Clone, Copy, Debug)]
+pub struct Discard;
+
+impl Sink for Discard {
+    ghost held = { λ _. None };
+
+    ghost faults = { λ _. 0 };
+
+    fn write(&mut self, piece: &[u8]) -> Took {
+        Took::Bytes(piece.len())
+    }
+
+    fn faults(&self) -> u64 {
+        0
+    }
+}

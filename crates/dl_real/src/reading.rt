@@ -1,0 +1,41 @@
+//! Standard input, or any reader of std, as a source.
+
+ghost use Rattle.std.specs.Prelude.{None};
+
+use dl_outside::{Got, Source};
+use std::io::Read;
+
+/// A source over a reader. It doesn't tell what is left.
+#[derive(Debug, Drop)]
+pub struct Reading<R> {
+    inner: R,
+    faults: u64,
+}
+
+impl<R> Reading<R> {
+    /// The source over this reader, which has not failed yet.
+    pub fn over(inner: R) -> Reading<R> {
+        Reading { inner, faults: 0 }
+    }
+}
+
+impl<R: Read> Source for Reading<R> {
+    ghost left = { λ _. None };
+
+    ghost faults = { λ s. s.faults };
+
+    fn read(&mut self, into: &mut [u8]) -> Got {
+        match self.inner.read(into) {
+            Ok(0) => Got::End,
+            Ok(n) => Got::Bytes(n),
+            Err(_) => {
+                self.faults = self.faults.saturating_add(1);
+                Got::Failed
+            }
+        }
+    }
+
+    fn faults(&self) -> u64 {
+        self.faults
+    }
+}

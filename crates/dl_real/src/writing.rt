@@ -1,0 +1,40 @@
+//! Standard output and standard error, or any writer of std, as a sink.
+
+ghost use Rattle.std.specs.Prelude.{None};
+
+use dl_outside::{Sink, Took};
+use std::io::Write;
+
+/// A sink over a writer. It doesn't tell what it holds. A writer that takes nothing of a piece has failed.
+#[derive(Debug, Drop)]
+pub struct Writing<W> {
+    inner: W,
+    faults: u64,
+}
+
+impl<W> Writing<W> {
+    /// The sink over this writer, which has not failed yet.
+    pub fn over(inner: W) -> Writing<W> {
+        Writing { inner, faults: 0 }
+    }
+}
+
+impl<W: Write> Sink for Writing<W> {
+    ghost held = { λ _. None };
+
+    ghost faults = { λ s. s.faults };
+
+    fn write(&mut self, piece: &[u8]) -> Took {
+        match self.inner.write(piece) {
+            Ok(n) if n > 0 => Took::Bytes(n),
+            _ => {
+                self.faults = self.faults.saturating_add(1);
+                Took::Failed
+            }
+        }
+    }
+
+    fn faults(&self) -> u64 {
+        self.faults
+    }
+}

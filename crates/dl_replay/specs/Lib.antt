@@ -1,0 +1,6 @@
+pub mod Fields
+pub mod Line
+pub mod Script
+pub mod Kept
+pub mod Program
+pub mod Reading

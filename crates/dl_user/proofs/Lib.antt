@@ -1,0 +1,14 @@
+pub mod Readers
+pub mod FieldReaders
+pub mod Numbers
+pub mod FieldBounds
+pub mod Groups
+pub mod MessageKinds
+pub mod LevelKinds
+pub mod LogKind
+pub mod Messages
+pub mod Bounds
+pub mod FrontLemmas
+pub mod Cuts
+pub mod Refusals
+pub mod Showing

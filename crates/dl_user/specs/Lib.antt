@@ -1,0 +1,9 @@
+pub mod Layout
+pub mod Fields
+pub mod Fronts
+pub mod Faults
+pub mod Reading
+pub mod Cut
+pub mod Front
+pub mod Channel
+pub mod Cutter

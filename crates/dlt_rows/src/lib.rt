@@ -1,0 +1,9 @@
+//! Worked examples as tables: whole scripts through the replay, with objects in memory on all sides.
+#![tactic(auto)]
+
+#[cfg(test)]
+mod faults;
+#[cfg(test)]
+mod played;
+#[cfg(test)]
+mod scripts;
