@@ -14,4 +14,6 @@ pub use laws::{
 pub use message::{Parts, read_message};
 
 #[cfg(test)]
+mod captures;
+#[cfg(test)]
 mod tests;

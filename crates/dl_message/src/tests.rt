@@ -2,32 +2,15 @@ ghost use Rattle.std.specs.Prelude.{◌≡◌, ◌<◌, length};
 ghost use Rattle.dl_headers.specs.Reading.{len_of};
 
 use super::*;
+use crate::captures::*;
 use dl_bytes::{Id, Item, Payload, Severity};
 use dl_headers::{HeaderFault, read_standard};
 use std::alloc::Global;
 use std::test::*;
 
-/// The bytes that COVESA dlt-daemon 2.18.8 sent to a client while its example program logged three messages.
-const SESSION: &[u8; 673] = b"\
-    =\x02\x00wECU1\x00\x00r\x89\x00a\xa3TA\x01DLTDINTM\x00\x02\x00\x00W\x00ApplicationID 'LOG' registered fo\
-    r PID 29322, Description=Test Application for Logging\x00\
-    5\x00\x00eECU1\x00a\xa3U&\x01DA1\x00DC1\x00\x03\x00\x00\x00\x07\x01\x00LOG\x00\x01\x00TEST\xff\xff\x18\
-    \x00Test Context for Logging\x1c\x00Test Application for Loggingremo\
-    5\x00\x00hECU1\x00a\xa3V&\x01DA1\x00DC1\x00\x03\x00\x00\x00\x07\x01\x00LOG\x00\x01\x00TS1\x00\xff\xff\
-    \x1b\x00Test Context1 for injection\x1c\x00Test Application for Loggingremo\
-    5\x00\x00hECU1\x00a\xa3W&\x01DA1\x00DC1\x00\x03\x00\x00\x00\x07\x01\x00LOG\x00\x01\x00TS2\x00\xff\xff\
-    \x1b\x00Test Context2 for injection\x1c\x00Test Application for Loggingremo\
-    =\x00\x002ECU1\x00\x00r\x8a\x00a\xa3TA\x02LOG\x00TEST#\x08\x00\x00\x00\x00\x00\x00\x00\x00\x00\x00\x00\
-    \x02\x00\x00\x06\x00hello\x00\
-    =\x01\x002ECU1\x00\x00r\x8a\x00a\xa4\x1dA\x02LOG\x00TEST#\x08\x00\x00\x00\x00\x00\x00\x01\x00\x00\x00\
-    \x00\x02\x00\x00\x06\x00hello\x00\
-    =\x02\x002ECU1\x00\x00r\x8a\x00a\xa4\xe7A\x02LOG\x00TEST#\x08\x00\x00\x00\x00\x00\x00\x02\x00\x00\x00\
-    \x00\x02\x00\x00\x06\x00hello\x00\
-    5\x00\x00'ECU1\x00a\xcc\xc6&\x01DA1\x00DC1\x00\x01\x0f\x00\x00\x00LOG\x00TESTremo\
-    =\x03\x008ECU1\x00\x00r\x89\x00a\xcc\xc6A\x01DLTDINTM\x00\x02\x00\x00\x18\x00Unregistered ApID 'LOG'\x00";
-
-/// Four requests that a client sent to it, one behind another; a serial header stands before the first.
-const REQUESTS: &[u8; 109] = b"\
+/// Four requests that a client sent to COVESA dlt-daemon 2.18.8, one behind another; a serial header stands before
+/// the first.
+const REQUESTS: &[u8] = b"\
     DLS\x015\x00\x00\x1aTEST\x00\x00\x00\x00\x16\x01APP\x00CON\x00\x13\x00\x00\x00\
     !\x00\x00\x12\x16\x01APP\x00CON\x00\x13\x00\x00\x00\
     5\x00\x00#TEST\x00\x00\x00\x00\x16\x01LOG\x00TEST\x00\x10\x00\x00\x05\x00\x00\x00hello\
@@ -35,19 +18,7 @@ const REQUESTS: &[u8; 109] = b"\
 
 /// What a client looks at in a message: LEN, MCNT, APID, CTID, and whether it is a request.
 #[derive(Clone, Copy, Debug, PartialEq, Eq)]
-struct Seen(u16, u8, [u8; 4], [u8; 4], bool);
-
-const IN_SESSION: [Seen; 9] = [
-    Seen(119, 2, *b"DLTD", *b"INTM", false),
-    Seen(101, 0, *b"DA1\0", *b"DC1\0", false),
-    Seen(104, 0, *b"DA1\0", *b"DC1\0", false),
-    Seen(104, 0, *b"DA1\0", *b"DC1\0", false),
-    Seen(50, 0, *b"LOG\0", *b"TEST", false),
-    Seen(50, 1, *b"LOG\0", *b"TEST", false),
-    Seen(50, 2, *b"LOG\0", *b"TEST", false),
-    Seen(39, 0, *b"DA1\0", *b"DC1\0", false),
-    Seen(56, 3, *b"DLTD", *b"INTM", false),
-];
+pub struct Seen(pub u16, pub u8, pub [u8; 4], pub [u8; 4], pub bool);
 
 const IN_REQUESTS: [Seen; 4] = [
     Seen(26, 0, *b"APP\0", *b"CON\0", true),
@@ -71,54 +42,44 @@ fn summary_of(message: &[u8]) -> Option<Seen>
     ))
 }
 
-/// The messages of a stream that comes in pieces of this size.
-fn cut(alloc: Global, stream: &[u8], size: usize) -> Result<Vec<Seen>, Fail>
-    requires { 0 < size }
-{
+/// The messages of a stream that is fed in pieces of this size, each as far as there is room.
+fn cut(alloc: Global, stream: &[u8], size: usize) -> Result<Vec<Seen>, Fail> {
     let mut cutter = Cutter::make(alloc, CLIENT_LIMIT)?;
     let mut found = Vec::new(alloc);
-    for piece in stream.chunks(size) {
-        if cutter.feed(piece) < piece.len() {
-            return Err("a piece was not taken whole".into());
-        }
-        for _ in 0..piece.len() {
-            match cutter.next() {
-                Cut::Message => found.push(summary_of(cutter.message()).ok_or("no headers")?)?,
-                Cut::NeedMore => break,
-                Cut::Bad(_) => return Err("a bad header".into()),
-            }
+    let mut rest = stream;
+    for _ in stream {
+        let taken = cutter.feed(&rest[..size.min(rest.len())]);
+        rest = &rest[taken..];
+        match cutter.next() {
+            Cut::Message => found.push(summary_of(cutter.message()).ok_or("no headers")?)?,
+            Cut::NeedMore => {}
+            Cut::Bad(_) => return Err("a bad header".into()),
         }
     }
     Ok(found)
 }
 
+/// Cuts the stream whole, a byte at a time, and in pieces of 7: each gives these messages.
+fn holds(alloc: Global, stream: &[u8], messages: &[Seen]) -> Result<(), Fail> {
+    for size in [4096, 1, 7] {
+        if cut(alloc, stream, size)?.as_slice() != messages {
+            return Err("other messages".into());
+        }
+    }
+    Ok(())
+}
+
 #[test]
 fn streams_in_any_pieces(rt: HostRuntime) -> Result<(), Fail> {
-    assert_eq!(rt;
-        cut(rt.alloc(), SESSION, 673)?.as_slice(),
-        IN_SESSION.as_slice()
-    );
-    assert_eq!(rt;
-        cut(rt.alloc(), SESSION, 1)?.as_slice(),
-        IN_SESSION.as_slice()
-    );
-    assert_eq!(rt;
-        cut(rt.alloc(), SESSION, 7)?.as_slice(),
-        IN_SESSION.as_slice()
-    );
-    assert_eq!(rt;
-        cut(rt.alloc(), REQUESTS, 109)?.as_slice(),
-        IN_REQUESTS.as_slice()
-    );
-    assert_eq!(rt;
-        cut(rt.alloc(), REQUESTS, 1)?.as_slice(),
-        IN_REQUESTS.as_slice()
-    );
-    assert_eq!(rt;
-        cut(rt.alloc(), REQUESTS, 7)?.as_slice(),
-        IN_REQUESTS.as_slice()
-    );
-    Ok(())
+    holds(rt.alloc(), CONNECTING, &IN_CONNECTING)?;
+    holds(rt.alloc(), SESSION, &IN_SESSION)?;
+    holds(rt.alloc(), NON_VERBOSE, &IN_NON_VERBOSE)?;
+    holds(rt.alloc(), RAW, &IN_RAW)?;
+    holds(rt.alloc(), TEST_2, &IN_TEST_2)?;
+    holds(rt.alloc(), TEST_4, &IN_TEST_4)?;
+    holds(rt.alloc(), SECOND_CLIENT, &IN_SECOND_CLIENT)?;
+    holds(rt.alloc(), FILE_TRANSFER, &IN_FILE_TRANSFER)?;
+    holds(rt.alloc(), REQUESTS, &IN_REQUESTS)
 }
 
 /// Why the bytes begin with no standard header.

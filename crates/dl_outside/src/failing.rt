@@ -18,7 +18,10 @@ pub struct Failing<T> {
 impl<T> Failing<T> {
     /// The object `inner`, with the numbers of the calls that are to fail.
     pub fn make(inner: T, fails: Vec<u64>) -> Failing<T>
-        ensures { result.inner ≡ inner }
+        ensures inner { result.inner ≡ inner }
+        ensures fails { result.fails ≡ fails }
+        ensures calls { result.calls ≡ 0 }
+        ensures faults { result.faults ≡ 0 }
     {
         Failing {
             inner,
@@ -29,7 +32,9 @@ impl<T> Failing<T> {
     }
 
     /// How many calls were made.
-    pub fn calls(&self) -> u64 {
+    pub fn calls(&self) -> u64
+        ensures { result ≡ self.now.calls }
+    {
         self.calls
     }
 }

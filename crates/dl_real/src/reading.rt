@@ -1,6 +1,6 @@
 //! Standard input, or any reader of std, as a source.
 
-ghost use Rattle.std.specs.Prelude.{None};
+ghost use Rattle.std.specs.Prelude.{◌≡◌, None};
 
 use dl_outside::{Got, Source};
 use std::io::Read;
@@ -14,7 +14,10 @@ pub struct Reading<R> {
 
 impl<R> Reading<R> {
     /// The source over this reader, which has not failed yet.
-    pub fn over(inner: R) -> Reading<R> {
+    pub fn over(inner: R) -> Reading<R>
+        ensures inner { result.inner ≡ inner }
+        ensures faults { result.faults ≡ 0 }
+    {
         Reading { inner, faults: 0 }
     }
 }

@@ -1,6 +1,6 @@
 //! Standard output and standard error, or any writer of std, as a sink.
 
-ghost use Rattle.std.specs.Prelude.{None};
+ghost use Rattle.std.specs.Prelude.{◌≡◌, None};
 
 use dl_outside::{Sink, Took};
 use std::io::Write;
@@ -14,7 +14,10 @@ pub struct Writing<W> {
 
 impl<W> Writing<W> {
     /// The sink over this writer, which has not failed yet.
-    pub fn over(inner: W) -> Writing<W> {
+    pub fn over(inner: W) -> Writing<W>
+        ensures inner { result.inner ≡ inner }
+        ensures faults { result.faults ≡ 0 }
+    {
         Writing { inner, faults: 0 }
     }
 }
