@@ -1,6 +1,9 @@
 pub mod Fields
+pub mod Value
+pub mod Argument
 pub mod Line
 pub mod Script
 pub mod Kept
 pub mod Program
+pub mod Added
 pub mod Reading

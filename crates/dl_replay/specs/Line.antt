@@ -1,86 +1,12 @@
 -- What a line of a script says, by its fields.
-use Rattle.std.specs.Prelude.{ℕ, ◌+◌, ◌-◌, ◌*◌, ◌^◌, Bool, true, false, ◌==◌, ◌&&◌, nat_le, nat_lt, List, [], ◌∷◌, ◌++◌, length, take, fold, codes, Option, Some, None, option_map, if◌then◌else◌}
-use Rattle.std.specs.List.{list_all, list_any}
-use Rattle.std.specs.Str.{bytes_eq, is_utf8}
-use Rattle.std.specs.Result.{result_ok}
-use Rattle.byteorder.specs.Endian.{little_bytes}
-use Rattle.dl_bytes.specs.Id.{id_of}
-use Rattle.dl_bytes.specs.Level.{severity_number}
+use Rattle.std.specs.Prelude.{ℕ, List, [], ◌∷◌, codes, Option, Some, None, if◌then◌else◌}
+use Rattle.std.specs.Str.{is_utf8}
 use Rattle.dl_bytes.specs.Number.{◌>>=◌}
-use Rattle.dl_bytes.specs.Payload.{Arguments}
-use Rattle.dl_bytes.specs.declared.level.Severity.{Severity}
-use Rattle.dl_bytes.specs.declared.level.Severity.TheVariants.{Fatal, Error, Warn, Info, Debug, Verbose}
 use Rattle.dl_model.specs.declared.step.Step.{Step}
 use Rattle.dl_model.specs.declared.step.Step.TheVariants.{App, Context, Writer, Log, Connect, Close}
+use Rattle.dl_replay.specs.Argument.{payload_fields}
 use Rattle.dl_replay.specs.Fields.{fields_of}
-
--- the field is this word
-abbrev pub is_word : List ℕ → List ℕ → Bool
-is_word field word = bytes_eq field word
-
--- an id; it holds no quote
-abbrev pub id_field : List ℕ → Option (List ℕ)
-id_field field = if list_any (λ b. b == 34) field then None else result_ok (id_of field)
-
-abbrev pub is_digit : ℕ → Bool
-is_digit b = nat_le 48 b && nat_le b 57
-
--- the number that decimal digits stand for
-abbrev pub decimal_value : List ℕ → ℕ
-decimal_value digits = fold (λ n digit. 10 * n + (digit - 48)) 0 digits
-
--- a number below 2 ^ 32 in decimal digits, at least one, with any zeros before it
-abbrev pub number_field : List ℕ → Option ℕ
-number_field field =
-    if nat_lt 0 (length field) && (list_all is_digit field && nat_lt (decimal_value field) (2 ^ 32))
-    then Some (decimal_value field) else None
-
--- a number in a range
-abbrev pub number_within : ℕ → ℕ → List ℕ → Option ℕ
-number_within low high field = number_field field >>= λ n. if nat_le low n && nat_le n high then Some n else None
-
--- a severity by its word
-abbrev pub severity_field : List ℕ → Option Severity
-severity_field field =
-    if is_word field (codes "fatal") then Some Fatal
-    else if is_word field (codes "error") then Some Error
-    else if is_word field (codes "warn") then Some Warn
-    else if is_word field (codes "info") then Some Info
-    else if is_word field (codes "debug") then Some Debug
-    else if is_word field (codes "verbose") then Some Verbose
-    else None
-
--- an own level by its word: `default` is none, `off` is 0
-abbrev pub level_field : List ℕ → Option (Option ℕ)
-level_field field =
-    if is_word field (codes "default") then Some None
-    else if is_word field (codes "off") then Some (Some 0)
-    else option_map (λ severity. Some (severity_number severity)) (severity_field field)
-
--- a quoted text without its escapes: behind a backslash stands what is meant
-abbrev pub resolved : (escaped : Bool) → List ℕ → List ℕ
-resolved escaped [] = []
-resolved true (b ∷ rest) = b ∷ resolved false rest
-resolved false (b ∷ rest) = if b == 92 then resolved true rest else b ∷ resolved false rest
-
--- the text of a quoted field: what stands between its two quotes
-abbrev pub text_field : List ℕ → Option (List ℕ)
-text_field [] = None
-text_field (b ∷ []) = None
-text_field (b ∷ c ∷ rest) = if b == 34 then Some (resolved false (take (length rest) (c ∷ rest))) else None
-
--- A text as a verbose argument: its type info, 0x8200, the length with its closing zero, the text, and that zero.
-abbrev pub text_argument : List ℕ → List ℕ
-text_argument text = (0 ∷ 0x82 ∷ 0 ∷ 0 ∷ []) ++ little_bytes 2 (length text + 1) ++ text ++ (0 ∷ [])
-
--- one text as the arguments of a log call, where it fits
-abbrev pub text_payload : List ℕ → Option Arguments
-text_payload text =
-    if nat_le (length (text_argument text)) 1390 then Some (record { bytes = text_argument text; args = 1 }) else None
-
--- a quoted text as the arguments of a log call, where it is one and fits
-abbrev pub payload_field : List ℕ → Option Arguments
-payload_field field = text_field field >>= text_payload
+use Rattle.dl_replay.specs.Value.{is_word, id_field, number_field, number_within, severity_field, level_field}
 
 -- ---- the lines by their first word
 
@@ -106,12 +32,12 @@ writer_line (apid ∷ []) = do
 writer_line _ = None
 
 abbrev pub log_line : List (List ℕ) → Option Step
-log_line (writer ∷ ctid ∷ severity ∷ at ∷ text ∷ []) = do
+log_line (writer ∷ ctid ∷ severity ∷ at ∷ arguments) = do
   writer ← number_field writer
   ctid ← id_field ctid
   severity ← severity_field severity
   at ← number_field at
-  payload ← payload_field text
+  payload ← payload_fields arguments
   Some (Log writer ctid severity at payload)
 log_line _ = None
 

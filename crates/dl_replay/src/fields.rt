@@ -2,6 +2,7 @@
 
 ghost use Rattle.std.specs.Prelude.{◌≡◌, false, not, ◌≤◌, ◌<◌, ◌+◌, IfSome, IfOk, option_map, length, drop};
 ghost use Rattle.std.specs.List.{position, list_all};
+ghost use Rattle.std.specs.Str.{IsCharBoundary};
 ghost use Rattle.dl_replay.specs.Fields.{is_blank, unindented, is_ignored, quoted_len, is_end, field_len, fields_of, texts};
 
 use std::alloc::{AllocError, Global};
@@ -31,11 +32,11 @@ fn first_letter(text: &[u8]) -> Option<usize>
 
 /// The text without the blanks at its front.
 #[tactic(auto, unfolding(crate::specs::Fields::unindented))]
-fn skip_blanks(text: &[u8]) -> &[u8]
+fn skip_blanks(text: &str) -> &str
     ensures value { result.now ≡ unindented text.now }
     ensures within { length result.now ≤ length text.now }
 {
-    let blanks = first_letter(text).unwrap_or(text.len());
+    let blanks = first_letter(text.as_bytes()).unwrap_or(text.len());
     &text[blanks..]
 }
 
@@ -89,11 +90,12 @@ fn ends_field(text: &[u8]) -> bool
 
 /// The length of the field at the front of a text.
 #[tactic(auto, unfolding(crate::specs::Fields::field_len))]
-fn front_field(text: &[u8]) -> Option<usize>
+fn front_field(text: &str) -> Option<usize>
     ensures value { result ≡ field_len text.now }
     ensures within { IfSome result (λ n. (0 < n) × (n ≤ length text.now)) }
+    ensures boundary { IfSome result (IsCharBoundary text.now) }
 {
-    match text {
+    match text.as_bytes() {
         [] => None,
         [b'"', rest @ ..] => {
             let n = closing_quote(rest)?;
@@ -108,7 +110,7 @@ fn front_field(text: &[u8]) -> Option<usize>
 }
 
 /// The fields of a line, each as it stands there; none where a quoted one is broken.
-pub fn fields(alloc: Global, line: &[u8]) -> Result<Option<Vec<&[u8]>>, AllocError>
+pub fn fields(alloc: Global, line: &str) -> Result<Option<Vec<&str>>, AllocError>
     ensures { IfOk result (λ found. option_map (λ v. texts v.items) found ≡ fields_of line.now) }
 {
     let mut fields = Vec::new(alloc);

@@ -1,6 +1,7 @@
 //! The replay: a script of steps in, and what each client of the daemon was sent out.
 #![tactic(auto)]
 
+mod argument;
 mod fields;
 mod line;
 mod machine;
@@ -10,6 +11,7 @@ mod report;
 mod script;
 pub mod status;
 mod stream;
+mod value;
 
 pub use program::replay;
 pub use script::SCRIPT_LIMIT;

@@ -66,7 +66,7 @@ const PRINTED: [(&str, &str); 9] = [
 ];
 
 /// Lines behind the three declarations that make the script refused.
-const REFUSED: [&str; 22] = [
+const REFUSED: [&str; 21] = [
     "app LOG2 16\n",
     "context LOG1 ELSE info\n",
     "writer LOG1\n",
@@ -78,8 +78,7 @@ const REFUSED: [&str; 22] = [
     "log 1 TEST info 1 \"\\a\"\n",
     "log 1 TEST info 1 \"a\"b\n",
     "log 1 TEST info 1 a\n",
-    "log 1 TEST info 1\n",
-    "log 1 TEST info 1 \"a\" \"b\"\n",
+    "log 1 TEST info\n",
     "log 1 NONE info 1 \"a\"\n",
     "log 2 TEST info 1 \"a\"\n",
     "log 4294967297 TEST info 1 \"a\"\n",

@@ -1,5 +1,6 @@
 use Rattle.std.proofs.Common.{◌≡◌, ◌+◌, ◌-◌, ◌<◌, ap, ◌++◌, ◌∷◌, [], length, sym, ◌∙◌, arith, vec_len}
 use Rattle.std.proofs.lemmas.List.{map_push}
+use Rattle.std.proofs.lemmas.Str.{IsUtf8-drop}
 use Rattle.dl_replay.specs.Fields.{fields_of, texts}
 use Rattle.dl_replay.proofs.Cutting.{ends, breaks, goes_on}
 use Rattle.dl_replay.proofs.fields.fields.Goals as goal
@@ -26,6 +27,7 @@ loop-rest-preserved c =
     let room : 0 < length c.args.line.now - vec_len c.loop-rest.fields = omega (arith, within.0, within.1, c.loop-rest.invariant.used, c.skip_blanks-rest.ensures.within) in
     let fuel : length c.args.line.now - vec_len c.push.new.self ≡ length c.args.line.now - vec_len c.loop-rest.fields - 1 = omega arith in
     record {
+      utf8 = rw after (IsUtf8-drop c.skip_blanks-rest.result.now c.in-Some.len c.skip_blanks-rest.utf8 c.in-Some.ensures.boundary);
       used = omega (arith, within.0, within.1, c.loop-rest.invariant.used, c.skip_blanks-rest.ensures.within);
       told = rw (pushed, fuel, field, after)
           (goes_on (texts c.loop-rest.fields.items) (length c.args.line.now - vec_len c.loop-rest.fields) c.loop-rest.text.now c.skip_blanks-rest.result.now (fields_of c.args.line.now)
