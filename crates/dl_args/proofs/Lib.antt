@@ -4,4 +4,5 @@ pub mod FieldForms
 pub mod InfoForms
 pub mod ArgForms
 pub mod WrittenForms
+pub mod Faults
 pub mod ArgLoop

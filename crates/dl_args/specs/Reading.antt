@@ -80,17 +80,13 @@ args_at whole (suc count) c = do
 abbrev pub arguments_of : Order → ℕ → List ℕ → Result (List Arg) ArgFault
 arguments_of order count payload = args_at (length payload) count (record { rest = payload; order = order })
 
--- What a function gave is what reading gives, unless memory ran out.
-abbrev pub Fails : {Y : Type 0} → ArgFault → Result Y ArgFault → Type 0
-Fails OutOfMemory read = Unit {0}
-Fails (Short place) read = read ≡ Err (Short place)
-Fails (Unsupported place info) read = read ≡ Err (Unsupported place info)
-Fails (Value place) read = read ≡ Err (Value place)
+-- What a read gave, seen by view, with what is left, is what reading gives; its fault is the one that reading has.
+abbrev pub Gives : {X Y : Type 0} → (X → Y) → Result X ArgFault → Cursor → Result (Y × At) ArgFault → Type 0
+Gives view (Ok x) left read = read ≡ Ok (view x, at left)
+Gives view (Err fault) left read = read ≡ Err fault
 
-abbrev pub Gives : Result Arg ArgFault → Cursor → Result (Arg × At) ArgFault → Type 0
-Gives (Ok x) left read = read ≡ Ok (x, at left)
-Gives (Err fault) left read = Fails fault read
-
+-- The arguments, or their fault, are what reading gives. Of want of memory this says nothing.
 abbrev pub GivesAll : Result (List Arg) ArgFault → Result (List Arg) ArgFault → Type 0
 GivesAll (Ok args) read = read ≡ Ok args
-GivesAll (Err fault) read = Fails fault read
+GivesAll (Err OutOfMemory) read = Unit {0}
+GivesAll (Err fault) read = read ≡ Err fault

@@ -59,7 +59,7 @@ pub enum ArgFault {
     Unsupported(usize, u32),
     /// It is a truth value whose byte is neither 0 nor 1.
     Value(usize),
-    /// There was no memory for what was read. It can come at any place.
+    /// Every argument can be read, and there was no memory for a copy of them.
     OutOfMemory,
 }
 

@@ -1,5 +1,14 @@
--- HTYP, the first byte of a message: AUTOSAR DLT, standard header.
-use Rattle.std.specs.Prelude.{ℕ, ◌+◌, ◌/◌, Bool, not, ◌==◌, if◌then◌else◌, bit_and}
+-- HTYP, the first byte of a message, and LEN: AUTOSAR DLT, standard header.
+use Rattle.std.specs.Prelude.{ℕ, ◌+◌, ◌/◌, Bool, not, ◌==◌, if◌then◌else◌, bit_and, List, drop, slice_index}
+use Rattle.byteorder.specs.Endian.{big_number}
+
+-- HTYP, the first byte of a message
+abbrev pub htyp_of : List ℕ → ℕ
+htyp_of message = slice_index message 0
+
+-- LEN, the third and the fourth byte of a message, the highest first
+abbrev pub len_of : List ℕ → ℕ
+len_of message = big_number 2 (drop 2 message)
 
 -- UEH, bit 0: an extended header follows
 abbrev pub has_extended : ℕ → Bool

@@ -1,21 +1,12 @@
 -- Which user messages the protocol can carry.
-use Rattle.std.specs.Prelude.{◌≡◌, ℕ, ◌≤◌, List, length, drop, slice_index}
-use Rattle.dl_bytes.specs.Htyp.{version, header_len}
-use Rattle.dl_bytes.specs.Number.{number_of}
-use Rattle.dl_bytes.specs.declared.cursor.Order.TheVariants.{Big}
+use Rattle.std.specs.Prelude.{◌≡◌, ℕ, ◌≤◌, List, length}
+use Rattle.dl_bytes.specs.Htyp.{htyp_of, len_of, version, header_len}
 use Rattle.dl_bytes.specs.declared.user.UserMsg.{UserMsg}
 use Rattle.dl_bytes.specs.declared.user.UserMsg.TheVariants.{Log, RegisterApp, UnregisterApp, RegisterContext, UnregisterContext, LogLevel, Injection, Overflow}
 
--- HTYP, the first byte of a message
-abbrev pub htyp_of : List ℕ → ℕ
-htyp_of message = slice_index message 0
-
--- LEN, the third and fourth byte, the highest first
-abbrev pub len_of : List ℕ → ℕ
-len_of message = number_of Big 2 (drop 2 message)
-
--- One message, by what HTYP and LEN tell: the version is 1, LEN holds the headers, counts all bytes, and is at most 1984.
-pub record IsMessage (bytes : List ℕ) : Type 0 where
+-- The bytes hold one message, as far as HTYP and LEN tell: the version is 1, LEN has room for the headers, and LEN is the
+-- number of the bytes, at most 1984.
+pub record HoldsMessage (bytes : List ℕ) : Type 0 where
   pub version_is : version (htyp_of bytes) ≡ 1
   pub headers : header_len (htyp_of bytes) ≤ len_of bytes
   pub whole : len_of bytes ≡ length bytes
@@ -23,7 +14,7 @@ pub record IsMessage (bytes : List ℕ) : Type 0 where
 
 -- A description has at most 255 bytes, an injected body at most 1390, and a log message holds one message.
 abbrev pub IsFit : UserMsg → Type 0
-IsFit (Log message) = IsMessage message
+IsFit (Log message) = HoldsMessage message
 IsFit (RegisterApp apid pid text) = length text ≤ 255
 IsFit (UnregisterApp apid pid) = Unit {0}
 IsFit (RegisterContext apid ctid position level trace pid text) = length text ≤ 255

@@ -1,7 +1,7 @@
 //! What a program outside the daemon tells it: user messages.
 
 ghost use Rattle.std.specs.Prelude.{◌↔◌, IsTrue};
-ghost use Rattle.dl_bytes.specs.UserMessage.{IsFit, IsMessage};
+ghost use Rattle.dl_bytes.specs.UserMessage.{IsFit, HoldsMessage};
 
 use crate::frame::FRAME_LIMIT;
 use crate::htyp::Htyp;
@@ -88,7 +88,7 @@ impl UserMsg {
 
 /// Whether the bytes are one whole message, as far as HTYP and LEN tell.
 fn is_message(bytes: &[u8]) -> bool
-    ensures { IsTrue result ↔ IsMessage bytes.now }
+    ensures { IsTrue result ↔ HoldsMessage bytes.now }
 {
     if bytes.len() < 4 || FRAME_LIMIT < bytes.len() {
         return false;

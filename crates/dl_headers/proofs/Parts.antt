@@ -1,8 +1,9 @@
 -- A list of bytes as the parts that were read of it.
 use Rattle.std.proofs.Common.{◌≡◌, ℕ, ◌+◌, ◌/◌, ◌%◌, ◌<◌, ◌≤◌, List, [], ◌∷◌, ◌++◌, length, get_or, drop, sym, ap, ◌∙◌, append_assoc, length-append, arith}
 use Rattle.std.proofs.lemmas.List.{drop_at}
+use Rattle.dl_bytes.specs.Htyp.{htyp_of, len_of}
 use Rattle.dl_headers.specs.Header.{short}
-use Rattle.dl_headers.specs.Reading.{htyp_of, mcnt_of, len_of}
+use Rattle.dl_headers.specs.Reading.{mcnt_of}
 
 -- each item is a byte
 abbrev pub IsBytes : List ℕ → Type 0

@@ -1,22 +1,13 @@
 -- Why bytes are no header: the first cause that applies.
-use Rattle.std.specs.Prelude.{ℕ, not, ◌==◌, nat_lt, if◌then◌else◌, List, length, drop, slice_index, Option, Some, None}
+use Rattle.std.specs.Prelude.{ℕ, not, ◌==◌, nat_lt, if◌then◌else◌, List, length, slice_index, Option, Some, None}
 use Rattle.std.specs.Option.{option_or}
-use Rattle.byteorder.specs.Endian.{big_number}
-use Rattle.dl_bytes.specs.Htyp.{version, standard_len, header_len}
+use Rattle.dl_bytes.specs.Htyp.{htyp_of, len_of, version, standard_len, header_len}
 use Rattle.dl_headers.specs.declared.fault.HeaderFault.{HeaderFault}
 use Rattle.dl_headers.specs.declared.fault.HeaderFault.TheVariants.{Short, Version, Length}
-
--- HTYP, the first byte
-abbrev pub htyp_of : List ℕ → ℕ
-htyp_of bytes = slice_index bytes 0
 
 -- MCNT, the second byte
 abbrev pub mcnt_of : List ℕ → ℕ
 mcnt_of bytes = slice_index bytes 1
-
--- LEN, the third and the fourth byte
-abbrev pub len_of : List ℕ → ℕ
-len_of bytes = big_number 2 (drop 2 bytes)
 
 -- in the four bytes that every standard header begins with
 abbrev pub front_fault : List ℕ → Option HeaderFault

@@ -2,9 +2,9 @@
 
 ghost use Rattle.std.specs.Prelude.{◌≡◌, ℕ, ◌<◌, ◌≤◌, ◌+◌, ◌^◌, List, ◌++◌, length, drop, is_some, true, if◌then◌else◌, IfOk, IfSome, Option};
 ghost use Rattle.std.specs.Result.{result_err};
-ghost use Rattle.dl_bytes.specs.Htyp.{standard_len};
+ghost use Rattle.dl_bytes.specs.Htyp.{htyp_of, len_of, standard_len};
 ghost use Rattle.dl_headers.specs.Header.{standard_header, extended_header, optional, long, IsStandard, IsExtended};
-ghost use Rattle.dl_headers.specs.Reading.{htyp_of, mcnt_of, len_of, front_fault, standard_fault, extended_fault};
+ghost use Rattle.dl_headers.specs.Reading.{mcnt_of, front_fault, standard_fault, extended_fault};
 
 use crate::fault::HeaderFault;
 use crate::header::{Extended, Front, Standard};

@@ -6,7 +6,8 @@ use Rattle.std.specs.List.{concat, filter, AllByRecursion}
 use Rattle.std.proofs.lemmas.Bool.{leb-true, leb-false, le-ltb, and_parts, and_cases, cond-false}
 use Rattle.std.proofs.lemmas.List.{append-nil, drop_at, drop-drop, append_cancel_right, map-append, drop_min}
 use Rattle.std.proofs.lemmas.List.Elements.{filter-append}
-use Rattle.dl_headers.specs.Reading.{len_of, front_fault}
+use Rattle.dl_bytes.specs.Htyp.{len_of}
+use Rattle.dl_headers.specs.Reading.{front_fault}
 use Rattle.dl_message.specs.Cut.{without_serial, IsWhole, IsPiece, NoPiece, IsCut, message_fault, rest_fault, with_others, pieces_within, pieces, rest_of}
 use Rattle.dl_message.specs.Requests.{asks, requests}
 use Rattle.dl_message.proofs.Pieces.{within_limit, piece_long, piece-append, piece_at_front, whole_front, len_of-append, bad_no_piece, bad_stays, short_no_piece}

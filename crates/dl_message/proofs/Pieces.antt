@@ -7,8 +7,8 @@ use Rattle.std.proofs.lemmas.Bool.{le-ltb, lt-ltb, ltb-false, cases_lt, cond-tru
 use Rattle.std.proofs.lemmas.List.{take-append-le, drop-append-le, take-take, drop-take, drop-drop}
 use Rattle.dl_headers.specs.declared.fault.HeaderFault.{HeaderFault}
 use Rattle.dl_headers.specs.declared.fault.HeaderFault.TheVariants.{Length}
-use Rattle.dl_bytes.specs.Htyp.{header_len}
-use Rattle.dl_headers.specs.Reading.{htyp_of, len_of, front_fault}
+use Rattle.dl_bytes.specs.Htyp.{htyp_of, len_of, header_len}
+use Rattle.dl_headers.specs.Reading.{front_fault}
 use Rattle.dl_message.specs.Cut.{serial_header, without_serial, IsWhole, IsPiece, NoPiece, IsShort, message_fault, rest_fault}
 
 -- ---- what the first four bytes say doesn't change with what follows them

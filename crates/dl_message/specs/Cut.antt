@@ -2,7 +2,8 @@
 use Rattle.std.specs.Prelude.{◌≡◌, ◌≢◌, ℕ, ◌<◌, zero, suc, ◌+◌, ◌-◌, ◌≤◌, ◌⊎◌, List, [], ◌∷◌, ◌++◌, length, take, drop, nat_eq, nat_lt, nat_le, ◌&&◌, if◌then◌else◌, Option, Some, None}
 use Rattle.std.specs.List.{starts_with, concat, AllByRecursion}
 use Rattle.std.specs.Option.{option_or, is_none}
-use Rattle.dl_headers.specs.Reading.{len_of, front_fault}
+use Rattle.dl_bytes.specs.Htyp.{len_of}
+use Rattle.dl_headers.specs.Reading.{front_fault}
 use Rattle.dl_headers.specs.declared.fault.HeaderFault.{HeaderFault}
 use Rattle.dl_headers.specs.declared.fault.HeaderFault.TheVariants.{Length}
 

@@ -1,9 +1,8 @@
 -- The requests of a stream that a client sends.
 use Rattle.std.specs.Prelude.{ℕ, Bool, false, ◌&&◌, List, map, slice_index, Option, Some, None}
 use Rattle.std.specs.List.{filter}
-use Rattle.dl_bytes.specs.Htyp.{has_extended, standard_len}
+use Rattle.dl_bytes.specs.Htyp.{htyp_of, has_extended, standard_len}
 use Rattle.dl_headers.specs.Msin.{is_request}
-use Rattle.dl_headers.specs.Reading.{htyp_of}
 use Rattle.dl_headers.specs.declared.header.Extended.{Extended}
 use Rattle.dl_message.specs.declared.cutter.TheConstants.{CLIENT_LIMIT}
 use Rattle.dl_message.specs.Cut.{without_serial, pieces}

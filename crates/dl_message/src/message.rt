@@ -2,10 +2,10 @@
 
 ghost use Rattle.std.specs.Prelude.{◌≡◌, ℕ, ◌≤◌, ◌+◌, List, ◌++◌, length, true, if◌then◌else◌, is_some, None, IfSome, IfOk, IsOkAnd, Option};
 ghost use Rattle.std.specs.Result.{result_err};
-ghost use Rattle.dl_bytes.specs.Htyp.{header_len};
+ghost use Rattle.dl_bytes.specs.Htyp.{len_of, header_len};
 ghost use Rattle.dl_headers.specs.declared.header.Extended as Header;
 ghost use Rattle.dl_headers.specs.Header.{extended_header, optional, IsExtended};
-ghost use Rattle.dl_headers.specs.Reading.{front_fault, len_of};
+ghost use Rattle.dl_headers.specs.Reading.{front_fault};
 ghost use Rattle.dl_headers.specs.Message.{Message, IsMessage};
 ghost use Rattle.dl_message.specs.Parts.{message_of};
 ghost use Rattle.dl_message.specs.Requests.{asks, asks_by};

@@ -1,8 +1,7 @@
 ghost use Rattle.std.specs.Prelude.{◌≡◌, ◌<◌, length};
-ghost use Rattle.dl_headers.specs.Reading.{len_of};
+ghost use Rattle.dl_bytes.specs.Htyp.{len_of};
 
 use super::*;
-use crate::captures::*;
 use dl_bytes::{Id, Item, Payload, Severity};
 use dl_headers::{HeaderFault, read_standard};
 use std::alloc::Global;
@@ -18,7 +17,7 @@ const REQUESTS: &[u8] = b"\
 
 /// What a client looks at in a message: LEN, MCNT, APID, CTID, and whether it is a request.
 #[derive(Clone, Copy, Debug, PartialEq, Eq)]
-pub struct Seen(pub u16, pub u8, pub [u8; 4], pub [u8; 4], pub bool);
+struct Seen(u16, u8, [u8; 4], [u8; 4], bool);
 
 const IN_REQUESTS: [Seen; 4] = [
     Seen(26, 0, *b"APP\0", *b"CON\0", true),
@@ -59,27 +58,17 @@ fn cut(alloc: Global, stream: &[u8], size: usize) -> Result<Vec<Seen>, Fail> {
     Ok(found)
 }
 
-/// Cuts the stream whole, a byte at a time, and in pieces of 7: each gives these messages.
-fn holds(alloc: Global, stream: &[u8], messages: &[Seen]) -> Result<(), Fail> {
-    for size in [4096, 1, 7] {
-        if cut(alloc, stream, size)?.as_slice() != messages {
-            return Err("other messages".into());
-        }
+#[test]
+fn requests_in_any_pieces(rt: HostRuntime) -> Result<(), Fail> {
+    for size in [REQUESTS.len(), 1, 7] {
+        let found = cut(rt.alloc(), REQUESTS, size)?;
+        assert_eq!(rt;
+            found.as_slice(),
+            IN_REQUESTS.as_slice(),
+            "in pieces of {size}"
+        );
     }
     Ok(())
-}
-
-#[test]
-fn streams_in_any_pieces(rt: HostRuntime) -> Result<(), Fail> {
-    holds(rt.alloc(), CONNECTING, &IN_CONNECTING)?;
-    holds(rt.alloc(), SESSION, &IN_SESSION)?;
-    holds(rt.alloc(), NON_VERBOSE, &IN_NON_VERBOSE)?;
-    holds(rt.alloc(), RAW, &IN_RAW)?;
-    holds(rt.alloc(), TEST_2, &IN_TEST_2)?;
-    holds(rt.alloc(), TEST_4, &IN_TEST_4)?;
-    holds(rt.alloc(), SECOND_CLIENT, &IN_SECOND_CLIENT)?;
-    holds(rt.alloc(), FILE_TRANSFER, &IN_FILE_TRANSFER)?;
-    holds(rt.alloc(), REQUESTS, &IN_REQUESTS)
 }
 
 /// Why the bytes begin with no standard header.

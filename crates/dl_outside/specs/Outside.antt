@@ -5,9 +5,13 @@ use Rattle.dl_outside.specs.declared.source.Got.TheVariants as got
 use Rattle.dl_outside.specs.declared.sink.Took.{Took}
 use Rattle.dl_outside.specs.declared.sink.Took.TheVariants as took
 
+-- one more, as a count of 64 bits has it: at the top it stands
+abbrev pub one_more : ℕ → ℕ
+one_more count = min (count + 1) (2 ^ 64 - 1)
+
 -- a count of faults rose, or stands at the top of its 64 bits
 abbrev pub Rose : ℕ → ℕ → Type 0
-Rose before now = min (before + 1) (2 ^ 64 - 1) ≤ now
+Rose before now = one_more before ≤ now
 
 -- What a read gave into the front of a buffer: the next bytes of what was left. The end comes only where nothing
 -- was left, and a fault takes nothing.

@@ -1,6 +1,6 @@
 //! The machine that plays a script: what happened, in order.
 
-ghost use Rattle.std.specs.Prelude.{◌≡◌, [], ◌++◌, OnOk, IfSome, option_to_list};
+ghost use Rattle.std.specs.Prelude.{◌≡◌, ℕ, [], ◌++◌, OnOk, IfSome, option_to_list};
 ghost use Rattle.std.specs.List.{list_any};
 ghost use Rattle.dl_model.specs.Events.{context_at, same_id};
 ghost use Rattle.dl_model.specs.Steps.{stops};
@@ -70,7 +70,7 @@ impl Machine {
         ensures { Takes self.old step result self.new }
     {
         match step {
-            Step::App { apid, capacity } => self.app(apid, capacity),
+            Step::App { apid, .. } => self.app(apid),
             Step::Context(context) => self.context(context),
             Step::Writer { apid } => self.writer(apid),
             Step::Log {
@@ -85,9 +85,9 @@ impl Machine {
         }
     }
 
-    /// An application is registered.
-    fn app(&mut self, apid: Id, _capacity: u16) -> Result<bool, AllocError>
-        ensures { Takes self.old (App apid _capacity) result self.new }
+    /// An application is registered. Nothing depends on the capacity of its ring.
+    fn app(&mut self, apid: Id) -> Result<bool, AllocError>
+        ensures { (capacity : ℕ) → Takes self.old (App apid capacity) result self.new }
     {
         if self.app.is_some() {
             return Ok(false);

@@ -4,9 +4,8 @@ use Rattle.std.specs.Prelude.{◌==◌, not, ok_or, nat_le}
 use Rattle.std.specs.Str.{bytes_eq}
 use Rattle.std.proofs.lemmas.Bool.{cases_lt, lt-ltb, le-ltb}
 use Rattle.std.proofs.lemmas.List.{length-append}
-use Rattle.dl_bytes.specs.Htyp.{version, header_len}
+use Rattle.dl_bytes.specs.Htyp.{htyp_of, len_of, version, header_len}
 use Rattle.dl_bytes.specs.Number.{At, bytes_at}
-use Rattle.dl_bytes.specs.UserMessage.{htyp_of, len_of}
 use Rattle.dl_bytes.specs.declared.user.UserMsg.TheVariants.{Log}
 use Rattle.dl_user.specs.declared.fault.UserFault.{UserFault}
 use Rattle.dl_user.specs.declared.fault.UserFault.TheVariants.{TooLong, Level}

@@ -5,8 +5,8 @@ use Rattle.std.proofs.lemmas.Bool.{cases_lt, ltb-false, lt-ltb, le-ltb, eqb-true
 use Rattle.std.proofs.lemmas.List.{append-nil, length-append, length-drop, drop-append-le, get_or_append_left}
 use Rattle.byteorder.specs.Numbers.{big_from-append}
 use Rattle.dl_bytes.specs.Number.{At, bytes_at}
-use Rattle.dl_bytes.specs.Htyp.{version, header_len}
-use Rattle.dl_bytes.specs.UserMessage.{htyp_of, len_of, IsMessage}
+use Rattle.dl_bytes.specs.Htyp.{htyp_of, len_of, version, header_len}
+use Rattle.dl_bytes.specs.UserMessage.{HoldsMessage}
 use Rattle.dl_bytes.specs.declared.user.UserMsg.{UserMsg}
 use Rattle.dl_bytes.specs.declared.user.UserMsg.TheVariants.{Log}
 use Rattle.dl_user.specs.declared.fault.UserFault.{UserFault}
@@ -68,7 +68,7 @@ inner_found bytes len e =
       len_is = is;
     }
 
-inner_again : (message : List ℕ) → IsMessage message → inner_len message ≡ Ok (length message)
+inner_again : (message : List ℕ) → HoldsMessage message → inner_len message ≡ Ok (length message)
 unfolding inner_len
 inner_again message h =
     let headers = h.headers in
@@ -119,7 +119,7 @@ log_found bytes msg c fits e =
     let enough : 4 ≤ length m = omega arith in
     let htyp : htyp_of bytes ≡ htyp_of m = ap htyp_of parts ∙ htyp-append m c.rest enough in
     let len_same : len_of bytes ≡ len_of m = ap len_of parts ∙ len-append m c.rest enough in
-    let whole : IsMessage m = record {
+    let whole : HoldsMessage m = record {
       version_is = rw (← htyp) begins.version_is;
       headers = rw (← htyp, ← len_same, begins.len_is) begins.headers;
       whole = sym len_same ∙ begins.len_is ∙ sym len;

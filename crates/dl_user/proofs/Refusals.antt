@@ -8,9 +8,8 @@ use Rattle.std.proofs.lemmas.Int.{ints}
 use Rattle.std.proofs.lemmas.Bool.{cases_lt, ne_eqb, le-ltb, lt-ltb, le-leb, false_from_ne_true}
 use Rattle.std.proofs.lemmas.Slice.Eq.{bytes_eq-Decides}
 use Rattle.dl_headers.specs.declared.fault.HeaderFault.TheVariants.{Version, Length}
-use Rattle.dl_bytes.specs.Htyp.{version, header_len}
+use Rattle.dl_bytes.specs.Htyp.{htyp_of, len_of, version, header_len}
 use Rattle.dl_bytes.specs.Number.{At}
-use Rattle.dl_bytes.specs.UserMessage.{htyp_of, len_of}
 use Rattle.dl_user.specs.declared.fault.UserFault.{UserFault}
 use Rattle.dl_user.specs.declared.fault.UserFault.TheVariants.{Marker, Kind, Inner, TooLong, Level}
 use Rattle.dl_user.specs.declared.fault.Stop.TheVariants.{Bad}

@@ -6,9 +6,8 @@ use Rattle.std.proofs.lemmas.Int.{ints}
 use Rattle.std.proofs.lemmas.Bool.{cases_lt, eqb-true, eqb-false, ltb-false, ltb-true, leb-true, leb-false, false≢true}
 use Rattle.std.proofs.lemmas.List.{take-append-drop, length-take}
 use Rattle.std.proofs.lemmas.Slice.Eq.{bytes_eq-Decides}
-use Rattle.dl_bytes.specs.Htyp.{version, header_len}
+use Rattle.dl_bytes.specs.Htyp.{htyp_of, len_of, version, header_len}
 use Rattle.dl_bytes.specs.Number.{At, bytes_at, number_at}
-use Rattle.dl_bytes.specs.UserMessage.{htyp_of, len_of}
 use Rattle.dl_bytes.specs.declared.user.UserMsg.{UserMsg}
 use Rattle.dl_user.specs.declared.fault.UserFault.{UserFault}
 use Rattle.dl_user.specs.declared.fault.UserFault.TheVariants.{TooLong, Level}

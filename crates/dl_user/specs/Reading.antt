@@ -4,10 +4,9 @@ use Rattle.std.specs.Int.{w8, cast_signed}
 use Rattle.std.specs.Ordering.{int_eq}
 use Rattle.std.specs.Str.{bytes_eq}
 use Rattle.dl_headers.specs.declared.fault.HeaderFault.TheVariants.{Version, Length}
-use Rattle.dl_bytes.specs.Htyp.{version, header_len}
+use Rattle.dl_bytes.specs.Htyp.{htyp_of, len_of, version, header_len}
 use Rattle.dl_bytes.specs.Level.{own_level_of}
 use Rattle.dl_bytes.specs.Number.{At, at, bytes_at, number_at}
-use Rattle.dl_bytes.specs.UserMessage.{htyp_of, len_of}
 use Rattle.dl_bytes.specs.declared.cursor.Cursor.{Cursor}
 use Rattle.dl_bytes.specs.declared.cursor.Order.TheVariants.{Little}
 use Rattle.dl_bytes.specs.declared.user.UserMsg.{UserMsg}

@@ -57,8 +57,8 @@ pub fn play(
         status,
         out: Vec::from_slice(alloc, out.inner.bytes())?,
         err: Vec::from_slice(alloc, err.inner.bytes())?,
-        reads: input.calls(),
-        writes: out.calls(),
+        reads: input.calls,
+        writes: out.calls,
     })
 }
 

@@ -1,8 +1,8 @@
 use Rattle.std.proofs.Common.{◌≡◌, ◌∷◌, [], ◌++◌, ◌+◌, cond, length, drop, Ok, ap, refl, sym, ◌∙◌, arith}
 use Rattle.std.proofs.lemmas.List.{take_rest}
-use Rattle.dl_bytes.specs.Htyp.{standard_len, has_ecu, has_session, has_ticks}
+use Rattle.dl_bytes.specs.Htyp.{htyp_of, len_of, standard_len, has_ecu, has_session, has_ticks}
 use Rattle.dl_headers.specs.Header.{short, optional, long}
-use Rattle.dl_headers.specs.Reading.{htyp_of, mcnt_of, len_of}
+use Rattle.dl_headers.specs.Reading.{mcnt_of}
 use Rattle.dl_headers.proofs.Again.{len_again, same_standard, in_order}
 use Rattle.dl_headers.proofs.Parts.{front_spelled, four_parts}
 use Rattle.dl_headers.proofs.read.read_standard.Goals as goal

@@ -1,6 +1,6 @@
 use Rattle.std.proofs.Common.{arith}
 use Rattle.dl_args.proofs.WrittenForms.{written_is_spelling, written_again}
-use Rattle.dl_args.proofs.law.written_is_read.Goals as goal
+use Rattle.dl_args.proofs.laws.written_is_read.Goals as goal
 
 pub returns-clause-added : goal.returns-clause-added
 returns-clause-added c = λ a payload value room. record { value = value; len = omega (arith, room.0) }
