@@ -6,3 +6,4 @@ pub mod Numbers
 pub mod Boundaries
 pub mod Quotes
 pub mod Payloads
+pub mod Spellings

@@ -16,7 +16,7 @@ use Rattle.dl_args.specs.declared.width.Width.{Width}
 use Rattle.dl_args.specs.declared.width.Width.TheVariants.{W8, W16, W32, W64, W128}
 use Rattle.dl_replay.specs.Value.{digits_field, unsigned_field, signed_field}
 
-own : IsNumeralModel (λ ds. all_ascii_digits ds ≡ true) (digits_value 10)
+pub own : IsNumeralModel (λ ds. all_ascii_digits ds ≡ true) (digits_value 10)
 own = numerals_by_value _ tells_all_ascii_digits
 
 -- a number where a test holds of it
@@ -58,7 +58,7 @@ signed_read field r h no_plus = elim (cases_Bool (starts_with_minus field)) [
 
 -- a signed number of 128 bits that fits a width, or doesn't, is one of that width, or isn't
 
-half_bits : (width : Width) → 2 ^ hbits (int_type width) ≡ 2 ^ (8 * byte_count width - 1)
+pub half_bits : (width : Width) → 2 ^ hbits (int_type width) ≡ 2 ^ (8 * byte_count width - 1)
 half_bits W8 = refl
 half_bits W16 = refl
 half_bits W32 = refl
@@ -69,7 +69,7 @@ negative_fits : (w : int.Width) (n : ℕ) → n ≤ 2 ^ hbits w → FitsSigned w
 negative_fits w zero h = record { sfits = pow_pos (hbits w) }
 negative_fits w (suc n) h = record { sfits = h }
 
-fits_negative : (w : int.Width) (n : ℕ) → FitsSigned w (neg_ℤ (pos n)) → n ≤ 2 ^ hbits w
+pub fits_negative : (w : int.Width) (n : ℕ) → FitsSigned w (neg_ℤ (pos n)) → n ≤ 2 ^ hbits w
 fits_negative w zero h = omega arith
 fits_negative w (suc n) h = h.sfits
 

@@ -6,7 +6,7 @@ use Rattle.std.proofs.lemmas.Str.{inside_one, encode_ascii, length-encode, len_u
 use Rattle.dl_replay.specs.Argument.{is_escapable, unescaped}
 
 -- a byte that is no quote and no backslash says itself
-one_byte : (b : ℕ) (rest : List ℕ) → b ≢ 34 → b ≢ 92 → unescaped (b ∷ rest) ≡ option_map (λ text. b ∷ text) (unescaped rest)
+pub one_byte : (b : ℕ) (rest : List ℕ) → b ≢ 34 → b ≢ 92 → unescaped (b ∷ rest) ≡ option_map (λ text. b ∷ text) (unescaped rest)
 one_byte b [] no_quote no_backslash = rw (ne_eqb b 34 no_quote) refl
 one_byte b (c ∷ rest) no_quote no_backslash = rw (ne_eqb b 34 no_quote, ne_eqb b 92 no_backslash) refl
 
@@ -41,7 +41,7 @@ escapable_is_ascii c may = elim (or_cases (eqb c 34) (eqb c 92) may) [
   | inr e ↦ let is = eqb-true c 92 e in omega arith
 ]
 
-or_parts : (x y : Bool) → (x || y) ≡ false → (x ≡ false) × (y ≡ false)
+pub or_parts : (x y : Bool) → (x || y) ≡ false → (x ≡ false) × (y ≡ false)
 or_parts false y e = (refl, e)
 or_parts true y e = absurd cc
 

@@ -1,6 +1,7 @@
 pub mod Fields
 pub mod Value
 pub mod Argument
+pub mod Spelling
 pub mod Line
 pub mod Script
 pub mod Kept

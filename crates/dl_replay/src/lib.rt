@@ -3,6 +3,7 @@
 
 mod argument;
 mod fields;
+pub mod laws;
 mod line;
 mod machine;
 mod outside;
