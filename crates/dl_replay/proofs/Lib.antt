@@ -7,3 +7,4 @@ pub mod Boundaries
 pub mod Quotes
 pub mod Payloads
 pub mod Spellings
+pub mod Values

@@ -80,7 +80,7 @@ over : (m n : ℕ) → ¬ (m < n) → n ≤ m
 over m n h = grind arith
 
 -- the number behind what was read
-told_by : (test : ℕ → Bool) (make : ℕ → ℤ) (o : Option ℕ) (z : ℤ) → (o >>= held test make) ≡ Some z → (n : ℕ) × (o ≡ Some n) × (make n ≡ z) × (test n ≡ true)
+told_by : {A : Type 0} (test : ℕ → Bool) (make : ℕ → A) (o : Option ℕ) (z : A) → (o >>= held test make) ≡ Some z → (n : ℕ) × (o ≡ Some n) × (make n ≡ z) × (test n ≡ true)
 told_by test make None z e = absurd cc
 told_by test make (Some n) z e = elim (cases_Bool (test n)) [
   | inr fails ↦ let none = rw fails at e in absurd cc
@@ -99,16 +99,28 @@ module _ (big small : ℕ → Bool) (make : ℕ → ℤ) (o : Option ℕ) (z : �
 abbrev within : Width → (ℕ → ℕ → Bool) → ℕ → Bool
 within width test n = test n (2 ^ (8 * byte_count width - 1))
 
-module _ (width : Width) (field : List ℕ) (z : ℤ) (told : signed_field 128 field ≡ Some z) where
-  -- it fits 128 bits
-  pub fits_128 : FitsSigned w128 z
-  fits_128 = elim (cases_Bool (starts_with_minus field)) [
-    | inl minus ↦ let by = told_by (within W128 leb) (λ n. neg_ℤ (pos n)) (digits_field (drop 1 field)) z (rw minus at told) in
-        subst (FitsSigned w128) by.2 (negative_fits w128 by.0 (leb-true by.0 _ by.3))
-    | inr plain ↦ let by = told_by (within W128 ltb) pos (digits_field field) z (rw plain at told) in
-        subst (FitsSigned w128) by.2 (record { sfits = ltb-true by.0 _ by.3 })
-  ]
+-- a number of a width fits it
+pub signed_fits : (width : Width) (field : List ℕ) (z : ℤ) → signed_field (8 * byte_count width) field ≡ Some z → FitsSigned (int_type width) z
+signed_fits width field z told = elim (cases_Bool (starts_with_minus field)) [
+  | inl minus ↦ let by = told_by (within width leb) (λ n. neg_ℤ (pos n)) (digits_field (drop 1 field)) z (rw minus at told) in
+      subst (FitsSigned (int_type width)) by.2 (negative_fits (int_type width) by.0 (subst (λ m. by.0 ≤ m) (sym (half_bits width)) (leb-true by.0 _ by.3)))
+  | inr plain ↦ let by = told_by (within width ltb) pos (digits_field field) z (rw plain at told) in
+      subst (FitsSigned (int_type width)) by.2 (record { sfits = subst (λ m. by.0 < m) (sym (half_bits width)) (ltb-true by.0 _ by.3) })
+]
 
+pub all_bits : (width : Width) → 256 ^ byte_count width ≡ 2 ^ (8 * byte_count width)
+all_bits W8 = refl
+all_bits W16 = refl
+all_bits W32 = refl
+all_bits W64 = refl
+all_bits W128 = refl
+
+pub unsigned_fits : (width : Width) (field : List ℕ) (n : ℕ) → unsigned_field (8 * byte_count width) field ≡ Some n → n < 256 ^ byte_count width
+unsigned_fits width field n told =
+    let by = told_by (λ m. ltb m (2 ^ (8 * byte_count width))) (λ m. m) (digits_field field) n told in
+    subst (λ m. m < 256 ^ byte_count width) by.2 (subst (λ m. by.0 < m) (sym (all_bits width)) (ltb-true by.0 _ by.3))
+
+module _ (width : Width) (field : List ℕ) (z : ℤ) (told : signed_field 128 field ≡ Some z) where
   pub fitting : FitsSigned (int_type width) z → Some z ≡ signed_field (8 * byte_count width) field
   fitting fits = elim (cases_Bool (starts_with_minus field)) [
     | inl minus ↦ rw minus

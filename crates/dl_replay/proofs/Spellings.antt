@@ -24,7 +24,7 @@ use Rattle.dl_replay.specs.Value.{digits_field, unsigned_field, signed_field}
 use Rattle.dl_replay.specs.Spelling.{with_colon, bits_of, escaped, value_spelling, names_of, spelling, HasBytes, IsSayable}
 use Rattle.dl_replay.specs.declared.argument.Kind.{Kind}
 use Rattle.dl_replay.specs.declared.argument.Kind.TheVariants as kind
-use Rattle.dl_replay.proofs.Numbers.{own, half_bits, fits_negative}
+use Rattle.dl_replay.proofs.Numbers.{own, half_bits, all_bits, fits_negative}
 use Rattle.dl_replay.proofs.Quotes.{one_byte, or_parts}
 
 -- ---- what stands before a colon
@@ -75,13 +75,6 @@ no_minus n small =
     let first = digit_at (decimal n) 0 numeral.0.1 numeral.0.0 in
     ne_eqb (get_or (decimal n) 0 0) 45 (λ e. omega arith)
 
-bits_bound : (width : Width) → 256 ^ byte_count width ≡ 2 ^ (8 * byte_count width)
-bits_bound W8 = refl
-bits_bound W16 = refl
-bits_bound W32 = refl
-bits_bound W64 = refl
-bits_bound W128 = refl
-
 widest : (width : Width) → 2 ^ (8 * byte_count width) ≤ 2 ^ 128
 widest W8 = lit≤ tt
 widest W16 = lit≤ tt
@@ -98,7 +91,7 @@ half_widest W128 = lit≤ tt
 
 unsigned : (width : Width) (n : ℕ) → n < 256 ^ byte_count width → unsigned_field (8 * byte_count width) (decimal n) ≡ Some n
 unsigned width n fits =
-    let below : n < 2 ^ (8 * byte_count width) = subst (λ m. n < m) (bits_bound width) fits in
+    let below : n < 2 ^ (8 * byte_count width) = subst (λ m. n < m) (all_bits width) fits in
     let wide = widest width in
     rw (digits n (omega arith), lt-ltb n _ below) refl
 
