@@ -75,7 +75,7 @@ width_again W32 = refl
 width_again W64 = refl
 width_again W128 = refl
 
-tyle_small : (width : Width) → tyle_of width < 16
+pub tyle_small : (width : Width) → tyle_of width < 16
 tyle_small W8 = lit< tt
 tyle_small W16 = lit< tt
 tyle_small W32 = lit< tt

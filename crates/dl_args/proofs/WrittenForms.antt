@@ -1,5 +1,5 @@
 -- The written form is in the form that is read, lowest byte first.
-use Rattle.std.proofs.Common.{◌≡◌, ℕ, ℤ, pos, negsuc, ◌+◌, ◌*◌, ◌%◌, ◌^◌, ◌<◌, Bool, true, false, List, [], ◌∷◌, ◌++◌, length, Some, None, Ok, refl, sym, ap, ◌∙◌, append_assoc, arith, inl, lit<}
+use Rattle.std.proofs.Common.{◌≡◌, ℕ, ℤ, pos, negsuc, ◌+◌, ◌*◌, ◌%◌, ◌^◌, ◌<◌, Bool, true, false, List, [], ◌∷◌, ◌++◌, length, Some, None, Ok, refl, sym, ap, ◌∙◌, append_assoc, arith, inl}
 use Rattle.std.specs.Prelude.{FitsSigned}
 use Rattle.std.specs.List.{flat_map, AllByRecursion}
 use Rattle.std.specs.Int.{w128, cast_unsigned, from_bool}
@@ -20,6 +20,7 @@ use Rattle.dl_args.specs.Width.{tyle_of, byte_count, int_type}
 use Rattle.dl_args.specs.Argument.{written, size, closed_size, number, signed, IsWritable}
 use Rattle.dl_args.specs.Reading.{arguments_of}
 use Rattle.dl_args.proofs.ArgForms.{args_again}
+use Rattle.dl_args.proofs.InfoForms.{tyle_small}
 use Rattle.dl_args.specs.ReadForm.{◌before◌, IsNumber, IsSigned, Allows, IsInfo, IsText, IsLength, IsName, AreNames, IsSpelling, AreSpellings, kind_bit}
 
 little : (n x : ℕ) → x < 256 ^ n → IsNumber Little n x (little_bytes n x)
@@ -106,13 +107,6 @@ three p q r bytes first second third parts = record { front = p; back = q ++ r; 
 -- a type info, a length, the name and the bytes
 four : {P Q R S : List ℕ → Type 0} (p q r s bytes : List ℕ) → P p → Q q → R r → S s → bytes ≡ p ++ (q ++ (r ++ s)) → (P before Q before R before S) bytes
 four p q r s bytes first second third fourth parts = record { front = p; back = q ++ (r ++ s); first = first; second = three q r s (q ++ (r ++ s)) second third fourth refl; parts = parts }
-
-tyle_small : (width : Width) → tyle_of width < 16
-tyle_small W8 = lit< tt
-tyle_small W16 = lit< tt
-tyle_small W32 = lit< tt
-tyle_small W64 = lit< tt
-tyle_small W128 = lit< tt
 
 pub written_is_spelling : (a : Arg) → IsWritable a → IsSpelling Little a (written a)
 written_is_spelling (arg.Bool None value) fits =
