@@ -1,10 +1,4 @@
-pub mod Fields
-pub mod Value
-pub mod Argument
-pub mod Spelling
-pub mod Line
 pub mod Script
 pub mod Kept
 pub mod Program
-pub mod Added
 pub mod Reading

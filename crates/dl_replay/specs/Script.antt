@@ -8,8 +8,8 @@ use Rattle.dl_model.specs.declared.step.Step.{Step}
 use Rattle.dl_model.specs.declared.step.Step.TheVariants.{App, Context, Writer, Log, Connect, Close}
 use Rattle.dl_model.specs.Events.{same_id, apps, contexts, writers, clients, context_at, is_call}
 use Rattle.dl_model.specs.Steps.{events_of, stops}
-use Rattle.dl_replay.specs.Fields.{lines_of, is_ignored}
-use Rattle.dl_replay.specs.Line.{step_of}
+use Rattle.dl_script.specs.Fields.{lines_of, is_ignored}
+use Rattle.dl_script.specs.Line.{step_of}
 
 -- the most bytes of a script
 abbrev pub script_limit : ℕ

@@ -1,14 +1,13 @@
 //! A script, line by line.
 
 ghost use Rattle.std.specs.Prelude.{◌≡◌, [], IfOk, option_map};
-ghost use Rattle.dl_replay.specs.Fields.{lines_of};
+ghost use Rattle.dl_script.specs.Fields.{lines_of};
 ghost use Rattle.dl_replay.specs.Script.{events_after, run_of};
 
-use crate::fields::says_nothing;
-use crate::line::step;
 use crate::machine::Machine;
 use bstr::ByteSlice;
 use dl_model::Event;
+use dl_script::{says_nothing, step};
 use std::alloc::{AllocError, Global};
 
 /// The most bytes of a script.

@@ -1,5 +1,5 @@
 use Rattle.std.proofs.Common.{◌≡◌, []}
-use Rattle.dl_replay.specs.Fields.{lines_of}
+use Rattle.dl_script.specs.Fields.{lines_of}
 use Rattle.dl_replay.specs.Script.{events_after}
 use Rattle.dl_replay.proofs.script.played.Given as goal
 
