@@ -49,7 +49,10 @@ impl<S: Source> Source for Failing<S> {
         ensures cause { HasReadCause self.old.faults self.new.faults result }
         ensures calls { self.new.calls ≡ one_more self.old.calls }
         ensures chosen { Contains self.old.chosen.items self.new.calls → result ≡ got.Failed }
-        ensures others { self.new.chosen ≡ self.old.chosen }
+        // The answer of every other call is the inner object's.
+        ensures others { ¬ Contains self.old.chosen.items self.new.calls
+            → HasReadCause (S.faults self.old.inner) (S.faults self.new.inner) result }
+        ensures kept { self.new.chosen ≡ self.old.chosen }
     {
         self.calls = self.calls.saturating_add(1);
         if self.chosen.contains(&self.calls) {
@@ -79,7 +82,10 @@ impl<K: Sink> Sink for Failing<K> {
         ensures cause { HasWriteCause self.old.faults self.new.faults result }
         ensures calls { self.new.calls ≡ one_more self.old.calls }
         ensures chosen { Contains self.old.chosen.items self.new.calls → result ≡ took.Failed }
-        ensures others { self.new.chosen ≡ self.old.chosen }
+        // The answer of every other call is the inner object's.
+        ensures others { ¬ Contains self.old.chosen.items self.new.calls
+            → HasWriteCause (K.faults self.old.inner) (K.faults self.new.inner) result }
+        ensures kept { self.new.chosen ≡ self.old.chosen }
     {
         self.calls = self.calls.saturating_add(1);
         if self.chosen.contains(&self.calls) {
