@@ -6,6 +6,7 @@ use Rattle.std.specs.Int.{from_bool}
 use Rattle.std.specs.Io.BufRead.{strip_last}
 use Rattle.std.proofs.lemmas.Bool.Decides.{nat_tests}
 use Rattle.std.proofs.lemmas.List.{append_cancel_right}
+use Rattle.dl_bytes.specs.Bytes.{IsBytes}
 use Rattle.dl_bytes.specs.declared.cursor.Order.{Order}
 use Rattle.dl_bytes.specs.Number.{At, number_at}
 use Rattle.dl_args.specs.declared.arg.Arg.{Arg}
@@ -20,7 +21,7 @@ use Rattle.dl_args.specs.TypeInfo.{kind_of, has_name}
 use Rattle.dl_args.specs.Fields.{name_at, names_at, named_bytes_at, unsigned_at, signed_at}
 use Rattle.dl_args.specs.Reading.{◌>>=◌, truth_of, bool_at, sint_at, uint_at, text_arg_at, raw_at, kind_at, arg_at, args_at}
 use Rattle.dl_args.specs.ReadForm.{◌before◌, Is, IsNumber, IsSigned, IsInfo, IsText, IsLength, IsName, AreNames, IsSpelling, AreSpellings}
-use Rattle.dl_args.proofs.Parts.{Takes, Takes-then, at_front, number_takes, number_again, number_fits, one_byte, byte_number, AreBytes, bytes_after}
+use Rattle.dl_args.proofs.Parts.{TakesForm, TakesForm-then, at_front, number_takes, number_again, number_fits, one_byte, byte_number, bytes_after}
 use Rattle.dl_args.proofs.FieldForms.{text_stripped, stripped_text, name_takes, name_again, names_take, names_again, named_bytes_take, named_bytes_again, unsigned_takes, unsigned_again, signed_takes, signed_again}
 use Rattle.dl_args.proofs.InfoForms.{kind_says, kind_again}
 
@@ -41,8 +42,8 @@ ok_is : {A : Type 0} (x y : A) → done x ≡ done y → x ≡ y
 ok_is x y e = cc
 
 -- the type info of what has a name or not, as it was found
-named_as : (order : Order) (k : Kind) (named found : Bool) (c d : At) → found ≡ named → Takes order (IsInfo order k named) c d → Takes order (IsInfo order k found) c d
-named_as order k named found c d e t = subst (λ (b : Bool). Takes order (IsInfo order k b) c d) (sym e) t
+pub named_as : (order : Order) (k : Kind) (named found : Bool) (c d : At) → found ≡ named → TakesForm order (IsInfo order k named) c d → TakesForm order (IsInfo order k found) c d
+named_as order k named found c d e t = subst (λ (b : Bool). TakesForm order (IsInfo order k b) c d) (sym e) t
 
 -- ---- what is read of each kind, behind its type info
 
@@ -54,7 +55,7 @@ truth_again : (value : Bool) → truth_of (from_bool value) ≡ Some value
 truth_again false = refl
 truth_again true = refl
 
-bool_takes : (order : Order) (place : ℕ) (named : Bool) (b c : At) (x : Arg × At) → Takes order (IsInfo order kind.Bool named) b c → bool_at place named c ≡ Ok x → Takes order (IsSpelling order x.0) b x.1
+bool_takes : (order : Order) (place : ℕ) (named : Bool) (b c : At) (x : Arg × At) → TakesForm order (IsInfo order kind.Bool named) b c → bool_at place named c ≡ Ok x → TakesForm order (IsSpelling order x.0) b x.1
 unfolding bool_at
 bool_takes order place named b c x t e =
     let n = part_ok (name_at named c) (Short place) (λ name. ok_or (number_at 1 name.1) (Short place) >>= λ byte. ok_or (truth_of byte.0) (Value place) >>= λ value. Ok (arg.Bool name.0 value, byte.1)) x e in
@@ -62,9 +63,9 @@ bool_takes order place named b c x t e =
     let v = part_ok (truth_of d.0.0) (Value place) (λ value. Ok (arg.Bool n.0.0 value, d.0.1)) x d.2 in
     let t1 = name_takes order named c n.0 t.same n.1 in
     let t2 = number_takes order 1 n.0.1 d.0 t1.0.same d.1 in
-    let byte : Takes order (Is (from_bool v.0 ∷ [])) n.0.1 d.0.1 = record { front = t2.front; form = one_byte order d.0.0 t2.front t2.form ∙ ap (λ (k : ℕ). k ∷ []) (truth_is d.0.0 v.0 v.1); parts = t2.parts; same = t2.same } in
-    let all = Takes-then order b c d.0.1 (named_as order kind.Bool named (is_some n.0.0) b c t1.1 t) (Takes-then order c n.0.1 d.0.1 t1.0 byte) in
-    subst (λ (y : Arg × At). Takes order (IsSpelling order y.0) b y.1) (ok_is (arg.Bool n.0.0 v.0, d.0.1) x v.2) all
+    let byte : TakesForm order (Is (from_bool v.0 ∷ [])) n.0.1 d.0.1 = record { front = t2.front; form = one_byte order d.0.0 t2.front t2.form ∙ ap (λ (k : ℕ). k ∷ []) (truth_is d.0.0 v.0 v.1); parts = t2.parts; same = t2.same } in
+    let all = TakesForm-then order b c d.0.1 (named_as order kind.Bool named (is_some n.0.0) b c t1.1 t) (TakesForm-then order c n.0.1 d.0.1 t1.0 byte) in
+    subst (λ (y : Arg × At). TakesForm order (IsSpelling order y.0) b y.1) (ok_is (arg.Bool n.0.0 v.0, d.0.1) x v.2) all
 
 bool_again : (order : Order) (place : ℕ) (name : Option (List ℕ)) (value : Bool) (front rest : List ℕ) → (IsName order name before Is (from_bool value ∷ [])) front → bool_at place (is_some name) (at_front order (front ++ rest)) ≡ Ok (arg.Bool name value, at_front order rest)
 unfolding bool_at
@@ -73,44 +74,44 @@ bool_again order place name value front rest form =
     ap (λ (r : List ℕ). bool_at place (is_some name) (at_front order r)) regrouped
     ∙ rw (name_again order name form.front ((from_bool value ∷ []) ++ rest) form.first, number_again order 1 (from_bool value) (from_bool value ∷ []) rest (byte_number order (from_bool value)), truth_again value) refl
 
-sint_takes : (order : Order) (width : Width) (place : ℕ) (named : Bool) (b c : At) (x : Arg × At) → Takes order (IsInfo order (kind.Sint width) named) b c → sint_at width place named c ≡ Ok x → Takes order (IsSpelling order x.0) b x.1
+sint_takes : (order : Order) (width : Width) (place : ℕ) (named : Bool) (b c : At) (x : Arg × At) → TakesForm order (IsInfo order (kind.Sint width) named) b c → sint_at width place named c ≡ Ok x → TakesForm order (IsSpelling order x.0) b x.1
 unfolding sint_at
 sint_takes order width place named b c x t e =
     let n = part_ok (names_at named c) (Short place) (λ names. ok_or (signed_at width names.1) (Short place) >>= λ value. Ok (arg.Sint names.0.0 names.0.1 width value.0, value.1)) x e in
     let v = part_ok (signed_at width n.0.1) (Short place) (λ value. Ok (arg.Sint n.0.0.0 n.0.0.1 width value.0, value.1)) x n.2 in
     let t1 = names_take order named c n.0 t.same n.1 in
     let t2 = signed_takes order width n.0.1 v.0 t1.0.same v.1 in
-    let all = Takes-then order b c v.0.1 (named_as order (kind.Sint width) named (is_some n.0.0.0) b c t1.1 t) (Takes-then order c n.0.1 v.0.1 t1.0 t2) in
-    subst (λ (y : Arg × At). Takes order (IsSpelling order y.0) b y.1) (ok_is (arg.Sint n.0.0.0 n.0.0.1 width v.0.0, v.0.1) x v.2) all
+    let all = TakesForm-then order b c v.0.1 (named_as order (kind.Sint width) named (is_some n.0.0.0) b c t1.1 t) (TakesForm-then order c n.0.1 v.0.1 t1.0 t2) in
+    subst (λ (y : Arg × At). TakesForm order (IsSpelling order y.0) b y.1) (ok_is (arg.Sint n.0.0.0 n.0.0.1 width v.0.0, v.0.1) x v.2) all
 
-uint_takes : (order : Order) (width : Width) (place : ℕ) (named : Bool) (b c : At) (x : Arg × At) → Takes order (IsInfo order (kind.Uint width) named) b c → uint_at width place named c ≡ Ok x → Takes order (IsSpelling order x.0) b x.1
+uint_takes : (order : Order) (width : Width) (place : ℕ) (named : Bool) (b c : At) (x : Arg × At) → TakesForm order (IsInfo order (kind.Uint width) named) b c → uint_at width place named c ≡ Ok x → TakesForm order (IsSpelling order x.0) b x.1
 unfolding uint_at
 uint_takes order width place named b c x t e =
     let n = part_ok (names_at named c) (Short place) (λ names. ok_or (unsigned_at width names.1) (Short place) >>= λ value. Ok (arg.Uint names.0.0 names.0.1 width value.0, value.1)) x e in
     let v = part_ok (unsigned_at width n.0.1) (Short place) (λ value. Ok (arg.Uint n.0.0.0 n.0.0.1 width value.0, value.1)) x n.2 in
     let t1 = names_take order named c n.0 t.same n.1 in
     let t2 = unsigned_takes order width n.0.1 v.0 t1.0.same v.1 in
-    let all = Takes-then order b c v.0.1 (named_as order (kind.Uint width) named (is_some n.0.0.0) b c t1.1 t) (Takes-then order c n.0.1 v.0.1 t1.0 t2) in
-    subst (λ (y : Arg × At). Takes order (IsSpelling order y.0) b y.1) (ok_is (arg.Uint n.0.0.0 n.0.0.1 width v.0.0, v.0.1) x v.2) all
+    let all = TakesForm-then order b c v.0.1 (named_as order (kind.Uint width) named (is_some n.0.0.0) b c t1.1 t) (TakesForm-then order c n.0.1 v.0.1 t1.0 t2) in
+    subst (λ (y : Arg × At). TakesForm order (IsSpelling order y.0) b y.1) (ok_is (arg.Uint n.0.0.0 n.0.0.1 width v.0.0, v.0.1) x v.2) all
 
-text_arg_takes : (order : Order) (utf8 : Bool) (place : ℕ) (named : Bool) (b c : At) (x : Arg × At) → Takes order (IsInfo order (kind.Text utf8) named) b c → text_arg_at utf8 place named c ≡ Ok x → Takes order (IsSpelling order x.0) b x.1
+text_arg_takes : (order : Order) (utf8 : Bool) (place : ℕ) (named : Bool) (b c : At) (x : Arg × At) → TakesForm order (IsInfo order (kind.Text utf8) named) b c → text_arg_at utf8 place named c ≡ Ok x → TakesForm order (IsSpelling order x.0) b x.1
 unfolding text_arg_at
 text_arg_takes order utf8 place named b c x t e =
     let n = part_ok (named_bytes_at named c) (Short place) (λ fields. Ok (arg.Text fields.0.0 (strip_last 0 fields.0.1) utf8, fields.1)) x e in
     let t1 = named_bytes_take order named c n.0 t.same n.1 in
-    let all = Takes-then order b c n.0.1 (named_as order (kind.Text utf8) named (is_some n.0.0.0) b c t1.1 t) t1.0 in
-    let made : Takes order (IsSpelling order (arg.Text n.0.0.0 (strip_last 0 n.0.0.1) utf8)) b n.0.1 = record { front = all.front; form = (n.0.0.1, text_stripped n.0.0.1, all.form); parts = all.parts; same = all.same } in
-    subst (λ (y : Arg × At). Takes order (IsSpelling order y.0) b y.1) (ok_is (arg.Text n.0.0.0 (strip_last 0 n.0.0.1) utf8, n.0.1) x n.2) made
+    let all = TakesForm-then order b c n.0.1 (named_as order (kind.Text utf8) named (is_some n.0.0.0) b c t1.1 t) t1.0 in
+    let made : TakesForm order (IsSpelling order (arg.Text n.0.0.0 (strip_last 0 n.0.0.1) utf8)) b n.0.1 = record { front = all.front; form = (n.0.0.1, text_stripped n.0.0.1, all.form); parts = all.parts; same = all.same } in
+    subst (λ (y : Arg × At). TakesForm order (IsSpelling order y.0) b y.1) (ok_is (arg.Text n.0.0.0 (strip_last 0 n.0.0.1) utf8, n.0.1) x n.2) made
 
-raw_takes : (order : Order) (place : ℕ) (named : Bool) (b c : At) (x : Arg × At) → Takes order (IsInfo order kind.Raw named) b c → raw_at place named c ≡ Ok x → Takes order (IsSpelling order x.0) b x.1
+raw_takes : (order : Order) (place : ℕ) (named : Bool) (b c : At) (x : Arg × At) → TakesForm order (IsInfo order kind.Raw named) b c → raw_at place named c ≡ Ok x → TakesForm order (IsSpelling order x.0) b x.1
 unfolding raw_at
 raw_takes order place named b c x t e =
     let n = part_ok (named_bytes_at named c) (Short place) (λ fields. Ok (arg.Raw fields.0.0 fields.0.1, fields.1)) x e in
     let t1 = named_bytes_take order named c n.0 t.same n.1 in
-    let all = Takes-then order b c n.0.1 (named_as order kind.Raw named (is_some n.0.0.0) b c t1.1 t) t1.0 in
-    subst (λ (y : Arg × At). Takes order (IsSpelling order y.0) b y.1) (ok_is (arg.Raw n.0.0.0 n.0.0.1, n.0.1) x n.2) all
+    let all = TakesForm-then order b c n.0.1 (named_as order kind.Raw named (is_some n.0.0.0) b c t1.1 t) t1.0 in
+    subst (λ (y : Arg × At). TakesForm order (IsSpelling order y.0) b y.1) (ok_is (arg.Raw n.0.0.0 n.0.0.1, n.0.1) x n.2) all
 
-kind_takes : (order : Order) (k : Kind) (place : ℕ) (named : Bool) (b c : At) (x : Arg × At) → Takes order (IsInfo order k named) b c → kind_at k place named c ≡ Ok x → Takes order (IsSpelling order x.0) b x.1
+kind_takes : (order : Order) (k : Kind) (place : ℕ) (named : Bool) (b c : At) (x : Arg × At) → TakesForm order (IsInfo order k named) b c → kind_at k place named c ≡ Ok x → TakesForm order (IsSpelling order x.0) b x.1
 unfolding kind_at
 kind_takes order kind.Bool place named b c x t e = bool_takes order place named b c x t e
 kind_takes order (kind.Sint width) place named b c x t e = sint_takes order width place named b c x t e
@@ -120,13 +121,13 @@ kind_takes order kind.Raw place named b c x t e = raw_takes order place named b 
 
 -- ---- an argument
 
-pub arg_takes : (order : Order) (place : ℕ) (c : At) (x : Arg × At) → c.order ≡ order → AreBytes c.rest → arg_at place c ≡ Ok x → Takes order (IsSpelling order x.0) c x.1
+pub arg_takes : (order : Order) (place : ℕ) (c : At) (x : Arg × At) → c.order ≡ order → IsBytes c.rest → arg_at place c ≡ Ok x → TakesForm order (IsSpelling order x.0) c x.1
 unfolding arg_at
 arg_takes order place c x same small e =
     let i = part_ok (number_at 4 c) (Short place) (λ info. ok_or (kind_of info.0) (Unsupported place info.0) >>= λ k. kind_at k place (has_name info.0) info.1) x e in
     let k = part_ok (kind_of i.0.0) (Unsupported place i.0.0) (λ k. kind_at k place (has_name i.0.0) i.0.1) x i.2 in
     let t = number_takes order 4 c i.0 same i.1 in
-    let info : Takes order (IsInfo order k.0 (has_name i.0.0)) c i.0.1 = record { front = t.front; form = record { info = i.0.0; says = kind_says i.0.0 k.0 (number_fits 4 c i.0 small i.1) k.1; number = t.form }; parts = t.parts; same = t.same } in
+    let info : TakesForm order (IsInfo order k.0 (has_name i.0.0)) c i.0.1 = record { front = t.front; form = record { info = i.0.0; says = kind_says i.0.0 k.0 (number_fits 4 c i.0 small i.1) k.1; number = t.form }; parts = t.parts; same = t.same } in
     kind_takes order k.0 place (has_name i.0.0) c i.0.1 x info k.2
 
 info_again : (order : Order) (place : ℕ) (k : Kind) (named : Bool) (front rest : List ℕ) → IsInfo order k named front → arg_at place (at_front order (front ++ rest)) ≡ kind_at k place named (at_front order rest)
@@ -185,7 +186,7 @@ arg_again order place (arg.Raw name raw) front rest form = behind order place ki
 
 -- ---- all arguments
 
-pub args_take : (order : Order) (whole count : ℕ) (c : At) (args : List Arg) → c.order ≡ order → AreBytes c.rest → args_at whole count c ≡ Ok args
+pub args_take : (order : Order) (whole count : ℕ) (c : At) (args : List Arg) → c.order ≡ order → IsBytes c.rest → args_at whole count c ≡ Ok args
     → (front : List ℕ) × (rest : List ℕ) × AreSpellings order args front × (c.rest ≡ front ++ rest) × (length args ≡ count)
 unfolding args_at
 args_take order whole zero c args same small e =
@@ -194,7 +195,7 @@ args_take order whole (suc count) c args same small e =
     let a = bind_ok (arg_at (whole - length c.rest) c) (λ first. args_at whole count first.1 >>= λ others. Ok (first.0 ∷ others)) args e in
     let b = bind_ok (args_at whole count a.0.1) (λ others. Ok (a.0.0 ∷ others)) args a.2 in
     let t = arg_takes order (whole - length c.rest) c a.0 same small a.1 in
-    let others = args_take order whole count a.0.1 b.0 t.same (bytes_after t.front a.0.1.rest (subst AreBytes t.parts small)) b.1 in
+    let others = args_take order whole count a.0.1 b.0 t.same (bytes_after t.front a.0.1.rest (subst IsBytes t.parts small)) b.1 in
     let parts : c.rest ≡ (t.front ++ others.0) ++ others.1 = t.parts ∙ ap (λ (f : List ℕ). t.front ++ f) others.3 ∙ sym (append_assoc t.front others.0 others.1) in
     let form : AreSpellings order (a.0.0 ∷ b.0) (t.front ++ others.0) = record { front = t.front; back = others.0; first = t.form; second = others.2; parts = refl } in
     subst (λ (xs : List Arg). (front : List ℕ) × (rest : List ℕ) × AreSpellings order xs front × (c.rest ≡ front ++ rest) × (length xs ≡ suc count)) (ok_is (a.0.0 ∷ b.0) args b.2) (t.front ++ others.0, others.1, form, parts, ap suc others.4)

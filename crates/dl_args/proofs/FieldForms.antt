@@ -11,7 +11,7 @@ use Rattle.dl_args.specs.declared.width.Width.{Width}
 use Rattle.dl_args.specs.Width.{byte_count, int_type}
 use Rattle.dl_args.specs.Fields.{text_at, name_at, names_at, named_bytes_at, unsigned_at, signed_at}
 use Rattle.dl_args.specs.ReadForm.{◌before◌, Is, IsNumber, IsSigned, IsText, IsLength, IsName, AreNames}
-use Rattle.dl_args.proofs.Parts.{bind_some, some_is, Takes, Takes-then, takes_none, at_front, bytes_take, bytes_again, number_takes, number_again}
+use Rattle.dl_args.proofs.Parts.{bind_some, some_is, TakesForm, TakesForm-then, takes_none, at_front, bytes_take, bytes_again, number_takes, number_again}
 
 -- ---- texts
 
@@ -54,36 +54,36 @@ stripped_text text field (inr (e, whole)) =
       | inr open_ended ↦ rw open_ended e
     ]
 
-pub text_takes : (order : Order) (n : ℕ) (c : At) (x : List ℕ × At) → c.order ≡ order → text_at n c ≡ Some x → (field : List ℕ) × IsText x.0 field × Takes order (Is field) c x.1 × (length field ≡ n)
+pub text_takes : (order : Order) (n : ℕ) (c : At) (x : List ℕ × At) → c.order ≡ order → text_at n c ≡ Some x → (field : List ℕ) × IsText x.0 field × TakesForm order (Is field) c x.1 × (length field ≡ n)
 unfolding text_at
 text_takes order n c x same e =
     let b = bind_some (bytes_at n c) (λ field. Some (strip_last 0 field.0, field.1)) x e in
     let t = bytes_take order n c b.0 same b.1 in
-    subst (λ (y : List ℕ × At). (field : List ℕ) × IsText y.0 field × Takes order (Is field) c y.1 × (length field ≡ n)) (some_is (strip_last 0 b.0.0, b.0.1) x b.2) (b.0.0, text_stripped b.0.0, t.0, t.1)
+    subst (λ (y : List ℕ × At). (field : List ℕ) × IsText y.0 field × TakesForm order (Is field) c y.1 × (length field ≡ n)) (some_is (strip_last 0 b.0.0, b.0.1) x b.2) (b.0.0, text_stripped b.0.0, t.0, t.1)
 
 pub text_again : (order : Order) (text field rest : List ℕ) → IsText text field → text_at (length field) (at_front order (field ++ rest)) ≡ Some (text, at_front order rest)
 unfolding text_at
 text_again order text field rest form = rw (bytes_again order (length field) field rest refl, stripped_text text field form) refl
 
 -- a length that stands before its field
-length_is : (order : Order) (n : ℕ) (field : List ℕ) (c d : At) → length field ≡ n → Takes order (IsNumber order 2 n) c d → Takes order (IsLength order field) c d
+length_is : (order : Order) (n : ℕ) (field : List ℕ) (c d : At) → length field ≡ n → TakesForm order (IsNumber order 2 n) c d → TakesForm order (IsLength order field) c d
 length_is order n field c d len t = record { front = t.front; form = record { len = t.form.len; value = t.form.value ∙ sym len }; parts = t.parts; same = t.same }
 
 -- ---- names
 
-pub name_takes : (order : Order) (named : Bool) (c : At) (x : Option (List ℕ) × At) → c.order ≡ order → name_at named c ≡ Some x → Takes order (IsName order x.0) c x.1 × (is_some x.0 ≡ named)
+pub name_takes : (order : Order) (named : Bool) (c : At) (x : Option (List ℕ) × At) → c.order ≡ order → name_at named c ≡ Some x → TakesForm order (IsName order x.0) c x.1 × (is_some x.0 ≡ named)
 unfolding name_at
 name_takes order false c x same e =
-    subst (λ (y : Option (List ℕ) × At). Takes order (IsName order y.0) c y.1 × (is_some y.0 ≡ false)) (some_is (None, c) x e) (takes_none order c same, refl)
+    subst (λ (y : Option (List ℕ) × At). TakesForm order (IsName order y.0) c y.1 × (is_some y.0 ≡ false)) (some_is (None, c) x e) (takes_none order c same, refl)
 name_takes order true c x same e =
     let a = bind_some (number_at 2 c) (λ len. text_at len.0 len.1 >>= λ name. Some (Some name.0, name.1)) x e in
     let b = bind_some (text_at a.0.0 a.0.1) (λ name. Some (Some name.0, name.1)) x a.2 in
     let t0 = number_takes order 2 c a.0 same a.1 in
     let t1 = text_takes order a.0.0 a.0.1 b.0 t0.same b.1 in
-    let len : Takes order (IsLength order t1.0) c a.0.1 = length_is order a.0.0 t1.0 c a.0.1 t1.3 t0 in
-    let both = Takes-then order c a.0.1 b.0.1 len t1.2 in
-    let named : Takes order (IsName order (Some b.0.0)) c b.0.1 = record { front = both.front; form = (t1.0, t1.1, both.form); parts = both.parts; same = both.same } in
-    subst (λ (y : Option (List ℕ) × At). Takes order (IsName order y.0) c y.1 × (is_some y.0 ≡ true)) (some_is (Some b.0.0, b.0.1) x b.2) (named, refl)
+    let len : TakesForm order (IsLength order t1.0) c a.0.1 = length_is order a.0.0 t1.0 c a.0.1 t1.3 t0 in
+    let both = TakesForm-then order c a.0.1 b.0.1 len t1.2 in
+    let named : TakesForm order (IsName order (Some b.0.0)) c b.0.1 = record { front = both.front; form = (t1.0, t1.1, both.form); parts = both.parts; same = both.same } in
+    subst (λ (y : Option (List ℕ) × At). TakesForm order (IsName order y.0) c y.1 × (is_some y.0 ≡ true)) (some_is (Some b.0.0, b.0.1) x b.2) (named, refl)
 
 pub name_again : (order : Order) (name : Option (List ℕ)) (front rest : List ℕ) → IsName order name front → name_at (is_some name) (at_front order (front ++ rest)) ≡ Some (name, at_front order rest)
 unfolding name_at
@@ -93,16 +93,16 @@ name_again order (Some name) front rest form =
     let regrouped : front ++ rest ≡ b.front ++ (form.0 ++ rest) = ap (λ (f : List ℕ). f ++ rest) (b.parts ∙ ap (λ (f : List ℕ). b.front ++ f) b.second) ∙ append_assoc b.front form.0 rest in
     ap (λ (r : List ℕ). name_at true (at_front order r)) regrouped ∙ rw (number_again order 2 (length form.0) b.front (form.0 ++ rest) b.first, text_again order name form.0 rest form.1) refl
 
-names_joined : (order : Order) (name unit field other : List ℕ) (c l m a b : At) → IsText name field → IsText unit other → Takes order (IsLength order field) c l → Takes order (IsLength order other) l m → Takes order (Is field) m a → Takes order (Is other) a b
-    → Takes order (AreNames order (Some name) (Some unit)) c b
+names_joined : (order : Order) (name unit field other : List ℕ) (c l m a b : At) → IsText name field → IsText unit other → TakesForm order (IsLength order field) c l → TakesForm order (IsLength order other) l m → TakesForm order (Is field) m a → TakesForm order (Is other) a b
+    → TakesForm order (AreNames order (Some name) (Some unit)) c b
 names_joined order name unit field other c l m a b name_is unit_is t0 t1 t2 t3 =
-    let all = Takes-then order c l b t0 (Takes-then order l m b t1 (Takes-then order m a b t2 t3)) in
+    let all = TakesForm-then order c l b t0 (TakesForm-then order l m b t1 (TakesForm-then order m a b t2 t3)) in
     record { front = all.front; form = (field, other, name_is, unit_is, all.form); parts = all.parts; same = all.same }
 
-pub names_take : (order : Order) (named : Bool) (c : At) (x : (Option (List ℕ) × Option (List ℕ)) × At) → c.order ≡ order → names_at named c ≡ Some x → Takes order (AreNames order x.0.0 x.0.1) c x.1 × (is_some x.0.0 ≡ named)
+pub names_take : (order : Order) (named : Bool) (c : At) (x : (Option (List ℕ) × Option (List ℕ)) × At) → c.order ≡ order → names_at named c ≡ Some x → TakesForm order (AreNames order x.0.0 x.0.1) c x.1 × (is_some x.0.0 ≡ named)
 unfolding names_at
 names_take order false c x same e =
-    subst (λ (y : (Option (List ℕ) × Option (List ℕ)) × At). Takes order (AreNames order y.0.0 y.0.1) c y.1 × (is_some y.0.0 ≡ false)) (some_is ((None, None), c) x e) (takes_none order c same, refl)
+    subst (λ (y : (Option (List ℕ) × Option (List ℕ)) × At). TakesForm order (AreNames order y.0.0 y.0.1) c y.1 × (is_some y.0.0 ≡ false)) (some_is ((None, None), c) x e) (takes_none order c same, refl)
 names_take order true c x same e =
     let l = bind_some (number_at 2 c) (λ name_len. number_at 2 name_len.1 >>= λ unit_len. text_at name_len.0 unit_len.1 >>= λ name. text_at unit_len.0 name.1 >>= λ unit. Some ((Some name.0, Some unit.0), unit.1)) x e in
     let m = bind_some (number_at 2 l.0.1) (λ unit_len. text_at l.0.0 unit_len.1 >>= λ name. text_at unit_len.0 name.1 >>= λ unit. Some ((Some name.0, Some unit.0), unit.1)) x l.2 in
@@ -112,10 +112,10 @@ names_take order true c x same e =
     let t1 = number_takes order 2 l.0.1 m.0 t0.same m.1 in
     let t2 = text_takes order l.0.0 m.0.1 a.0 t1.same a.1 in
     let t3 = text_takes order m.0.0 a.0.1 b.0 t2.2.same b.1 in
-    let name_len : Takes order (IsLength order t2.0) c l.0.1 = length_is order l.0.0 t2.0 c l.0.1 t2.3 t0 in
-    let unit_len : Takes order (IsLength order t3.0) l.0.1 m.0.1 = length_is order m.0.0 t3.0 l.0.1 m.0.1 t3.3 t1 in
+    let name_len : TakesForm order (IsLength order t2.0) c l.0.1 = length_is order l.0.0 t2.0 c l.0.1 t2.3 t0 in
+    let unit_len : TakesForm order (IsLength order t3.0) l.0.1 m.0.1 = length_is order m.0.0 t3.0 l.0.1 m.0.1 t3.3 t1 in
     let named = names_joined order a.0.0 b.0.0 t2.0 t3.0 c l.0.1 m.0.1 a.0.1 b.0.1 t2.1 t3.1 name_len unit_len t2.2 t3.2 in
-    subst (λ (y : (Option (List ℕ) × Option (List ℕ)) × At). Takes order (AreNames order y.0.0 y.0.1) c y.1 × (is_some y.0.0 ≡ true)) (some_is ((Some a.0.0, Some b.0.0), b.0.1) x b.2) (named, refl)
+    subst (λ (y : (Option (List ℕ) × Option (List ℕ)) × At). TakesForm order (AreNames order y.0.0 y.0.1) c y.1 × (is_some y.0.0 ≡ true)) (some_is ((Some a.0.0, Some b.0.0), b.0.1) x b.2) (named, refl)
 
 pub names_again : (order : Order) (name unit : Option (List ℕ)) (front rest : List ℕ) → AreNames order name unit front → names_at (is_some name) (at_front order (front ++ rest)) ≡ Some ((name, unit), at_front order rest)
 unfolding names_at
@@ -135,7 +135,7 @@ names_again order (Some name) (Some unit) front rest form =
     ∙ rw (number_again order 2 (length field) b.front (c.front ++ (field ++ (other ++ rest))) b.first, number_again order 2 (length other) c.front (field ++ (other ++ rest)) c.first, text_again order name field (other ++ rest) form.2, text_again order unit other rest form.3) refl
 
 -- bytes with a name between their length and them
-pub named_bytes_take : (order : Order) (named : Bool) (c : At) (x : (Option (List ℕ) × List ℕ) × At) → c.order ≡ order → named_bytes_at named c ≡ Some x → Takes order (IsLength order x.0.1 before IsName order x.0.0 before Is x.0.1) c x.1 × (is_some x.0.0 ≡ named)
+pub named_bytes_take : (order : Order) (named : Bool) (c : At) (x : (Option (List ℕ) × List ℕ) × At) → c.order ≡ order → named_bytes_at named c ≡ Some x → TakesForm order (IsLength order x.0.1 before IsName order x.0.0 before Is x.0.1) c x.1 × (is_some x.0.0 ≡ named)
 unfolding named_bytes_at
 named_bytes_take order named c x same e =
     let l = bind_some (number_at 2 c) (λ len. name_at named len.1 >>= λ name. bytes_at len.0 name.1 >>= λ bytes. Some ((name.0, bytes.0), bytes.1)) x e in
@@ -144,9 +144,9 @@ named_bytes_take order named c x same e =
     let t0 = number_takes order 2 c l.0 same l.1 in
     let t1 = name_takes order named l.0.1 a.0 t0.same a.1 in
     let t2 = bytes_take order l.0.0 a.0.1 b.0 t1.0.same b.1 in
-    let len : Takes order (IsLength order b.0.0) c l.0.1 = length_is order l.0.0 b.0.0 c l.0.1 t2.1 t0 in
-    let all = Takes-then order c l.0.1 b.0.1 len (Takes-then order l.0.1 a.0.1 b.0.1 t1.0 t2.0) in
-    subst (λ (y : (Option (List ℕ) × List ℕ) × At). Takes order (IsLength order y.0.1 before IsName order y.0.0 before Is y.0.1) c y.1 × (is_some y.0.0 ≡ named)) (some_is ((a.0.0, b.0.0), b.0.1) x b.2) (all, t1.1)
+    let len : TakesForm order (IsLength order b.0.0) c l.0.1 = length_is order l.0.0 b.0.0 c l.0.1 t2.1 t0 in
+    let all = TakesForm-then order c l.0.1 b.0.1 len (TakesForm-then order l.0.1 a.0.1 b.0.1 t1.0 t2.0) in
+    subst (λ (y : (Option (List ℕ) × List ℕ) × At). TakesForm order (IsLength order y.0.1 before IsName order y.0.0 before Is y.0.1) c y.1 × (is_some y.0.0 ≡ named)) (some_is ((a.0.0, b.0.0), b.0.1) x b.2) (all, t1.1)
 
 pub named_bytes_again : (order : Order) (name : Option (List ℕ)) (bytes front rest : List ℕ) → (IsLength order bytes before IsName order name before Is bytes) front → named_bytes_at (is_some name) (at_front order (front ++ rest)) ≡ Some ((name, bytes), at_front order rest)
 unfolding named_bytes_at
@@ -159,7 +159,7 @@ named_bytes_again order name bytes front rest form =
 
 -- ---- numbers
 
-pub unsigned_takes : (order : Order) (width : Width) (c : At) (x : ℕ × At) → c.order ≡ order → unsigned_at width c ≡ Some x → Takes order (IsNumber order (byte_count width) x.0) c x.1
+pub unsigned_takes : (order : Order) (width : Width) (c : At) (x : ℕ × At) → c.order ≡ order → unsigned_at width c ≡ Some x → TakesForm order (IsNumber order (byte_count width) x.0) c x.1
 unfolding unsigned_at
 unsigned_takes order width c x same e = number_takes order (byte_count width) c x same e
 
@@ -167,13 +167,13 @@ pub unsigned_again : (order : Order) (width : Width) (n : ℕ) (front rest : Lis
 unfolding unsigned_at
 unsigned_again order width n front rest form = number_again order (byte_count width) n front rest form
 
-pub signed_takes : (order : Order) (width : Width) (c : At) (x : ℤ × At) → c.order ≡ order → signed_at width c ≡ Some x → Takes order (IsSigned order width x.0) c x.1
+pub signed_takes : (order : Order) (width : Width) (c : At) (x : ℤ × At) → c.order ≡ order → signed_at width c ≡ Some x → TakesForm order (IsSigned order width x.0) c x.1
 unfolding signed_at
 signed_takes order width c x same e =
     let a = bind_some (number_at (byte_count width) c) (λ n. Some (cast_signed (int_type width) n.0, n.1)) x e in
     let t = number_takes order (byte_count width) c a.0 same a.1 in
-    let made : Takes order (IsSigned order width (cast_signed (int_type width) a.0.0)) c a.0.1 = record { front = t.front; form = record { bits = a.0.0; number = t.form; value = refl }; parts = t.parts; same = t.same } in
-    subst (λ (y : ℤ × At). Takes order (IsSigned order width y.0) c y.1) (some_is (cast_signed (int_type width) a.0.0, a.0.1) x a.2) made
+    let made : TakesForm order (IsSigned order width (cast_signed (int_type width) a.0.0)) c a.0.1 = record { front = t.front; form = record { bits = a.0.0; number = t.form; value = refl }; parts = t.parts; same = t.same } in
+    subst (λ (y : ℤ × At). TakesForm order (IsSigned order width y.0) c y.1) (some_is (cast_signed (int_type width) a.0.0, a.0.1) x a.2) made
 
 pub signed_again : (order : Order) (width : Width) (z : ℤ) (front rest : List ℕ) → IsSigned order width z front → signed_at width (at_front order (front ++ rest)) ≡ Some (z, at_front order rest)
 unfolding signed_at

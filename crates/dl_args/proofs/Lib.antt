@@ -1,8 +1,10 @@
 pub mod Joined
 pub mod Parts
+pub mod Growth
 pub mod FieldForms
 pub mod InfoForms
 pub mod ArgForms
 pub mod WrittenForms
 pub mod Faults
+pub mod Places
 pub mod ArgLoop

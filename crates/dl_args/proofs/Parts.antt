@@ -1,8 +1,9 @@
 -- Reading the parts of an argument: what is taken from the front is in the form that is read, and such a front is taken.
-use Rattle.std.proofs.Common.{◌≡◌, ℕ, ◌+◌, ◌<◌, ◌≤◌, ◌^◌, Bool, true, false, cond, ltb, List, [], ◌∷◌, ◌++◌, length, get_or, take, drop, Option, Some, None, refl, sym, ap, subst, ◌∙◌, append_assoc, arith}
+use Rattle.std.proofs.Common.{◌≡◌, ℕ, ◌+◌, ◌<◌, ◌≤◌, ◌^◌, Bool, true, false, cond, ltb, List, [], ◌∷◌, ◌++◌, length, take, drop, Option, Some, None, refl, sym, ap, subst, ◌∙◌, append_assoc, arith}
 use Rattle.std.proofs.lemmas.Bool.{ltb-false, le-ltb}
 use Rattle.std.proofs.lemmas.List.{take_at, drop_at, take-append-drop, length-append, length-take, get_or-append-add}
 use Rattle.byteorder.specs.Numbers.{big_from-take, little_from-take, big_from-append, little_from-append, big_from-lt, little_from-lt}
+use Rattle.dl_bytes.specs.Bytes.{IsBytes}
 use Rattle.dl_bytes.specs.declared.cursor.Order.{Order}
 use Rattle.dl_bytes.specs.declared.cursor.Order.TheVariants.{Little, Big}
 use Rattle.dl_bytes.specs.Number.{At, bytes_at, number_at, number_of, ◌>>=◌}
@@ -17,30 +18,30 @@ pub some_is : {A : Type 0} (x y : A) → ◌≡◌ {A = Option A} (Some x) (Some
 some_is x y e = cc
 
 -- a test that did not fail
-guard_some : {A : Type 0} (b : Bool) (x y : A) → cond b None (Some x) ≡ Some y → (b ≡ false) × (x ≡ y)
+pub guard_some : {A : Type 0} (b : Bool) (x y : A) → cond b None (Some x) ≡ Some y → (b ≡ false) × (x ≡ y)
 guard_some true x y e = absurd cc
 guard_some false x y e = (refl, cc)
 
 -- a reader in this byte order took a front of this form from c, and left d
-pub record Takes (order : Order) (P : List ℕ → Type 0) (c d : At) : Type 0 where
+pub record TakesForm (order : Order) (P : List ℕ → Type 0) (c d : At) : Type 0 where
   pub front : List ℕ
   pub form : P front
   pub parts : c.rest ≡ front ++ d.rest
   pub same : d.order ≡ order
 
-pub Takes-then : {P Q : List ℕ → Type 0} (order : Order) (c d e : At) → Takes order P c d → Takes order Q d e → Takes order (P before Q) c e
-Takes-then order c d e p q = record {
+pub TakesForm-then : {P Q : List ℕ → Type 0} (order : Order) (c d e : At) → TakesForm order P c d → TakesForm order Q d e → TakesForm order (P before Q) c e
+TakesForm-then order c d e p q = record {
   front = p.front ++ q.front;
   form = record { front = p.front; back = q.front; first = p.form; second = q.form; parts = refl };
   parts = p.parts ∙ ap (λ (t : List ℕ). p.front ++ t) q.parts ∙ sym (append_assoc p.front q.front e.rest);
   same = q.same;
 }
 
-pub Takes-weaker : {P Q : List ℕ → Type 0} (order : Order) (c d : At) → ((f : List ℕ) → P f → Q f) → Takes order P c d → Takes order Q c d
-Takes-weaker order c d weaker t = record { front = t.front; form = weaker t.front t.form; parts = t.parts; same = t.same }
+pub TakesForm-weaker : {P Q : List ℕ → Type 0} (order : Order) (c d : At) → ((f : List ℕ) → P f → Q f) → TakesForm order P c d → TakesForm order Q c d
+TakesForm-weaker order c d weaker t = record { front = t.front; form = weaker t.front t.form; parts = t.parts; same = t.same }
 
 -- nothing is taken
-pub takes_none : (order : Order) (c : At) → c.order ≡ order → Takes order (Is []) c c
+pub takes_none : (order : Order) (c : At) → c.order ≡ order → TakesForm order (Is []) c c
 takes_none order c same = record { front = []; form = refl; parts = refl; same = same }
 
 abbrev pub at_front : Order → List ℕ → At
@@ -48,12 +49,12 @@ at_front order rest = record { rest = rest; order = order }
 
 -- ---- bytes and numbers
 
-pub bytes_take : (order : Order) (n : ℕ) (c : At) (x : List ℕ × At) → c.order ≡ order → bytes_at n c ≡ Some x → Takes order (Is x.0) c x.1 × (length x.0 ≡ n)
+pub bytes_take : (order : Order) (n : ℕ) (c : At) (x : List ℕ × At) → c.order ≡ order → bytes_at n c ≡ Some x → TakesForm order (Is x.0) c x.1 × (length x.0 ≡ n)
 bytes_take order n c x same e =
     let made : List ℕ × At = (take n c.rest, record { rest = drop n c.rest; order = c.order }) in
     let g = guard_some (ltb (length c.rest) n) made x e in
     let long : n ≤ length c.rest = ltb-false _ _ g.0 in
-    subst (λ (y : List ℕ × At). Takes order (Is y.0) c y.1 × (length y.0 ≡ n)) g.1 (
+    subst (λ (y : List ℕ × At). TakesForm order (Is y.0) c y.1 × (length y.0 ≡ n)) g.1 (
       record {
         front = take n c.rest;
         form = refl;
@@ -72,16 +73,16 @@ number_of-take : (order : Order) (n : ℕ) (xs : List ℕ) → number_of order n
 number_of-take Little n xs = little_from-take 0 n n xs (omega arith)
 number_of-take Big n xs = big_from-take 0 n n xs (omega arith)
 
-number_of-append : (order : Order) (n : ℕ) (xs ys : List ℕ) → n ≤ length xs → number_of order n (xs ++ ys) ≡ number_of order n xs
+pub number_of-append : (order : Order) (n : ℕ) (xs ys : List ℕ) → n ≤ length xs → number_of order n (xs ++ ys) ≡ number_of order n xs
 number_of-append Little n xs ys long = little_from-append n xs ys long
 number_of-append Big n xs ys long = big_from-append n xs ys long
 
-pub number_takes : (order : Order) (n : ℕ) (c : At) (x : ℕ × At) → c.order ≡ order → number_at n c ≡ Some x → Takes order (IsNumber order n x.0) c x.1
+pub number_takes : (order : Order) (n : ℕ) (c : At) (x : ℕ × At) → c.order ≡ order → number_at n c ≡ Some x → TakesForm order (IsNumber order n x.0) c x.1
 number_takes order n c x same e =
     let made : ℕ × At = (number_of c.order n c.rest, record { rest = drop n c.rest; order = c.order }) in
     let g = guard_some (ltb (length c.rest) n) made x e in
     let long : n ≤ length c.rest = ltb-false _ _ g.0 in
-    subst (λ (y : ℕ × At). Takes order (IsNumber order n y.0) c y.1) g.1 (record {
+    subst (λ (y : ℕ × At). TakesForm order (IsNumber order n y.0) c y.1) g.1 (record {
       front = take n c.rest;
       form = record { len = omega (arith, length-take n c.rest); value = ap (λ (o : Order). number_of o n (take n c.rest)) (sym same) ∙ number_of-take c.order n c.rest };
       parts = sym (take-append-drop n c.rest);
@@ -96,17 +97,14 @@ number_again order n x front rest form =
 
 -- ---- bytes below 256
 
-abbrev pub AreBytes : List ℕ → Type 0
-AreBytes bytes = (i : ℕ) → get_or bytes i 0 < 256
-
-pub bytes_after : (front rest : List ℕ) → AreBytes (front ++ rest) → AreBytes rest
+pub bytes_after : (front rest : List ℕ) → IsBytes (front ++ rest) → IsBytes rest
 bytes_after front rest small i = subst (λ (n : ℕ). n < 256) (get_or-append-add front rest i 0) (small (length front + i))
 
-number_small : (order : Order) (n : ℕ) (xs : List ℕ) → AreBytes xs → number_of order n xs < 256 ^ n
+number_small : (order : Order) (n : ℕ) (xs : List ℕ) → IsBytes xs → number_of order n xs < 256 ^ n
 number_small Little n xs small = little_from-lt 0 n xs small
 number_small Big n xs small = big_from-lt 0 n xs small
 
-pub number_fits : (n : ℕ) (c : At) (x : ℕ × At) → AreBytes c.rest → number_at n c ≡ Some x → x.0 < 256 ^ n
+pub number_fits : (n : ℕ) (c : At) (x : ℕ × At) → IsBytes c.rest → number_at n c ≡ Some x → x.0 < 256 ^ n
 number_fits n c x small e =
     let g = guard_some (ltb (length c.rest) n) (number_of c.order n c.rest, record { rest = drop n c.rest; order = c.order }) x e in
     subst (λ (y : ℕ × At). y.0 < 256 ^ n) g.1 (number_small c.order n c.rest small)

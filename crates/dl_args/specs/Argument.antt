@@ -4,6 +4,7 @@ use Rattle.std.specs.Borrow.{Bor}
 use Rattle.std.specs.List.{concat}
 use Rattle.std.specs.Int.{w128, cast_unsigned, from_bool}
 use Rattle.byteorder.specs.Endian.{little_bytes}
+use Rattle.dl_bytes.specs.Limits.{payload_limit, args_limit}
 use Rattle.dl_bytes.specs.Payload.{Arguments}
 use Rattle.dl_args.specs.declared.arg.Arg.{Arg}
 use Rattle.dl_args.specs.declared.arg.Arg.TheVariants.{Bool as TruthValue, Sint, Uint, Text, Raw}
@@ -42,16 +43,16 @@ abbrev pub signed : Width → ℤ → List ℕ
 signed width value = number width (cast_unsigned w128 value)
 
 -- a number with a name and a unit
-abbrev pub named : List ℕ → List ℕ → List ℕ → List (List ℕ)
-named name unit value = closed_size name ∷ closed_size unit ∷ name ∷ z ∷ unit ∷ z ∷ value ∷ []
+abbrev pub named_number : List ℕ → List ℕ → List ℕ → List (List ℕ)
+named_number name unit value = closed_size name ∷ closed_size unit ∷ name ∷ z ∷ unit ∷ z ∷ value ∷ []
 
 -- the written form of each kind, plain and with a name; a number has a unit where it has a name
 abbrev pub written : Arg → List ℕ
 written (TruthValue None value) = argument 0x11 (truth value ∷ [])
 written (TruthValue (Some name) value) = argument 0x811 (closed_size name ∷ name ∷ z ∷ truth value ∷ [])
-written (Sint (Some name) (Some unit) width value) = argument (0x820 + tyle_of width) (named name unit (signed width value))
+written (Sint (Some name) (Some unit) width value) = argument (0x820 + tyle_of width) (named_number name unit (signed width value))
 written (Sint name unit width value) = argument (0x20 + tyle_of width) (signed width value ∷ [])
-written (Uint (Some name) (Some unit) width value) = argument (0x840 + tyle_of width) (named name unit (number width value))
+written (Uint (Some name) (Some unit) width value) = argument (0x840 + tyle_of width) (named_number name unit (number width value))
 written (Uint name unit width value) = argument (0x40 + tyle_of width) (number width value ∷ [])
 written (Text None text utf8) = argument 0x8200 (closed_size text ∷ text ∷ z ∷ [])
 written (Text (Some name) text utf8) = argument 0x8a00 (closed_size text ∷ closed_size name ∷ name ∷ z ∷ text ∷ z ∷ [])
@@ -71,9 +72,9 @@ pub record IsWritable (a : Arg) : Type 0 where
   pub value : IsValue a
   pub len : length (written a) < 2 ^ 16
 
--- a payload, of 1390 bytes and 255 arguments at most, has room for one more argument of these bytes
+-- a payload has room for one more argument of these bytes
 abbrev pub HasRoom : List ℕ → Arguments → Type 0
-HasRoom bytes payload = (length payload.bytes + length bytes ≤ 1390) × (payload.args < 255)
+HasRoom bytes payload = (length payload.bytes + length bytes ≤ payload_limit) × (payload.args < args_limit)
 
 -- Where there is room the bytes are added and counted as an argument. Else the payload is full, and as it was.
 abbrev pub Adds : {A E : Type 0} → List ℕ → Result A E → Arguments → Arguments → Type 0

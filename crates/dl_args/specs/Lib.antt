@@ -5,3 +5,5 @@ pub mod Fields
 pub mod Borrowed
 pub mod Reading
 pub mod ReadForm
+pub mod Refusals
+pub mod Coming

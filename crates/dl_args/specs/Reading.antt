@@ -80,13 +80,13 @@ args_at whole (suc count) c = do
 abbrev pub arguments_of : Order → ℕ → List ℕ → Result (List Arg) ArgFault
 arguments_of order count payload = args_at (length payload) count (record { rest = payload; order = order })
 
--- What a read gave, seen by view, with what is left, is what reading gives; its fault is the one that reading has.
-abbrev pub Gives : {X Y : Type 0} → (X → Y) → Result X ArgFault → Cursor → Result (Y × At) ArgFault → Type 0
-Gives view (Ok x) left read = read ≡ Ok (view x, at left)
-Gives view (Err fault) left read = read ≡ Err fault
+-- What a read returned, seen by view, with what it left to read, is what reading gives.
+abbrev pub Returns : {X Y : Type 0} → (X → Y) → Result X ArgFault → Cursor → Result (Y × At) ArgFault → Type 0
+Returns view (Ok x) left read = read ≡ Ok (view x, at left)
+Returns view (Err fault) left read = read ≡ Err fault
 
 -- The arguments, or their fault, are what reading gives. Of want of memory this says nothing.
-abbrev pub GivesAll : Result (List Arg) ArgFault → Result (List Arg) ArgFault → Type 0
-GivesAll (Ok args) read = read ≡ Ok args
-GivesAll (Err OutOfMemory) read = Unit {0}
-GivesAll (Err fault) read = read ≡ Err fault
+abbrev pub ReturnsAll : Result (List Arg) ArgFault → Result (List Arg) ArgFault → Type 0
+ReturnsAll (Ok args) read = read ≡ Ok args
+ReturnsAll (Err OutOfMemory) read = Unit {0}
+ReturnsAll (Err fault) read = read ≡ Err fault

@@ -4,40 +4,55 @@ ghost use Rattle.std.specs.Prelude.{◌≡◌};
 ghost use Rattle.dl_args.specs.declared.arg.ArgFault.TheVariants.{OutOfMemory};
 
 use crate::width::Width;
-use dl_bytes::{Bytes, Sequence};
-use std::alloc::{AllocError, AllocFailed};
+use dl_bytes::{Bytes, OutOfMemory, Sequence};
+use std::alloc::AllocFailed;
 
 /// An argument in verbose mode. A name, a unit and a text stand without their closing zero byte, and needn't be UTF-8.
 #[derive(Debug, Drop)]
 pub enum Arg {
     /// A truth value.
     Bool {
+        /// The name, where VARI of the type info says that there is one.
         name: Option<Bytes>,
+        /// The value.
         value: bool,
     },
     /// A signed number. Name and unit come together.
     Sint {
+        /// The name, where VARI of the type info says that there is one.
         name: Option<Bytes>,
+        /// The unit, such as `ms`, where there is a name.
         unit: Option<Bytes>,
+        /// How many bits it has in the payload.
         width: Width,
+        /// The value.
         value: i128,
     },
     /// An unsigned number. Name and unit come together.
     Uint {
+        /// The name, where VARI of the type info says that there is one.
         name: Option<Bytes>,
+        /// The unit, such as `ms`, where there is a name.
         unit: Option<Bytes>,
+        /// How many bits it has in the payload.
         width: Width,
+        /// The value.
         value: u128,
     },
-    /// A text, which says that it is UTF-8 or else ASCII.
+    /// A text.
     Text {
+        /// The name, where VARI of the type info says that there is one.
         name: Option<Bytes>,
+        /// The text.
         bytes: Bytes,
+        /// Whether SCOD of the type info says UTF-8, or else ASCII. It isn't checked.
         utf8: bool,
     },
     /// Bytes of any meaning.
     Raw {
+        /// The name, where VARI of the type info says that there is one.
         name: Option<Bytes>,
+        /// The bytes.
         bytes: Bytes,
     },
 }
@@ -63,10 +78,10 @@ pub enum ArgFault {
     OutOfMemory,
 }
 
-impl From<AllocError> for ArgFault {
+impl From<OutOfMemory> for ArgFault {
     ghost from_gives = { λ _ e. e ≡ OutOfMemory };
 
-    fn from(_e: AllocError) -> ArgFault {
+    fn from(_e: OutOfMemory) -> ArgFault {
         ArgFault::OutOfMemory
     }
 }

@@ -8,6 +8,7 @@ ghost use Rattle.dl_bytes.specs.Payload.{Arguments};
 ghost use Rattle.dl_args.specs.declared.arg.Arg.{Arg};
 ghost use Rattle.dl_args.specs.Argument.{written, HasRoom, IsValue, IsWritable};
 ghost use Rattle.dl_args.specs.ReadForm.{IsSpelling};
+ghost use Rattle.dl_args.specs.Coming.{all_of, coming_of};
 ghost use Rattle.dl_args.specs.Reading.{arguments_of};
 
 /// What fits a payload has a written form, which is in the form that is read. What was written is read again, whatever
@@ -23,4 +24,10 @@ pub fn written_is_read()
 pub fn no_spelling_begins_another()
     ensures { (order : Order) (a b : Arg) (s t x y : List ℕ) → IsSpelling order a s → IsSpelling order b t
         → s ++ x ≡ t ++ y → (a ≡ b) × (s ≡ t) }
+{}
+
+/// What a reader gives one by one is, taken together, what reading the payload gives: all arguments, or its fault.
+pub fn one_by_one_is_all()
+    ensures { (order : Order) (count : ℕ) (payload : List ℕ)
+        → all_of (coming_of order count payload) ≡ arguments_of order count payload }
 {}

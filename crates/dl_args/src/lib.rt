@@ -11,8 +11,9 @@ mod width;
 mod write;
 
 pub use arg::{Arg, ArgFault, ArgList, PayloadFull};
+pub use arg_ref::ArgRef;
 pub use dl_bytes::Order;
-pub use read::read_args;
+pub use read::{ArgReader, read_args};
 pub use width::{Width, sint_fits, uint_fits};
 pub use write::{
     add_bool, add_named_bool, add_named_raw, add_named_sint, add_named_text, add_named_uint,

@@ -4,7 +4,7 @@ ghost use Rattle.std.specs.Prelude.{◌≡◌, ◌↔◌, ◌<◌, ◌≤◌, �
 ghost use Rattle.std.specs.List.{concat};
 ghost use Rattle.byteorder.specs.Endian.{little_bytes};
 ghost use Rattle.dl_args.specs.Width.{byte_count, int_type, tyle_of};
-ghost use Rattle.dl_args.specs.Argument.{Adds, argument, joined, named, number, written};
+ghost use Rattle.dl_args.specs.Argument.{Adds, argument, joined, named_number, number, written};
 ghost use Rattle.dl_args.specs.declared.arg.Arg.TheVariants as arg;
 
 use crate::arg::PayloadFull;
@@ -147,7 +147,7 @@ fn append_named_number(
     value: u128,
 ) -> Result<(), PayloadFull>
     requires { kind < 2 ^ 12 }
-    ensures { Adds (argument (kind + 0x800 + tyle_of width) (named name.now unit.now (number width value))) result payload.old payload.new }
+    ensures { Adds (argument (kind + 0x800 + tyle_of width) (named_number name.now unit.now (number width value))) result payload.old payload.new }
 {
     let name_size = size_bytes(name.len() + 1)?;
     let unit_size = size_bytes(unit.len() + 1)?;

@@ -1,5 +1,5 @@
 -- Severities and levels by their numbers in the standard.
-use Rattle.std.specs.Prelude.{ℕ, ◌≤◌, nat_le, if◌then◌else◌, zero, suc, Option, Some, None, ℤ, pos, negsuc}
+use Rattle.std.specs.Prelude.{ℕ, Bool, nat_le, if◌then◌else◌, zero, suc, Option, Some, None, ℤ, pos, negsuc}
 use Rattle.dl_bytes.specs.declared.level.Severity.{Severity}
 use Rattle.dl_bytes.specs.declared.level.Severity.TheVariants.{Fatal, Error, Warn, Info, Debug, Verbose}
 
@@ -13,8 +13,8 @@ severity_number Debug = 5
 severity_number Verbose = 6
 
 -- a message passes a level that its severity does not exceed
-abbrev pub Passes : Severity → ℕ → Type 0
-Passes severity level = severity_number severity ≤ level
+abbrev pub passes : Severity → ℕ → Bool
+passes severity level = nat_le (severity_number severity) level
 
 -- the own level that a number stands for: -1 is none, 0 to 6 is a level, nothing else is one
 abbrev pub own_level_of : ℤ → Option (Option ℕ)

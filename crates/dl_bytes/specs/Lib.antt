@@ -6,3 +6,7 @@ pub mod Number
 pub mod Htyp
 pub mod Buffer
 pub mod UserMessage
+pub mod Conf
+pub mod Limits
+pub mod Cutting
+pub mod Bytes

@@ -2,7 +2,8 @@
 
 ghost use Rattle.std.specs.Prelude.{◌≡◌, IfOk};
 
-use std::alloc::{AllocError, Global};
+use crate::OutOfMemory;
+use std::alloc::Global;
 use std::marker::Model;
 
 /// A value in memory of its own, as a payload that waits in a list.
@@ -19,7 +20,7 @@ impl<T> Model for Boxed<T> {
 
 impl<T: Drop> Boxed<T> {
     /// The value, moved to memory of its own. Where there is none, the value is dropped.
-    pub fn make(alloc: Global, value: T) -> Result<Boxed<T>, AllocError>
+    pub fn make(alloc: Global, value: T) -> Result<Boxed<T>, OutOfMemory>
         ensures { IfOk result (λ boxed. boxed ≡ value) }
     {
         let inner = Box::new(alloc, value)?;

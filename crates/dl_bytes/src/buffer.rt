@@ -2,7 +2,8 @@
 
 ghost use Rattle.std.specs.Prelude.{◌≡◌, ◌≤◌, ◌+◌, ◌-◌, ◌++◌, [], length, min, take, drop, IfOk};
 
-use std::alloc::{AllocError, Global};
+use crate::OutOfMemory;
+use std::alloc::Global;
 use std::marker::Model;
 
 /// Bytes of a stream that are fed at the end and consumed from the front. It takes memory once, in `make`.
@@ -36,7 +37,7 @@ impl Model for Buffer {
 
 impl Buffer {
     /// An empty buffer that can hold this many bytes.
-    pub fn make(alloc: Global, capacity: usize) -> Result<Buffer, AllocError>
+    pub fn make(alloc: Global, capacity: usize) -> Result<Buffer, OutOfMemory>
         ensures { IfOk result (λ buffer. buffer ≡ record { bytes = []; room = capacity; capacity = capacity }) }
     {
         Ok(Buffer {

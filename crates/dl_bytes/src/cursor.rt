@@ -16,10 +16,12 @@ pub enum Order {
 }
 
 /// What is left to read, with the order of its numbers. A read takes the value from the front, and gives nothing
-/// where too few bytes are left.
+/// where too few bytes are left: then the cursor stays where it was.
 #[derive(Clone, Copy, Debug)]
 pub struct Cursor<'a> {
+    /// What is left to read.
     pub rest: &'a [u8],
+    /// The byte order of its numbers.
     pub order: Order,
 }
 
@@ -28,6 +30,7 @@ impl<'a> Cursor<'a> {
     pub fn bytes(&mut self, n: usize) -> Option<&'a [u8]>
         ensures read { Gives (λ x. x.now) result self.new (bytes_at n (at self.old)) }
         ensures len { IfSome result (λ x. length x.now ≡ n) }
+        ensures refused { IfNone result (self.new ≡ self.old) }
     {
         if self.rest.len() < n {
             return None;
@@ -39,7 +42,8 @@ impl<'a> Cursor<'a> {
 
     /// The next byte.
     pub fn u8(&mut self) -> Option<u8>
-        ensures { Gives (λ x. x) result self.new (number_at 1 (at self.old)) }
+        ensures read { Gives (λ x. x) result self.new (number_at 1 (at self.old)) }
+        ensures refused { IfNone result (self.new ≡ self.old) }
     {
         let front = self.bytes(1)?;
         Some(front[0])
@@ -47,7 +51,8 @@ impl<'a> Cursor<'a> {
 
     /// The next two bytes as a number.
     pub fn u16(&mut self) -> Option<u16>
-        ensures { Gives (λ x. x) result self.new (number_at 2 (at self.old)) }
+        ensures read { Gives (λ x. x) result self.new (number_at 2 (at self.old)) }
+        ensures refused { IfNone result (self.new ≡ self.old) }
     {
         let front = self.bytes(2)?;
         Some(match self.order {
@@ -58,7 +63,8 @@ impl<'a> Cursor<'a> {
 
     /// The next four bytes as a number.
     pub fn u32(&mut self) -> Option<u32>
-        ensures { Gives (λ x. x) result self.new (number_at 4 (at self.old)) }
+        ensures read { Gives (λ x. x) result self.new (number_at 4 (at self.old)) }
+        ensures refused { IfNone result (self.new ≡ self.old) }
     {
         let front = self.bytes(4)?;
         Some(match self.order {
@@ -69,7 +75,8 @@ impl<'a> Cursor<'a> {
 
     /// The next eight bytes as a number.
     pub fn u64(&mut self) -> Option<u64>
-        ensures { Gives (λ x. x) result self.new (number_at 8 (at self.old)) }
+        ensures read { Gives (λ x. x) result self.new (number_at 8 (at self.old)) }
+        ensures refused { IfNone result (self.new ≡ self.old) }
     {
         let front = self.bytes(8)?;
         Some(match self.order {
@@ -80,7 +87,8 @@ impl<'a> Cursor<'a> {
 
     /// The next sixteen bytes as a number.
     pub fn u128(&mut self) -> Option<u128>
-        ensures { Gives (λ x. x) result self.new (number_at 16 (at self.old)) }
+        ensures read { Gives (λ x. x) result self.new (number_at 16 (at self.old)) }
+        ensures refused { IfNone result (self.new ≡ self.old) }
     {
         let front = self.bytes(16)?;
         Some(match self.order {
@@ -91,7 +99,8 @@ impl<'a> Cursor<'a> {
 
     /// The next four bytes as an id.
     pub fn id(&mut self) -> Option<Id>
-        ensures { Gives (λ x. x) result self.new (bytes_at 4 (at self.old)) }
+        ensures read { Gives (λ x. x) result self.new (bytes_at 4 (at self.old)) }
+        ensures refused { IfNone result (self.new ≡ self.old) }
     {
         let front = self.bytes(4)?;
         Some(Id::from_bytes([front[0], front[1], front[2], front[3]]))

@@ -1,19 +1,25 @@
 //! Severities of messages, and the log levels that filter them.
 
-ghost use Rattle.std.specs.Prelude.{◌≡◌, ◌≤◌, ◌↔◌, IsTrue, IsSome, IfSome, Some, unwrap_or};
+ghost use Rattle.std.specs.Prelude.{◌≡◌, ◌≤◌, ◌↔◌, IsSome, IfSome, Some, unwrap_or};
 ghost use Rattle.std.specs.Option.{SomeIff};
-ghost use Rattle.dl_bytes.specs.Level.{severity_number, Passes, own_level_of};
+ghost use Rattle.dl_bytes.specs.Level.{severity_number, passes, own_level_of};
 
 use std::marker::Model;
 
 /// How grave a log message is: the field MTIN of its extended header.
 #[derive(Clone, Copy, Debug, PartialEq, Eq)]
 pub enum Severity {
+    /// The control unit fails, 1.
     Fatal = 1,
+    /// A function fails, 2.
     Error = 2,
+    /// Something is not as expected, 3.
     Warn = 3,
+    /// What the program does, 4.
     Info = 4,
+    /// For whoever looks for a fault in the program, 5.
     Debug = 5,
+    /// All there is, 6.
     Verbose = 6,
 }
 
@@ -83,7 +89,7 @@ impl Level {
 
     /// Whether a message of this severity is let through.
     pub fn passes(&self, severity: Severity) -> bool
-        ensures { IsTrue result ↔ Passes severity self.now }
+        ensures { result ≡ passes severity self.now }
     {
         severity.number() <= self.number
     }

@@ -55,6 +55,16 @@ impl Payload {
         self.args
     }
 
+    /// The same arguments once more: the bytes are copied, with no memory taken.
+    pub fn copy(&self) -> Payload
+        ensures { result ≡ self.now }
+    {
+        let mut copy = Payload::new();
+        copy.extend_from_slice(self.bytes());
+        copy.args = self.args;
+        copy
+    }
+
     /// How many more bytes it can take.
     pub fn room(&self) -> usize
         ensures value { result + length self.now.bytes ≡ 1390 }

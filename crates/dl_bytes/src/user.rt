@@ -21,47 +21,70 @@ pub enum UserMsg {
     Log(Bytes),
     /// Kind 2: an application is there, with its process id and its description.
     RegisterApp {
+        /// The application's id.
         apid: Id,
+        /// The process id of the application.
         pid: u32,
+        /// The description, at most 255 bytes.
         text: Bytes,
     },
     /// Kind 3: an application is gone.
     UnregisterApp {
+        /// The application's id.
         apid: Id,
+        /// The process id of the application.
         pid: u32,
     },
     /// Kind 4: an application has a context, with its place in the application's own table, the log level and the
     /// trace status that it asks for, and its description.
     RegisterContext {
+        /// The application's id.
         apid: Id,
+        /// The context's id.
         ctid: Id,
+        /// The context's place in the application's own table.
         position: u32,
+        /// The log level that it asks for; none to follow the default level.
         level: OwnLevel,
+        /// The trace status, which this project carries and does not use.
         trace: i8,
+        /// The process id of the application.
         pid: u32,
+        /// The description, at most 255 bytes.
         text: Bytes,
     },
     /// Kind 5: an application has a context no longer.
     UnregisterContext {
+        /// The application's id.
         apid: Id,
+        /// The context's id.
         ctid: Id,
+        /// The process id of the application.
         pid: u32,
     },
     /// Kind 6: the daemon tells an application the log level and the trace status of a context.
     LogLevel {
+        /// The context's log level.
         level: Level,
+        /// The trace status, which this project carries and does not use.
         trace: i8,
+        /// The context's place in the application's own table.
         position: u32,
     },
     /// Kind 7: the daemon hands a context the data of a service.
     Injection {
+        /// The context's place in the application's own table.
         position: u32,
+        /// The service id.
         service: u32,
+        /// The data, at most 1390 bytes.
         body: Bytes,
     },
     /// Kind 8: an application lost this many messages.
     Overflow {
+        /// How many messages were lost.
         counter: u32,
+        /// The application's id.
         apid: Id,
     },
 }

@@ -1,15 +1,13 @@
 -- Reading a field takes it from the front, and a field that stands at the front is read.
-use Rattle.std.proofs.Common.{◌≡◌, ℕ, ◌+◌, ◌-◌, ◌^◌, ◌<◌, ◌≤◌, Bool, true, false, cond, ltb, List, [], ◌∷◌, ◌++◌, length, get_or, take, drop, replicate, Option, Some, None, refl, sym, ap, subst, ◌∙◌, append_assoc, arith, inl, inr}
+use Rattle.std.proofs.Common.{◌≡◌, ℕ, ◌+◌, ◌-◌, ◌^◌, ◌<◌, ◌≤◌, Bool, true, false, cond, ltb, List, [], ◌∷◌, ◌++◌, length, take, drop, replicate, Option, Some, None, refl, sym, ap, subst, ◌∙◌, append_assoc, arith, inl, inr}
 use Rattle.std.proofs.lemmas.Bool.{cases_lt, ltb-false, le-ltb, lt-ltb}
 use Rattle.std.proofs.lemmas.List.{append-nil, take_at, drop_at, take-append-drop, length-append, length-take, get_or-drop, get_or-take, get_or_past, get_or_append_left, get_or-append_right, get_or-replicate, length-replicate, length-drop, drop-append-le}
 use Rattle.std.proofs.lemmas.Nat.{be_bytes_4, le_bytes_4}
 use Rattle.byteorder.specs.Numbers.{big_from-take, little_from-take, big_number-reads_back, little_number-reads_back, big_from-append, little_from-append, big_from-lt, little_from-lt}
+use Rattle.dl_bytes.specs.Bytes.{IsBytes}
 use Rattle.dl_bytes.specs.declared.cursor.Order.{Order}
 use Rattle.dl_bytes.specs.declared.cursor.Order.TheVariants.{Little, Big}
 use Rattle.dl_bytes.specs.Number.{At, bytes_of, number_of, bytes_at, number_at, ◌>>=◌}
-
-abbrev pub IsBytes : List ℕ → Type 0
-IsBytes bytes = (i : ℕ) → get_or bytes i 0 < 256
 
 pub IsBytes-drop : (n : ℕ) (bytes : List ℕ) → IsBytes bytes → IsBytes (drop n bytes)
 IsBytes-drop n bytes h i = rw get_or-drop (h (n + i))
@@ -50,13 +48,13 @@ guard_some true x y e = absurd cc
 guard_some false x y e = (refl, cc)
 
 -- reading took these bytes from the front
-pub record Takes (c : At) (bytes : List ℕ) (left : At) : Type 0 where
+pub record TakesBytes (c : At) (bytes : List ℕ) (left : At) : Type 0 where
   pub parts : c.rest ≡ bytes ++ left.rest
   pub order : left.order ≡ c.order
   pub fits : IsBytes left.rest
 
-pub Takes-then : (a : At) (x : List ℕ) (b : At) (y : List ℕ) (c : At) → Takes a x b → Takes b y c → Takes a (x ++ y) c
-Takes-then a x b y c p q =
+pub TakesBytes-then : (a : At) (x : List ℕ) (b : At) (y : List ℕ) (c : At) → TakesBytes a x b → TakesBytes b y c → TakesBytes a (x ++ y) c
+TakesBytes-then a x b y c p q =
     record {
       parts = p.parts ∙ ap (λ (t : List ℕ). x ++ t) q.parts ∙ sym (append_assoc x y c.rest);
       order = q.order ∙ p.order;
@@ -65,11 +63,11 @@ Takes-then a x b y c p q =
 
 -- ---- bytes
 
-pub bytes_take : (n : ℕ) (c : At) (x : List ℕ × At) → IsBytes c.rest → bytes_at n c ≡ Some x → Takes c x.0 x.1 × (length x.0 ≡ n)
+pub bytes_take : (n : ℕ) (c : At) (x : List ℕ × At) → IsBytes c.rest → bytes_at n c ≡ Some x → TakesBytes c x.0 x.1 × (length x.0 ≡ n)
 bytes_take n c x fits e =
     let g = guard_some (ltb (length c.rest) n) (take n c.rest, record { rest = drop n c.rest; order = c.order }) x e in
     let long : n ≤ length c.rest = ltb-false _ _ g.0 in
-    subst (λ (y : List ℕ × At). Takes c y.0 y.1 × (length y.0 ≡ n)) g.1
+    subst (λ (y : List ℕ × At). TakesBytes c y.0 y.1 × (length y.0 ≡ n)) g.1
     (record { parts = sym (take-append-drop n c.rest); order = refl; fits = IsBytes-drop n c.rest fits }, omega (arith, length-take n c.rest))
 
 pub bytes_again : (n : ℕ) (bytes rest : List ℕ) (order : Order) → length bytes ≡ n → bytes_at n (record { rest = bytes ++ rest; order = order }) ≡ Some (bytes, record { rest = rest; order = order })
@@ -100,12 +98,12 @@ byte_fits : (bytes : List ℕ) (order : Order) → IsBytes bytes → number_of o
 byte_fits bytes Little fits = little_from-lt 0 1 bytes fits
 byte_fits bytes Big fits = big_from-lt 0 1 bytes fits
 
-pub byte_takes : (c : At) (x : ℕ × At) → IsBytes c.rest → number_at 1 c ≡ Some x → Takes c (x.0 ∷ []) x.1 × (x.0 < 256)
+pub byte_takes : (c : At) (x : ℕ × At) → IsBytes c.rest → number_at 1 c ≡ Some x → TakesBytes c (x.0 ∷ []) x.1 × (x.0 < 256)
 byte_takes c x fits e =
     let after : At = record { rest = drop 1 c.rest; order = c.order } in
     let g = guard_some (ltb (length c.rest) 1) (number_of c.order 1 c.rest, after) x e in
     let long : 1 ≤ length c.rest = ltb-false _ _ g.0 in
-    subst (λ (y : ℕ × At). Takes c (y.0 ∷ []) y.1 × (y.0 < 256)) g.1
+    subst (λ (y : ℕ × At). TakesBytes c (y.0 ∷ []) y.1 × (y.0 < 256)) g.1
     (record { parts = sym (byte_front c.rest c.order long); order = refl; fits = IsBytes-drop 1 c.rest fits }, byte_fits c.rest c.order fits)
 
 -- ---- a number of four bytes
@@ -138,14 +136,14 @@ four_fits : (bytes : List ℕ) (order : Order) → IsBytes bytes → number_of o
 four_fits bytes Little fits = little_from-lt 0 4 bytes fits
 four_fits bytes Big fits = big_from-lt 0 4 bytes fits
 
-pub number_takes : (c : At) (x : ℕ × At) → IsBytes c.rest → number_at 4 c ≡ Some x → Takes c (bytes_of c.order 4 x.0) x.1 × (x.0 < 2 ^ 32)
+pub number_takes : (c : At) (x : ℕ × At) → IsBytes c.rest → number_at 4 c ≡ Some x → TakesBytes c (bytes_of c.order 4 x.0) x.1 × (x.0 < 2 ^ 32)
 number_takes c x fits e =
     let after : At = record { rest = drop 4 c.rest; order = c.order } in
     let g = guard_some (ltb (length c.rest) 4) (number_of c.order 4 c.rest, after) x e in
     let long : 4 ≤ length c.rest = ltb-false _ _ g.0 in
     let front : bytes_of c.order 4 (number_of c.order 4 c.rest) ≡ take 4 c.rest =
     ap (bytes_of c.order 4) (sym (four_first c.rest c.order)) ∙ four_back (take 4 c.rest) c.order (omega (arith, length-take 4 c.rest)) (IsBytes-take 4 c.rest fits) in
-    subst (λ (y : ℕ × At). Takes c (bytes_of c.order 4 y.0) y.1 × (y.0 < 2 ^ 32)) g.1
+    subst (λ (y : ℕ × At). TakesBytes c (bytes_of c.order 4 y.0) y.1 × (y.0 < 2 ^ 32)) g.1
     (record { parts = sym (ap (λ (t : List ℕ). t ++ drop 4 c.rest) front ∙ take-append-drop 4 c.rest); order = refl; fits = IsBytes-drop 4 c.rest fits }, four_fits c.rest c.order fits)
 
 -- ---- how many bytes a read takes
@@ -199,6 +197,12 @@ pub number_long : (n : ℕ) (c : At) (x : ℕ × At) → number_at n c ≡ Some 
 number_long n c x e =
     let g = guard_some (ltb (length c.rest) n) (number_of c.order n c.rest, record { rest = drop n c.rest; order = c.order }) x e in
     (ltb-false _ _ g.0, ap (λ (y : ℕ × At). y.0) g.1)
+
+pub number_left : (n : ℕ) (c : At) (x : ℕ × At) → number_at n c ≡ Some x → length x.1.rest + n ≡ length c.rest
+number_left n c x e =
+    let long = number_long n c x e in
+    let g = guard_some (ltb (length c.rest) n) (number_of c.order n c.rest, record { rest = drop n c.rest; order = c.order }) x e in
+    omega (arith, long.0, ap (λ (y : ℕ × At). length y.1.rest) g.1, length-drop n c.rest)
 
 pub number_none : (n : ℕ) (c : At) → number_at n c ≡ None → length c.rest < n
 number_none n c e =

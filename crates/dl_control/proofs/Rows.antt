@@ -10,9 +10,10 @@ use Rattle.dl_bytes.specs.declared.cursor.Order.{Order}
 use Rattle.dl_bytes.specs.Number.{At, bytes_at, number_at}
 use Rattle.dl_control.specs.declared.request.Request.{Request}
 use Rattle.dl_control.specs.declared.request.Request.TheVariants.{SetLogLevel, GetLogInfo, GetDefault, Store, Reset, SetDefault, Version, Inject, Other}
-use Rattle.dl_control.specs.Request.{service_of, fields_of, MayFollow, Fits, IsOther, IsAdmitted}
+use Rattle.dl_control.specs.Request.{service_of, fields_of, MayFollow, Fits, IsOther, IsWithinLimit}
 use Rattle.dl_control.specs.Reading.{log_level_at, log_info_at, default_level_at, body_at, whole_of, injection_of, request_of}
-use Rattle.dl_control.proofs.Fields.{IsBytes, Takes, Takes-then, with_step, bytes_take, byte_takes, Needs, needs_bytes, needs_number, needs_none, needs_then}
+use Rattle.dl_bytes.specs.Bytes.{IsBytes}
+use Rattle.dl_control.proofs.Fields.{TakesBytes, TakesBytes-then, with_step, bytes_take, byte_takes, Needs, needs_bytes, needs_number, needs_none, needs_then}
 
 -- a level read as signed is laid out as its byte
 level_back : (b : ℕ) → b < 256 → cast_unsigned w8 (cast_signed w8 b) ≡ b
@@ -27,10 +28,10 @@ level_again z fits = to_z-of_z w8 z fits
 -- reading took this request from the front, with the bytes that may follow its fields
 pub record TakesRequest (c : At) (request : Request) (left : At) : Type 0 where
   pub fits : Fits request
-  pub admitted : IsAdmitted request
+  pub within : IsWithinLimit request
   pub ignored : List ℕ
   pub may_follow : MayFollow request ignored
-  pub takes : Takes c (fields_of c.order request ++ ignored) left
+  pub takes : TakesBytes c (fields_of c.order request ++ ignored) left
 
 -- each request of this service that is read takes its bytes
 abbrev pub TakesRow : ℕ → (At → Option (Request × At)) → Type 0
@@ -39,15 +40,15 @@ TakesRow service read = (c : At) (x : Request × At) → IsBytes c.rest → read
 some_is : {A : Type 0} (x y : A) → Some x ≡ Some y → x ≡ y
 some_is x y e = cc
 
-log_level_made : (c a b l left : At) (apid ctid : List ℕ) (level : ℕ) (reserved : List ℕ) → Takes c apid a × (length apid ≡ 4) → Takes a ctid b × (length ctid ≡ 4)
-    → Takes b (level ∷ []) l × (level < 256) → Takes l reserved left × (length reserved ≡ 4) → TakesRequest c (SetLogLevel apid ctid (cast_signed w8 level)) left
+log_level_made : (c a b l left : At) (apid ctid : List ℕ) (level : ℕ) (reserved : List ℕ) → TakesBytes c apid a × (length apid ≡ 4) → TakesBytes a ctid b × (length ctid ≡ 4)
+    → TakesBytes b (level ∷ []) l × (level < 256) → TakesBytes l reserved left × (length reserved ≡ 4) → TakesRequest c (SetLogLevel apid ctid (cast_signed w8 level)) left
 log_level_made c a b l left apid ctid level reserved first second third last =
-    let both = Takes-then c apid a ctid b first.0 second.0 in
-    let fields = Takes-then c (apid ++ ctid) b (level ∷ []) l both third.0 in
-    let whole = Takes-then c (apid ++ ctid ++ level ∷ []) l reserved left fields last.0 in
+    let both = TakesBytes-then c apid a ctid b first.0 second.0 in
+    let fields = TakesBytes-then c (apid ++ ctid) b (level ∷ []) l both third.0 in
+    let whole = TakesBytes-then c (apid ++ ctid ++ level ∷ []) l reserved left fields last.0 in
     record {
       fits = (first.1, second.1, level_fits level third.1);
-      admitted = tt;
+      within = tt;
       ignored = reserved;
       may_follow = last.1;
       takes = rw (level_back level third.1) whole;
@@ -67,13 +68,13 @@ log_level_takes c x fits e =
     subst (λ (y : Request × At). TakesRequest c y.0 y.1 × (service_of y.0 ≡ 0x01)) (some_is (SetLogLevel a.0 b.0 (cast_signed w8 l.0), r.1) x made)
     (log_level_made c a.1 b.1 l.1 r.1 a.0 b.0 l.0 r.0 ta tb tl tr, refl)))))
 
-log_info_made : (c o a b left : At) (options : ℕ) (apid ctid reserved : List ℕ) → Takes c (options ∷ []) o → Takes o apid a × (length apid ≡ 4)
-    → Takes a ctid b × (length ctid ≡ 4) → Takes b reserved left × (length reserved ≡ 4) → TakesRequest c (GetLogInfo options apid ctid) left
+log_info_made : (c o a b left : At) (options : ℕ) (apid ctid reserved : List ℕ) → TakesBytes c (options ∷ []) o → TakesBytes o apid a × (length apid ≡ 4)
+    → TakesBytes a ctid b × (length ctid ≡ 4) → TakesBytes b reserved left × (length reserved ≡ 4) → TakesRequest c (GetLogInfo options apid ctid) left
 log_info_made c o a b left options apid ctid reserved first second third last =
-    let both = Takes-then c (options ∷ []) o apid a first second.0 in
-    let fields = Takes-then c (options ∷ apid) a ctid b both third.0 in
-    let whole = Takes-then c (options ∷ apid ++ ctid) b reserved left fields last.0 in
-    record { fits = (second.1, third.1); admitted = tt; ignored = reserved; may_follow = last.1; takes = whole }
+    let both = TakesBytes-then c (options ∷ []) o apid a first second.0 in
+    let fields = TakesBytes-then c (options ∷ apid) a ctid b both third.0 in
+    let whole = TakesBytes-then c (options ∷ apid ++ ctid) b reserved left fields last.0 in
+    record { fits = (second.1, third.1); within = tt; ignored = reserved; may_follow = last.1; takes = whole }
 
 log_info_takes : TakesRow 0x03 log_info_at
 unfolding log_info_at
@@ -96,9 +97,9 @@ default_level_takes c x fits e =
     with_step (bytes_at 4 l.1) _ x _ after_l (λ r er made.
     let tl = byte_takes c l fits el in
     let tr = bytes_take 4 l.1 r tl.0.fits er in
-    let whole = Takes-then c (l.0 ∷ []) l.1 r.0 r.1 tl.0 tr.0 in
+    let whole = TakesBytes-then c (l.0 ∷ []) l.1 r.0 r.1 tl.0 tr.0 in
     subst (λ (y : Request × At). TakesRequest c y.0 y.1 × (service_of y.0 ≡ 0x11)) (some_is (SetDefault l.0, r.1) x made)
-    (record { fits = tt; admitted = tt; ignored = r.0; may_follow = tr.1; takes = whole }, refl)))
+    (record { fits = tt; within = tt; ignored = r.0; may_follow = tr.1; takes = whole }, refl)))
 
 needs_log_level : Needs 13 log_level_at
 unfolding log_level_at
@@ -137,26 +138,26 @@ needs_body service n =
 pub record IsBare (service : ℕ) (request : Request) : Type 0 where
   pub service_is : service_of request ≡ service
   pub fits : Fits request
-  pub admitted : IsAdmitted request
+  pub within : IsWithinLimit request
   pub no_fields : (order : Order) → fields_of order request ≡ []
   pub may_follow : (bytes : List ℕ) → MayFollow request bytes
 
 pub data Row (service : ℕ) : Type 0 where
-  fields : (n : ℕ) (read : At → Option (Request × At)) → Needs n read → TakesRow service read → ((c : At) → request_of (Some (service, c)) ≡ whole_of service (read c)) → Row service
+  fields : (n : ℕ) (read : At → Option (Request × At)) → 4 ≤ n → Needs n read → TakesRow service read → ((c : At) → request_of (Some (service, c)) ≡ whole_of service (read c)) → Row service
   bare : (request : Request) → IsBare service request → ((c : At) → request_of (Some (service, c)) ≡ Ok request) → Row service
   injected : 0xfff ≤ service → ((c : At) → request_of (Some (service, c)) ≡ injection_of service (number_at 4 c)) → Row service
 
 row_01 : (service : ℕ) → service ≡ 0x01 → Row service
 unfolding request_of
-row_01 service is = rw is (fields 13 log_level_at needs_log_level log_level_takes (λ c. refl))
+row_01 service is = rw is (fields 13 log_level_at (omega arith) needs_log_level log_level_takes (λ c. refl))
 
 row_03 : (service : ℕ) → service ≡ 0x03 → Row service
 unfolding request_of
-row_03 service is = rw is (fields 13 log_info_at needs_log_info log_info_takes (λ c. refl))
+row_03 service is = rw is (fields 13 log_info_at (omega arith) needs_log_info log_info_takes (λ c. refl))
 
 row_11 : (service : ℕ) → service ≡ 0x11 → Row service
 unfolding request_of
-row_11 service is = rw is (fields 5 default_level_at needs_default_level default_level_takes (λ c. refl))
+row_11 service is = rw is (fields 5 default_level_at (omega arith) needs_default_level default_level_takes (λ c. refl))
 
 bare_row : (service : ℕ) (request : Request) → IsBare service request → ((c : At) → request_of (Some (service_of request, c)) ≡ Ok request) → Row service
 bare_row service request is reads = bare request is (rw is.service_is at reads)
@@ -164,22 +165,22 @@ bare_row service request is reads = bare request is (rw is.service_is at reads)
 row_04 : (service : ℕ) → service ≡ 0x04 → Row service
 unfolding request_of
 row_04 service is =
-    bare_row service GetDefault (record { service_is = sym is; fits = tt; admitted = tt; no_fields = λ order. refl; may_follow = λ bytes. tt }) (λ c. refl)
+    bare_row service GetDefault (record { service_is = sym is; fits = tt; within = tt; no_fields = λ order. refl; may_follow = λ bytes. tt }) (λ c. refl)
 
 row_05 : (service : ℕ) → service ≡ 0x05 → Row service
 unfolding request_of
 row_05 service is =
-    bare_row service Store (record { service_is = sym is; fits = tt; admitted = tt; no_fields = λ order. refl; may_follow = λ bytes. tt }) (λ c. refl)
+    bare_row service Store (record { service_is = sym is; fits = tt; within = tt; no_fields = λ order. refl; may_follow = λ bytes. tt }) (λ c. refl)
 
 row_06 : (service : ℕ) → service ≡ 0x06 → Row service
 unfolding request_of
 row_06 service is =
-    bare_row service Reset (record { service_is = sym is; fits = tt; admitted = tt; no_fields = λ order. refl; may_follow = λ bytes. tt }) (λ c. refl)
+    bare_row service Reset (record { service_is = sym is; fits = tt; within = tt; no_fields = λ order. refl; may_follow = λ bytes. tt }) (λ c. refl)
 
 row_13 : (service : ℕ) → service ≡ 0x13 → Row service
 unfolding request_of
 row_13 service is =
-    bare_row service Version (record { service_is = sym is; fits = tt; admitted = tt; no_fields = λ order. refl; may_follow = λ bytes. tt }) (λ c. refl)
+    bare_row service Version (record { service_is = sym is; fits = tt; within = tt; no_fields = λ order. refl; may_follow = λ bytes. tt }) (λ c. refl)
 
 -- a service id that no row above the last two has
 pub other_of : (service : ℕ) (c : At) → IsOther service → request_of (Some (service, c)) ≡ Ok (Other service)
@@ -213,7 +214,7 @@ injected_of service c above =
 
 row_other : (service : ℕ) → IsOther service → Row service
 row_other service is =
-    bare (Other service) (record { service_is = refl; fits = is; admitted = tt; no_fields = λ order. refl; may_follow = λ bytes. tt }) (λ c. other_of service c is)
+    bare (Other service) (record { service_is = refl; fits = is; within = tt; no_fields = λ order. refl; may_follow = λ bytes. tt }) (λ c. other_of service c is)
 
 cases_equal : (a b : ℕ) → (a ≡ b) ⊎ (a ≢ b)
 cases_equal a b = elim (eqb_tells a b) [ inl w ↦ inl w.1 | inr w ↦ inr w.1 ]

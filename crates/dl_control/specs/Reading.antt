@@ -2,6 +2,7 @@
 use Rattle.std.specs.Prelude.{ℕ, List, length, Option, Some, None, Result, Ok, Err, nat_lt, nat_le, ◌==◌, if◌then◌else◌}
 use Rattle.std.specs.Int.{w8, cast_signed}
 use Rattle.dl_bytes.specs.declared.cursor.Order.{Order}
+use Rattle.dl_bytes.specs.Limits.{payload_limit}
 use Rattle.dl_bytes.specs.Number.{At, bytes_at, number_at, ◌>>=◌}
 use Rattle.dl_control.specs.declared.request.Request.{Request}
 use Rattle.dl_control.specs.declared.request.Request.TheVariants.{SetLogLevel, GetLogInfo, GetDefault, Store, Reset, SetDefault, Version, Inject, Other}
@@ -44,10 +45,10 @@ abbrev pub whole_of : ℕ → Option (Request × At) → Result Request RequestF
 whole_of service None = Err (Short service)
 whole_of service (Some x) = if length x.1.rest == 0 then Ok x.0 else Err (Excess service)
 
--- an injection, from its length on: a length above 1390 is too much, whether its bytes are there or not
+-- an injection, from its length on: a length above the limit is too much, whether its bytes are there or not
 unfoldable pub injection_of : ℕ → Option (ℕ × At) → Result Request RequestFault
 injection_of service None = Err (Short service)
-injection_of service (Some n) = if nat_lt 1390 n.0 then Err (Excess service) else whole_of service (body_at service n.0 n.1)
+injection_of service (Some n) = if nat_lt payload_limit n.0 then Err (Excess service) else whole_of service (body_at service n.0 n.1)
 
 -- a request, from its service id on
 unfoldable pub request_of : Option (ℕ × At) → Result Request RequestFault

@@ -2,6 +2,7 @@
 use Rattle.std.specs.Prelude.{◌≡◌, ◌≢◌, ◌<◌, ◌≤◌, ◌^◌, ℕ, List, [], ◌∷◌, ◌++◌, length, nat_lt, if◌then◌else◌}
 use Rattle.std.specs.Int.{w8, cast_unsigned}
 use Rattle.std.specs.Int.RustNames.{FitsSigned}
+use Rattle.dl_bytes.specs.Limits.{payload_limit}
 use Rattle.dl_bytes.specs.Number.{bytes_of, number_of}
 use Rattle.dl_bytes.specs.declared.cursor.Order.{Order}
 use Rattle.dl_control.specs.declared.request.Request.{Request}
@@ -63,24 +64,30 @@ pub record IsLaidOut (order : Order) (request : Request) (bytes : List ℕ) : Ty
   pub may_follow : MayFollow request ignored
   pub spelled : bytes ≡ bytes_of order 4 (service_of request) ++ fields_of order request ++ ignored
 
--- what is admitted: an injection has at most 1390 bytes
-abbrev pub IsAdmitted : Request → Type 0
-IsAdmitted (Inject service body) = length body.bytes ≤ 1390
-IsAdmitted request = Unit {0}
+-- within the limit of a payload, as far as it is an injection
+abbrev pub IsWithinLimit : Request → Type 0
+IsWithinLimit (Inject service body) = length body.bytes ≤ payload_limit
+IsWithinLimit request = Unit {0}
 
--- some request, admitted or not, begins with these bytes
-abbrev pub BeginsRequest : Order → List ℕ → Type 0
-BeginsRequest order bytes = (request : Request) × (more : List ℕ) × IsLaidOut order request (bytes ++ more)
+-- Some request begins with these bytes and goes on behind them. As soon as eight bytes are there, which tell the length
+-- of an injection, it is one within the limit.
+pub record BeginsRequest (order : Order) (bytes : List ℕ) : Type 0 where
+  pub request : Request
+  pub more : List ℕ
+  pub goes_on : 0 < length more
+  pub layout : IsLaidOut order request (bytes ++ more)
+  pub within : 8 ≤ length bytes → IsWithinLimit request
 
--- no admitted request begins with these bytes
+-- no request within the limit begins with these bytes
 abbrev pub BeginsNone : Order → List ℕ → Type 0
-BeginsNone order bytes = (request : Request) (more : List ℕ) → IsAdmitted request → IsLaidOut order request (bytes ++ more) → ⊥
+BeginsNone order bytes = (request : Request) (more : List ℕ) → IsWithinLimit request → IsLaidOut order request (bytes ++ more) → ⊥
 
--- the service that a fault names: 0 where the bytes of its id are missing
-abbrev pub named_service : Order → List ℕ → ℕ
-named_service order bytes = if nat_lt (length bytes) 4 then 0 else number_of order 4 bytes
+-- the service that a fault tells: 0 where the bytes of its id are missing
+abbrev pub service_told : Order → List ℕ → ℕ
+service_told order bytes = if nat_lt (length bytes) 4 then 0 else number_of order 4 bytes
 
--- Short where bytes are missing, Excess where no more bytes would help
+-- Short where bytes are missing; Excess where the length of an injection would be there, and no more bytes would help.
+-- No payload has both faults.
 abbrev pub IsFault : Order → List ℕ → RequestFault → Type 0
-IsFault order bytes (Short service) = (service ≡ named_service order bytes) × BeginsRequest order bytes
-IsFault order bytes (Excess service) = (service ≡ named_service order bytes) × BeginsNone order bytes
+IsFault order bytes (Short service) = (service ≡ service_told order bytes) × BeginsRequest order bytes
+IsFault order bytes (Excess service) = (service ≡ service_told order bytes) × (8 ≤ length bytes) × BeginsNone order bytes

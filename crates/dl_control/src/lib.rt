@@ -4,7 +4,7 @@
 mod reply;
 mod request;
 
-pub use reply::{Reply, ReplyFault, write_reply};
+pub use reply::{DAEMON_APID, DAEMON_CTID, Reply, ReplyFault, write_reply};
 pub use request::{Request, RequestFault, read_request};
 
 #[cfg(test)]

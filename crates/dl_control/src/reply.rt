@@ -3,16 +3,18 @@
 ghost use Rattle.std.specs.Prelude.{◌≡◌, ◌<◌, ◌↔◌, IfOk, Err, length};
 ghost use Rattle.dl_control.specs.Reply.{control_reply};
 
-use byteorder::{BigEndian, ByteOrder, LittleEndian};
-use dl_bytes::{Bytes, Id};
-use std::alloc::{AllocError, Global};
+use byteorder::{ByteOrder, LittleEndian};
+use dl_bytes::{Bytes, Frame, Id, OutOfMemory};
+use dl_headers::{REPLY_HEADER_LEN, write_reply_headers};
+use std::alloc::Global;
 
 /// What the daemon replies to a request.
 #[derive(Debug, Drop)]
 pub struct Reply {
     /// The service id of the request.
     pub service: u32,
-    /// 0 where it is done, 1 where it is not supported, 2 where it failed; others by the service.
+    /// The status: 0 where it is done, 1 where it is not supported, 2 where it failed, 10 where memory was wanted. Of
+    /// service 0x03 it is 6 or 7 as the options are, 8 where no context matches, 9 where the reply would be too long.
     pub status: u8,
     /// What the service tells besides.
     pub body: Bytes,
@@ -23,33 +25,28 @@ pub struct Reply {
 pub enum ReplyFault {
     /// The message would have more than 65,535 bytes, the most that its field LEN can tell.
     TooLong,
+    /// There is no memory for it.
     OutOfMemory,
 }
 
-impl From<AllocError> for ReplyFault {
+impl From<OutOfMemory> for ReplyFault {
     ghost use Rattle.dl_control.specs.declared.reply.ReplyFault.TheVariants.{OutOfMemory};
 
     ghost from_gives = { λ _ fault. fault ≡ OutOfMemory };
 
-    fn from(_error: AllocError) -> ReplyFault {
+    fn from(_error: OutOfMemory) -> ReplyFault {
         ReplyFault::OutOfMemory
     }
 }
 
-/// HTYP: version 1, with ECU and an extended header.
-const HTYP: u8 = 0x25;
+/// APID of the daemon itself, `DA1`.
+pub const DAEMON_APID: [u8; 4] = *b"DA1\0";
 
-/// MCNT: replies are not counted.
-const MCNT: u8 = 0;
+/// CTID of the daemon itself, `DC1`.
+pub const DAEMON_CTID: [u8; 4] = *b"DC1\0";
 
-/// MSIN: a control message, a response.
-const MSIN: u8 = 0x26;
-
-/// NOAR.
-const NOAR: u8 = 1;
-
-/// The bytes of a reply before its body: standard header, extended header, service id and status.
-const HEAD_LEN: usize = 8 + 10 + 4 + 1;
+/// The bytes of a reply before its body: the headers, the service id and the status.
+const HEAD_LEN: usize = REPLY_HEADER_LEN as usize + 4 + 1;
 
 /// The message by which the daemon of this ECU replies: a control response of application `DA1` and context `DC1`.
 /// Where it is not too long, only memory can be wanting.
@@ -61,16 +58,13 @@ pub fn write_reply(alloc: Global, ecu: Id, reply: &Reply) -> Result<Bytes, Reply
     let Ok(len) = u16::try_from(HEAD_LEN + body.len()) else {
         return Err(ReplyFault::TooLong);
     };
-    let mut len_bytes = [0; 2];
-    BigEndian::write_u16(&mut len_bytes, len);
+    let mut headers = Frame::new();
+    let (apid, ctid) = (Id::from_bytes(DAEMON_APID), Id::from_bytes(DAEMON_CTID));
+    write_reply_headers(&mut headers, ecu, apid, ctid, len);
     let mut service = [0; 4];
     LittleEndian::write_u32(&mut service, reply.service);
     let mut message = Vec::with_capacity(alloc, len as usize)?;
-    message.extend_from_slice(&[HTYP, MCNT])?;
-    message.extend_from_slice(&len_bytes)?;
-    message.extend_from_slice(&ecu.bytes())?;
-    message.extend_from_slice(&[MSIN, NOAR])?;
-    message.extend_from_slice(b"DA1\0DC1\0")?;
+    message.extend_from_slice(headers.bytes())?;
     message.extend_from_slice(&service)?;
     message.extend_from_slice(&[reply.status])?;
     message.extend_from_slice(body)?;

@@ -3,41 +3,74 @@
 ghost use Rattle.std.specs.Prelude.{◌≡◌, IfOk, IfErr, Ok, Some};
 ghost use Rattle.dl_bytes.specs.Number.{at, Gives, number_at};
 ghost use Rattle.dl_control.specs.declared.request.Request.{Request};
-ghost use Rattle.dl_control.specs.Request.{IsLaidOut, IsAdmitted, IsFault};
+ghost use Rattle.dl_control.specs.Request.{IsLaidOut, IsWithinLimit, IsFault};
 ghost use Rattle.dl_control.specs.Reading.{log_level_at, log_info_at, default_level_at, injection_of, request_of, request_in};
 
 use dl_bytes::{Cursor, Id, Order, PAYLOAD_LIMIT, Payload};
 
-/// What a diagnostic client asks. In `SetLogLevel` and `GetLogInfo` an id of zero bytes stands for all ids.
+/// What a diagnostic client asks. In `SetLogLevel` and `GetLogInfo` an id of zero bytes stands for all ids. Reserved
+/// bytes that a request has besides are not looked at.
 #[derive(Debug, Drop)]
 pub enum Request {
-    /// Service 0x01: sets the log level of contexts, 0 to 6, or -1 for the default level. Other levels are read too.
-    SetLogLevel { apid: Id, ctid: Id, level: i8 },
-    /// Service 0x03: asks which applications and contexts there are. The options say what is told of them.
-    GetLogInfo { options: u8, apid: Id, ctid: Id },
+    /// Service 0x01: sets the log level of contexts.
+    SetLogLevel {
+        /// APID: the application, or all of them.
+        apid: Id,
+        /// CTID: the context, or all of them.
+        ctid: Id,
+        /// The log level, 0 (off) to 6 (verbose), or -1 for the default level. Other values are read too.
+        level: i8,
+    },
+    /// Service 0x03: asks which applications and contexts there are.
+    GetLogInfo {
+        /// What is asked of them: 6 for log level and trace status, 7 for their descriptions too. Other values are
+        /// read too.
+        options: u8,
+        /// APID: the application, or all of them.
+        apid: Id,
+        /// CTID: the context, or all of them.
+        ctid: Id,
+    },
     /// Service 0x04: asks for the default level.
     GetDefault,
     /// Service 0x05: stores the configuration.
     Store,
     /// Service 0x06: resets to the factory default.
     Reset,
-    /// Service 0x11: sets the default level, 0 to 6. Other levels are read too.
-    SetDefault { level: u8 },
+    /// Service 0x11: sets the default level.
+    SetDefault {
+        /// The log level, 0 (off) to 6 (verbose). Other values are read too.
+        level: u8,
+    },
     /// Service 0x13: asks for the version of the software.
     Version,
-    /// A service from 0xFFF on: at most 1390 bytes for an application. They are no arguments: `body` counts none.
-    Inject { service: u32, body: Payload },
+    /// A service from 0xFFF on: data for an application.
+    Inject {
+        /// The service id, from 0xFFF on.
+        service: u32,
+        /// The data, at most 1390 bytes. It is no arguments: the payload counts none.
+        body: Payload,
+    },
     /// Any other service. What follows the service id is not looked at.
-    Other { service: u32 },
+    Other {
+        /// The service id.
+        service: u32,
+    },
 }
 
-/// Why a payload is no request. Each names the service.
+/// Why a payload is no request.
 #[derive(Clone, Copy, Debug, PartialEq, Eq)]
 pub enum RequestFault {
-    /// Bytes are missing. Where they are bytes of the service id, it is told as 0.
-    Short { service: u32 },
+    /// Bytes are missing.
+    Short {
+        /// The service id, or 0 where bytes of the id itself are missing.
+        service: u32,
+    },
     /// There are more bytes than the service has, or an injection tells a length above 1390.
-    Excess { service: u32 },
+    Excess {
+        /// The service id.
+        service: u32,
+    },
 }
 
 /// The first service id of injections.
@@ -50,9 +83,9 @@ const RESERVED: usize = 4;
 #[tactic(auto, unfolding(crate::specs::Reading::request_of))]
 pub fn read_request(payload: &[u8], order: Order) -> Result<Request, RequestFault>
     // What is read is laid out so.
-    ensures found { IfOk result (λ request. IsLaidOut order request payload.now × IsAdmitted request) }
+    ensures found { IfOk result (λ request. IsLaidOut order request payload.now × IsWithinLimit request) }
     // What is laid out so is read.
-    ensures only { (request : Request) → IsLaidOut order request payload.now → IsAdmitted request → result ≡ Ok request }
+    ensures only { (request : Request) → IsLaidOut order request payload.now → IsWithinLimit request → result ≡ Ok request }
     // Short comes only where more bytes would make a request, Excess only where none of at most 1390 bytes would.
     ensures fault { IfErr result (IsFault order payload.now) }
     // Which of them it is.

@@ -1,17 +1,14 @@
 -- A list of bytes as the parts that were read of it.
-use Rattle.std.proofs.Common.{◌≡◌, ℕ, ◌+◌, ◌/◌, ◌%◌, ◌<◌, ◌≤◌, List, [], ◌∷◌, ◌++◌, length, get_or, drop, sym, ap, ◌∙◌, append_assoc, length-append, arith}
+use Rattle.std.proofs.Common.{◌≡◌, ℕ, ◌+◌, ◌/◌, ◌%◌, ◌≤◌, List, [], ◌∷◌, ◌++◌, length, drop, sym, ap, ◌∙◌, append_assoc, length-append, arith}
 use Rattle.std.proofs.lemmas.List.{drop_at}
+use Rattle.dl_bytes.specs.Bytes.{IsBytes}
 use Rattle.dl_bytes.specs.Htyp.{htyp_of, len_of}
-use Rattle.dl_headers.specs.Header.{short}
+use Rattle.byteorder.specs.Endian.{big_bytes}
 use Rattle.dl_headers.specs.Reading.{mcnt_of}
-
--- each item is a byte
-abbrev pub IsBytes : List ℕ → Type 0
-IsBytes bytes = (i : ℕ) → get_or bytes i 0 < 256
 
 -- the four bytes that every standard header begins with
 abbrev pub front_of : List ℕ → List ℕ
-front_of bytes = (htyp_of bytes ∷ mcnt_of bytes ∷ []) ++ short (len_of bytes)
+front_of bytes = (htyp_of bytes ∷ mcnt_of bytes ∷ []) ++ big_bytes 2 (len_of bytes)
 
 pub front_spelled : (bytes : List ℕ) → 4 ≤ length bytes → IsBytes bytes → bytes ≡ front_of bytes ++ drop 4 bytes
 front_spelled [] l fits = absurd (omega arith)

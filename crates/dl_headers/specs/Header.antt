@@ -6,14 +6,6 @@ use Rattle.dl_bytes.specs.declared.moment.Moment.{Moment}
 use Rattle.dl_headers.specs.declared.header.Standard.{Standard}
 use Rattle.dl_headers.specs.declared.header.Extended.{Extended}
 
--- a number of two bytes
-abbrev pub short : ℕ → List ℕ
-short n = big_bytes 2 n
-
--- a number of four bytes
-abbrev pub long : ℕ → List ℕ
-long n = big_bytes 4 n
-
 -- a field that may be absent
 abbrev pub optional : {A : Type 0} → (A → List ℕ) → Option A → List ℕ
 optional spelling None = []
@@ -22,8 +14,8 @@ optional spelling (Some x) = spelling x
 -- HTYP, MCNT and LEN, then ECU, SEID and TMSP, as many of them as there are
 abbrev pub standard_header : Standard → List ℕ
 standard_header head =
-    (head.htyp ∷ head.mcnt ∷ []) ++ short head.len
-    ++ optional (λ ecu. ecu) head.ecu ++ optional long head.session ++ optional long head.ticks
+    (head.htyp ∷ head.mcnt ∷ []) ++ big_bytes 2 head.len
+    ++ optional (λ ecu. ecu) head.ecu ++ optional (big_bytes 4) head.session ++ optional (big_bytes 4) head.ticks
 
 -- MSIN, NOAR, APID and CTID
 abbrev pub extended_header : Extended → List ℕ

@@ -4,9 +4,11 @@
 mod fault;
 mod header;
 mod read;
+mod reply;
 mod write;
 
 pub use fault::HeaderFault;
 pub use header::{Extended, Front, Standard};
 pub use read::{read_extended, read_front, read_standard};
+pub use reply::{REPLY_HEADER_LEN, write_reply_headers};
 pub use write::{storage_header, write_extended, write_standard};

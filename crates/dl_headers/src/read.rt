@@ -2,8 +2,9 @@
 
 ghost use Rattle.std.specs.Prelude.{◌≡◌, ℕ, ◌<◌, ◌≤◌, ◌+◌, ◌^◌, List, ◌++◌, length, drop, is_some, true, if◌then◌else◌, IfOk, IfSome, Option};
 ghost use Rattle.std.specs.Result.{result_err};
+ghost use Rattle.byteorder.specs.Endian.{big_bytes};
 ghost use Rattle.dl_bytes.specs.Htyp.{htyp_of, len_of, standard_len};
-ghost use Rattle.dl_headers.specs.Header.{standard_header, extended_header, optional, long, IsStandard, IsExtended};
+ghost use Rattle.dl_headers.specs.Header.{standard_header, extended_header, optional, IsStandard, IsExtended};
 ghost use Rattle.dl_headers.specs.Reading.{mcnt_of, front_fault, standard_fault, extended_fault};
 
 use crate::fault::HeaderFault;
@@ -109,9 +110,9 @@ fn optional_number(bytes: &[u8], there: bool) -> (Option<u32>, &[u8])
     requires { there ≡ true → 4 ≤ length bytes.now }
     ensures there { is_some result.0 ≡ there }
     ensures size { IfSome result.0 (λ n. n < 2 ^ 32) }
-    ensures spelled { bytes.now ≡ optional long result.0 ++ result.1.now }
+    ensures spelled { bytes.now ≡ optional (big_bytes 4) result.0 ++ result.1.now }
     ensures again { (field : Option ℕ) (rest : List ℕ) → is_some field ≡ there → IfSome field (λ n. n < 2 ^ 32)
-        → bytes.now ≡ optional long field ++ rest → (result.0 ≡ field) × (result.1.now ≡ rest) }
+        → bytes.now ≡ optional (big_bytes 4) field ++ rest → (result.0 ≡ field) × (result.1.now ≡ rest) }
     ensures len { length bytes.now ≡ (if there then 4 else 0) + length result.1.now }
 {
     if !there {

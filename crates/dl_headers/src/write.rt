@@ -1,8 +1,9 @@
 //! Headers as bytes.
 
 ghost use Rattle.std.specs.Prelude.{◌≡◌, ◌≤◌, ◌+◌, ◌++◌, length};
+ghost use Rattle.byteorder.specs.Endian.{big_bytes};
 ghost use Rattle.dl_bytes.specs.Htyp.{version};
-ghost use Rattle.dl_headers.specs.Header.{standard_header, extended_header, storage_header, long};
+ghost use Rattle.dl_headers.specs.Header.{standard_header, extended_header, storage_header};
 
 use crate::header::{Extended, Standard};
 use byteorder::{BigEndian, ByteOrder, LittleEndian};
@@ -55,7 +56,7 @@ pub fn storage_header(ecu: Id, moment: Moment) -> [u8; 16]
 /// Adds a number of four bytes, the highest first, as all numbers of headers are.
 fn write_number(into: &mut Frame, number: u32)
     requires { length into.old + 4 ≤ 1984 }
-    ensures { into.new ≡ into.old ++ long number }
+    ensures { into.new ≡ into.old ++ big_bytes 4 number }
 {
     let mut bytes = [0; 4];
     BigEndian::write_u32(&mut bytes, number);

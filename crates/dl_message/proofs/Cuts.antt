@@ -8,9 +8,10 @@ use Rattle.std.proofs.lemmas.List.{append-nil, drop_at, drop-drop, append_cancel
 use Rattle.std.proofs.lemmas.List.Elements.{filter-append}
 use Rattle.dl_bytes.specs.Htyp.{len_of}
 use Rattle.dl_headers.specs.Reading.{front_fault}
-use Rattle.dl_message.specs.Cut.{without_serial, IsWhole, IsPiece, NoPiece, IsCut, message_fault, rest_fault, with_others, pieces_within, pieces, rest_of}
+use Rattle.dl_headers.proofs.Fronts.{len_of-append}
+use Rattle.dl_message.specs.Cut.{without_serial, IsWholeMessage, IsPiece, NoPiece, IsCut, message_fault, rest_fault, with_others, pieces_within, pieces, rest_of}
 use Rattle.dl_message.specs.Requests.{asks, requests}
-use Rattle.dl_message.proofs.Pieces.{within_limit, piece_long, piece-append, piece_at_front, whole_front, len_of-append, bad_no_piece, bad_stays, short_no_piece}
+use Rattle.dl_message.proofs.Pieces.{within_limit, piece_long, piece-append, piece_at_front, whole_front, bad_no_piece, bad_stays, short_no_piece}
 use Rattle.dl_message.proofs.Joined.{no_first}
 
 -- ---- there is at most one
@@ -73,7 +74,7 @@ module _ (limit : ℕ) (bytes : List ℕ) where
       let test : ltb (length message) 4 ≡ false = le-ltb _ _ long in
       let front : front_fault message ≡ None = no_first _ _ (sym (cond-false _ _ _ test) ∙ good) in
       let whole = whole_front limit (len_of message) message front refl le (within_limit limit message long good) in
-      subst (IsWhole limit) (sym (piece_at_front limit (len_of message) bytes message refl le whole).0) whole
+      subst (IsWholeMessage limit) (sym (piece_at_front limit (len_of message) bytes message refl le whole).0) whole
 
   it_is_none : begins ≡ false → NoPiece limit bytes
   it_is_none e = elim (and_cases _ _ e) [

@@ -49,7 +49,7 @@ pub ten : (head : Extended) (rest : List ℕ) → IsExtended head → drop 10 (e
 ten head rest is = drop_at (extended_header head) rest 10 (omega (arith, length-append head.apid head.ctid, is.apid, is.ctid))
 
 -- what contracts see of a cutter, by its parts
-pub same_cutting : {limit limit' room room' : ℕ} {rest rest' message message' : List ℕ} → limit ≡ limit' → rest ≡ rest' → message ≡ message' → room ≡ room'
-    → ◌≡◌ {A = Cutting} (record { limit = limit; rest = rest; message = message; room = room }) (record { limit = limit'; rest = rest'; message = message'; room = room' })
+pub same_cutting : {limit limit' room room' : ℕ} {unread unread' message message' : List ℕ} → limit ≡ limit' → unread ≡ unread' → message ≡ message' → room ≡ room'
+    → ◌≡◌ {A = Cutting} (record { limit = limit; unread = unread; message = message; room = room }) (record { limit = limit'; unread = unread'; message = message'; room = room' })
 same_cutting l r m n =
-    ap (λ (v : ℕ × (List ℕ × (List ℕ × ℕ))). let made : Cutting = record { limit = v.0; rest = v.1.0; message = v.1.1.0; room = v.1.1.1 } in made) (both l (both r (both m n)))
+    ap (λ (v : ℕ × (List ℕ × (List ℕ × ℕ))). let made : Cutting = record { limit = v.0; unread = v.1.0; message = v.1.1.0; room = v.1.1.1 } in made) (both l (both r (both m n)))

@@ -1,4 +1,5 @@
 pub mod Joined
 pub mod Pieces
 pub mod Cuts
-pub mod Given
+pub mod Calls
+pub mod Whole

@@ -1,5 +1,5 @@
 -- What begins a stream: its first piece, or a bad header, or less than a piece.
-use Rattle.std.proofs.Common.{◌≡◌, ℕ, ◌+◌, ◌-◌, ◌<◌, ◌≤◌, Bool, true, false, cond, ltb, eqb, List, [], ◌∷◌, ◌++◌, length, take, drop, Option, Some, None, refl, sym, ap, subst, ◌∙◌, length-append, length-drop, length-take, take-append-drop, inl, inr, arith}
+use Rattle.std.proofs.Common.{◌≡◌, ℕ, ◌+◌, ◌-◌, ◌<◌, ◌≤◌, Bool, true, false, cond, ltb, eqb, List, ◌++◌, length, take, drop, Option, Some, None, refl, sym, ap, subst, ◌∙◌, length-append, length-drop, length-take, take-append-drop, inl, inr, arith}
 use Rattle.std.specs.List.{starts_with}
 use Rattle.std.specs.Option.{option_or}
 use Rattle.std.specs.Cmp.Lexicographic.{pointwise}
@@ -7,9 +7,10 @@ use Rattle.std.proofs.lemmas.Bool.{le-ltb, lt-ltb, ltb-false, cases_lt, cond-tru
 use Rattle.std.proofs.lemmas.List.{take-append-le, drop-append-le, take-take, drop-take, drop-drop}
 use Rattle.dl_headers.specs.declared.fault.HeaderFault.{HeaderFault}
 use Rattle.dl_headers.specs.declared.fault.HeaderFault.TheVariants.{Length}
-use Rattle.dl_bytes.specs.Htyp.{htyp_of, len_of, header_len}
+use Rattle.dl_bytes.specs.Htyp.{len_of}
 use Rattle.dl_headers.specs.Reading.{front_fault}
-use Rattle.dl_message.specs.Cut.{serial_header, without_serial, IsWhole, IsPiece, NoPiece, IsShort, message_fault, rest_fault}
+use Rattle.dl_headers.proofs.Fronts.{good_front, htyp_of-append, len_of-append, front_fault-append}
+use Rattle.dl_message.specs.Cut.{serial_header, without_serial, IsWholeMessage, IsPiece, NoPiece, IsShort, message_fault, rest_fault}
 
 -- ---- what the first four bytes say doesn't change with what follows them
 
@@ -19,23 +20,6 @@ no_some e = absurd cc
 some_of_two : {A : Type 0} (there : Bool) (x y : A) → cond there (Some x) (Some y) ≡ None → ⊥
 some_of_two true x y e = absurd cc
 some_of_two false x y e = absurd cc
-
-htyp_of-append : (a b : List ℕ) → 4 ≤ length a → htyp_of (a ++ b) ≡ htyp_of a
-htyp_of-append [] b l = absurd (omega arith)
-htyp_of-append (x ∷ a) b l = refl
-
-pub len_of-append : (a b : List ℕ) → 4 ≤ length a → len_of (a ++ b) ≡ len_of a
-len_of-append [] b l = absurd (omega arith)
-len_of-append (x ∷ []) b l = absurd (omega arith)
-len_of-append (x ∷ y ∷ []) b l = absurd (omega arith)
-len_of-append (x ∷ y ∷ z ∷ []) b l = absurd (omega arith)
-len_of-append (x ∷ y ∷ z ∷ w ∷ a) b l = refl
-
-pub front_fault-append : (a b : List ℕ) → 4 ≤ length a → front_fault (a ++ b) ≡ front_fault a
-front_fault-append a b l =
-    let first : ltb (length a) 4 ≡ false = le-ltb _ _ l in
-    let second : ltb (length (a ++ b)) 4 ≡ false = le-ltb _ _ (omega (arith, length-append a b)) in
-    rw (first, second, htyp_of-append a b l, len_of-append a b l) refl
 
 pub message_fault-append : (limit : ℕ) (a b : List ℕ) → 4 ≤ length a → message_fault limit (a ++ b) ≡ message_fault limit a
 message_fault-append limit a b l =
@@ -60,22 +44,12 @@ without_serial_le a = elim (starts_with eqb a serial_header) as (λ there. lengt
 
 -- ---- pieces
 
--- a front without a fault has four bytes
+-- a front without a fault has four bytes, and a LEN of four at least
 front_long : (a : List ℕ) → front_fault a ≡ None → 4 ≤ length a
-front_long a e = elim (cases_lt (length a) 4) [
-  | inl short ↦ let test : ltb (length a) 4 ≡ true = lt-ltb _ _ short in absurd (no_some (sym (rw test at e)))
-  | inr long ↦ long
-]
+front_long a e = (good_front a e).long
 
--- and a LEN of four at least
 header_least : (a : List ℕ) → front_fault a ≡ None → 4 ≤ len_of a
-header_least a e = elim (cases_lt (len_of a) 4) [
-  | inl short ↦
-      let test : ltb (len_of a) (header_len (htyp_of a)) ≡ true = lt-ltb _ _ (omega (arith, short)) in
-      let long : ltb (length a) 4 ≡ false = le-ltb _ _ (front_long a e) in
-      absurd (some_of_two _ _ _ (rw (long, test) at e))
-  | inr long ↦ long
-]
+header_least a e = let headers = (good_front a e).headers in omega arith
 
 pub piece_long : (limit : ℕ) (piece : List ℕ) → IsPiece limit piece → (4 ≤ length (without_serial piece)) × (4 ≤ length piece)
 piece_long limit piece is =
@@ -86,7 +60,7 @@ pub piece-append : (limit : ℕ) (piece more : List ℕ) → IsPiece limit piece
 piece-append limit piece more is = without_serial-append piece more (piece_long limit piece is).1
 
 -- a whole message has no fault
-whole_good : (limit : ℕ) (message : List ℕ) → IsWhole limit message → message_fault limit message ≡ None
+whole_good : (limit : ℕ) (message : List ℕ) → IsWholeMessage limit message → message_fault limit message ≡ None
 whole_good limit message is =
     let long : ltb (length message) 4 ≡ false = le-ltb _ _ (front_long message is.front) in
     let within : ltb limit (len_of message) ≡ false = le-ltb _ _ is.within in
@@ -124,7 +98,7 @@ short_no_piece limit rest short piece more is e =
     ]
 
 -- the first LEN bytes, where they are there
-pub whole_front : (limit len : ℕ) (bytes : List ℕ) → front_fault bytes ≡ None → len ≡ len_of bytes → len ≤ length bytes → len ≤ limit → IsWhole limit (take len bytes)
+pub whole_front : (limit len : ℕ) (bytes : List ℕ) → front_fault bytes ≡ None → len ≡ len_of bytes → len ≤ length bytes → len ≤ limit → IsWholeMessage limit (take len bytes)
 whole_front limit len bytes front is le within =
     let long = front_long bytes front in
     let least = header_least bytes front in
@@ -140,7 +114,7 @@ same_start : (n : ℕ) (bytes : List ℕ) → 4 ≤ n → starts_with eqb (take 
 same_start n bytes le = ap (λ (x : List ℕ). pointwise eqb serial_header x) (take-take 4 n bytes le)
 
 -- the piece whose message was found behind a serial header or at once
-pub piece_at_front : (limit len : ℕ) (rest front : List ℕ) → front ≡ without_serial rest → len ≤ length front → IsWhole limit (take len front)
+pub piece_at_front : (limit len : ℕ) (rest front : List ℕ) → front ≡ without_serial rest → len ≤ length front → IsWholeMessage limit (take len front)
     → (without_serial (take (length rest - length front + len) rest) ≡ take len front) × (drop (length rest - length front) rest ≡ front)
 piece_at_front limit len rest front e le is =
     let long = front_long (take len front) is.front in
@@ -160,13 +134,13 @@ piece_at_front limit len rest front e le is =
     at refl
 
 -- what is given of a rest, and what stays
-pub given_of : (limit len : ℕ) (rest front behind : List ℕ) → front ≡ without_serial rest → behind ≡ drop (length rest - length front) rest → len ≤ length front → IsWhole limit (take len front)
+pub given_of : (limit len : ℕ) (rest front behind : List ℕ) → front ≡ without_serial rest → behind ≡ drop (length rest - length front) rest → len ≤ length front → IsWholeMessage limit (take len front)
     → (piece : List ℕ) × IsPiece limit piece × (rest ≡ piece ++ drop len behind) × (take len behind ≡ without_serial piece)
 given_of limit len rest front behind e f le is =
     let n = length rest - length front in
     let first = piece_at_front limit len rest front e le is in
     let split : rest ≡ take (n + len) rest ++ drop len behind = sym (take-append-drop (n + len) rest) ∙ ap (λ (x : List ℕ). take (n + len) rest ++ x) (sym (drop-drop len n rest) ∙ ap (drop len) (sym f)) in
-    (take (n + len) rest, subst (IsWhole limit) (sym first.0) is, split, ap (take len) (f ∙ first.1) ∙ sym first.0)
+    (take (n + len) rest, subst (IsWholeMessage limit) (sym first.0) is, split, ap (take len) (f ∙ first.1) ∙ sym first.0)
 
 -- ---- room
 

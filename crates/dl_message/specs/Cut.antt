@@ -1,5 +1,5 @@
 -- A stream of messages, cut into pieces. The cut is of all the bytes: it knows no buffer, and not how they came.
-use Rattle.std.specs.Prelude.{◌≡◌, ◌≢◌, ℕ, ◌<◌, zero, suc, ◌+◌, ◌-◌, ◌≤◌, ◌⊎◌, List, [], ◌∷◌, ◌++◌, length, take, drop, nat_eq, nat_lt, nat_le, ◌&&◌, if◌then◌else◌, Option, Some, None}
+use Rattle.std.specs.Prelude.{◌≡◌, ◌≢◌, ℕ, ◌<◌, zero, suc, ◌+◌, ◌-◌, ◌≤◌, ◌⊎◌, List, [], ◌∷◌, ◌++◌, length, take, drop, map, nat_eq, nat_lt, nat_le, ◌&&◌, if◌then◌else◌, Option, Some, None}
 use Rattle.std.specs.List.{starts_with, concat, AllByRecursion}
 use Rattle.std.specs.Option.{option_or, is_none}
 use Rattle.dl_bytes.specs.Htyp.{len_of}
@@ -16,14 +16,14 @@ abbrev pub without_serial : List ℕ → List ℕ
 without_serial bytes = if starts_with nat_eq bytes serial_header then drop 4 bytes else bytes
 
 -- one whole message: no fault in its front, and LEN is its length, at most the limit
-pub record IsWhole (limit : ℕ) (message : List ℕ) : Type 0 where
+pub record IsWholeMessage (limit : ℕ) (message : List ℕ) : Type 0 where
   pub front : front_fault message ≡ None
   pub len : length message ≡ len_of message
   pub within : len_of message ≤ limit
 
 -- one piece of a stream: a serial header or none, and one whole message
 abbrev pub IsPiece : ℕ → List ℕ → Type 0
-IsPiece limit piece = IsWhole limit (without_serial piece)
+IsPiece limit piece = IsWholeMessage limit (without_serial piece)
 
 -- no piece begins the bytes
 abbrev pub NoPiece : ℕ → List ℕ → Type 0
@@ -76,6 +76,10 @@ pieces_within limit (suc n) bytes =
 -- the pieces of the one cut of a stream, which are no more than its bytes
 abbrev pub pieces : ℕ → List ℕ → List (List ℕ)
 pieces limit stream = pieces_within limit (length stream) stream
+
+-- the messages of a stream: its pieces without their serial headers
+abbrev pub messages : ℕ → List ℕ → List (List ℕ)
+messages limit stream = map without_serial (pieces limit stream)
 
 -- the rest of the one cut of a stream
 abbrev pub rest_of : ℕ → List ℕ → List ℕ

@@ -1,6 +1,7 @@
 -- The messages that the daemon makes, each with its one spelling.
 use Rattle.std.specs.Prelude.{◌≡◌, ℕ, ◌+◌, ◌*◌, ◌^◌, ◌<◌, ◌≤◌, List, [], ◌∷◌, ◌++◌, length, Some, refl}
 use Rattle.byteorder.specs.Endian.{little_bytes}
+use Rattle.dl_bytes.specs.Limits.{payload_limit}
 use Rattle.dl_bytes.specs.Level.{severity_number}
 use Rattle.dl_bytes.specs.declared.item.Item.{Item}
 use Rattle.dl_headers.specs.Reply.{reply}
@@ -48,4 +49,4 @@ pub record IsLogCall (item : Item) : Type 0 where
   pub ctid : length item.ctid ≡ 4
   pub writer : item.writer < 2 ^ 32
   pub at : item.at < 2 ^ 32
-  pub payload : length item.payload.bytes ≤ 1390
+  pub payload : length item.payload.bytes ≤ payload_limit

@@ -1,11 +1,11 @@
 -- The requests of a stream that a client sends.
-use Rattle.std.specs.Prelude.{ℕ, Bool, false, ◌&&◌, List, map, slice_index, Option, Some, None}
+use Rattle.std.specs.Prelude.{ℕ, Bool, false, ◌&&◌, List, slice_index, Option, Some, None}
 use Rattle.std.specs.List.{filter}
+use Rattle.dl_bytes.specs.Limits.{client_limit}
 use Rattle.dl_bytes.specs.Htyp.{htyp_of, has_extended, standard_len}
 use Rattle.dl_headers.specs.Msin.{is_request}
 use Rattle.dl_headers.specs.declared.header.Extended.{Extended}
-use Rattle.dl_message.specs.declared.cutter.TheConstants.{CLIENT_LIMIT}
-use Rattle.dl_message.specs.Cut.{without_serial, pieces}
+use Rattle.dl_message.specs.Cut.{messages}
 
 -- whether a message asks for something: its extended header says so in MSIN
 abbrev pub asks : List ℕ → Bool
@@ -16,6 +16,6 @@ abbrev pub asks_by : Option Extended → Bool
 asks_by None = false
 asks_by (Some head) = is_request head.msin
 
--- the messages of the cut that ask for something
+-- the messages of a client's stream that ask for something
 abbrev pub requests : List ℕ → List (List ℕ)
-requests stream = filter asks (map without_serial (pieces CLIENT_LIMIT stream))
+requests stream = filter asks (messages client_limit stream)

@@ -2,11 +2,11 @@
 
 ghost use Rattle.std.specs.Prelude.{◌≡◌, ◌≤◌, ◌<◌, ◌+◌, ◌-◌, ◌++◌, [], length, take, min, None, Some, IfOk, IfSome};
 ghost use Rattle.std.specs.Result.{result_err};
-ghost use Rattle.dl_message.specs.Cut.{without_serial, message_fault, IsShort, IsWhole};
+ghost use Rattle.dl_message.specs.Cut.{without_serial, message_fault, IsShort, IsWholeMessage};
 
-use dl_bytes::Buffer;
+use dl_bytes::{Buffer, OutOfMemory};
 use dl_headers::{HeaderFault, read_front};
-use std::alloc::{AllocError, Global};
+use std::alloc::Global;
 use std::marker::Model;
 
 /// The greatest LEN of a message that a client may send.
@@ -33,7 +33,7 @@ pub struct Cutter {
     buffer: Buffer,
     limit: u16,
     /// How many of the buffer's first bytes are the message last given.
-    given: usize,
+    message_len: usize,
     /// Whether a bad header was met.
     closed: bool,
 }
@@ -46,42 +46,36 @@ impl Model for Cutter {
 
     ghost view = { λ c. record {
       limit = c.limit;
-      rest = drop c.given c.buffer.bytes;
-      message = take c.given c.buffer.bytes;
+      unread = drop c.message_len c.buffer.bytes;
+      message = take c.message_len c.buffer.bytes;
       room = if c.closed then 0 else c.buffer.room;
     } };
 
-    ghost invariant = { λ c. IsKept c.limit c.given c.buffer c.closed };
+    ghost invariant = { λ c. IsKept c.limit c.message_len c.buffer c.closed };
 }
 
 impl Cutter {
-    ghost use Rattle.dl_message.specs.Cutting.{Answers};
+    ghost use Rattle.dl_message.specs.Cutting.{unfed, Feeds, Cuts};
 
     /// A cutter of messages whose LEN is at most the limit.
-    pub fn make(alloc: Global, limit: u16) -> Result<Cutter, AllocError>
+    pub fn make(alloc: Global, limit: u16) -> Result<Cutter, OutOfMemory>
         requires { 30 ≤ limit }
-        ensures { IfOk result (λ cutter. cutter ≡ record { limit = limit; rest = []; message = []; room = limit + 4 }) }
+        ensures { IfOk result (λ cutter. cutter ≡ unfed limit) }
     {
         Ok(Cutter {
             buffer: Buffer::make(alloc, limit as usize + SERIAL_HEADER.len())?,
             limit,
-            given: 0,
+            message_len: 0,
             closed: false,
         })
     }
 
     /// Takes as many of the first bytes of the piece as there is room for, and answers how many.
     pub fn feed(&mut self, piece: &[u8]) -> usize
-        ensures count { result ≡ min (length piece.now) self.old.room }
-        ensures taken { self.new ≡ record {
-          limit = self.old.limit;
-          rest = self.old.rest ++ take result piece.now;
-          message = [];
-          room = self.old.room - result;
-        } }
+        ensures { Feeds self.old piece.now result self.new }
     {
-        self.buffer.consume(self.given);
-        self.given = 0;
+        self.buffer.consume(self.message_len);
+        self.message_len = 0;
         if self.closed {
             return 0;
         }
@@ -91,18 +85,18 @@ impl Cutter {
     /// Finds what begins the bytes that were fed and not given: a message, which may have a serial header before it, less
     /// than a message, or a bad header. Feed more only after `NeedMore`: until then there may be no room.
     pub fn next(&mut self) -> Cut
-        ensures answer { Answers self.old result self.new }
-        ensures whole { result ≡ Cut.Message → IsWhole self.new.limit self.new.message }
+        ensures answer { Cuts self.old result self.new }
+        ensures whole { result ≡ Cut.Message → IsWholeMessage self.new.limit self.new.message }
     {
-        self.buffer.consume(self.given);
-        self.given = 0;
+        self.buffer.consume(self.message_len);
+        self.message_len = 0;
         let held = self.buffer.bytes();
         let front = without_serial(held);
         match whole_len(front, self.limit) {
             Ok(Some(len)) => {
                 let serial_len = held.len() - front.len();
                 self.buffer.consume(serial_len);
-                self.given = len;
+                self.message_len = len;
                 Cut::Message
             }
             Ok(None) => {
@@ -121,7 +115,7 @@ impl Cutter {
     pub fn message(&self) -> &[u8]
         ensures { result.now ≡ self.now.message }
     {
-        &self.buffer.bytes()[..self.given]
+        &self.buffer.bytes()[..self.message_len]
     }
 }
 
@@ -137,7 +131,7 @@ fn whole_len(bytes: &[u8], limit: u16) -> Result<Option<usize>, HeaderFault>
     ensures fault { result_err result ≡ message_fault limit bytes.now }
     ensures short { result ≡ Ok None → IsShort bytes.now }
     ensures within { IfOk result (λ found. IfSome found (λ len. len ≤ length bytes.now)) }
-    ensures whole { IfOk result (λ found. IfSome found (λ len. IsWhole limit (take len bytes.now))) }
+    ensures whole { IfOk result (λ found. IfSome found (λ len. IsWholeMessage limit (take len bytes.now))) }
 {
     if bytes.len() < 4 {
         return Ok(None);

@@ -5,16 +5,12 @@ ghost use Rattle.dl_message.specs.Frames.{log_message, overflow_record};
 
 use byteorder::{ByteOrder, LittleEndian};
 use dl_bytes::{Frame, Htyp, Id, Item};
-use dl_headers::{Extended, Standard, write_extended, write_standard};
+use dl_headers::{
+    Extended, REPLY_HEADER_LEN, Standard, write_extended, write_reply_headers, write_standard,
+};
 
 /// HTYP of a log message: all parts of the headers, a little-endian payload, version 1.
 const LOG_HTYP: u8 = 0x3d;
-
-/// HTYP of an overflow record: an extended header and the ECU, a little-endian payload, version 1.
-const REPLY_HTYP: u8 = 0x25;
-
-/// MSIN of a reply: a control message that responds.
-const REPLY_MSIN: u8 = 0x26;
 
 /// The service of an overflow record.
 const OVERFLOW_SERVICE: u32 = 0x14;
@@ -58,26 +54,8 @@ pub fn overflow_frame(ecu: Id, apid: Id, ctid: Id, counter: u32) -> Frame
     payload[5] = 1;
     LittleEndian::write_u32(&mut payload[6..], counter);
     let mut frame = Frame::new();
-    write_standard(
-        &mut frame,
-        &Standard {
-            htyp: REPLY_HTYP,
-            mcnt: 0,
-            len: Htyp(REPLY_HTYP).header_len() + payload.len() as u16,
-            ecu: Some(ecu),
-            session: None,
-            ticks: None,
-        },
-    );
-    write_extended(
-        &mut frame,
-        &Extended {
-            msin: REPLY_MSIN,
-            noar: 1,
-            apid,
-            ctid,
-        },
-    );
+    let len = REPLY_HEADER_LEN + payload.len() as u16;
+    write_reply_headers(&mut frame, ecu, apid, ctid, len);
     frame.extend_from_slice(&payload);
     frame
 }

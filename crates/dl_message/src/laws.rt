@@ -1,10 +1,14 @@
 //! Laws of the definitions that the contracts of this crate stand on.
 
-ghost use Rattle.std.specs.Prelude.{◌≡◌, ◌≤◌, ℕ, List, [], ◌++◌, length, IsSome};
+ghost use Rattle.std.specs.Prelude.{◌≡◌, ◌↔◌, ◌≤◌, ℕ, List, ◌++◌, length, IsSome};
+ghost use Rattle.dl_bytes.specs.Bytes.{IsBytes};
+ghost use Rattle.dl_bytes.specs.Cutting.{Call, Runs, fed_by, given_by, AreCut};
+ghost use Rattle.dl_bytes.specs.Limits.{frame_limit, client_limit};
+ghost use Rattle.dl_bytes.specs.UserMessage.{HoldsMessage};
 ghost use Rattle.dl_bytes.specs.declared.item.Item.{Item};
 ghost use Rattle.dl_headers.specs.Message.{Message, IsMessage};
-ghost use Rattle.dl_message.specs.Cut.{IsWhole, IsCut, pieces, rest_of, rest_fault};
-ghost use Rattle.dl_message.specs.Cutting.{Cutting, Answers, HasGiven, Shows};
+ghost use Rattle.dl_message.specs.Cut.{IsWholeMessage, IsCut, pieces, messages, rest_of, rest_fault};
+ghost use Rattle.dl_message.specs.Cutting.{Cutting, Found, Begins, Stops, Does, unfed, messages_in};
 ghost use Rattle.dl_message.specs.declared.cutter.Cut.{Cut};
 ghost use Rattle.dl_message.specs.Frames.{log_call, log_message, overflow_report, overflow_record, IsLogCall};
 ghost use Rattle.dl_message.specs.Requests.{requests};
@@ -18,26 +22,28 @@ pub fn one_cut()
         IsCut limit stream ps rest → (ps ≡ pieces limit stream) × (rest ≡ rest_of limit stream) }
 {}
 
-/// A message by its layout is a whole one for the cut, where its LEN is within the limit. (`read_message` shows the
-/// converse: it finds the layout in every whole message.)
-pub fn messages_are_whole()
-    ensures { (limit : ℕ) (m : Message) (bytes : List ℕ) → IsMessage m bytes → m.standard.len ≤ limit → IsWhole limit bytes }
+/// The three ways to say that bytes are one message agree: each whole message is the spelling of some message, a message
+/// by its layout is a whole one, and what a user message holds is a whole message within the limit of frames.
+pub fn whole_messages()
+    ensures spelled { (limit : ℕ) (bytes : List ℕ) → IsBytes bytes → IsWholeMessage limit bytes → (m : Message) × IsMessage m bytes }
+    ensures whole { (limit : ℕ) (m : Message) (bytes : List ℕ) → IsMessage m bytes → m.standard.len ≤ limit → IsWholeMessage limit bytes }
+    ensures held { (bytes : List ℕ) → HoldsMessage bytes ↔ IsWholeMessage frame_limit bytes }
 {}
 
-/// What a cutter gives is the cut of all bytes that it was fed, whatever the pieces: each feed adds to the rest, each
-/// message takes its piece from the rest, and at every other answer what was given is the cut.
-pub fn given_is_the_cut()
-    ensures start { (limit : ℕ) → HasGiven limit [] [] [] }
-    ensures feed { (limit : ℕ) (fed more rest : List ℕ) (given : List (List ℕ)) →
-        HasGiven limit fed given rest → HasGiven limit (fed ++ more) given (rest ++ more) }
-    ensures next { (old new : Cutting) (answer : Cut) (fed : List ℕ) (given : List (List ℕ)) →
-        HasGiven old.limit fed given old.rest → Answers old answer new → Shows new answer fed given }
+/// However the bytes came, a cutter has given the first messages of the bytes that it took and holds what stands behind
+/// them. Where it gives no more, these are all messages of the bytes.
+pub fn a_cutter_gives_the_cut()
+    ensures so_far { (limit : ℕ) (calls : List (Call Found)) (new : Cutting) → Runs Does (unfed limit) calls new
+        → AreCut (Begins limit) (fed_by calls) (given_by messages_in calls) new.unread }
+    ensures whole { (limit : ℕ) (calls : List (Call Found)) (new : Cutting) (cut : Cut) → Runs Does (unfed limit) calls new
+        → Stops limit new.unread cut
+        → (given_by messages_in calls ≡ messages limit (fed_by calls)) × (new.unread ≡ rest_of limit (fed_by calls)) }
 {}
 
 /// A client that is cut off at any byte has sent a prefix of its requests. After a bad header it has sent all of them.
 pub fn requests_of_a_prefix()
     ensures prefix { (a b : List ℕ) → (more : List (List ℕ)) × (requests (a ++ b) ≡ requests a ++ more) }
-    ensures bad { (a b : List ℕ) → IsSome (rest_fault CLIENT_LIMIT (rest_of CLIENT_LIMIT a)) → requests (a ++ b) ≡ requests a }
+    ensures bad { (a b : List ℕ) → IsSome (rest_fault client_limit (rest_of client_limit a)) → requests (a ++ b) ≡ requests a }
 {}
 
 /// What `log_frame` and `overflow_frame` write are messages of these parts, so they are read again as the same parts.
@@ -45,4 +51,9 @@ pub fn frames_are_messages()
     ensures log { (ecu : List ℕ) (item : Item) → length ecu ≡ 4 → IsLogCall item → IsMessage (log_call ecu item) (log_message ecu item) }
     ensures overflow { (ecu apid ctid : List ℕ) (counter : ℕ) → length ecu ≡ 4 → length apid ≡ 4 → length ctid ≡ 4
         → IsMessage (overflow_report ecu apid ctid counter) (overflow_record ecu apid ctid counter) }
+{}
+
+/// The limit that a cutter of a client's stream is made with.
+pub fn limit_of_clients()
+    ensures { CLIENT_LIMIT ≡ client_limit }
 {}

@@ -16,10 +16,11 @@ use dl_headers::{Extended, HeaderFault, Standard, read_extended, read_standard};
 /// Where the parts of a message are.
 #[derive(Clone, Copy, Debug)]
 pub struct Parts {
+    /// The standard header.
     pub standard: Standard,
     /// The extended header, where UEH of HTYP says that there is one.
     pub extended: Option<Extended>,
-    /// Where the payload begins, which goes to the end of the message.
+    /// Where the payload begins, in bytes from the front of the message. It goes to the end of the message.
     pub start: usize,
 }
 
@@ -38,6 +39,7 @@ pub fn read_message(bytes: &[u8]) -> Result<Parts, HeaderFault>
     ensures fault { result_err result ≡ front_fault bytes.now }
     ensures message { IfOk result (λ parts. IsMessage (message_of parts bytes.now) bytes.now) }
     ensures start { IfOk result (λ parts. parts.start ≡ header_len parts.standard.htyp) }
+    ensures within { IfOk result (λ parts. parts.start ≤ length bytes.now) }
     ensures request { IfOk result (λ parts. asks_by parts.extended ≡ asks bytes.now) }
     ensures again { (m : Message) → IsMessage m bytes.now → IsOkAnd result (λ parts. message_of parts bytes.now ≡ m) }
 {

@@ -1,26 +1,40 @@
--- What a client is sent.
-use Rattle.std.specs.Prelude.{ℕ, Bool, List, [], ◌++◌, nat_lt, count_by, if◌then◌else◌}
-use Rattle.std.specs.List.{before_first, after_first, after_last}
-use Rattle.dl_model.specs.declared.event.Event.{Event}
-use Rattle.dl_model.specs.Events.{is_connect, is_close, is_connect_of, is_close_of}
-use Rattle.dl_model.specs.Frames.{admitted}
+-- What a client is sent: the backlog that is due to it, then all that is admitted while it listens, and its replies.
+use Rattle.std.specs.Prelude.{ℕ, ◌==◌, ◌&&◌, List, [], ◌∷◌, map, if◌then◌else◌}
+use Rattle.dl_events.specs.declared.event.Event.{Event}
+use Rattle.dl_events.specs.declared.event.Event.TheVariants as event
+use Rattle.dl_model.specs.Along.{along}
+use Rattle.dl_model.specs.Traffic.{Traffic, Comes, Admit, Reply, Goes, is_open}
+use Rattle.dl_model.specs.Backlog.{waiting, handed_over}
+use Rattle.dl_model.specs.Frames.{FrameSource, frames_of}
 
--- more clients came than went
-abbrev pub is_any_open : List Event → Bool
-is_any_open events = nat_lt (count_by is_close events) (count_by is_connect events)
+-- ---- over traffic
 
--- The backlog that is due to a client when it connects: what was admitted since the last time that a client was
--- open, and nothing where one is open still.
-abbrev pub due : List ℕ → List Event → ℕ → List (List ℕ)
-due ecu events client =
-    let before = before_first (is_connect_of client) events in
-    if is_any_open before then [] else admitted ecu (after_last is_close before)
+-- what one entry puts into a client's stream, after those before it
+abbrev pub put : List ℕ → ℕ → ℕ → List Traffic → Traffic → List (List ℕ)
+-- at its coming, what waited
+put ecu buffer client before (Comes other) = if other == client then handed_over ecu buffer (waiting before) else []
+-- while it is open, each admitted frame and its own replies
+put ecu buffer client before (Admit frame) = if is_open client before then frame ∷ [] else []
+put ecu buffer client before (Reply other frame) = if (other == client) && is_open client before then frame ∷ [] else []
+put ecu buffer client before (Goes other) = []
 
--- what is admitted while the client is open, none left out
-abbrev pub live : List ℕ → List Event → ℕ → List (List ℕ)
-live ecu events client =
-    admitted ecu (before_first (is_close_of client) (after_first (is_connect_of client) events))
+-- the frames of a client's stream
+abbrev pub sent : List ℕ → ℕ → ℕ → List Traffic → List (List ℕ)
+sent ecu buffer client traffic = along (put ecu buffer client) traffic
 
--- the due backlog, then unbroken admission until the client goes
-abbrev pub sent : List ℕ → List Event → ℕ → List (List ℕ)
-sent ecu events client = due ecu events client ++ live ecu events client
+-- ---- over events
+
+-- what an event is for the clients, after those before it
+abbrev pub traffic_of : FrameSource → List Event → Event → List Traffic
+traffic_of source before (event.Connect client) = Comes client ∷ []
+traffic_of source before (event.Request client frame done) = Reply client (source.reply before frame done) ∷ []
+traffic_of source before (event.Close client why) = Goes client ∷ []
+traffic_of source before e = map Admit (frames_of source e)
+
+-- the traffic of a journal
+abbrev pub traffic : FrameSource → List Event → List Traffic
+traffic source events = along (traffic_of source) events
+
+-- the frames of a client's stream
+abbrev pub stream : FrameSource → ℕ → ℕ → List Event → List (List ℕ)
+stream source buffer client events = sent source.ecu buffer client (traffic source events)

@@ -2,8 +2,10 @@
 //! The code here is the plain types that the definitions speak of.
 #![tactic(auto)]
 
-mod event;
+mod registry;
+pub mod registry_examples;
+pub mod registry_laws;
 mod step;
 
-pub use event::{Call, Event, Why};
+pub use registry::{Context, LevelChange, RegistryFault, SetFault, Slot};
 pub use step::{ContextSpec, Step};

@@ -1,6 +1,9 @@
 //! Objects in memory. None fails by itself, but that a sink that keeps bytes may want memory, which it counts as a fault.
 
-ghost use Rattle.std.specs.Prelude.{◌≡◌, ◌<◌, [], Some, None};
+ghost use Rattle.std.specs.Prelude.{◌≡◌, ◌<◌, ◌⊎◌, min, [], length, Some, None};
+ghost use Rattle.dl_outside.specs.Outside.{HasReadCause, HasWriteCause, Reads, Takes};
+ghost use Rattle.dl_outside.specs.Kept.{next_piece};
+ghost use Rattle.dl_outside.specs.declared.sink.Took.TheVariants as took;
 
 use crate::sink::{Sink, Took};
 use crate::source::{Got, Source};
@@ -16,11 +19,12 @@ pub struct MemorySource {
 }
 
 impl Model for MemorySource {
-    ghost use Rattle.std.specs.Prelude.{List, ℕ, ◌≤◌, ◌<◌, drop, length};
+    ghost use Rattle.std.specs.Prelude.{◌≤◌, ◌<◌, drop, length};
+    ghost use Rattle.dl_outside.specs.Kept.{Supply};
 
-    ghost Value = { List ℕ };
+    ghost Value = { Supply };
 
-    ghost view = { λ s. drop s.at s.bytes.items };
+    ghost view = { λ s. record { bytes = drop s.at s.bytes.items; piece = s.piece } };
 
     ghost invariant = { λ s. (s.at ≤ length s.bytes.items) × (0 < s.piece) };
 }
@@ -29,7 +33,7 @@ impl MemorySource {
     /// A source of these bytes, which gives at most `piece` of them in one read.
     pub fn make(bytes: Vec<u8>, piece: usize) -> MemorySource
         requires { 0 < piece }
-        ensures { result ≡ bytes.items }
+        ensures { result ≡ record { bytes = bytes.items; piece = piece } }
     {
         MemorySource {
             bytes,
@@ -40,11 +44,17 @@ impl MemorySource {
 }
 
 impl Source for MemorySource {
-    ghost left = { λ s. Some s };
+    ghost left = { λ s. Some s.bytes };
 
     ghost faults = { λ _. 0 };
 
-    fn read(&mut self, into: &mut [u8]) -> Got {
+    fn read(&mut self, into: &mut [u8]) -> Got
+        requires { 0 < length into.old }
+        ensures bytes { Reads (Some self.old.bytes) (Some self.new.bytes) result into.new }
+        ensures cause { HasReadCause 0 0 result }
+        ensures answer { result ≡ next_piece self.old (length into.old) }
+        ensures piece { self.new.piece ≡ self.old.piece }
+    {
         let rest = &self.bytes[self.at..];
         let n = rest.len().min(into.len()).min(self.piece);
         if n == 0 {
@@ -69,12 +79,12 @@ pub struct MemorySink {
 }
 
 impl Model for MemorySink {
-    ghost use Rattle.std.specs.Prelude.{List, ℕ, ◌<◌};
+    ghost use Rattle.std.specs.Prelude.{◌<◌};
     ghost use Rattle.dl_outside.specs.Kept.{Kept};
 
     ghost Value = { Kept };
 
-    ghost view = { λ s. record { bytes = s.bytes.items; faults = s.faults } };
+    ghost view = { λ s. record { bytes = s.bytes.items; piece = s.piece; faults = s.faults } };
 
     ghost invariant = { λ s. 0 < s.piece };
 }
@@ -83,7 +93,7 @@ impl MemorySink {
     /// An empty sink.
     pub fn make(alloc: Global, piece: usize) -> MemorySink
         requires { 0 < piece }
-        ensures { result ≡ record { bytes = []; faults = 0 } }
+        ensures { result ≡ record { bytes = []; piece = piece; faults = 0 } }
     {
         MemorySink {
             bytes: Vec::new(alloc),
@@ -105,7 +115,13 @@ impl Sink for MemorySink {
 
     ghost faults = { λ s. s.faults };
 
-    fn write(&mut self, piece: &[u8]) -> Took {
+    fn write(&mut self, piece: &[u8]) -> Took
+        requires { 0 < length piece.now }
+        ensures bytes { Takes (Some self.old.bytes) (Some self.new.bytes) result piece.now }
+        ensures cause { HasWriteCause self.old.faults self.new.faults result }
+        ensures answer { (result ≡ took.Failed) ⊎ (result ≡ took.Bytes (min (length piece.now) self.old.piece)) }
+        ensures piece { self.new.piece ≡ self.old.piece }
+    {
         let n = piece.len().min(self.piece);
         match self.bytes.extend_from_slice(&piece[..n]) {
             Ok(()) => Took::Bytes(n),

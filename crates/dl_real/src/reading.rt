@@ -1,11 +1,11 @@
 //! Standard input, or any reader of std, as a source.
 
-ghost use Rattle.std.specs.Prelude.{◌≡◌, None};
+ghost use Rattle.std.specs.Prelude.{◌≡◌};
 
 use dl_outside::{Got, Source};
 use std::io::Read;
 
-/// A source over a reader. It doesn't tell what is left.
+/// A source over a reader. It tells what is left where the reader does: standard input, a file and a socket don't.
 #[derive(Debug, Drop)]
 pub struct Reading<R> {
     inner: R,
@@ -23,7 +23,7 @@ impl<R> Reading<R> {
 }
 
 impl<R: Read> Source for Reading<R> {
-    ghost left = { λ _. None };
+    ghost left = { λ s. R.remaining s.inner };
 
     ghost faults = { λ s. s.faults };
 

@@ -1,11 +1,13 @@
 //! Standard output and standard error, or any writer of std, as a sink.
 
-ghost use Rattle.std.specs.Prelude.{◌≡◌, None};
+ghost use Rattle.std.specs.Prelude.{◌≡◌};
 
 use dl_outside::{Sink, Took};
-use std::io::Write;
+use std::io;
+use std::io::{Error, ErrorKind, Write};
 
-/// A sink over a writer. It doesn't tell what it holds. A writer that takes nothing of a piece has failed.
+/// A sink over a writer. It tells what it holds where the writer does: standard output, a file and a socket don't. A
+/// writer that takes nothing of a piece has failed.
 #[derive(Debug, Drop)]
 pub struct Writing<W> {
     inner: W,
@@ -23,7 +25,7 @@ impl<W> Writing<W> {
 }
 
 impl<W: Write> Sink for Writing<W> {
-    ghost held = { λ _. None };
+    ghost held = { λ s. W.contents s.inner };
 
     ghost faults = { λ s. s.faults };
 
@@ -40,4 +42,16 @@ impl<W: Write> Sink for Writing<W> {
     fn faults(&self) -> u64 {
         self.faults
     }
+}
+
+/// Writes all bytes, piece by piece as the writer takes them.
+pub fn write_whole<W: Write>(writer: &mut W, bytes: &[u8]) -> io::Result<()> {
+    let mut done = 0;
+    while done < bytes.len() {
+        match writer.write(&bytes[done..])? {
+            0 => return Err(Error::from(ErrorKind::WriteZero)),
+            n => done += n,
+        }
+    }
+    Ok(())
 }

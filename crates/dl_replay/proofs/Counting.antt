@@ -6,21 +6,21 @@ use Rattle.std.proofs.lemmas.List.{append-nil}
 use Rattle.std.proofs.lemmas.List.Elements.{filter_map-append}
 use Rattle.std.proofs.lemmas.List.Folds.{list_any-append}
 use Rattle.std.proofs.lemmas.List.Sums.{sum_by-append}
-use Rattle.dl_model.specs.declared.event.Call.{Call}
-use Rattle.dl_model.specs.declared.event.Why.{Why}
-use Rattle.dl_model.specs.declared.event.Event.{Event}
-use Rattle.dl_model.specs.declared.event.Event.TheVariants.{AppRegistered, ContextRegistered, WriterMade, Called, Connected, Closed}
+use Rattle.dl_replay.specs.declared.event.Call.{Call}
+use Rattle.dl_replay.specs.declared.event.Why.{Why}
+use Rattle.dl_replay.specs.declared.event.Event.{Event}
+use Rattle.dl_replay.specs.declared.event.Event.TheVariants.{AppRegistered, ContextRegistered, WriterMade, Called, Connected, Closed}
 use Rattle.dl_model.specs.declared.step.ContextSpec.{ContextSpec}
-use Rattle.dl_model.specs.Events.{is_call, is_call_of, is_queued_of, is_queued, is_connect, is_connect_of, is_close_of, app_of, context_of, writer_of, client_of}
+use Rattle.dl_replay.specs.Events.{is_call, is_call_of, is_queued_of, is_queued, is_connect, is_connect_of, is_close_of, app_of, context_of, writer_of, client_of}
 use Rattle.std.specs.Option.{option_map_or}
 use Rattle.std.proofs.lemmas.Bool.{lt-ltb, le-leb, false≢true}
 use Rattle.std.proofs.lemmas.Bool.Decides.{leb_tells}
 use Rattle.dl_bytes.specs.Payload.{Arguments}
 use Rattle.dl_bytes.specs.declared.level.Severity.{Severity}
-use Rattle.dl_model.specs.declared.event.Why.TheVariants.{Left}
+use Rattle.dl_replay.specs.declared.event.Why.TheVariants.{Left}
 use Rattle.dl_model.specs.declared.step.Step.TheVariants.{Log, Close}
-use Rattle.dl_model.specs.Events.{context_at}
-use Rattle.dl_model.specs.Steps.{call_of}
+use Rattle.dl_replay.specs.Events.{context_at}
+use Rattle.dl_replay.specs.Steps.{call_of}
 use Rattle.dl_replay.specs.Kept.{Counts}
 use Rattle.dl_replay.specs.Script.{Takes}
 

@@ -5,9 +5,9 @@ use Rattle.std.specs.Option.{option_map_or}
 use Rattle.std.proofs.lemmas.List.{append-nil, take_all}
 use Rattle.std.proofs.lemmas.List.Elements.{filter_map-append}
 use Rattle.std.proofs.lemmas.Grind.{flat_map-append}
-use Rattle.dl_model.specs.declared.event.Event.{Event}
-use Rattle.dl_model.specs.Events.{clients, client_of}
-use Rattle.dl_model.specs.Report.{hex_byte}
+use Rattle.dl_replay.specs.declared.event.Event.{Event}
+use Rattle.dl_replay.specs.Events.{clients, client_of}
+use Rattle.dl_replay.specs.Report.{hex_byte}
 
 -- a byte behind the first stands behind a blank
 pub joined : (x : ℕ) (xs : List ℕ) → join_with_byte 32 (map hex_byte (x ∷ xs)) ≡ hex_byte x ++ flat_map (λ b. 32 ∷ hex_byte b) xs

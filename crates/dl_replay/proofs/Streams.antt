@@ -1,19 +1,16 @@
 -- A source that is read to its end, and a sink that takes a text, piece by piece.
-use Rattle.std.proofs.Common.{◌≡◌, ℕ, ◌+◌, ◌<◌, ◌≤◌, List, [], ◌++◌, length, take, drop, Option, Some, None, refl, sym, ap, subst, ◌∙◌, append_assoc, arith, length-append, leb, false, inl, inr}
-use Rattle.std.proofs.lemmas.Bool.Decides.{leb_tells}
+use Rattle.std.proofs.Common.{◌≡◌, ℕ, ◌+◌, ◌<◌, ◌≤◌, List, [], ◌++◌, length, take, drop, Option, Some, None, refl, sym, ap, subst, ◌∙◌, append_assoc, arith, length-append}
+use Rattle.std.proofs.lemmas.Bool.{lt-ltb}
 use Rattle.std.specs.Prelude.{IfSome}
 use Rattle.std.proofs.lemmas.List.{append-nil, take-append-drop, drop_at}
 use Rattle.std.proofs.Math.Seq.{take-add}
 use Rattle.dl_outside.specs.declared.source.Got.TheVariants as got
 use Rattle.dl_outside.specs.declared.sink.Took.TheVariants as took
-use Rattle.dl_outside.specs.Outside.{Reads, Takes}
+use Rattle.dl_outside.specs.Outside.{Reads, Stays, Takes}
+use Rattle.dl_script.specs.Script.{script_of}
 use Rattle.dl_replay.specs.Script.{script_limit}
 use Rattle.dl_replay.specs.Program.{GaveAtMost, printed}
 use Rattle.dl_replay.specs.Reading.{HasRead}
-
--- a test of two numbers that fails
-more_than : (a b : ℕ) → b < a → leb a b ≡ false
-more_than a b h = elim (leb_tells a b) as (λ _. leb a b ≡ false) [ inl below ↦ absurd (omega (arith, below.1)) | inr above ↦ above.0 ]
 
 some_is : (o : Option (List ℕ)) (x : List ℕ) (P : List ℕ → Type 0) → o ≡ Some x → IfSome o P → P x
 some_is o x P e h = let family : Option (List ℕ) → Type 0 = λ v. IfSome v P in subst family e h
@@ -22,9 +19,9 @@ pub begun : (old : Option (List ℕ)) → HasRead old old []
 begun None = tt
 begun (Some all) = (all, refl, refl)
 
-pub unread : (old before new : Option (List ℕ)) (text : List ℕ) → HasRead old before text → new ≡ before → HasRead old new text
+pub unread : (old before new : Option (List ℕ)) (text : List ℕ) → HasRead old before text → Stays before new → HasRead old new text
 unread None before new text h e = tt
-unread (Some all) before new text h e = (h.0, e ∙ h.1, h.2)
+unread (Some all) before new text h e = (h.0, some_is before h.0 (λ bytes. new ≡ Some bytes) h.1 e, h.2)
 
 pub read_more : (old before new : Option (List ℕ)) (text into : List ℕ) (n : ℕ) → HasRead old before text → Reads before new (got.Bytes n) into → HasRead old new (text ++ take n into)
 read_more None before new text into n h r = tt
@@ -36,7 +33,7 @@ pub read_all : (old before new : Option (List ℕ)) (text into : List ℕ) → H
 read_all None before new text into h r = tt
 read_all (Some all) before new text into h r =
     let nothing : h.0 ≡ [] = some_is before h.0 (λ bytes. bytes ≡ []) h.1 r.1 in
-    (sym (append-nil text) ∙ ap (λ t. text ++ t) (sym nothing) ∙ h.2, r.0 ∙ h.1 ∙ ap Some nothing)
+    (sym (append-nil text) ∙ ap (λ t. text ++ t) (sym nothing) ∙ h.2, some_is before h.0 (λ bytes. new ≡ Some bytes) h.1 r.0 ∙ ap Some nothing)
 
 pub gave : (old new : Option (List ℕ)) (text : List ℕ) → HasRead old new text → length text ≤ script_limit + 1 → GaveAtMost old new
 gave None new text h small = tt
@@ -54,15 +51,10 @@ wrote (Some bytes) before new text i n h t =
     step ∙ ap Some (append_assoc bytes (take i text) (take n (drop i text)) ∙ ap (λ x. bytes ++ x) (sym (take-add i n text)))
 
 refused_if_long : (text : List ℕ) → script_limit < length text → printed text ≡ None
-unfolding printed
-refused_if_long text long = rw (more_than (length text) script_limit long) refl
+unfolding printed script_of
+refused_if_long text long = rw (lt-ltb script_limit (length text) long) refl
 
 -- a script that is too long is refused
 pub long_refused : (left : Option (List ℕ)) → IfSome left (λ all. script_limit < length all) → IfSome left (λ script. printed script ≡ None)
 long_refused None h = tt
 long_refused (Some all) h = refused_if_long all h
-
-pub long_printed : (left : Option (List ℕ)) (script text : List ℕ) → IfSome left (λ all. script_limit < length all) → left ≡ Some script → printed script ≡ Some text → ⊥
-long_printed left script text h e p =
-    let none : printed script ≡ None = refused_if_long script (some_is left script (λ all. script_limit < length all) e h) in
-    absurd cc

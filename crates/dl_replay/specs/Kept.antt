@@ -1,9 +1,9 @@
 -- What the machine keeps beside the events: answers that the events give too.
 use Rattle.std.specs.Prelude.{◌≡◌, ℕ, ◌%◌, Bool, List, [], ◌∷◌, count_by, Option, option_to_list, if◌then◌else◌}
 use Rattle.std.specs.List.{list_any}
-use Rattle.dl_model.specs.declared.event.Event.{Event}
+use Rattle.dl_replay.specs.declared.event.Event.{Event}
 use Rattle.dl_model.specs.declared.step.ContextSpec.{ContextSpec}
-use Rattle.dl_model.specs.Events.{apps, contexts, writers, clients, is_call, is_call_of, is_queued_of, is_connect, is_connect_of, is_close_of}
+use Rattle.dl_replay.specs.Events.{apps, contexts, writers, clients, is_call, is_call_of, is_queued_of, is_connect, is_connect_of, is_close_of}
 
 -- one application, context, writer and client at most, with the writer's calls and the client's state
 pub record Counts (events : List Event) (app : Option (List ℕ)) (context : Option ContextSpec) (writer : Option (List ℕ)) (calls passed : ℕ) (connected closed : Bool) : Type 0 where

@@ -1,4 +1,10 @@
+pub mod Events
+pub mod Frames
+pub mod ClientStream
+pub mod Steps
+pub mod Report
 pub mod Script
 pub mod Kept
 pub mod Program
 pub mod Reading
+pub mod Status

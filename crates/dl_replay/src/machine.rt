@@ -2,13 +2,14 @@
 
 ghost use Rattle.std.specs.Prelude.{◌≡◌, ℕ, [], ◌++◌, OnOk, IfSome, option_to_list};
 ghost use Rattle.std.specs.List.{list_any};
-ghost use Rattle.dl_model.specs.Events.{context_at, same_id};
-ghost use Rattle.dl_model.specs.Steps.{stops};
+ghost use Rattle.dl_replay.specs.Events.{context_at, same_id};
+ghost use Rattle.dl_replay.specs.Steps.{stops};
 ghost use Rattle.dl_model.specs.declared.step.Step.TheVariants.{App, Context, Writer, Log, Connect, Close};
 ghost use Rattle.dl_replay.specs.Script.{is_lawful, Takes};
 
+use crate::event::{Call, Event, Why};
 use dl_bytes::{Boxed, Id, Item, Level, Payload, Severity};
-use dl_model::{Call, ContextSpec, Event, Step, Why};
+use dl_model::{ContextSpec, Step};
 use std::alloc::{AllocError, Global};
 use std::marker::Model;
 
@@ -30,7 +31,7 @@ pub struct Machine {
 
 impl Model for Machine {
     ghost use Rattle.std.specs.Prelude.{List};
-    ghost use Rattle.dl_model.specs.declared.event.Event.{Event};
+    ghost use Rattle.dl_replay.specs.declared.event.Event.{Event};
 
     ghost Value = { List Event };
 

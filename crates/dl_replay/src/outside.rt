@@ -1,7 +1,7 @@
 //! A script from its source, and text to its sink.
 
 ghost use Rattle.std.specs.Prelude.{◌≡◌, ◌≤◌, ◌<◌, Some, [], OnOk, OnErr, IfOk, IfErr, IfSome, length, vec_len};
-ghost use Rattle.dl_outside.specs.Outside.{Rose};
+ghost use Rattle.dl_outside.specs.Outside.{HasRisen};
 ghost use Rattle.dl_replay.specs.Script.{script_limit};
 ghost use Rattle.dl_replay.specs.Program.{TookAll, TookFront, GaveAtMost};
 ghost use Rattle.dl_replay.specs.Reading.{IsWhole, FailsToRead};
@@ -32,8 +32,8 @@ pub struct WriteError;
 pub fn read_script<I: Source>(alloc: Global, input: &mut I) -> Result<Vec<u8>, ReadError>
     ensures whole { IfOk result (λ text. IsWhole (I.left input.old) (I.left input.new) text.items) }
     ensures failed { IfErr result (FailsToRead (I.left input.old) (I.faults input.old) (I.faults input.new)) }
+    ensures well { OnOk result (I.faults input.new ≡ I.faults input.old) }
     ensures at_most { GaveAtMost (I.left input.old) (I.left input.new) }
-    ensures later { I.faults input.old ≤ I.faults input.new }
 {
     let mut text = Vec::new(alloc);
     let mut buffer = [0; PIECE];
@@ -56,8 +56,9 @@ pub fn read_script<I: Source>(alloc: Global, input: &mut I) -> Result<Vec<u8>, R
 /// Writes a whole text, piece by piece as the sink takes it.
 pub fn write_text<O: Sink>(out: &mut O, text: &[u8]) -> Result<(), WriteError>
     ensures ok { OnOk result (TookAll (O.held out.old) (O.held out.new) text.now) }
-    ensures failed { OnErr result (Rose (O.faults out.old) (O.faults out.new) × TookFront (O.held out.old) (O.held out.new) text.now) }
-    ensures later { O.faults out.old ≤ O.faults out.new }
+    ensures well { OnOk result (O.faults out.new ≡ O.faults out.old) }
+    ensures failed { OnErr result (HasRisen (O.faults out.old) (O.faults out.new)) }
+    ensures front { OnErr result (TookFront (O.held out.old) (O.held out.new) text.now) }
 {
     let mut done = 0;
     while done < text.len() {

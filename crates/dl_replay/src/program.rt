@@ -1,13 +1,14 @@
 //! The program: a script from standard input, its report to standard output, and a status.
 
-ghost use Rattle.std.specs.Prelude.{◌≡◌, ◌≢◌, ◌↔◌, ◌⊎◌, List, ℕ, true, false, None, Some, IfOk, IfSome, map, option_map, string_bytes};
-ghost use Rattle.dl_outside.specs.Outside.{Rose};
-ghost use Rattle.dl_replay.specs.Program.{asks_for_steps, printed, line_of_status, IsStatus, IsDone, IsCutShort, IsRefused, TookAll, TookFront, GaveAtMost};
+ghost use Rattle.std.specs.Prelude.{◌≡◌, ◌≢◌, IfOk, map, option_map, string_bytes};
+ghost use Rattle.dl_replay.specs.declared.status.Status.{Status};
+ghost use Rattle.dl_replay.specs.Program.{asks_for_steps, printed, GaveAtMost, IsRun, Outcome};
+ghost use Rattle.dl_replay.specs.Status.{number};
 
 use crate::outside::{ReadError, read_script, write_text};
 use crate::report::print;
 use crate::script;
-use crate::status::{OK, OUT_OF_MEMORY, READ_FAULT, SCRIPT_REFUSED, WORDS_REFUSED, WRITE_FAULT};
+use crate::status::Status;
 use dl_bytes::Id;
 use dl_outside::{Sink, Source};
 use std::alloc::{AllocError, Global};
@@ -33,56 +34,58 @@ fn report_of(alloc: Global, script: &[u8]) -> Result<Option<Vec<u8>>, AllocError
     }
 }
 
-/// The line on standard error for a status.
-fn line(status: u8) -> &'static [u8]
-    ensures { result.now ≡ line_of_status status }
-{
-    match status {
-        WORDS_REFUSED => b"dlt_replay: usage: dlt_replay steps or generate NUMBER CALLS\n",
-        SCRIPT_REFUSED => b"dlt_replay: script refused\n",
-        WRITE_FAULT => b"dlt_replay: write fault\n",
-        OUT_OF_MEMORY => b"dlt_replay: out of memory\n",
-        READ_FAULT => b"dlt_replay: read fault\n",
-        _ => b"",
-    }
-}
-
 /// Plays the script of the input, and writes what it prints.
-fn play<I: Source, O: Sink>(alloc: Global, input: &mut I, out: &mut O) -> u8
-    ensures words { result ≢ WORDS_REFUSED }
-    ensures statuses { IsStatus result }
-    ensures done { result ≡ OK → IsDone (I.left input.old) (I.left input.new) (O.held out.old) (O.held out.new) }
-    ensures refused { result ≡ SCRIPT_REFUSED → IsRefused (I.left input.old) }
-    ensures refuses { (script : List ℕ) → I.left input.old ≡ Some script → printed script ≡ None
-        → (result ≡ SCRIPT_REFUSED) ⊎ (result ≡ OUT_OF_MEMORY) ⊎ (result ≡ READ_FAULT) }
-    ensures prints { (script text : List ℕ) → I.left input.old ≡ Some script → printed script ≡ Some text
-        → (result ≡ OK) ⊎ (result ≡ OUT_OF_MEMORY) ⊎ (result ≡ READ_FAULT) ⊎ (result ≡ WRITE_FAULT) }
-    ensures write_fault { result ≡ WRITE_FAULT → Rose (O.faults out.old) (O.faults out.new) }
-    ensures cut_short { result ≡ WRITE_FAULT → IsCutShort (I.left input.old) (I.left input.new) (O.held out.old) (O.held out.new) }
-    ensures read_fault { result ≡ READ_FAULT → Rose (I.faults input.old) (I.faults input.new) }
-    ensures untouched { result ≢ OK → result ≢ WRITE_FAULT → O.held out.new ≡ O.held out.old }
+fn play<I: Source, O: Sink>(alloc: Global, input: &mut I, out: &mut O) -> Status
+    ensures words { result ≢ Status.WordsRefused }
+    ensures outcome { Outcome (record { left = I.left input.old; reads_failed = I.faults input.old; held = O.held out.old; writes_failed = O.faults out.old })
+        (record { left = I.left input.new; reads_failed = I.faults input.new; held = O.held out.new; writes_failed = O.faults out.new }) result }
     ensures at_most { GaveAtMost (I.left input.old) (I.left input.new) }
 {
     let script = match read_script(alloc, input) {
         Ok(script) => script,
-        Err(ReadError::Long) => return SCRIPT_REFUSED,
-        Err(ReadError::Fault) => return READ_FAULT,
-        Err(ReadError::Memory) => return OUT_OF_MEMORY,
+        Err(ReadError::Long) => return Status::ScriptRefused,
+        Err(ReadError::Fault) => return Status::ReadFault,
+        Err(ReadError::Memory) => return Status::OutOfMemory,
     };
     let text = match report_of(alloc, &script) {
         Ok(Some(text)) => text,
-        Ok(None) => return SCRIPT_REFUSED,
-        Err(_) => return OUT_OF_MEMORY,
+        Ok(None) => return Status::ScriptRefused,
+        Err(_) => return Status::OutOfMemory,
     };
     match write_text(out, &text) {
-        Ok(()) => OK,
-        Err(_) => WRITE_FAULT,
+        Ok(()) => Status::Ok,
+        Err(_) => Status::WriteFault,
     }
 }
 
+/// What `replay` does, with the status by its name.
+fn ended<I: Source, O: Sink, E: Sink>(
+    alloc: Global,
+    words: &[String],
+    input: &mut I,
+    out: &mut O,
+    err: &mut E,
+) -> Status
+    ensures { IsRun (map string_bytes words.now)
+        (record { left = I.left input.old; reads_failed = I.faults input.old; held = O.held out.old; writes_failed = O.faults out.old })
+        (record { left = I.left input.new; reads_failed = I.faults input.new; held = O.held out.new; writes_failed = O.faults out.new })
+        (E.held err.old) (E.held err.new) (E.faults err.old) (E.faults err.new) result }
+{
+    let status = if is_steps(words) {
+        play(alloc, input, out)
+    } else {
+        Status::WordsRefused
+    };
+    if status != Status::Ok {
+        let _ = write_text(err, status.line());
+    }
+    status
+}
+
 /// Plays a script: reads it from `input`, and writes to `out` what each client of the daemon was sent. The words are
-/// those of the command line, the program's name first. The answer is the exit status. Each status but `OK` is said
-/// on `err` in one line, and a fault of `err` changes nothing. Each script has its status, unless memory runs out.
+/// those of the command line, the program's name first. The answer is the exit status, the number of a `Status`. Each
+/// status but `Ok` is said on `err` in one line, and a fault of `err` changes nothing. Each script has its status,
+/// unless memory runs out.
 pub fn replay<I: Source, O: Sink, E: Sink>(
     alloc: Global,
     words: &[String],
@@ -90,46 +93,10 @@ pub fn replay<I: Source, O: Sink, E: Sink>(
     out: &mut O,
     err: &mut E,
 ) -> u8
-    // It ends, with one of these statuses.
-    ensures statuses { IsStatus result }
-
-    // The words decide first, and nothing is read where they are refused.
-    ensures words { (result ≡ WORDS_REFUSED) ↔ (asks_for_steps (map string_bytes words.now) ≡ false) }
-    ensures unread { result ≡ WORDS_REFUSED → I.left input.new ≡ I.left input.old }
-
-    // With status 0 the script was read to its end, and what it prints was written whole.
-    ensures done { result ≡ OK → IsDone (I.left input.old) (I.left input.new) (O.held out.old) (O.held out.new) }
-
-    // A script is refused exactly where nothing is printed for it; one that prints is printed, where nothing fails.
-    ensures refused { result ≡ SCRIPT_REFUSED → IsRefused (I.left input.old) }
-    ensures refuses { (script : List ℕ) → asks_for_steps (map string_bytes words.now) ≡ true
-        → I.left input.old ≡ Some script → printed script ≡ None
-        → (result ≡ SCRIPT_REFUSED) ⊎ (result ≡ OUT_OF_MEMORY) ⊎ (result ≡ READ_FAULT) }
-    ensures prints { (script text : List ℕ) → asks_for_steps (map string_bytes words.now) ≡ true
-        → I.left input.old ≡ Some script → printed script ≡ Some text
-        → (result ≡ OK) ⊎ (result ≡ OUT_OF_MEMORY) ⊎ (result ≡ READ_FAULT) ⊎ (result ≡ WRITE_FAULT) }
-
-    // A fault comes only where the object failed. After one of the output a front of the text was written.
-    ensures read_fault { result ≡ READ_FAULT → Rose (I.faults input.old) (I.faults input.new) }
-    ensures write_fault { result ≡ WRITE_FAULT → Rose (O.faults out.old) (O.faults out.new) }
-    ensures cut_short { result ≡ WRITE_FAULT → IsCutShort (I.left input.old) (I.left input.new) (O.held out.old) (O.held out.new) }
-
-    // With every other status nothing was written. No more is read than a script may have, and one byte.
-    ensures untouched { result ≢ OK → result ≢ WRITE_FAULT → O.held out.new ≡ O.held out.old }
-    ensures at_most { GaveAtMost (I.left input.old) (I.left input.new) }
-
-    // What is said on `err`: nothing with status 0, else the status's line, whole unless `err` failed.
-    ensures silent { result ≡ OK → E.held err.new ≡ E.held err.old }
-    ensures said { result ≢ OK → TookAll (E.held err.old) (E.held err.new) (line_of_status result)
-        ⊎ (Rose (E.faults err.old) (E.faults err.new) × TookFront (E.held err.old) (E.held err.new) (line_of_status result)) }
+    ensures { (status : Status) × (result ≡ number status) × IsRun (map string_bytes words.now)
+        (record { left = I.left input.old; reads_failed = I.faults input.old; held = O.held out.old; writes_failed = O.faults out.old })
+        (record { left = I.left input.new; reads_failed = I.faults input.new; held = O.held out.new; writes_failed = O.faults out.new })
+        (E.held err.old) (E.held err.new) (E.faults err.old) (E.faults err.new) status }
 {
-    let status = if is_steps(words) {
-        play(alloc, input, out)
-    } else {
-        WORDS_REFUSED
-    };
-    if status != OK {
-        let _ = write_text(err, line(status));
-    }
-    status
+    ended(alloc, words, input, out, err).number()
 }

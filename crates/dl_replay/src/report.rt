@@ -3,12 +3,12 @@
 ghost use Rattle.std.specs.Prelude.{◌≡◌, ◌<◌, ◌++◌, [], OnOk, IfOk, map, sum_by, length};
 ghost use Rattle.std.specs.List.{join_with_byte};
 ghost use Rattle.std.specs.Option.{option_map_or};
-ghost use Rattle.dl_model.specs.Events.{client_of};
-ghost use Rattle.dl_model.specs.Report.{hex_digit, hex_byte, frame_line, why_word, client_line, client_block, why_of, block_of, report};
+ghost use Rattle.dl_replay.specs.Events.{client_of};
+ghost use Rattle.dl_replay.specs.Report.{hex_digit, hex_byte, frame_line, why_word, client_line, client_block, why_of, block_of, report};
 
+use crate::event::{Event, Why};
 use crate::stream::stream;
 use dl_bytes::{Frame, Id};
-use dl_model::{Event, Why};
 use itoa::{Buffer, Integer};
 use std::alloc::{AllocError, Global};
 

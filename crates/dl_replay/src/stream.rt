@@ -2,13 +2,13 @@
 
 ghost use Rattle.std.specs.Prelude.{◌≡◌, ◌++◌, OnOk, IfOk, position, count_by};
 ghost use Rattle.std.specs.List.{before_first, after_first, after_last};
-ghost use Rattle.dl_model.specs.Events.{is_connect, is_close, is_connect_of, is_close_of};
-ghost use Rattle.dl_model.specs.Frames.{admitted};
-ghost use Rattle.dl_model.specs.ClientStream.{is_any_open, due, live, sent};
+ghost use Rattle.dl_replay.specs.Events.{is_connect, is_close, is_connect_of, is_close_of};
+ghost use Rattle.dl_replay.specs.Frames.{admitted};
+ghost use Rattle.dl_replay.specs.ClientStream.{is_any_open, due, live, sent};
 
+use crate::event::Event;
 use dl_bytes::{Frame, Id};
 use dl_message::log_frame;
-use dl_model::Event;
 use std::alloc::{AllocError, Global};
 
 /// The place of a client's connection.

@@ -16,7 +16,7 @@ blank_is_ascii b h = elim (or_cases (eqb b 32) (eqb b 9) h) [
 ]
 
 -- the first place, or the length, as the code has it
-first_or_len : (p : ℕ → Bool) (xs : List ℕ) → unwrap_or (position p xs) (length xs) ≡ position_or_len p xs
+pub first_or_len : (p : ℕ → Bool) (xs : List ℕ) → unwrap_or (position p xs) (length xs) ≡ position_or_len p xs
 first_or_len p xs =
     let within : position_or_len p xs ≤ length xs = prefix_len-le-length (λ x. not (p x)) xs in
     elim (cases_lt (position_or_len p xs) (length xs)) [
@@ -58,3 +58,7 @@ ends_at_blank xs =
       | inl below ↦ rw (drop-cons xs (position_or_len is_blank xs) 0 below) (passes_at_first is_blank xs 0 below)
       | inr above ↦ rw (drop_all (position_or_len is_blank xs) xs above) refl
     ])
+
+-- the first word of a text ends at a blank, or at the end
+pub word_end : (text : List ℕ) → IsCharBoundary text (unwrap_or (position is_blank text) (length text))
+word_end text = at_end text _ (first_within is_blank text) (ends_at_blank text)

@@ -3,5 +3,11 @@ pub mod Numbers
 pub mod Boundaries
 pub mod Quotes
 pub mod Payloads
+pub mod Refused
+pub mod Closed
+pub mod Entries
 pub mod Spellings
 pub mod Values
+pub mod Texts
+pub mod JoinedFields
+pub mod Turns

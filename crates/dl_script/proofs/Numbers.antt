@@ -1,8 +1,10 @@
 -- Numbers in decimal digits: what std's `parse` gives, and numbers of fewer bits.
 use lib.Pow.{pow_pos}
 use mir.Val.{hbits}
-use Rattle.std.proofs.Common.{◌≡◌, ◌≢◌, ℕ, zero, suc, ◌-◌, ◌*◌, ◌^◌, ◌<◌, ◌≤◌, ℤ, pos, Bool, true, false, ltb, leb, cond, List, length, drop, get_or, Option, Some, None, Result, Ok, Err, refl, sym, inl, inr, arith, subst}
-use Rattle.std.specs.Prelude.{neg_ℤ, FitsSigned}
+use Rattle.std.proofs.Common.{◌≡◌, ◌≢◌, ℕ, zero, suc, ◌-◌, ◌*◌, ◌^◌, ◌<◌, ◌≤◌, ℤ, pos, Bool, true, false, ltb, leb, cond, List, length, drop, get_or, Option, Some, None, Result, Ok, Err, refl, sym, inl, inr, arith, subst, ap}
+use Rattle.std.specs.Prelude.{neg_ℤ, FitsSigned, ◌&&◌, [], ◌∷◌}
+use Rattle.std.specs.Char.{is_ascii_digit}
+use Rattle.std.specs.List.{list_all}
 use Rattle.std.specs.Result.{OkIff, result_ok}
 use Rattle.std.specs.Str.{all_ascii_digits}
 use Rattle.std.specs.Str.Parse.{digits_value, ParsesUnsigned, ParsesSigned, starts_with_minus}
@@ -140,3 +142,7 @@ module _ (width : Width) (field : List ℕ) (z : ℤ) (told : signed_field 128 f
         (lost (within W128 ltb) (within width ltb) pos (digits_field field) z (rw plain at told)
         (λ n is. le-ltb n _ (over n _ (λ below. no_fit (subst (FitsSigned (int_type width)) is (record { sfits = subst (λ m. n < m) (sym (half_bits width)) below }))))))
   ]
+
+pub all_are : (field : List ℕ) → list_all is_ascii_digit field ≡ all_ascii_digits field
+all_are [] = refl
+all_are (b ∷ field) = ap (λ all. is_ascii_digit b && all) (all_are field)

@@ -1,5 +1,5 @@
 -- What a script says of an argument is read as that argument.
-use Rattle.std.proofs.Common.{◌≡◌, ◌≢◌, ℕ, suc, ◌+◌, ◌-◌, ◌*◌, ◌^◌, ◌<◌, ◌≤◌, ℤ, pos, negsuc, Bool, true, false, not, ◌||◌, eqb, List, [], ◌∷◌, ◌++◌, length, drop, get_or, Option, Some, None, refl, sym, ap, ◌∙◌, subst, inl, inr, lit≤, length-append, arith}
+use Rattle.std.proofs.Common.{◌≡◌, ◌≢◌, ℕ, suc, ◌+◌, ◌-◌, ◌*◌, ◌^◌, ◌<◌, ◌≤◌, ℤ, pos, negsuc, Bool, true, false, not, ◌||◌, eqb, List, [], ◌∷◌, ◌++◌, length, drop, get_or, Option, Some, None, Ok, refl, sym, ap, ◌∙◌, subst, inl, inr, lit≤, length-append, arith}
 use Rattle.std.specs.Prelude.{codes, option_map, IfSome, FitsSigned}
 use Rattle.std.specs.Char.{is_ascii_alphanumeric}
 use Rattle.std.specs.Fmt.{decimal, signed_decimal}
@@ -12,14 +12,13 @@ use Rattle.std.proofs.lemmas.Fmt.{decimal_is_IsNumeral_wide}
 use Rattle.std.proofs.lemmas.Str.Parse.{digit_at}
 use Rattle.hex.specs.Hex.{encode_upper, IsBytes, upper_digits}
 use Rattle.hex.proofs.HexLemmas.{decode_of-encode_upper, length-encode_with}
-use Rattle.dl_bytes.specs.Number.{◌>>=◌}
 use Rattle.dl_args.specs.Argument.{IsValue}
 use Rattle.dl_args.specs.Width.{byte_count, int_type}
 use Rattle.dl_args.specs.declared.arg.Arg.{Arg}
 use Rattle.dl_args.specs.declared.arg.Arg.TheVariants as arg
 use Rattle.dl_args.specs.declared.width.Width.{Width}
 use Rattle.dl_args.specs.declared.width.Width.TheVariants.{W8, W16, W32, W64, W128}
-use Rattle.dl_script.specs.Argument.{is_escapable, unescaped, kind_of, raw_of, value_by_kind, is_colon, parted, value_of, is_label, with_name, named_of, argument_of}
+use Rattle.dl_script.specs.Argument.{is_escapable, unescaped, kind_of, raw_of, value_by_kind, is_colon, parted, behind_quote, value_of, is_label, takes_unit, may_name, with_name, named_of, argument_of}
 use Rattle.dl_script.specs.Value.{digits_field, unsigned_field, signed_field}
 use Rattle.dl_script.specs.Spelling.{with_colon, bits_of, escaped, value_spelling, names_of, spelling, HasBytes, IsSayable}
 use Rattle.dl_script.specs.declared.argument.Kind.{Kind}
@@ -133,11 +132,11 @@ alone (arg.Text name text utf8) = arg.Text None text true
 alone (arg.Raw name bytes) = arg.Raw None bytes
 
 -- a kind's word, and its value
-by_word : (word text : List ℕ) (b : ℕ) (rest : List ℕ) (k : Kind) (a : Arg) → word ≡ b ∷ rest → b ≢ 34 → has_no_colon word ≡ true → kind_of word ≡ Some k → value_by_kind k text ≡ Some a
-    → value_of (with_colon word text) ≡ Some a
+by_word : (word text : List ℕ) (b : ℕ) (rest : List ℕ) (k : Kind) (a : Arg) → word ≡ b ∷ rest → b ≢ 34 → has_no_colon word ≡ true → kind_of word ≡ Some k → value_by_kind k text ≡ Ok a
+    → value_of (with_colon word text) ≡ Ok a
 by_word word text b rest k a is no_quote none kind_is value_is =
-    let unquoted : value_of (with_colon word text) ≡ (parted (with_colon word text) >>= λ parts. kind_of parts.0 >>= λ kind. value_by_kind kind parts.1) = rw is (rw (ne_eqb b 34 no_quote) refl) in
-    unquoted ∙ rw (parts_at word text none, kind_is, value_is) refl
+    let unquoted : behind_quote (with_colon word text) ≡ None = rw is (rw (ne_eqb b 34 no_quote) refl) in
+    rw (unquoted, parts_at word text none, kind_is, value_is) refl
 
 sint_word : (width : Width) → has_no_colon (codes "sint" ++ bits_of width) ≡ true
 sint_word W8 = refl
@@ -167,7 +166,7 @@ uint_kind W32 = refl
 uint_kind W64 = refl
 uint_kind W128 = refl
 
-value_says : (a : Arg) → IsValue a → HasBytes a → value_of (value_spelling a) ≡ Some (alone a)
+value_says : (a : Arg) → IsValue a → HasBytes a → value_of (value_spelling a) ≡ Ok (alone a)
 value_says (arg.Bool name true) value bytes = refl
 value_says (arg.Bool name false) value bytes = refl
 value_says (arg.Sint name unit width z) value bytes =
@@ -183,9 +182,9 @@ names_are p q e =
     let pair : p ≡ q = cc in
     (ap (λ (r : List ℕ × List ℕ). r.0) pair, ap (λ (r : List ℕ × List ℕ). r.1) pair)
 
-renamed : (a : Arg) (name unit : List ℕ) → IsValue a → names_of a ≡ Some (name, unit) → with_name name unit (alone a) ≡ Some a
+renamed : (a : Arg) (name unit : List ℕ) → IsValue a → names_of a ≡ Some (name, unit) → with_name name unit (alone a) ≡ a
 renamed (arg.Bool None truth) name unit value names = absurd cc
-renamed (arg.Bool (Some n) truth) name unit value names = let e = names_are (n, []) (name, unit) names in rw (← e.1, ← e.0) refl
+renamed (arg.Bool (Some n) truth) name unit value names = let e = names_are (n, []) (name, unit) names in ap (λ m. arg.Bool (Some m) truth) (sym e.0)
 renamed (arg.Sint (Some n) (Some u) width z) name unit value names = let e = names_are (n, u) (name, unit) names in rw (← e.1, ← e.0) refl
 renamed (arg.Sint (Some n) None width z) name unit value names = absurd cc
 renamed (arg.Sint None u width z) name unit value names = absurd cc
@@ -193,9 +192,32 @@ renamed (arg.Uint (Some n) (Some u) width x) name unit value names = let e = nam
 renamed (arg.Uint (Some n) None width x) name unit value names = absurd cc
 renamed (arg.Uint None u width x) name unit value names = absurd cc
 renamed (arg.Text None text utf8) name unit value names = absurd cc
-renamed (arg.Text (Some n) text utf8) name unit value names = let e = names_are (n, []) (name, unit) names in rw (← e.1, ← e.0, value) refl
+renamed (arg.Text (Some n) text utf8) name unit value names = let e = names_are (n, []) (name, unit) names in rw (← e.0, value) refl
 renamed (arg.Raw None bytes) name unit value names = absurd cc
-renamed (arg.Raw (Some n) bytes) name unit value names = let e = names_are (n, []) (name, unit) names in rw (← e.1, ← e.0) refl
+renamed (arg.Raw (Some n) bytes) name unit value names = let e = names_are (n, []) (name, unit) names in ap (λ m. arg.Raw (Some m) bytes) (sym e.0)
+
+-- the unit that a value may have: none, or that of a number
+empty_unit : (name unit value : List ℕ) → is_label name ≡ true → is_label unit ≡ true → [] ≡ unit → may_name name unit value ≡ true
+empty_unit name [] value n u e = rw (n, u) refl
+empty_unit name (b ∷ unit) value n u e = absurd cc
+
+number_unit : (name unit value : List ℕ) → is_label name ≡ true → is_label unit ≡ true → takes_unit value ≡ true → may_name name unit value ≡ true
+number_unit name unit value n u takes = elim (cases_Bool (eqb (length unit) 0)) [
+  | inl none ↦ rw (n, u, none) refl
+  | inr some ↦ rw (n, u, some, takes) refl
+]
+
+may_have : (a : Arg) (name unit : List ℕ) → names_of a ≡ Some (name, unit) → is_label name ≡ true → is_label unit ≡ true → may_name name unit (value_spelling a) ≡ true
+may_have (arg.Bool None truth) name unit names n u = absurd cc
+may_have (arg.Bool (Some m) truth) name unit names n u = empty_unit name unit (value_spelling (arg.Bool (Some m) truth)) n u (names_are (m, []) (name, unit) names).1
+may_have (arg.Sint m v width z) name unit names n u =
+    number_unit name unit (value_spelling (arg.Sint m v width z)) n u (rw (parts_at (codes "sint" ++ bits_of width) (signed_decimal z) (sint_word width), sint_kind width) refl)
+may_have (arg.Uint m v width x) name unit names n u =
+    number_unit name unit (value_spelling (arg.Uint m v width x)) n u (rw (parts_at (codes "uint" ++ bits_of width) (decimal x) (uint_word width), uint_kind width) refl)
+may_have (arg.Text None text utf8) name unit names n u = absurd cc
+may_have (arg.Text (Some m) text utf8) name unit names n u = empty_unit name unit (value_spelling (arg.Text (Some m) text utf8)) n u (names_are (m, []) (name, unit) names).1
+may_have (arg.Raw None bytes) name unit names n u = absurd cc
+may_have (arg.Raw (Some m) bytes) name unit names n u = empty_unit name unit (value_spelling (arg.Raw (Some m) bytes)) n u (names_are (m, []) (name, unit) names).1
 
 -- a value that had none
 nameless : (a : Arg) → IsValue a → names_of a ≡ None → alone a ≡ a
@@ -224,15 +246,15 @@ plain (arg.Uint name unit width x) = refl
 plain (arg.Text name text utf8) = refl
 plain (arg.Raw name bytes) = refl
 
-with_names : (a : Arg) (name unit : List ℕ) → IsValue a → HasBytes a → is_label name ≡ true → is_label unit ≡ true
-    → named_of (with_colon name (with_colon unit (value_spelling a))) ≡ with_name name unit (alone a)
-with_names a name unit value bytes n u =
-    rw (parts_at name (with_colon unit (value_spelling a)) (label name n), parts_at unit (value_spelling a) (label unit u), value_says a value bytes, n, u) refl
+with_names : (a : Arg) (name unit : List ℕ) → IsValue a → HasBytes a → names_of a ≡ Some (name, unit) → is_label name ≡ true → is_label unit ≡ true
+    → named_of (with_colon name (with_colon unit (value_spelling a))) ≡ Ok (with_name name unit (alone a))
+with_names a name unit value bytes names n u =
+    rw (parts_at name (with_colon unit (value_spelling a)) (label name n), parts_at unit (value_spelling a) (label unit u), may_have a name unit names n u, value_says a value bytes) refl
 
 by_names : (a : Arg) (names : Option (List ℕ × List ℕ)) → names_of a ≡ names → IsValue a → HasBytes a → IfSome names (λ n. (is_label n.0 ≡ true) × (is_label n.1 ≡ true))
-    → argument_of (option_map_or (λ n. with_colon (codes "named") (with_colon n.0 (with_colon n.1 (value_spelling a)))) names (value_spelling a)) ≡ Some a
-by_names a None e value bytes labels = plain a ∙ value_says a value bytes ∙ ap Some (nameless a value e)
-by_names a (Some n) e value bytes labels = with_names a n.0 n.1 value bytes labels.0 labels.1 ∙ renamed a n.0 n.1 value e
+    → argument_of (option_map_or (λ n. with_colon (codes "named") (with_colon n.0 (with_colon n.1 (value_spelling a)))) names (value_spelling a)) ≡ Ok a
+by_names a None e value bytes labels = plain a ∙ value_says a value bytes ∙ ap Ok (nameless a value e)
+by_names a (Some n) e value bytes labels = with_names a n.0 n.1 value bytes e labels.0 labels.1 ∙ ap Ok (renamed a n.0 n.1 value e)
 
-pub said : (a : Arg) → IsSayable a → argument_of (spelling a) ≡ Some a
+pub said : (a : Arg) → IsSayable a → argument_of (spelling a) ≡ Ok a
 said a is = by_names a (names_of a) refl is.value is.bytes is.labels

@@ -5,7 +5,8 @@ ghost use Rattle.std.specs.List.{position, list_all};
 ghost use Rattle.std.specs.Str.{IsCharBoundary};
 ghost use Rattle.dl_script.specs.Fields.{is_blank, unindented, is_ignored, quoted_len, is_end, field_len, fields_of, texts};
 
-use std::alloc::{AllocError, Global};
+use dl_bytes::OutOfMemory;
+use std::alloc::Global;
 
 /// Whether a byte parts fields.
 fn parts(byte: u8) -> bool
@@ -15,7 +16,7 @@ fn parts(byte: u8) -> bool
 }
 
 /// The place of the first blank.
-fn first_blank(text: &[u8]) -> Option<usize>
+pub fn first_blank(text: &[u8]) -> Option<usize>
     ensures value { result ≡ position is_blank text.now }
     ensures within { IfSome result (λ n. n ≤ length text.now) }
 {
@@ -32,7 +33,7 @@ fn first_letter(text: &[u8]) -> Option<usize>
 
 /// The text without the blanks at its front.
 #[tactic(auto, unfolding(crate::specs::Fields::unindented))]
-fn skip_blanks(text: &str) -> &str
+pub fn skip_blanks(text: &str) -> &str
     ensures value { result.now ≡ unindented text.now }
     ensures within { length result.now ≤ length text.now }
 {
@@ -58,7 +59,7 @@ pub fn says_nothing(line: &[u8]) -> bool
 }
 
 /// The length of a quoted text behind its first quote, its closing quote included.
-fn closing_quote(text: &[u8]) -> Option<usize>
+pub fn closing_quote(text: &[u8]) -> Option<usize>
     ensures value { result ≡ quoted_len false text.now }
     ensures within { IfSome result (λ n. (0 < n) × (n ≤ length text.now)) }
 {
@@ -110,7 +111,7 @@ fn front_field(text: &str) -> Option<usize>
 }
 
 /// The fields of a line, each as it stands there; none where a quoted one is broken.
-pub fn fields(alloc: Global, line: &str) -> Result<Option<Vec<&str>>, AllocError>
+pub fn fields(alloc: Global, line: &str) -> Result<Option<Vec<&str>>, OutOfMemory>
     ensures { IfOk result (λ found. option_map (λ v. texts v.items) found ≡ fields_of line.now) }
 {
     let mut fields = Vec::new(alloc);

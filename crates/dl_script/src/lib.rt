@@ -1,11 +1,20 @@
-//! What the lines of a script say: a line is cut into fields, and its fields say a step with its arguments.
+//! Scripts: what their lines say, or the first bad line and what is wrong with it.
 #![tactic(auto)]
 
 mod argument;
+mod by_word;
+mod claim;
 mod fields;
+mod generator;
+mod kind;
 pub mod laws;
 mod line;
+mod script;
+#[cfg(test)]
+mod tests;
 mod value;
+mod word;
 
-pub use fields::says_nothing;
-pub use line::step;
+pub use generator::generate;
+pub use kind::{ScriptError, ScriptKind};
+pub use script::{read_scenario, read_steps};

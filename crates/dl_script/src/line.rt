@@ -1,147 +1,377 @@
-//! What a line of a script says, by its fields.
+//! What a line of a script says, by its word and its fields.
 
-ghost use Rattle.std.specs.Prelude.{◌≡◌, IfOk, option_map};
-ghost use Rattle.dl_model.specs.declared.step.Step.TheVariants.{Log};
-ghost use Rattle.dl_script.specs.Argument.{payload_fields};
+ghost use Rattle.std.specs.Prelude.{◌≡◌};
+ghost use Rattle.std.specs.List.{list_all};
+ghost use Rattle.dl_script.specs.Argument.{is_argument};
 ghost use Rattle.dl_script.specs.Fields.{texts};
-ghost use Rattle.dl_script.specs.Line.{app_line, context_line, writer_line, connect_line, close_line, log_line, line_of, step_of};
+ghost use Rattle.dl_script.specs.Kind.{Says, is_of_form};
+ghost use Rattle.dl_script.specs.declared.claim.Claim.TheVariants as claim;
+ghost use Rattle.dl_script.specs.Line.{text_field, text_fields, hex_field, payload_fields, app_line, context_line, id_line, call_line, clock_line, writer_line, levels_of, levels_line, bare_line, client_line, bytes_line, user_line, leave_line, line_in, calls};
 
-use crate::argument::{self, ArgumentError};
-use crate::fields::fields;
-use crate::value::{id, number, number_in, own_level, severity};
-use dl_bytes::{Boxed, Id, Payload, Severity};
-use dl_model::{ContextSpec, Step};
-use std::alloc::{AllocError, Global};
-use std::str::from_utf8;
+use crate::argument::{add, behind_quote, has_form, is_closed, raw, unescape};
+use crate::claim::Claim;
+use crate::kind::{LineError, ScriptKind};
+use crate::value::{client, count, id, number, own_level, severity, writer};
+use dl_bytes::{Bytes, Id, Payload, Severity, TEXT_LIMIT};
+use dl_steps::{AppLine, CallArguments, CallLine, ContextLine, LevelEvents, ScenarioLine, Step};
+use std::alloc::Global;
 
-/// `app ID CAPACITY`
-fn app(fields: &[&str]) -> Option<Step>
-    ensures { result ≡ app_line (texts fields.now) }
-{
-    let [apid, capacity] = fields else {
-        return None;
-    };
-    let apid = id(apid)?;
-    let capacity = number_in(capacity, 1, 4096)? as u16;
-    Some(Step::App { apid, capacity })
+/// What a line says, and what it declares or asks.
+#[derive(Drop)]
+pub struct Read<T> {
+    /// What it declares, and what it asks of the lines before it.
+    pub claim: Claim,
+    /// The line, or nothing where its arguments don't fit a log call.
+    pub line: Option<T>,
 }
 
-/// `context APID CTID LEVEL`
-fn context(fields: &[&str]) -> Option<Step>
-    ensures { result ≡ context_line (texts fields.now) }
+/// A log call, or several, as a line has them.
+#[derive(Drop)]
+pub struct Call {
+    /// The writer's number; 0 for one that none has.
+    pub writer: u8,
+    /// The context's id.
+    pub ctid: Id,
+    /// How grave it is.
+    pub severity: Severity,
+    /// The timestamp, or the count of calls.
+    pub number: u32,
+    /// The arguments, or nothing where they don't fit a log call.
+    pub payload: Option<CallArguments>,
+}
+
+/// A text in quotes.
+fn text(alloc: Global, field: &str) -> Result<Bytes, LineError>
+    ensures { Says (λ x. x) result (text_field field.now) }
 {
-    let [apid, ctid, level] = fields else {
-        return None;
+    let Some(quoted) = behind_quote(field) else {
+        return Err(LineError::Fault(ScriptKind::Fields));
     };
+    let text = unescape(alloc, quoted)?;
+    if text.len() > TEXT_LIMIT {
+        return Err(LineError::Fault(ScriptKind::Text));
+    }
+    Ok(Bytes::over(text.into_bytes()))
+}
+
+/// A text that may be left out.
+fn optional_text(alloc: Global, fields: &[&str]) -> Result<Bytes, LineError>
+    ensures { Says (λ x. x) result (text_fields (texts fields.now)) }
+{
+    match fields {
+        [] => Ok(Bytes::over(Vec::new(alloc))),
+        [field] => text(alloc, field),
+        _ => Err(LineError::Fault(ScriptKind::Fields)),
+    }
+}
+
+/// Whether a field is a text in quotes, however long.
+#[tactic(auto, using(crate::proofs::Refused::as_text))]
+fn is_text(field: &str) -> bool
+    ensures { result ≡ is_of_form (text_field field.now) }
+{
+    match behind_quote(field) {
+        Some(quoted) => is_closed(quoted),
+        None => false,
+    }
+}
+
+/// Whether fields are a text in quotes, or none.
+fn are_optional_text(fields: &[&str]) -> bool
+    ensures { result ≡ is_of_form (text_fields (texts fields.now)) }
+{
+    match fields {
+        [] => true,
+        [field] => is_text(field),
+        _ => false,
+    }
+}
+
+/// Bytes in hexadecimal digits.
+fn hex(alloc: Global, field: &str) -> Result<Bytes, LineError>
+    ensures { Says (λ x. x) result (hex_field field.now) }
+{
+    Ok(Bytes::over(raw(alloc, field)?))
+}
+
+/// `ID CAPACITY [TEXT]`
+#[tactic(auto, unfolding(crate::specs::Line::app_line))]
+pub fn app(alloc: Global, fields: &[&str]) -> Result<AppLine, LineError>
+    ensures { Says (λ x. x) result (app_line (texts fields.now)) }
+{
+    let [name, capacity, text @ ..] = fields else {
+        return Err(LineError::Fault(ScriptKind::Fields));
+    };
+    if !are_optional_text(text) {
+        return Err(LineError::Fault(ScriptKind::Fields));
+    }
+    let apid = id(name)?;
+    let capacity = number(capacity, 1, 4096)? as u16;
+    let text = optional_text(alloc, text)?;
+    Ok(AppLine {
+        apid,
+        capacity,
+        text,
+    })
+}
+
+/// `APID CTID LEVEL [TEXT]`
+#[tactic(auto, unfolding(crate::specs::Line::context_line))]
+pub fn context(alloc: Global, fields: &[&str]) -> Result<ContextLine, LineError>
+    ensures { Says (λ x. x) result (context_line (texts fields.now)) }
+{
+    let [apid, ctid, level, text @ ..] = fields else {
+        return Err(LineError::Fault(ScriptKind::Fields));
+    };
+    if !are_optional_text(text) {
+        return Err(LineError::Fault(ScriptKind::Fields));
+    }
     let apid = id(apid)?;
     let ctid = id(ctid)?;
     let level = own_level(level)?;
-    Some(Step::Context(ContextSpec { apid, ctid, level }))
+    let text = optional_text(alloc, text)?;
+    Ok(ContextLine {
+        apid,
+        ctid,
+        level,
+        text,
+    })
 }
 
-/// `writer APID`
-fn writer(fields: &[&str]) -> Option<Step>
-    ensures { result ≡ writer_line (texts fields.now) }
+/// `APID`
+#[tactic(auto, unfolding(crate::specs::Line::id_line))]
+pub fn app_id(fields: &[&str]) -> Result<Id, ScriptKind>
+    ensures { result ≡ id_line (texts fields.now) }
 {
-    let [apid] = fields else {
-        return None;
-    };
-    let apid = id(apid)?;
-    Some(Step::Writer { apid })
-}
-
-/// `connect`
-fn connect(fields: &[&str]) -> Option<Step>
-    ensures { result ≡ connect_line (texts fields.now) }
-{
-    if fields.is_empty() {
-        Some(Step::Connect)
-    } else {
-        None
+    match fields {
+        [apid] => id(apid),
+        _ => Err(ScriptKind::Fields),
     }
 }
 
-/// `close CLIENT`
-fn close(fields: &[&str]) -> Option<Step>
-    ensures { result ≡ close_line (texts fields.now) }
+/// Whether each field is an argument of a known form.
+fn each_is_argument(fields: &[&str]) -> bool
+    ensures { result ≡ list_all (λ field. is_argument field.now) fields.now }
 {
-    let [client] = fields else {
-        return None;
-    };
-    let client = number(client)?;
-    Some(Step::Close { client })
+    fields.iter().all(|field| has_form(field))
 }
 
-/// The payload of a log line, by its arguments. There is none where a field is no argument, or the arguments don't fit.
-fn payload(alloc: Global, fields: &[&str]) -> Result<Option<Payload>, AllocError>
-    ensures { IfOk result (λ payload. payload ≡ payload_fields (texts fields.now)) }
+/// The same, said of their texts.
+fn are_arguments(fields: &[&str]) -> bool
+    ensures { result ≡ list_all is_argument (texts fields.now) }
+{
+    each_is_argument(fields)
+}
+
+/// The payload of a log call, by its arguments; nothing where they don't fit.
+fn payload(alloc: Global, fields: &[&str]) -> Result<Option<CallArguments>, LineError>
+    ensures { Says (λ x. x) result (payload_fields (texts fields.now)) }
 {
     let mut payload = Payload::new();
+    let mut fits = true;
     for field in fields {
-        match argument::add(alloc, &mut payload, field) {
-            Ok(()) => {}
-            Err(ArgumentError::Form | ArgumentError::Full) => return Ok(None),
-            Err(ArgumentError::Memory) => return Err(AllocError),
+        if !add(alloc, &mut payload, field)? {
+            fits = false;
         }
     }
-    Ok(Some(payload))
+    if !fits {
+        return Ok(None);
+    }
+    Ok(Some(CallArguments::of(alloc, &payload)?))
 }
 
-/// `log WRITER CTID SEVERITY AT ARGUMENT..`
-fn log(alloc: Global, fields: &[&str]) -> Result<Option<Step>, AllocError>
-    ensures { IfOk result (λ step. step ≡ log_line (texts fields.now)) }
+/// `W CTID SEV NUMBER ARG..`, with a number in this range.
+#[tactic(auto, unfolding(crate::specs::Line::call_line))]
+pub fn log_call(alloc: Global, fields: &[&str], low: u32, high: u32) -> Result<Call, LineError>
+    ensures { Says (λ x. x) result (call_line low high (texts fields.now)) }
 {
-    let [writer, ctid, severity_word, at, arguments @ ..] = fields else {
-        return Ok(None);
+    let [
+        writer_number,
+        ctid,
+        severity_word,
+        call_number,
+        arguments @ ..,
+    ] = fields
+    else {
+        return Err(LineError::Fault(ScriptKind::Fields));
     };
-    let (Some(writer), Some(ctid), Some(severity), Some(at)) = (
-        number(writer),
-        id(ctid),
-        severity(severity_word),
-        number(at),
-    ) else {
-        return Ok(None);
-    };
-    let Some(payload) = payload(alloc, arguments)? else {
-        return Ok(None);
-    };
-    let payload = Boxed::make(alloc, payload)?;
-    Ok(Some(Step::Log {
+    if !are_arguments(arguments) {
+        return Err(LineError::Fault(ScriptKind::Fields));
+    }
+    let writer = writer(writer_number)?;
+    let ctid = id(ctid)?;
+    let severity = severity(severity_word)?;
+    let number = number(call_number, low, high)?;
+    let payload = payload(alloc, arguments)?;
+    Ok(Call {
         writer,
         ctid,
         severity,
-        at,
+        number,
         payload,
-    }))
+    })
 }
 
-/// What the fields of a line say, by the first of them.
-fn by_word(alloc: Global, fields: &[&str]) -> Result<Option<Step>, AllocError>
-    ensures { IfOk result (λ step. step ≡ line_of (texts fields.now)) }
+/// `SECS MICROS`
+#[tactic(auto, unfolding(crate::specs::Line::clock_line))]
+pub fn clock(fields: &[&str]) -> Result<Step, ScriptKind>
+    ensures { result ≡ clock_line (texts fields.now) }
 {
-    let [word, rest @ ..] = fields else {
-        return Ok(None);
+    let [secs, micros] = fields else {
+        return Err(ScriptKind::Fields);
     };
-    match *word {
-        "app" => Ok(app(rest)),
-        "context" => Ok(context(rest)),
-        "writer" => Ok(writer(rest)),
-        "log" => log(alloc, rest),
-        "connect" => Ok(connect(rest)),
-        "close" => Ok(close(rest)),
-        _ => Ok(None),
+    let secs = number(secs, 0, u32::MAX)?;
+    let micros = number(micros, 0, 999_999)?;
+    Ok(Step::Clock { secs, micros })
+}
+
+/// `W`
+#[tactic(auto, unfolding(crate::specs::Line::writer_line))]
+pub fn writer_number(fields: &[&str]) -> Result<u8, ScriptKind>
+    ensures { result ≡ writer_line (texts fields.now) }
+{
+    match fields {
+        [field] => writer(field),
+        _ => Err(ScriptKind::Fields),
     }
 }
 
-/// What a line says, where it is text of a known form. The memory that it takes is the fields' and the payload's.
-pub fn step(alloc: Global, line: &[u8]) -> Result<Option<Step>, AllocError>
-    ensures { IfOk result (λ step. step ≡ step_of line.now) }
+/// `later` or `now`, as a field.
+fn levels_of(field: &str) -> Option<LevelEvents>
+    ensures { result ≡ levels_of field.now }
 {
-    let Ok(line) = from_utf8(line) else {
-        return Ok(None);
+    match field {
+        "later" => Some(LevelEvents::Later),
+        "now" => Some(LevelEvents::Now),
+        _ => None,
+    }
+}
+
+/// `later` or `now`
+#[tactic(auto, unfolding(crate::specs::Line::levels_line))]
+pub fn levels(fields: &[&str]) -> Result<LevelEvents, ScriptKind>
+    ensures { result ≡ levels_line (texts fields.now) }
+{
+    match fields {
+        [field] => levels_of(field).ok_or(ScriptKind::Fields),
+        _ => Err(ScriptKind::Fields),
+    }
+}
+
+/// No field.
+#[tactic(auto, unfolding(crate::specs::Line::bare_line))]
+pub fn bare(fields: &[&str]) -> Result<(), ScriptKind>
+    ensures { result ≡ bare_line (texts fields.now) }
+{
+    if fields.is_empty() {
+        Ok(())
+    } else {
+        Err(ScriptKind::Fields)
+    }
+}
+
+/// `C`
+#[tactic(auto, unfolding(crate::specs::Line::client_line))]
+pub fn client_number(fields: &[&str]) -> Result<u32, ScriptKind>
+    ensures { result ≡ client_line (texts fields.now) }
+{
+    match fields {
+        [field] => client(field),
+        _ => Err(ScriptKind::Fields),
+    }
+}
+
+/// `C HEX`
+#[tactic(auto, unfolding(crate::specs::Line::bytes_line))]
+pub fn client_bytes(alloc: Global, fields: &[&str]) -> Result<(u32, Bytes), LineError>
+    ensures { Says (λ x. x) result (bytes_line (texts fields.now)) }
+{
+    let [client_field, digits] = fields else {
+        return Err(LineError::Fault(ScriptKind::Fields));
     };
-    match fields(alloc, line)? {
-        Some(fields) => by_word(alloc, &fields),
-        None => Ok(None),
+    let number = client(client_field)?;
+    let bytes = hex(alloc, digits)?;
+    Ok((number, bytes))
+}
+
+/// `CH HEX`
+#[tactic(auto, unfolding(crate::specs::Line::user_line))]
+pub fn user(alloc: Global, fields: &[&str]) -> Result<Step, LineError>
+    ensures { Says (λ x. x) result (user_line (texts fields.now)) }
+{
+    let [channel, digits] = fields else {
+        return Err(LineError::Fault(ScriptKind::Fields));
+    };
+    let channel = number(channel, 1, 16)? as u8;
+    let bytes = hex(alloc, digits)?;
+    Ok(Step::User { channel, bytes })
+}
+
+/// `C BYTES`
+#[tactic(auto, unfolding(crate::specs::Line::leave_line))]
+pub fn leave(fields: &[&str]) -> Result<(u32, u64), ScriptKind>
+    ensures { result ≡ leave_line (texts fields.now) }
+{
+    let [client_field, bytes] = fields else {
+        return Err(ScriptKind::Fields);
+    };
+    let number = client(client_field)?;
+    let bytes = count(bytes)?;
+    Ok((number, bytes))
+}
+
+impl Call {
+    /// What one call asks of the lines before it.
+    pub fn claim(&self) -> Claim
+        ensures { result ≡ claim.Calls self.now.writer self.now.ctid 1 }
+    {
+        Claim::Calls {
+            writer: self.writer,
+            ctid: self.ctid,
+            count: 1,
+        }
+    }
+
+    /// A line of a step script, whose number is its timestamp.
+    pub fn into_line(self) -> Option<CallLine>
+        ensures { result ≡ line_in self }
+    {
+        let payload = self.payload?;
+        Some(CallLine {
+            writer: self.writer,
+            ctid: self.ctid,
+            severity: self.severity,
+            at: self.number,
+            payload,
+        })
+    }
+
+    /// A line of a scenario, whose number is its count.
+    pub fn into_calls(self) -> Read<ScenarioLine>
+        ensures { result ≡ calls self }
+    {
+        let Call {
+            writer,
+            ctid,
+            severity,
+            number: count,
+            payload,
+        } = self;
+        let claim = Claim::Calls {
+            writer,
+            ctid,
+            count,
+        };
+        let line = match payload {
+            Some(payload) => Some(ScenarioLine::Calls {
+                writer,
+                ctid,
+                severity,
+                count,
+                payload,
+            }),
+            None => None,
+        };
+        Read { claim, line }
     }
 }

@@ -1,10 +1,9 @@
 -- How many bytes are enough to tell what stands at the front.
 use Rattle.std.proofs.Common.{◌≡◌, ℕ, ℤ, ◌+◌, ◌≤◌, Bool, true, false, cond, ltb, eqb, List, ◌++◌, length, Option, Some, None, Ok, Err, ◌⊎◌, refl, sym, ap, subst, ◌∙◌, arith, inl, inr}
-use Rattle.std.specs.Prelude.{◌==◌, not, ok_or, nat_le}
+use Rattle.std.specs.Prelude.{ok_or, nat_le}
 use Rattle.std.specs.Str.{bytes_eq}
 use Rattle.std.proofs.lemmas.Bool.{cases_lt, lt-ltb, le-ltb}
 use Rattle.std.proofs.lemmas.List.{length-append}
-use Rattle.dl_bytes.specs.Htyp.{htyp_of, len_of, version, header_len}
 use Rattle.dl_bytes.specs.Number.{At, bytes_at}
 use Rattle.dl_bytes.specs.declared.user.UserMsg.TheVariants.{Log}
 use Rattle.dl_user.specs.declared.fault.UserFault.{UserFault}
@@ -14,9 +13,9 @@ use Rattle.dl_user.specs.declared.fields.AppFields.{AppFields}
 use Rattle.dl_user.specs.declared.fields.ContextFields.{ContextFields}
 use Rattle.dl_user.specs.declared.fields.SettingFields.{SettingFields}
 use Rattle.dl_user.specs.declared.fields.ServiceFields.{ServiceFields}
-use Rattle.dl_user.specs.Layout.{marker, long, signed}
+use Rattle.dl_user.specs.Layout.{marker, uint32, signed}
 use Rattle.dl_user.specs.Reading.{little, Reading, ◌>>=◌, wait, inner_len, limited_at, registered_level, log_at, register_app_at, register_context_at, log_level_at, injection_at, kind_at, fields_at, message_at}
-use Rattle.dl_user.specs.Cut.{IsBytes}
+use Rattle.dl_bytes.specs.Bytes.{IsBytes}
 use Rattle.dl_user.proofs.Readers.{IsBytes-rest, Then, Reads}
 use Rattle.dl_user.proofs.FieldReaders.{reads_wait}
 use Rattle.dl_user.proofs.FieldBounds.{FieldsNeed, app_need, context_need, setting_need, service_need, unregister_app_need, unregister_context_need, overflow_need, bytes_need, number_need}
@@ -24,7 +23,7 @@ use Rattle.dl_user.proofs.Numbers.{AreBytes, bytes_field}
 use Rattle.dl_user.specs.Fronts.{IsApp, IsContext, IsSetting, IsService}
 use Rattle.dl_user.proofs.Groups.{app_field, context_field, setting_field, injection_field}
 use Rattle.dl_user.proofs.MessageKinds.{IsLimited, limited_reads}
-use Rattle.dl_user.proofs.LogKind.{inner_found}
+use Rattle.dl_user.proofs.LogKind.{too_few, bad_head, too_long, within_limit, inner_case, inner_found}
 use Rattle.dl_user.proofs.Messages.{IsMarked, kind_reads}
 
 -- with n bytes there is a value or a fault
@@ -108,12 +107,12 @@ context_text_len a c p l t i n = simp length-append refl
 
 app_short : (text : List ℕ) (app : AppFields) → IsApp text app → length text ≤ 12
 app_short text app h = let same = ap length h.spelled in
-    omega (arith, h.apid, app_text_len app.apid (long app.pid) (long app.len))
+    omega (arith, h.apid, app_text_len app.apid (uint32 app.pid) (uint32 app.len))
 
 context_short : (text : List ℕ) (context : ContextFields) → IsContext text context → length text ≤ 22
 context_short text context h =
     let same = ap length h.spelled in
-    omega (arith, h.apid, h.ctid, context_text_len context.apid context.ctid (long context.position) (signed context.level) (signed context.trace) (long context.pid) (long context.len))
+    omega (arith, h.apid, h.ctid, context_text_len context.apid context.ctid (uint32 context.position) (signed context.level) (signed context.trace) (uint32 context.pid) (uint32 context.len))
 
 service_short : (text : List ℕ) (service : ServiceFields) → IsService text service → length text ≤ 12
 service_short text service h = let same = ap length h.spelled in omega arith
@@ -146,19 +145,14 @@ register_context_need = needs_then _ _ IsContext 22 255 (reads_wait _ _ context_
     needs_judged (registered_level context.level) _ 255 (registered_level_tells context.level) (λ level.
     needs_then _ _ (IsLimited 255 context.len) 255 0 (limited_reads 255 context.len) (limited_short 255 context.len) (limited_need 255 context.len) (λ text. needs_end _)))
 
-told : {A : Type 0} (b : Bool) (fault : UserFault) (r : Reading A) → cond b (Err (Bad fault)) r ≡ Err NeedMore → r ≡ Err NeedMore
-told true fault r e = absurd cc
-told false fault r e = e
-
 inner_need : (bytes : List ℕ) → 4 ≤ length bytes → inner_len bytes ≡ Err NeedMore → ⊥
-unfolding inner_len
 inner_need bytes h e =
-    let enough : ltb (length bytes) 4 ≡ false = le-ltb (length bytes) 4 h in
-    let a = rw enough at e in
-    let b = told (not (version (htyp_of bytes) == 1)) _ _ a in
-    let c = told (ltb (len_of bytes) (header_len (htyp_of bytes))) _ _ b in
-    let d = told (ltb 1984 (len_of bytes)) _ _ c in
-    cc
+    elim (inner_case bytes) [
+      | too_few lt is ↦ omega (arith, lt, h)
+      | bad_head fault le front is ↦ cc (sym is ∙ e)
+      | too_long front above is ↦ cc (sym is ∙ e)
+      | within_limit front within is ↦ cc (sym is ∙ e)
+    ]
 
 log_need : Needs log_at 1984
 unfolding log_at

@@ -1,19 +1,23 @@
 -- Cuts of a channel's bytes, and what the calls of a cutter make of them.
-use Rattle.std.proofs.Common.{◌≡◌, ℕ, zero, suc, ◌≤◌, ◌<◌, List, [], ◌∷◌, ◌++◌, length, take, Ok, Err, ◌⊎◌, refl, sym, ap, subst, ◌∙◌, append_assoc, arith, inl, inr}
-use Rattle.std.proofs.lemmas.List.{append-nil, append_cancel_right, length-append, get_or_append_left, get_or_past}
+use Rattle.std.proofs.Common.{◌≡◌, ℕ, zero, suc, ◌≤◌, ◌<◌, List, [], ◌∷◌, ◌++◌, length, Ok, Err, ◌⊎◌, refl, sym, ap, subst, ◌∙◌, append_assoc, arith, inl, inr}
+use Rattle.std.proofs.lemmas.List.{append_cancel_right, length-append, get_or_append_left, get_or_past}
 use Rattle.std.proofs.lemmas.Bool.{cases_lt}
+use Rattle.dl_bytes.specs.Bytes.{IsBytes}
+use Rattle.dl_bytes.specs.Cutting.{Call, Runs, fed_by, given_by, AreCut, IsCutter}
+use Rattle.dl_bytes.proofs.Cutting.{gives_the_cut, cut_more, cut_on}
 use Rattle.dl_bytes.specs.Number.{At}
 use Rattle.dl_bytes.specs.declared.user.UserMsg.{UserMsg}
 use Rattle.dl_user.specs.declared.fault.UserFault.{UserFault}
 use Rattle.dl_user.specs.declared.fault.Stop.{Stop}
 use Rattle.dl_user.specs.declared.fault.Stop.TheVariants.{NeedMore, Bad}
 use Rattle.dl_user.specs.declared.cutter.UserCut.TheVariants as cuts
-use Rattle.dl_user.specs.Layout.{marker, long}
+use Rattle.dl_user.specs.Layout.{marker, uint32}
 use Rattle.dl_user.specs.Reading.{little, Reading, kind_at, message_at}
-use Rattle.dl_user.specs.Faults.{BeginsWith, Shows, other_marker, other_kind, other_version, short_message, long_message, long_app_text, long_context_text, long_body, context_level, set_level}
-use Rattle.dl_user.specs.Cut.{IsBytes, IsSpelled, Begins, Stops, AreSpelled, IsCut, with_others, behind, messages_within, rest_within, messages_of, rest_of}
-use Rattle.dl_user.specs.Channel.{Channel}
-use Rattle.dl_user.specs.Cutter.{Call, Feed, Next, Runs, fed_by, given_by}
+use Rattle.dl_user.specs.Faults.{BeginsWith, Shows, other_marker, other_kind, bad_front, long_message, long_app_text, long_context_text, long_body, context_level, set_level}
+use Rattle.dl_user.specs.Cut.{IsSpelled, Begins, Stops, IsCut, with_others, behind, messages_within, rest_within, messages_of, rest_of}
+use Rattle.dl_user.specs.Channel.{Channel, unfed}
+use Rattle.dl_user.specs.declared.cutter.UserCut.{UserCut}
+use Rattle.dl_user.specs.Cutter.{Cuts, Does, messages_in}
 use Rattle.dl_user.proofs.Readers.{IsBytes-rest, ok_is}
 use Rattle.dl_user.proofs.Messages.{message_reads}
 use Rattle.dl_user.proofs.Refusals.{refuses}
@@ -56,14 +60,13 @@ stop_is bytes (Bad f) (Bad g) p q = ap (λ (x : UserFault). Bad x) (fault_once b
 
 begins_with_more : (bytes more front : List ℕ) (kind : ℕ) → BeginsWith bytes kind front → BeginsWith (bytes ++ more) kind front
 begins_with_more bytes more front kind b =
-    (b.0 ++ more, ap (λ (x : List ℕ). x ++ more) b.1 ∙ append_assoc (marker ++ long kind) (front ++ b.0) more ∙ ap (λ (x : List ℕ). marker ++ long kind ++ x) (append_assoc front b.0 more))
+    (b.0 ++ more, ap (λ (x : List ℕ). x ++ more) b.1 ∙ append_assoc (marker ++ uint32 kind) (front ++ b.0) more ∙ ap (λ (x : List ℕ). marker ++ uint32 kind ++ x) (append_assoc front b.0 more))
 
 pub fault_stays : (bytes more : List ℕ) (fault : UserFault) → Shows bytes fault → Shows (bytes ++ more) fault
 fault_stays bytes more _ (other_marker front rest e len other) = other_marker front (rest ++ more) (ap (λ (x : List ℕ). x ++ more) e ∙ append_assoc front rest more) len other
 fault_stays bytes more _ (other_kind kind b h outside) = other_kind kind (begins_with_more bytes more [] kind b) h outside
-fault_stays bytes more _ (other_version head b len other) = other_version head (begins_with_more bytes more head 1 b) len other
-fault_stays bytes more _ (short_message head b len one below) = short_message head (begins_with_more bytes more head 1 b) len one below
-fault_stays bytes more _ (long_message head b len one told above) = long_message head (begins_with_more bytes more head 1 b) len one told above
+fault_stays bytes more _ (bad_front head fault b len front) = bad_front head fault (begins_with_more bytes more head 1 b) len front
+fault_stays bytes more _ (long_message head b len front above) = long_message head (begins_with_more bytes more head 1 b) len front above
 fault_stays bytes more _ (long_app_text front app b h above) = long_app_text front app (begins_with_more bytes more front 2 b) h above
 fault_stays bytes more _ (long_context_text front context b h within above) = long_context_text front context (begins_with_more bytes more front 4 b) h within above
 fault_stays bytes more _ (long_body front injection b h above) = long_body front injection (begins_with_more bytes more front 7 b) h above
@@ -85,7 +88,7 @@ cut_once bytes (m ∷ ms) [] x y s t p q =
     absurd (begins_stops bytes p.0.0 m t p.0.1 stops)
 cut_once bytes (m ∷ ms) (n ∷ ns) x y s t p q =
     let same = begins_once bytes p.0.0 q.0.0 m n p.0.1 q.0.1 in
-    let spelled : AreSpelled p.0.0 ns y = subst (λ (z : List ℕ). AreSpelled z ns y) (sym same.1) q.0.2 in
+    let spelled : AreCut Begins p.0.0 ns y = subst (λ (z : List ℕ). AreCut Begins z ns y) (sym same.1) q.0.2 in
     let others = cut_once p.0.0 ms ns x y s t (p.0.2, p.1) (spelled, q.1) in
     (cc (same.0, others.0), others.1, others.2)
 
@@ -137,27 +140,25 @@ cut_is_there bytes fits = cut_within (length bytes) bytes (omega arith) fits
 begins_more : (bytes after more : List ℕ) (msg : UserMsg) → Begins bytes msg after → Begins (bytes ++ more) msg (after ++ more)
 begins_more bytes after more msg b = (b.0, b.1, ap (λ (x : List ℕ). x ++ more) b.2 ∙ append_assoc b.0 after more)
 
-pub runs_spelled : (calls : List Call) (old new : Channel) → Runs old calls new → AreSpelled (old.unread ++ fed_by calls) (given_by calls) new.unread
-runs_spelled [] old new r = append-nil old.unread ∙ ap (λ (c : Channel). c.unread) r
-runs_spelled (Feed piece count ∷ calls) old new r =
-    let rest = runs_spelled calls r.0 new r.2 in
-    let joined : r.0.unread ++ fed_by calls ≡ old.unread ++ (take count piece ++ fed_by calls) = rw r.1.unread (append_assoc old.unread (take count piece) (fed_by calls)) in
-    rw (← joined) rest
-runs_spelled (Next (cuts.Message msg) ∷ calls) old new r =
-    (r.0.unread ++ fed_by calls, begins_more old.unread r.0.unread (fed_by calls) msg r.1.0, runs_spelled calls r.0 new r.2)
-runs_spelled (Next cuts.NeedMore ∷ calls) old new r = rw (← r.1.1) (runs_spelled calls r.0 new r.2)
-runs_spelled (Next (cuts.Bad fault) ∷ calls) old new r = rw (← r.1.1) (runs_spelled calls r.0 new r.2)
-runs_spelled (Next cuts.OutOfMemory ∷ calls) old new r = rw (← r.1.1) (runs_spelled calls r.0 new r.2)
+answers : (old new : Channel) (cut : UserCut) → Cuts old cut new → AreCut Begins old.unread (messages_in cut) new.unread
+answers old new (cuts.Message msg) d = (new.unread, d.0, refl)
+answers old new cuts.NeedMore d = sym d.1
+answers old new (cuts.Bad fault) d = sym d.1
+answers old new cuts.OutOfMemory d = sym (ap (λ (c : Channel). c.unread) d.1)
+
+is_cutter : IsCutter (λ (c : Channel). c.unread) messages_in Begins Does
+is_cutter = record { feeds = λ old new piece count d. d.unread; answers = answers; goes_on = begins_more }
+
+pub so_far : (calls : List (Call UserCut)) (new : Channel) → Runs Does unfed calls new → AreCut Begins (fed_by calls) (given_by messages_in calls) new.unread
+so_far calls new r = gives_the_cut (λ (c : Channel). c.unread) messages_in Begins Does is_cutter calls unfed new r
 
 -- ---- more bytes
 
-spelled_more : (bytes rest more : List ℕ) (msgs : List UserMsg) → AreSpelled bytes msgs rest → AreSpelled (bytes ++ more) msgs (rest ++ more)
-spelled_more bytes rest more [] s = ap (λ (x : List ℕ). x ++ more) s
-spelled_more bytes rest more (msg ∷ msgs) s = (s.0 ++ more, begins_more bytes s.0 more msg s.1, spelled_more s.0 rest more msgs s.2)
+spelled_more : (bytes rest more : List ℕ) (msgs : List UserMsg) → AreCut Begins bytes msgs rest → AreCut Begins (bytes ++ more) msgs (rest ++ more)
+spelled_more = cut_more Begins begins_more
 
-spelled_on : (bytes middle rest : List ℕ) (ms ns : List UserMsg) → AreSpelled bytes ms middle → AreSpelled middle ns rest → AreSpelled bytes (ms ++ ns) rest
-spelled_on bytes middle rest [] ns s t = rw s t
-spelled_on bytes middle rest (m ∷ ms) ns s t = (s.0, s.1, spelled_on s.0 middle rest ms ns s.2 t)
+spelled_on : (bytes middle rest : List ℕ) (ms ns : List UserMsg) → AreCut Begins bytes ms middle → AreCut Begins middle ns rest → AreCut Begins bytes (ms ++ ns) rest
+spelled_on = cut_on Begins
 
 IsBytes-front : (a b : List ℕ) → IsBytes (a ++ b) → IsBytes a
 IsBytes-front a b h i =
@@ -166,7 +167,7 @@ IsBytes-front a b h i =
       | inr le ↦ rw (get_or_past a i 0 le) (omega arith)
     ]
 
-IsBytes-spelled : (bytes rest more : List ℕ) (msgs : List UserMsg) → AreSpelled bytes msgs rest → IsBytes (bytes ++ more) → IsBytes (rest ++ more)
+IsBytes-spelled : (bytes rest more : List ℕ) (msgs : List UserMsg) → AreCut Begins bytes msgs rest → IsBytes (bytes ++ more) → IsBytes (rest ++ more)
 IsBytes-spelled bytes rest more [] s h = rw (← s) h
 IsBytes-spelled bytes rest more (msg ∷ msgs) s h =
     let b = s.1 in

@@ -4,7 +4,7 @@ use Rattle.std.proofs.lemmas.Bool.{le-ltb}
 use Rattle.std.proofs.lemmas.List.{length-append}
 use Rattle.dl_bytes.specs.Number.{At, bytes_at, number_at, ◌>>=◌}
 use Rattle.dl_user.specs.Fields.{signed_at, app_at, unregister_app_at, context_at, unregister_context_at, setting_at, service_at, overflow_at}
-use Rattle.dl_user.specs.Cut.{IsBytes}
+use Rattle.dl_bytes.specs.Bytes.{IsBytes}
 use Rattle.dl_user.specs.Reading.{little}
 use Rattle.dl_user.proofs.Readers.{IsBytes-rest}
 use Rattle.dl_user.proofs.FieldReaders.{Fields}

@@ -4,12 +4,12 @@ use Rattle.dl_bytes.specs.Number.{At, ◌>>=◌}
 use Rattle.dl_user.specs.declared.fault.UserFault.{UserFault}
 use Rattle.dl_user.specs.declared.fault.Stop.TheVariants.{Bad}
 use Rattle.dl_user.specs.Reading.{little, wait}
-use Rattle.dl_user.specs.Cut.{IsBytes}
-use Rattle.dl_user.proofs.Readers.{IsBytes-rest, Takes, Then, Reads}
+use Rattle.dl_bytes.specs.Bytes.{IsBytes}
+use Rattle.dl_user.proofs.Readers.{IsBytes-rest, TakesSpelled, Then, Reads}
 
 pub record Fields {A : Type 0} (r : At → Option (A × At)) (P : List ℕ → A → Type 0) : Type 0 where
   pub again : (text rest : List ℕ) (x : A) → P text x → r (little (text ++ rest)) ≡ Some (x, little rest)
-  pub found : (bytes : List ℕ) (x : A) (c : At) → IsBytes bytes → r (little bytes) ≡ Some (x, c) → Takes P bytes x c
+  pub found : (bytes : List ℕ) (x : A) (c : At) → IsBytes bytes → r (little bytes) ≡ Some (x, c) → TakesSpelled P bytes x c
 
 bind_some : {A B : Type 0} (o : Option A) (f : A → Option B) (y : B) → (o >>= f) ≡ Some y → (x : A) × (o ≡ Some x) × (f x ≡ Some y)
 bind_some (Some x) f y e = (x, refl, e)
@@ -22,7 +22,7 @@ module _ {A B : Type 0} (r : At → Option (A × At)) (k : A × At → Option (B
       let regrouped : text ++ rest ≡ t.front ++ (t.back ++ rest) = rw t.parts (append_assoc t.front t.back rest) in
       rw (regrouped, first.again t.front (t.back ++ rest) t.first t.front_spells) ((second t.first).again t.back rest y t.back_spells)
 
-  both_found : (bytes : List ℕ) (y : B) (c : At) → IsBytes bytes → (r (little bytes) >>= k) ≡ Some (y, c) → Takes (Then P Q) bytes y c
+  both_found : (bytes : List ℕ) (y : B) (c : At) → IsBytes bytes → (r (little bytes) >>= k) ≡ Some (y, c) → TakesSpelled (Then P Q) bytes y c
   both_found bytes y c fits e =
       let b = bind_some (r (little bytes)) k (y, c) e in
       let t = first.found bytes b.0.0 b.0.1 fits b.1 in

@@ -10,7 +10,8 @@ use Rattle.dl_user.specs.declared.fault.Stop.TheVariants.{NeedMore, Bad}
 use Rattle.dl_user.specs.declared.fault.ReadError.{ReadError}
 use Rattle.dl_user.specs.declared.fault.ReadError.TheVariants as errors
 use Rattle.dl_user.specs.Reading.{little, Reading, Copies, message_at}
-use Rattle.dl_user.specs.Cut.{IsBytes, Begins, IsOpen}
+use Rattle.dl_user.specs.Cut.{Begins, IsOpen}
+use Rattle.dl_bytes.specs.Bytes.{IsBytes}
 use Rattle.dl_user.specs.Front.{IsFront}
 use Rattle.dl_user.proofs.Messages.{message_reads}
 use Rattle.dl_user.proofs.Bounds.{message_need}

@@ -6,7 +6,7 @@ use Rattle.dl_user.specs.declared.fields.AppFields.{AppFields}
 use Rattle.dl_user.specs.declared.fields.ContextFields.{ContextFields}
 use Rattle.dl_user.specs.declared.fields.SettingFields.{SettingFields}
 use Rattle.dl_user.specs.declared.fields.ServiceFields.{ServiceFields}
-use Rattle.dl_user.specs.Layout.{long, signed}
+use Rattle.dl_user.specs.Layout.{uint32, signed}
 use Rattle.dl_user.specs.Fields.{app_at, context_at, setting_at, service_at}
 use Rattle.dl_user.specs.Fronts.{IsApp, IsContext, IsSetting, IsService}
 use Rattle.dl_user.proofs.Readers.{Then}
@@ -175,7 +175,7 @@ setting_from text setting h =
       first = setting.level;
       front = little_bytes 1 setting.level;
       back = _;
-      parts = h.spelled ∙ ap (λ (x : List ℕ). x ++ signed setting.trace ++ long setting.position) (sym (lone_byte setting.level h.level)) ∙ sym (flat3 (little_bytes 1 setting.level) (signed setting.trace) (little_bytes 4 setting.position));
+      parts = h.spelled ∙ ap (λ (x : List ℕ). x ++ signed setting.trace ++ uint32 setting.position) (sym (lone_byte setting.level h.level)) ∙ sym (flat3 (little_bytes 1 setting.level) (signed setting.trace) (little_bytes 4 setting.position));
       front_spells = (refl, h.level);
       back_spells =
           record {

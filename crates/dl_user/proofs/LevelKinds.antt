@@ -1,5 +1,5 @@
 -- The readers of the two kinds with a level, and the spellings that they read.
-use Rattle.std.proofs.Common.{◌≡◌, ℕ, zero, suc, ◌≤◌, ℤ, pos, negsuc, Bool, true, false, cond, List, [], ◌∷◌, ◌++◌, length, Option, Some, None, Ok, Err, ◌⊎◌, FitsSigned, refl, sym, subst, ◌∙◌, append_assoc, arith, rules, tests, lit<, inl, inr}
+use Rattle.std.proofs.Common.{◌≡◌, ℕ, zero, suc, ◌≤◌, ℤ, pos, negsuc, Bool, true, false, cond, List, [], ◌++◌, length, Option, Some, None, Ok, Err, ◌⊎◌, FitsSigned, refl, sym, subst, ◌∙◌, arith, rules, tests, lit<, inl, inr}
 use Rattle.std.specs.Prelude.{IfSome, nat_le, ok_or}
 use Rattle.std.specs.Int.{w8, cast_signed}
 use Rattle.std.specs.Ordering.{int_eq}
@@ -12,13 +12,13 @@ use Rattle.dl_user.specs.declared.fault.UserFault.{UserFault}
 use Rattle.dl_user.specs.declared.fault.UserFault.TheVariants.{Level}
 use Rattle.dl_user.specs.declared.fault.Stop.TheVariants.{Bad}
 use Rattle.dl_user.specs.declared.fields.SettingFields.{SettingFields}
-use Rattle.dl_user.specs.Layout.{long, signed, level_number}
+use Rattle.dl_user.specs.Layout.{context_front, setting_front, level_number}
 use Rattle.dl_user.specs.Reading.{Reading, ◌>>=◌, registered_level, register_context_at, log_level_at}
 use Rattle.dl_user.proofs.Readers.{ok_is, Then, Reads, reads_then, reads_as, reads_end, reads_choice, reads_refuse}
 use Rattle.dl_user.proofs.FieldReaders.{reads_wait}
 use Rattle.dl_user.specs.Fronts.{IsContext, IsSetting}
 use Rattle.dl_user.proofs.Groups.{Ends, context_field, setting_field}
-use Rattle.dl_user.proofs.MessageKinds.{IsKind, IsLimited, limited_reads, either}
+use Rattle.dl_user.proofs.MessageKinds.{IsKind, IsLimited, limited_reads, either, text_behind}
 
 -- ---- kind 6
 
@@ -31,7 +31,7 @@ LogLevelParts = Then IsSetting IsSet
 log_level_to : (text : List ℕ) (msg : UserMsg) → LogLevelParts text msg → IsKind 6 text msg
 log_level_to text msg t =
     let setting = t.first in
-    let spelled : text ≡ setting.level ∷ [] ++ signed setting.trace ++ long setting.position =
+    let spelled : text ≡ setting_front setting =
     rw (t.parts, t.back_spells.1.0) (append-nil t.front ∙ t.front_spells.spelled) in
     subst (λ (x : UserMsg). IsKind 6 text x) (sym t.back_spells.1.1) (record {
       kind_is = refl;
@@ -43,9 +43,9 @@ log_level_to text msg t =
 log_level_from : (text : List ℕ) (msg : UserMsg) → IsKind 6 text msg → LogLevelParts text msg
 log_level_from text (LogLevel level trace position) h = record {
   first = record { level = level; trace = trace; position = position };
-  front = level ∷ [] ++ signed trace ++ long position;
+  front = setting_front (record { level = level; trace = trace; position = position });
   back = [];
-  parts = either h.spelled ∙ sym (append-nil (level ∷ [] ++ signed trace ++ long position));
+  parts = either h.spelled ∙ sym (append-nil (setting_front (record { level = level; trace = trace; position = position })));
   front_spells = record { spelled = refl; level = omega (arith, h.ranges.0); trace = h.ranges.1; position = h.ranges.2 };
   back_spells = (h.ranges.0, (refl, refl));
 }
@@ -111,13 +111,10 @@ level_fits (Some n) h =
     let fits : FitsSigned w8 (pos n) = record { sfits = omega (arith, h) } in
     (fits, fits)
 
-context_text : (a c p l t i n b : List ℕ) → (a ++ c ++ p ++ l ++ t ++ i ++ n) ++ (b ++ []) ≡ a ++ c ++ p ++ l ++ t ++ i ++ (n ++ b)
-context_text a c p l t i n b = simp (append_assoc, append-nil)
-
 -- the fields of kind 4, with this number for the level
 abbrev context_fields : List ℕ → List ℕ → ℕ → ℤ → ℤ → ℕ → List ℕ → List ℕ
 context_fields apid ctid position number trace pid text =
-    apid ++ ctid ++ long position ++ signed number ++ signed trace ++ long pid ++ (long (length text) ++ text)
+    context_front (record { apid = apid; ctid = ctid; position = position; level = number; trace = trace; pid = pid; len = length text }) ++ text
 
 abbrev RegisterContextParts : List ℕ → UserMsg → Type 0
 RegisterContextParts = Then IsContext (λ context. Judged (registered_level context.level) (λ level. Then (IsLimited 255 context.len) (λ text.
@@ -130,9 +127,8 @@ register_context_to text msg t =
     let u = j.spells in
     let level = level_found context.level j.value j.is in
     let len : length u.first ≡ context.len = u.front_spells.1.1 in
-    let joined : text ≡ (context.apid ++ context.ctid ++ long context.position ++ signed context.level ++ signed context.trace ++ long context.pid ++ long context.len) ++ (u.first ++ []) = cc (t.front_spells.spelled) in
-    let spelled : text ≡ context_fields context.apid context.ctid context.position context.level context.trace context.pid u.first =
-    rw len (joined ∙ context_text context.apid context.ctid (long context.position) (signed context.level) (signed context.trace) (long context.pid) (long context.len) u.first) in
+    let joined : text ≡ context_front context ++ (u.first ++ []) = cc (t.front_spells.spelled) in
+    let spelled : text ≡ context_fields context.apid context.ctid context.position context.level context.trace context.pid u.first = rw len (joined ∙ text_behind (context_front context) u.first) in
     let At_number : ℤ → Type 0 = λ z. text ≡ context_fields context.apid context.ctid context.position z context.trace context.pid u.first in
     subst (λ (x : UserMsg). IsKind 4 text x) (sym u.back_spells.1) (record {
       kind_is = refl;
@@ -146,9 +142,9 @@ register_context_number : (text apid ctid : List ℕ) (position : ℕ) (level : 
     → registered_level number ≡ Ok level → FitsSigned w8 number → RegisterContextParts text (RegisterContext apid ctid position level trace pid body)
 register_context_number text apid ctid position level number trace pid body h spelled read fits = record {
   first = record { apid = apid; ctid = ctid; position = position; level = number; trace = trace; pid = pid; len = length body };
-  front = apid ++ ctid ++ long position ++ signed number ++ signed trace ++ long pid ++ long (length body);
+  front = context_front (record { apid = apid; ctid = ctid; position = position; level = number; trace = trace; pid = pid; len = length body });
   back = body ++ [];
-  parts = spelled ∙ sym (context_text apid ctid (long position) (signed number) (signed trace) (long pid) (long (length body)) body);
+  parts = spelled ∙ sym (text_behind (context_front (record { apid = apid; ctid = ctid; position = position; level = number; trace = trace; pid = pid; len = length body })) body);
   front_spells = record { spelled = refl; apid = h.ranges.0; ctid = h.ranges.1; position = h.ranges.2; level = fits; trace = h.ranges.4; pid = h.ranges.5; len = omega (arith, h.fit) };
   back_spells = record {
     value = level;

@@ -1,5 +1,5 @@
 -- The readers of each kind's fields, and the spellings that they read.
-use Rattle.std.proofs.Common.{◌≡◌, ℕ, ◌≤◌, negsuc, ltb, List, [], ◌++◌, length, Err, ◌⊎◌, refl, sym, subst, ◌∙◌, append_assoc, arith, inl, inr}
+use Rattle.std.proofs.Common.{◌≡◌, ℕ, ◌≤◌, negsuc, ltb, List, [], ◌++◌, length, Err, ◌⊎◌, refl, sym, ap, subst, ◌∙◌, append_assoc, arith, inl, inr}
 use Rattle.std.proofs.lemmas.Bool.{ltb-false, ltb-true}
 use Rattle.std.proofs.lemmas.List.{append-nil}
 use Rattle.byteorder.specs.Endian.{little_bytes}
@@ -9,7 +9,7 @@ use Rattle.dl_bytes.specs.declared.user.UserMsg.{UserMsg}
 use Rattle.dl_bytes.specs.declared.user.UserMsg.TheVariants.{RegisterApp, UnregisterApp, UnregisterContext, Injection, Overflow}
 use Rattle.dl_user.specs.declared.fault.UserFault.TheVariants.{TooLong}
 use Rattle.dl_user.specs.declared.fault.Stop.TheVariants.{Bad}
-use Rattle.dl_user.specs.Layout.{long, kind_of, fields_of}
+use Rattle.dl_user.specs.Layout.{uint32, app_front, service_front, kind_of, fields_of}
 use Rattle.dl_user.specs.Fields.{unregister_app_at, unregister_context_at, overflow_at}
 use Rattle.dl_user.specs.Reading.{wait, limited_at, register_app_at, injection_at}
 use Rattle.dl_user.specs.Cut.{HasRanges}
@@ -57,9 +57,9 @@ unregister_app_from text (UnregisterApp apid pid) h = record {
   first = apid;
   front = apid;
   back = _;
-  parts = either h.spelled ∙ sym (flat2 apid (long pid));
+  parts = either h.spelled ∙ sym (flat2 apid (uint32 pid));
   front_spells = (refl, h.ranges.0);
-  back_spells = record { first = pid; front = long pid; back = []; parts = refl; front_spells = (refl, h.ranges.1); back_spells = (refl, refl) };
+  back_spells = record { first = pid; front = uint32 pid; back = []; parts = refl; front_spells = (refl, h.ranges.1); back_spells = (refl, refl) };
 }
 unregister_app_from text msg h = absurd (omega (arith, h.kind_is))
 
@@ -90,7 +90,7 @@ unregister_context_from text (UnregisterContext apid ctid pid) h = record {
   first = apid;
   front = apid;
   back = _;
-  parts = either h.spelled ∙ sym (flat3 apid ctid (long pid));
+  parts = either h.spelled ∙ sym (flat3 apid ctid (uint32 pid));
   front_spells = (refl, h.ranges.0);
   back_spells = record {
     first = ctid;
@@ -98,7 +98,7 @@ unregister_context_from text (UnregisterContext apid ctid pid) h = record {
     back = _;
     parts = refl;
     front_spells = (refl, h.ranges.1);
-    back_spells = record { first = pid; front = long pid; back = []; parts = refl; front_spells = (refl, h.ranges.2); back_spells = (refl, refl) };
+    back_spells = record { first = pid; front = uint32 pid; back = []; parts = refl; front_spells = (refl, h.ranges.2); back_spells = (refl, refl) };
   };
 }
 unregister_context_from text msg h = absurd (omega (arith, h.kind_is))
@@ -127,9 +127,9 @@ overflow_to text msg t =
 overflow_from : (text : List ℕ) (msg : UserMsg) → IsKind 8 text msg → OverflowParts text msg
 overflow_from text (Overflow counter apid) h = record {
   first = counter;
-  front = long counter;
+  front = uint32 counter;
   back = _;
-  parts = either h.spelled ∙ sym (flat2 (long counter) apid);
+  parts = either h.spelled ∙ sym (flat2 (uint32 counter) apid);
   front_spells = (refl, h.ranges.0);
   back_spells = record { first = apid; front = apid; back = []; parts = refl; front_spells = (refl, h.ranges.1); back_spells = (refl, refl) };
 }
@@ -154,8 +154,8 @@ limited_reads limit len = reads_choice (ltb limit len) (λ c. Err (Bad (TooLong 
 
 -- ---- kind 2
 
-counted_behind : (a p l b : List ℕ) → (a ++ p ++ l) ++ (b ++ []) ≡ a ++ p ++ (l ++ b)
-counted_behind a p l b = simp (append_assoc, append-nil)
+pub text_behind : (front text : List ℕ) → front ++ (text ++ []) ≡ front ++ text
+text_behind front text = ap (λ (x : List ℕ). front ++ x) (append-nil text)
 
 abbrev RegisterAppParts : List ℕ → UserMsg → Type 0
 RegisterAppParts = Then IsApp (λ app. Then (IsLimited 255 app.len) (λ text. Ends (RegisterApp app.apid app.pid text)))
@@ -165,9 +165,8 @@ register_app_to text msg t =
     let u = t.back_spells in
     let app = t.first in
     let len : length u.first ≡ app.len = u.front_spells.1.1 in
-    let joined : text ≡ (app.apid ++ long app.pid ++ long app.len) ++ (u.first ++ []) = cc (t.front_spells.spelled) in
-    let counted_text : text ≡ app.apid ++ long app.pid ++ (long (length u.first) ++ u.first) =
-    rw len (joined ∙ counted_behind app.apid (long app.pid) (long app.len) u.first) in
+    let joined : text ≡ app_front app ++ (u.first ++ []) = cc (t.front_spells.spelled) in
+    let counted_text : text ≡ app_front (record { apid = app.apid; pid = app.pid; len = length u.first }) ++ u.first = rw len (joined ∙ text_behind (app_front app) u.first) in
     subst (λ (x : UserMsg). IsKind 2 text x) (sym u.back_spells.1) (record {
       kind_is = refl;
       spelled = inl counted_text;
@@ -178,9 +177,9 @@ register_app_to text msg t =
 register_app_from : (text : List ℕ) (msg : UserMsg) → IsKind 2 text msg → RegisterAppParts text msg
 register_app_from text (RegisterApp apid pid body) h = record {
   first = record { apid = apid; pid = pid; len = length body };
-  front = apid ++ long pid ++ long (length body);
+  front = app_front (record { apid = apid; pid = pid; len = length body });
   back = body ++ [];
-  parts = either h.spelled ∙ sym (counted_behind apid (long pid) (long (length body)) body);
+  parts = either h.spelled ∙ sym (text_behind (app_front (record { apid = apid; pid = pid; len = length body })) body);
   front_spells = record { spelled = refl; apid = h.ranges.0; pid = h.ranges.1; len = omega (arith, h.fit) };
   back_spells = record { first = body; front = body; back = []; parts = refl; front_spells = (h.fit, (refl, refl)); back_spells = (refl, refl) };
 }
@@ -201,9 +200,8 @@ injection_to text msg t =
     let u = t.back_spells in
     let service = t.first in
     let len : length u.first ≡ service.len = u.front_spells.1.1 in
-    let joined : text ≡ (long service.position ++ long service.service ++ long service.len) ++ (u.first ++ []) = cc (t.front_spells.spelled) in
-    let counted_body : text ≡ long service.position ++ long service.service ++ (long (length u.first) ++ u.first) =
-    rw len (joined ∙ counted_behind (long service.position) (long service.service) (long service.len) u.first) in
+    let joined : text ≡ service_front service ++ (u.first ++ []) = cc (t.front_spells.spelled) in
+    let counted_body : text ≡ service_front (record { position = service.position; service = service.service; len = length u.first }) ++ u.first = rw len (joined ∙ text_behind (service_front service) u.first) in
     subst (λ (x : UserMsg). IsKind 7 text x) (sym u.back_spells.1) (record {
       kind_is = refl;
       spelled = inl counted_body;
@@ -214,9 +212,9 @@ injection_to text msg t =
 injection_from : (text : List ℕ) (msg : UserMsg) → IsKind 7 text msg → InjectionParts text msg
 injection_from text (Injection position service body) h = record {
   first = record { position = position; service = service; len = length body };
-  front = long position ++ long service ++ long (length body);
+  front = service_front (record { position = position; service = service; len = length body });
   back = body ++ [];
-  parts = either h.spelled ∙ sym (counted_behind (long position) (long service) (long (length body)) body);
+  parts = either h.spelled ∙ sym (text_behind (service_front (record { position = position; service = service; len = length body })) body);
   front_spells = record { spelled = refl; position = h.ranges.0; service = h.ranges.1; len = omega (arith, h.fit) };
   back_spells = record { first = body; front = body; back = []; parts = refl; front_spells = (h.fit, (refl, refl)); back_spells = (refl, refl) };
 }

@@ -8,7 +8,7 @@ use Rattle.dl_bytes.specs.declared.user.UserMsg.{UserMsg}
 use Rattle.dl_bytes.specs.declared.user.UserMsg.TheVariants.{Log, RegisterApp, UnregisterApp, RegisterContext, UnregisterContext, LogLevel, Injection, Overflow}
 use Rattle.dl_user.specs.declared.fault.UserFault.TheVariants.{Marker, Kind}
 use Rattle.dl_user.specs.declared.fault.Stop.TheVariants.{Bad}
-use Rattle.dl_user.specs.Layout.{marker, long, kind_of, fields_of}
+use Rattle.dl_user.specs.Layout.{marker, uint32, kind_of, fields_of}
 use Rattle.dl_user.specs.Fields.{unregister_app_at, unregister_context_at, overflow_at}
 use Rattle.dl_user.specs.Reading.{Reading, wait, log_at, register_app_at, register_context_at, log_level_at, injection_at, kind_at, fields_at, message_at}
 use Rattle.dl_user.specs.Cut.{IsSpelled}
@@ -87,7 +87,7 @@ message_to : (text : List ℕ) (msg : UserMsg) → MessageParts text msg → IsS
 message_to text msg t =
     let k = t.front_spells in
     let kind = t.back_spells.kind_is in
-    let front : t.front ≡ marker ++ long (kind_of msg) =
+    let front : t.front ≡ marker ++ uint32 (kind_of msg) =
     rw (k.parts, k.front_spells.0, k.back_spells.0, kind) (ap (λ (x : List ℕ). marker ++ x) k.back_spells.1.0) in
     record {
       spelled = elim t.back_spells.spelled [
@@ -98,13 +98,13 @@ message_to text msg t =
       ranges = t.back_spells.ranges;
     }
 
-message_parts : (text fields : List ℕ) (msg : UserMsg) → text ≡ marker ++ long (kind_of msg) ++ fields → IsKind (kind_of msg) fields msg → MessageParts text msg
+message_parts : (text fields : List ℕ) (msg : UserMsg) → text ≡ marker ++ uint32 (kind_of msg) ++ fields → IsKind (kind_of msg) fields msg → MessageParts text msg
 message_parts text fields msg e h = record {
   first = kind_of msg;
-  front = marker ++ long (kind_of msg);
+  front = marker ++ uint32 (kind_of msg);
   back = fields;
   parts = e;
-  front_spells = record { first = marker; front = marker; back = long (kind_of msg); parts = refl; front_spells = (refl, refl); back_spells = (refl, (refl, kind_below msg)) };
+  front_spells = record { first = marker; front = marker; back = uint32 (kind_of msg); parts = refl; front_spells = (refl, refl); back_spells = (refl, (refl, kind_below msg)) };
   back_spells = h;
 }
 

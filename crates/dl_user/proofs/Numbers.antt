@@ -11,7 +11,7 @@ use Rattle.byteorder.specs.Numbers.{little_number-reads_back, little_from-take, 
 use Rattle.dl_bytes.specs.Number.{At, bytes_at, number_at}
 use Rattle.dl_user.specs.Layout.{signed}
 use Rattle.dl_user.specs.Fields.{signed_at}
-use Rattle.dl_user.specs.Cut.{IsBytes}
+use Rattle.dl_bytes.specs.Bytes.{IsBytes}
 use Rattle.dl_user.specs.Reading.{little}
 use Rattle.dl_user.proofs.Readers.{Then}
 use Rattle.dl_user.proofs.FieldReaders.{Fields, fields_then, fields_as, fields_end}

@@ -7,13 +7,13 @@ use Rattle.dl_user.specs.declared.fault.UserFault.{UserFault}
 use Rattle.dl_user.specs.declared.fault.Stop.{Stop}
 use Rattle.dl_user.specs.declared.fault.Stop.TheVariants.{Bad}
 use Rattle.dl_user.specs.Reading.{little, Reading, ◌>>=◌}
-use Rattle.dl_user.specs.Cut.{IsBytes}
+use Rattle.dl_bytes.specs.Bytes.{IsBytes}
 
 pub IsBytes-rest : (bytes text rest : List ℕ) → bytes ≡ text ++ rest → IsBytes bytes → IsBytes rest
 IsBytes-rest bytes text rest e h i = rw (← get_or-append-add text rest i 0, ← e) (h (length text + i))
 
 -- a text that spells the value stands at the front
-pub record Takes {A : Type 0} (P : List ℕ → A → Type 0) (bytes : List ℕ) (x : A) (c : At) : Type 0 where
+pub record TakesSpelled {A : Type 0} (P : List ℕ → A → Type 0) (bytes : List ℕ) (x : A) (c : At) : Type 0 where
   pub text : List ℕ
   pub parts : bytes ≡ text ++ c.rest
   pub left : c ≡ little c.rest
@@ -21,7 +21,7 @@ pub record Takes {A : Type 0} (P : List ℕ → A → Type 0) (bytes : List ℕ)
 
 pub record Reads {A : Type 0} (r : At → Reading (A × At)) (P : List ℕ → A → Type 0) : Type 0 where
   pub again : (text rest : List ℕ) (x : A) → P text x → r (little (text ++ rest)) ≡ Ok (x, little rest)
-  pub found : (bytes : List ℕ) (x : A) (c : At) → IsBytes bytes → r (little bytes) ≡ Ok (x, c) → Takes P bytes x c
+  pub found : (bytes : List ℕ) (x : A) (c : At) → IsBytes bytes → r (little bytes) ≡ Ok (x, c) → TakesSpelled P bytes x c
   pub bad : (bytes more : List ℕ) (fault : UserFault) → IsBytes bytes → r (little bytes) ≡ Err (Bad fault) → r (little (bytes ++ more)) ≡ Err (Bad fault)
 
 -- a text of two parts, of which the second may depend on the first
@@ -54,7 +54,7 @@ module _ {A B : Type 0} (r : At → Reading (A × At)) (k : A × At → Reading 
       let regrouped : text ++ rest ≡ t.front ++ (t.back ++ rest) = rw t.parts (append_assoc t.front t.back rest) in
       rw (regrouped, first.again t.front (t.back ++ rest) t.first t.front_spells) ((second t.first).again t.back rest y t.back_spells)
 
-  then_found : (bytes : List ℕ) (y : B) (c : At) → IsBytes bytes → (r (little bytes) >>= k) ≡ Ok (y, c) → Takes (Then P Q) bytes y c
+  then_found : (bytes : List ℕ) (y : B) (c : At) → IsBytes bytes → (r (little bytes) >>= k) ≡ Ok (y, c) → TakesSpelled (Then P Q) bytes y c
   then_found bytes y c fits e =
       let b = bind_ok (r (little bytes)) k (y, c) e in
       let t = first.found bytes b.0.0 b.0.1 fits b.1 in

@@ -1,41 +1,39 @@
 -- A reader refuses exactly what shows a fault.
-use Rattle.std.proofs.Common.{◌≡◌, ◌≢◌, ℕ, zero, suc, ◌^◌, ◌<◌, ◌≤◌, ℤ, pos, negsuc, true, false, ltb, eqb, List, [], ◌++◌, length, Option, Some, None, Ok, Err, ◌⊎◌, refl, ◌∙◌, arith, rules, tests, lit<, inl, inr}
-use Rattle.std.specs.Prelude.{◌==◌, nat_le}
+use Rattle.std.proofs.Common.{◌≡◌, ◌≢◌, ℕ, zero, suc, ◌^◌, ◌<◌, ◌≤◌, ℤ, pos, negsuc, true, false, eqb, List, [], ◌++◌, length, Option, Some, None, Ok, Err, ◌⊎◌, refl, ◌∙◌, arith, rules, tests, lit<, inl, inr}
+use Rattle.std.specs.Prelude.{nat_le}
 use Rattle.std.specs.Int.{w8, cast_signed}
 use Rattle.std.specs.Str.{bytes_eq}
 use Rattle.std.specs.Ordering.{int_eq}
 use Rattle.std.proofs.lemmas.Int.{ints}
-use Rattle.std.proofs.lemmas.Bool.{cases_lt, ne_eqb, le-ltb, lt-ltb, le-leb, false_from_ne_true}
+use Rattle.std.proofs.lemmas.Bool.{cases_lt, ne_eqb, lt-ltb, le-leb, false_from_ne_true}
 use Rattle.std.proofs.lemmas.Slice.Eq.{bytes_eq-Decides}
-use Rattle.dl_headers.specs.declared.fault.HeaderFault.TheVariants.{Version, Length}
-use Rattle.dl_bytes.specs.Htyp.{htyp_of, len_of, version, header_len}
 use Rattle.dl_bytes.specs.Number.{At}
 use Rattle.dl_user.specs.declared.fault.UserFault.{UserFault}
-use Rattle.dl_user.specs.declared.fault.UserFault.TheVariants.{Marker, Kind, Inner, TooLong, Level}
+use Rattle.dl_user.specs.declared.fault.UserFault.TheVariants.{Marker, Kind, TooLong, Level}
 use Rattle.dl_user.specs.declared.fault.Stop.TheVariants.{Bad}
 use Rattle.dl_user.specs.declared.fields.AppFields.{AppFields}
 use Rattle.dl_user.specs.declared.fields.ContextFields.{ContextFields}
 use Rattle.dl_user.specs.declared.fields.SettingFields.{SettingFields}
 use Rattle.dl_user.specs.declared.fields.ServiceFields.{ServiceFields}
-use Rattle.dl_user.specs.Layout.{marker, long}
+use Rattle.dl_user.specs.Layout.{marker, uint32}
 use Rattle.dl_user.specs.Reading.{little, inner_len, limited_at, registered_level, log_at, register_app_at, register_context_at, log_level_at, injection_at, kind_at, fields_at, message_at}
 use Rattle.dl_user.specs.Fronts.{IsApp, IsContext, IsSetting, IsService}
-use Rattle.dl_user.specs.Faults.{BeginsWith, IsRegistered, Shows, other_marker, other_kind, other_version, short_message, long_message, long_app_text, long_context_text, long_body, context_level, set_level}
+use Rattle.dl_user.specs.Faults.{BeginsWith, IsRegistered, Shows, other_marker, other_kind, bad_front, long_message, long_app_text, long_context_text, long_body, context_level, set_level}
 use Rattle.dl_user.proofs.Readers.{Then}
 use Rattle.dl_user.proofs.Numbers.{AreBytes, bytes_field}
 use Rattle.dl_user.proofs.Groups.{app_field, context_field, setting_field, injection_field}
 use Rattle.dl_user.proofs.Messages.{IsMarked, kind_reads}
-use Rattle.dl_user.proofs.LogKind.{inner_len-append}
+use Rattle.dl_user.proofs.LogKind.{inner_len-append, inner_bad, inner_long}
 
 -- ---- what shows a fault is refused
 
 -- behind the marker and a kind its fields are read
-at_fields : (kind : ℕ) (fields : List ℕ) → kind < 2 ^ 32 → message_at (little (marker ++ long kind ++ fields)) ≡ fields_at kind (little fields)
+at_fields : (kind : ℕ) (fields : List ℕ) → kind < 2 ^ 32 → message_at (little (marker ++ uint32 kind ++ fields)) ≡ fields_at kind (little fields)
 unfolding message_at
 at_fields kind fields h =
-    let parts : Then (AreBytes 4) IsMarked (marker ++ long kind) kind =
-    record { first = marker; front = marker; back = long kind; parts = refl; front_spells = (refl, refl); back_spells = (refl, (refl, h)) } in
-    rw (kind_reads.again (marker ++ long kind) fields kind parts) refl
+    let parts : Then (AreBytes 4) IsMarked (marker ++ uint32 kind) kind =
+    record { first = marker; front = marker; back = uint32 kind; parts = refl; front_spells = (refl, refl); back_spells = (refl, (refl, h)) } in
+    rw (kind_reads.again (marker ++ uint32 kind) fields kind parts) refl
 
 limited_refuses : (limit len : ℕ) (c : At) → limit < len → limited_at limit len c ≡ Err (Bad (TooLong len))
 unfolding limited_at
@@ -92,25 +90,6 @@ log_refuses : (head more : List ℕ) (fault : UserFault) → length head ≡ 4 �
 unfolding log_at
 log_refuses head more fault len e = rw (inner_len-append head more (omega arith), e) refl
 
-other_version_refuses : (head : List ℕ) → length head ≡ 4 → version (htyp_of head) ≢ 1 → inner_len head ≡ Err (Bad (Inner (Version (version (htyp_of head)))))
-unfolding inner_len
-other_version_refuses head len other =
-    let enough : ltb (length head) 4 ≡ false = le-ltb _ _ (omega arith) in
-    let test : (version (htyp_of head) == 1) ≡ false = ne_eqb _ _ other in
-    rw (enough, test) refl
-
-short_message_refuses : (head : List ℕ) → length head ≡ 4 → version (htyp_of head) ≡ 1 → len_of head < header_len (htyp_of head) → inner_len head ≡ Err (Bad (Inner (Length (len_of head))))
-unfolding inner_len
-short_message_refuses head len one below =
-    let enough : ltb (length head) 4 ≡ false = le-ltb _ _ (omega arith) in
-    rw (enough, one, lt-ltb (len_of head) (header_len (htyp_of head)) below) refl
-
-long_message_refuses : (head : List ℕ) → length head ≡ 4 → version (htyp_of head) ≡ 1 → header_len (htyp_of head) ≤ len_of head → 1984 < len_of head → inner_len head ≡ Err (Bad (TooLong (len_of head)))
-unfolding inner_len
-long_message_refuses head len one told above =
-    let enough : ltb (length head) 4 ≡ false = le-ltb _ _ (omega arith) in
-    rw (enough, one, le-ltb (len_of head) (header_len (htyp_of head)) told, lt-ltb 1984 (len_of head) above) refl
-
 other_kind_refuses : (kind : ℕ) (c : At) → (kind < 1) ⊎ (8 < kind) → fields_at kind c ≡ Err (Bad (Kind kind))
 unfolding fields_at
 other_kind_refuses kind c h =
@@ -140,9 +119,8 @@ pub refuses : (bytes : List ℕ) (fault : UserFault) → Shows bytes fault → m
 unfolding fields_at
 refuses bytes _ (other_marker front more e len other) = rw e (marker_refuses front more len other)
 refuses bytes _ (other_kind kind b h outside) = kind_refuses bytes [] kind (Kind kind) b h (other_kind_refuses kind (little b.0) outside)
-refuses bytes _ (other_version head b len other) = kind_refuses bytes head 1 _ b (lit< tt) (log_refuses head b.0 _ len (other_version_refuses head len other))
-refuses bytes _ (short_message head b len one below) = kind_refuses bytes head 1 _ b (lit< tt) (log_refuses head b.0 _ len (short_message_refuses head len one below))
-refuses bytes _ (long_message head b len one told above) = kind_refuses bytes head 1 _ b (lit< tt) (log_refuses head b.0 _ len (long_message_refuses head len one told above))
+refuses bytes _ (bad_front head fault b len front) = kind_refuses bytes head 1 _ b (lit< tt) (log_refuses head b.0 _ len (inner_bad head fault (omega (arith, len)) front))
+refuses bytes _ (long_message head b len front above) = kind_refuses bytes head 1 _ b (lit< tt) (log_refuses head b.0 _ len (inner_long head front above))
 refuses bytes _ (long_app_text front app b h above) = kind_refuses bytes front 2 _ b (lit< tt) (register_app_refuses front b.0 app h above)
 refuses bytes _ (long_context_text front context b h within above) = kind_refuses bytes front 4 _ b (lit< tt) (context_text_refuses front b.0 context h within above)
 refuses bytes _ (long_body front injection b h above) = kind_refuses bytes front 7 _ b (lit< tt) (injection_refuses front b.0 injection h above)

@@ -1,28 +1,29 @@
 -- What a reader refuses shows the fault.
 use Rattle.std.proofs.Common.{◌≡◌, ◌≢◌, ℕ, zero, suc, ◌^◌, ◌<◌, ℤ, pos, negsuc, Bool, true, false, cond, ltb, eqb, List, ◌++◌, length, take, drop, Option, Some, None, Ok, Err, ◌⊎◌, refl, sym, ap, subst, ◌∙◌, arith, inl, inr}
-use Rattle.std.specs.Prelude.{◌==◌, not, nat_le}
+use Rattle.std.specs.Prelude.{not, nat_le}
 use Rattle.std.specs.Str.{bytes_eq}
 use Rattle.std.proofs.lemmas.Int.{ints}
-use Rattle.std.proofs.lemmas.Bool.{cases_lt, eqb-true, eqb-false, ltb-false, ltb-true, leb-true, leb-false, false≢true}
+use Rattle.std.proofs.lemmas.Bool.{cases_lt, eqb-true, eqb-false, ltb-true, leb-true, leb-false, false≢true}
 use Rattle.std.proofs.lemmas.List.{take-append-drop, length-take}
 use Rattle.std.proofs.lemmas.Slice.Eq.{bytes_eq-Decides}
-use Rattle.dl_bytes.specs.Htyp.{htyp_of, len_of, version, header_len}
+use Rattle.dl_bytes.specs.Htyp.{len_of}
 use Rattle.dl_bytes.specs.Number.{At, bytes_at, number_at}
 use Rattle.dl_bytes.specs.declared.user.UserMsg.{UserMsg}
 use Rattle.dl_user.specs.declared.fault.UserFault.{UserFault}
-use Rattle.dl_user.specs.declared.fault.UserFault.TheVariants.{TooLong, Level}
+use Rattle.dl_user.specs.declared.fault.UserFault.TheVariants.{Inner, TooLong, Level}
 use Rattle.dl_user.specs.declared.fault.Stop.TheVariants.{Bad}
-use Rattle.dl_user.specs.Layout.{marker, long}
+use Rattle.dl_headers.proofs.Fronts.{good_again}
+use Rattle.dl_user.specs.Layout.{marker, uint32}
 use Rattle.dl_user.specs.Fields.{app_at, context_at, setting_at, service_at, unregister_app_at, unregister_context_at, overflow_at}
 use Rattle.dl_user.specs.Reading.{little, Reading, ◌>>=◌, wait, inner_len, limited_at, registered_level, log_at, register_app_at, register_context_at, log_level_at, injection_at, kind_at, fields_at, message_at}
-use Rattle.dl_user.specs.Faults.{BeginsWith, IsRegistered, Shows, other_marker, other_kind, other_version, short_message, long_message, long_app_text, long_context_text, long_body, context_level, set_level}
-use Rattle.dl_user.specs.Cut.{IsBytes}
-use Rattle.dl_user.proofs.Readers.{IsBytes-rest, Takes, bind_bad}
+use Rattle.dl_user.specs.Faults.{BeginsWith, IsRegistered, Shows, other_marker, other_kind, bad_front, long_message, long_app_text, long_context_text, long_body, context_level, set_level}
+use Rattle.dl_bytes.specs.Bytes.{IsBytes}
+use Rattle.dl_user.proofs.Readers.{IsBytes-rest, TakesSpelled, bind_bad}
 use Rattle.dl_user.proofs.FieldReaders.{Fields, wait_some, wait_bad}
 use Rattle.dl_user.proofs.Numbers.{bytes_field}
 use Rattle.dl_user.proofs.Groups.{app_field, context_field, setting_field, injection_field}
 use Rattle.dl_user.proofs.Messages.{kind_reads}
-use Rattle.dl_user.proofs.LogKind.{inner_len-append, inner_enough, not_false}
+use Rattle.dl_user.proofs.LogKind.{too_few, bad_head, too_long, within_limit, inner_case, inner_len-append, inner_enough}
 use Rattle.dl_user.proofs.Refusals.{registered_refuses, registered_gives}
 
 -- which way a test went
@@ -41,12 +42,12 @@ same_fault : {A : Type 0} (f g : UserFault) → ◌≡◌ {A = Reading A} (refus
 same_fault f g e = cc
 
 -- fields that are all there, and the bytes behind them
-there : {A : Type 0} (r : At → Option (A × At)) (P : List ℕ → A → Type 0) → Fields r P → (rest : List ℕ) (x : A × At) → IsBytes rest → wait (r (little rest)) ≡ Ok x → Takes P rest x.0 x.1
+there : {A : Type 0} (r : At → Option (A × At)) (P : List ℕ → A → Type 0) → Fields r P → (rest : List ℕ) (x : A × At) → IsBytes rest → wait (r (little rest)) ≡ Ok x → TakesSpelled P rest x.0 x.1
 there r P h rest x fits e = h.found rest x.0 x.1 fits (wait_some (r (little rest)) x e)
 
 -- the bytes of a message whose fields begin so
-front_of : (bytes rest : List ℕ) (kind : ℕ) (front more : List ℕ) → bytes ≡ marker ++ long kind ++ rest → rest ≡ front ++ more → BeginsWith bytes kind front
-front_of bytes rest kind front more p e = (more, p ∙ ap (λ (x : List ℕ). marker ++ long kind ++ x) e)
+front_of : (bytes rest : List ℕ) (kind : ℕ) (front more : List ℕ) → bytes ≡ marker ++ uint32 kind ++ rest → rest ≡ front ++ more → BeginsWith bytes kind front
+front_of bytes rest kind front more p e = (more, p ∙ ap (λ (x : List ℕ). marker ++ uint32 kind ++ x) e)
 
 limited_shows : (limit len : ℕ) (c : At) (fault : UserFault) → limited_at limit len c ≡ Err (Bad fault) → (limit < len) × (fault ≡ TooLong len)
 unfolding limited_at
@@ -64,7 +65,7 @@ behind_shows limit len c f fault e =
       | inr b ↦ let never = b.2 in absurd cc
     ]
 
-register_app_shows : (bytes rest : List ℕ) (fault : UserFault) → bytes ≡ marker ++ long 2 ++ rest → IsBytes rest → register_app_at (little rest) ≡ Err (Bad fault) → Shows bytes fault
+register_app_shows : (bytes rest : List ℕ) (fault : UserFault) → bytes ≡ marker ++ uint32 2 ++ rest → IsBytes rest → register_app_at (little rest) ≡ Err (Bad fault) → Shows bytes fault
 unfolding register_app_at
 register_app_shows bytes rest fault p fits e =
     elim (bind_bad (wait (app_at (little rest))) _ (Bad fault) e) [
@@ -75,7 +76,7 @@ register_app_shows bytes rest fault p fits e =
           subst (λ (f : UserFault). Shows bytes f) (sym s.1) (long_app_text t.text b.0.0 (front_of bytes rest 2 t.text b.0.1.rest p t.parts) t.spells s.0)
     ]
 
-injection_shows : (bytes rest : List ℕ) (fault : UserFault) → bytes ≡ marker ++ long 7 ++ rest → IsBytes rest → injection_at (little rest) ≡ Err (Bad fault) → Shows bytes fault
+injection_shows : (bytes rest : List ℕ) (fault : UserFault) → bytes ≡ marker ++ uint32 7 ++ rest → IsBytes rest → injection_at (little rest) ≡ Err (Bad fault) → Shows bytes fault
 unfolding injection_at
 injection_shows bytes rest fault p fits e =
     elim (bind_bad (wait (service_at (little rest))) _ (Bad fault) e) [
@@ -103,7 +104,7 @@ registered_shows z fault e =
     let outside : IsRegistered z → ⊥ = λ h. let level = registered_gives z h in cc (sym e ∙ level.1) in
     (outside, same_fault {A = Option ℕ} _ _ (sym (registered_refuses z outside) ∙ e))
 
-register_context_shows : (bytes rest : List ℕ) (fault : UserFault) → bytes ≡ marker ++ long 4 ++ rest → IsBytes rest → register_context_at (little rest) ≡ Err (Bad fault) → Shows bytes fault
+register_context_shows : (bytes rest : List ℕ) (fault : UserFault) → bytes ≡ marker ++ uint32 4 ++ rest → IsBytes rest → register_context_at (little rest) ≡ Err (Bad fault) → Shows bytes fault
 unfolding register_context_at
 register_context_shows bytes rest fault p fits e =
     elim (bind_bad (wait (context_at (little rest))) _ (Bad fault) e) [
@@ -121,7 +122,7 @@ register_context_shows bytes rest fault p fits e =
           ]
     ]
 
-log_level_shows : (bytes rest : List ℕ) (fault : UserFault) → bytes ≡ marker ++ long 6 ++ rest → IsBytes rest → log_level_at (little rest) ≡ Err (Bad fault) → Shows bytes fault
+log_level_shows : (bytes rest : List ℕ) (fault : UserFault) → bytes ≡ marker ++ uint32 6 ++ rest → IsBytes rest → log_level_at (little rest) ≡ Err (Bad fault) → Shows bytes fault
 unfolding log_level_at
 log_level_shows bytes rest fault p fits e =
     elim (bind_bad (wait (setting_at (little rest))) _ (Bad fault) e) [
@@ -139,31 +140,17 @@ log_level_shows bytes rest fault p fits e =
 
 -- ---- kind 1
 
--- which of the tests of a message's first four bytes failed
+-- what is wrong with the first four bytes of a message
 head_shows : (bytes head : List ℕ) (fault : UserFault) → BeginsWith bytes 1 head → length head ≡ 4 → inner_len head ≡ Err (Bad fault) → Shows bytes fault
-unfolding inner_len
 head_shows bytes head fault begins len e =
-    elim (chosen (ltb (length head) 4) _ _ _ e) [
-      | inl a ↦ absurd (omega (arith, ltb-true (length head) 4 a.0))
-      | inr a ↦ elim (chosen (not (version (htyp_of head) == 1)) _ _ _ a.1) [
-        | inl b ↦
-            let other : version (htyp_of head) ≢ 1 = eqb-false (version (htyp_of head)) 1 (not_true _ b.0) in
-            subst (λ (f : UserFault). Shows bytes f) (sym (same_fault {A = ℕ} _ _ b.1)) (other_version head begins len other)
-        | inr b ↦
-            let one : version (htyp_of head) ≡ 1 = eqb-true (version (htyp_of head)) 1 (not_false _ b.0) in
-            elim (chosen (ltb (len_of head) (header_len (htyp_of head))) _ _ _ b.1) [
-              | inl d ↦ subst (λ (f : UserFault). Shows bytes f) (sym (same_fault {A = ℕ} _ _ d.1))
-                  (short_message head begins len one (ltb-true (len_of head) (header_len (htyp_of head)) d.0))
-              | inr d ↦ elim (chosen (ltb 1984 (len_of head)) _ _ _ d.1) [
-                | inl g ↦ subst (λ (f : UserFault). Shows bytes f) (sym (same_fault {A = ℕ} _ _ g.1))
-                    (long_message head begins len one (ltb-false (len_of head) (header_len (htyp_of head)) d.0) (ltb-true 1984 (len_of head) g.0))
-                | inr g ↦ let never = g.1 in absurd cc
-              ]
-            ]
-      ]
+    elim (inner_case head) [
+      | too_few h is ↦ absurd (omega (arith, h, len))
+      | bad_head f h front is ↦ subst (λ (x : UserFault). Shows bytes x) (same_fault {A = ℕ} fault (Inner f) (sym e ∙ is)) (bad_front head f begins len front)
+      | too_long front above is ↦ subst (λ (x : UserFault). Shows bytes x) (same_fault {A = ℕ} fault (TooLong (len_of head)) (sym e ∙ is)) (long_message head begins len (good_again head front) above)
+      | within_limit front within is ↦ absurd (cc (sym is ∙ e))
     ]
 
-log_shows : (bytes rest : List ℕ) (fault : UserFault) → bytes ≡ marker ++ long 1 ++ rest → log_at (little rest) ≡ Err (Bad fault) → Shows bytes fault
+log_shows : (bytes rest : List ℕ) (fault : UserFault) → bytes ≡ marker ++ uint32 1 ++ rest → log_at (little rest) ≡ Err (Bad fault) → Shows bytes fault
 unfolding log_at
 log_shows bytes rest fault p e =
     elim (bind_bad (inner_len rest) _ (Bad fault) e) [
@@ -183,10 +170,10 @@ log_shows bytes rest fault p e =
 -- ---- all kinds
 
 -- the bytes of a message of this kind
-at_kind : (bytes rest : List ℕ) (kind k : ℕ) → eqb kind k ≡ true → bytes ≡ marker ++ long kind ++ rest → bytes ≡ marker ++ long k ++ rest
-at_kind bytes rest kind k e p = subst (λ (n : ℕ). bytes ≡ marker ++ long n ++ rest) (eqb-true kind k e) p
+at_kind : (bytes rest : List ℕ) (kind k : ℕ) → eqb kind k ≡ true → bytes ≡ marker ++ uint32 kind ++ rest → bytes ≡ marker ++ uint32 k ++ rest
+at_kind bytes rest kind k e p = subst (λ (n : ℕ). bytes ≡ marker ++ uint32 n ++ rest) (eqb-true kind k e) p
 
-fields_show : (bytes rest : List ℕ) (kind : ℕ) (fault : UserFault) → bytes ≡ marker ++ long kind ++ rest → kind < 2 ^ 32 → IsBytes rest → fields_at kind (little rest) ≡ Err (Bad fault) → Shows bytes fault
+fields_show : (bytes rest : List ℕ) (kind : ℕ) (fault : UserFault) → bytes ≡ marker ++ uint32 kind ++ rest → kind < 2 ^ 32 → IsBytes rest → fields_at kind (little rest) ≡ Err (Bad fault) → Shows bytes fault
 unfolding fields_at
 fields_show bytes rest kind fault p below fits e =
     elim (chosen (eqb kind 1) _ _ _ e) [
@@ -256,8 +243,8 @@ shows bytes fault fits e =
       | inr b ↦
           let t = kind_reads.found bytes b.0.0 b.0.1 fits b.1 in
           let s = t.spells in
-          let front : t.text ≡ marker ++ long b.0.0 = rw (s.parts, s.front_spells.0, s.back_spells.0) (ap (λ (x : List ℕ). marker ++ x) s.back_spells.1.0) in
-          let parts : bytes ≡ marker ++ long b.0.0 ++ b.0.1.rest = t.parts ∙ ap (λ (x : List ℕ). x ++ b.0.1.rest) front in
+          let front : t.text ≡ marker ++ uint32 b.0.0 = rw (s.parts, s.front_spells.0, s.back_spells.0) (ap (λ (x : List ℕ). marker ++ x) s.back_spells.1.0) in
+          let parts : bytes ≡ marker ++ uint32 b.0.0 ++ b.0.1.rest = t.parts ∙ ap (λ (x : List ℕ). x ++ b.0.1.rest) front in
           let go : fields_at b.0.0 (little b.0.1.rest) ≡ Err (Bad fault) = subst (λ (d : At). fields_at b.0.0 d ≡ Err (Bad fault)) t.left b.2 in
           fields_show bytes b.0.1.rest b.0.0 fault parts s.back_spells.1.1 (IsBytes-rest bytes t.text b.0.1.rest t.parts fits) go
     ]

@@ -1,6 +1,7 @@
 -- A channel's bytes as messages and a rest.
-use Rattle.std.specs.Prelude.{◌≡◌, ℕ, zero, suc, ◌<◌, ◌≤◌, ◌^◌, List, [], ◌∷◌, ◌++◌, length, slice_index, IfSome, FitsSigned, Ok, Err}
+use Rattle.std.specs.Prelude.{◌≡◌, ℕ, zero, suc, ◌<◌, ◌≤◌, ◌^◌, List, [], ◌∷◌, ◌++◌, length, IfSome, FitsSigned, Ok, Err}
 use Rattle.std.specs.Int.{w8}
+use Rattle.dl_bytes.specs.Cutting.{AreCut}
 use Rattle.dl_bytes.specs.Number.{At}
 use Rattle.dl_bytes.specs.UserMessage.{IsFit}
 use Rattle.dl_bytes.specs.declared.user.UserMsg.{UserMsg}
@@ -11,10 +12,6 @@ use Rattle.dl_user.specs.declared.fault.Stop.TheVariants.{NeedMore, Bad}
 use Rattle.dl_user.specs.Layout.{Spells}
 use Rattle.dl_user.specs.Reading.{Reading, little, message_at}
 use Rattle.dl_user.specs.Faults.{Shows}
-
--- each number of the list is a byte
-abbrev pub IsBytes : List ℕ → Type 0
-IsBytes bytes = (i : ℕ) → slice_index bytes i < 256
 
 -- what the types of the fields hold: four bytes in an id, numbers of four bytes, levels up to 6, a signed byte
 abbrev pub HasRanges : UserMsg → Type 0
@@ -48,14 +45,9 @@ abbrev pub Stops : List ℕ → Stop → Type 0
 Stops bytes NeedMore = IsOpen bytes
 Stops bytes (Bad fault) = Shows bytes fault
 
--- the bytes spell these messages, one after the other, up to the rest
-abbrev pub AreSpelled : List ℕ → List UserMsg → List ℕ → Type 0
-AreSpelled bytes [] rest = bytes ≡ rest
-AreSpelled bytes (msg ∷ msgs) rest = (after : List ℕ) × Begins bytes msg after × AreSpelled after msgs rest
-
 -- The cut of a channel's bytes: messages, and a rest that is open or shows a fault
 abbrev pub IsCut : List ℕ → List UserMsg → List ℕ → Stop → Type 0
-IsCut bytes msgs rest stop = AreSpelled bytes msgs rest × Stops rest stop
+IsCut bytes msgs rest stop = AreCut Begins bytes msgs rest × Stops rest stop
 
 -- a message and those behind it, where one stands at the front
 abbrev pub with_others : Reading (UserMsg × At) → (List ℕ → List UserMsg) → List UserMsg

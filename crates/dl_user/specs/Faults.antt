@@ -1,20 +1,22 @@
 -- Which bytes show that no user message stands at the front.
-use Rattle.std.specs.Prelude.{◌≡◌, ◌≢◌, ℕ, ◌<◌, ◌≤◌, ◌^◌, ℤ, pos, negsuc, ◌≤ℤ◌, List, [], ◌++◌, length, ◌⊎◌}
+use Rattle.std.specs.Prelude.{◌≡◌, ◌≢◌, ℕ, ◌<◌, ◌^◌, ℤ, pos, negsuc, ◌≤ℤ◌, List, [], ◌++◌, length, ◌⊎◌, Some, None}
 use Rattle.std.specs.Int.{w8, cast_signed}
-use Rattle.dl_headers.specs.declared.fault.HeaderFault.TheVariants.{Version, Length}
-use Rattle.dl_bytes.specs.Htyp.{htyp_of, len_of, version, header_len}
+use Rattle.dl_headers.specs.Reading.{front_fault}
+use Rattle.dl_headers.specs.declared.fault.HeaderFault.{HeaderFault}
+use Rattle.dl_bytes.specs.Htyp.{len_of}
+use Rattle.dl_bytes.specs.Limits.{payload_limit, text_limit, frame_limit}
 use Rattle.dl_user.specs.declared.fault.UserFault.{UserFault}
 use Rattle.dl_user.specs.declared.fault.UserFault.TheVariants.{Marker, Kind, Inner, TooLong, Level}
 use Rattle.dl_user.specs.declared.fields.AppFields.{AppFields}
 use Rattle.dl_user.specs.declared.fields.ContextFields.{ContextFields}
 use Rattle.dl_user.specs.declared.fields.SettingFields.{SettingFields}
 use Rattle.dl_user.specs.declared.fields.ServiceFields.{ServiceFields}
-use Rattle.dl_user.specs.Layout.{marker, long}
+use Rattle.dl_user.specs.Layout.{marker, uint32}
 use Rattle.dl_user.specs.Fronts.{IsApp, IsContext, IsSetting, IsService}
 
 -- the bytes begin with the marker, a kind and this front of its fields, whatever follows
 abbrev pub BeginsWith : List ℕ → ℕ → List ℕ → Type 0
-BeginsWith bytes kind front = (more : List ℕ) × (bytes ≡ marker ++ long kind ++ (front ++ more))
+BeginsWith bytes kind front = (more : List ℕ) × (bytes ≡ marker ++ uint32 kind ++ (front ++ more))
 
 -- a level that a context may register with; -1 and -2 are none of its own
 abbrev pub IsRegistered : ℤ → Type 0
@@ -24,20 +26,18 @@ IsRegistered z = (negsuc 1 ≤ℤ z) × (z ≤ℤ pos 6)
 pub data Shows (bytes : List ℕ) : UserFault → Type 0 where
   other_marker : (front more : List ℕ) → bytes ≡ front ++ more → length front ≡ 4 → front ≢ marker → Shows bytes Marker
   other_kind : (kind : ℕ) → BeginsWith bytes kind [] → kind < 2 ^ 32 → (kind < 1) ⊎ (8 < kind) → Shows bytes (Kind kind)
-  -- kind 1, by HTYP and LEN of the message inside
-  other_version : (head : List ℕ) → BeginsWith bytes 1 head → length head ≡ 4
-      → version (htyp_of head) ≢ 1 → Shows bytes (Inner (Version (version (htyp_of head))))
-  short_message : (head : List ℕ) → BeginsWith bytes 1 head → length head ≡ 4 → version (htyp_of head) ≡ 1
-      → len_of head < header_len (htyp_of head) → Shows bytes (Inner (Length (len_of head)))
-  long_message : (head : List ℕ) → BeginsWith bytes 1 head → length head ≡ 4 → version (htyp_of head) ≡ 1
-      → header_len (htyp_of head) ≤ len_of head → 1984 < len_of head → Shows bytes (TooLong (len_of head))
+  -- kind 1, by the first four bytes of the message inside
+  bad_front : (head : List ℕ) (fault : HeaderFault) → BeginsWith bytes 1 head → length head ≡ 4
+      → front_fault head ≡ Some fault → Shows bytes (Inner fault)
+  long_message : (head : List ℕ) → BeginsWith bytes 1 head → length head ≡ 4
+      → front_fault head ≡ None → frame_limit < len_of head → Shows bytes (TooLong (len_of head))
   -- kinds 2, 4 and 7, by the length of the text or the body
   long_app_text : (front : List ℕ) (app : AppFields) → BeginsWith bytes 2 front → IsApp front app
-      → 255 < app.len → Shows bytes (TooLong app.len)
+      → text_limit < app.len → Shows bytes (TooLong app.len)
   long_context_text : (front : List ℕ) (context : ContextFields) → BeginsWith bytes 4 front → IsContext front context
-      → IsRegistered context.level → 255 < context.len → Shows bytes (TooLong context.len)
+      → IsRegistered context.level → text_limit < context.len → Shows bytes (TooLong context.len)
   long_body : (front : List ℕ) (injection : ServiceFields) → BeginsWith bytes 7 front → IsService front injection
-      → 1390 < injection.len → Shows bytes (TooLong injection.len)
+      → payload_limit < injection.len → Shows bytes (TooLong injection.len)
   -- kinds 4 and 6, by the level
   context_level : (front : List ℕ) (context : ContextFields) → BeginsWith bytes 4 front → IsContext front context
       → (IsRegistered context.level → ⊥) → Shows bytes (Level context.level)

@@ -1,10 +1,13 @@
 -- Reading a user message from the front, with each fault as soon as the bytes that show it are there.
-use Rattle.std.specs.Prelude.{◌≡◌, ℕ, ℤ, negsuc, List, length, Option, ok_or, Result, Ok, Err, IsOk, not, nat_lt, nat_le, ◌==◌, if◌then◌else◌}
+use Rattle.std.specs.Prelude.{◌≡◌, ℕ, ℤ, negsuc, List, Option, Some, None, ok_or, Result, Ok, Err, IsOk, nat_lt, nat_le, ◌==◌, if◌then◌else◌}
 use Rattle.std.specs.Int.{w8, cast_signed}
 use Rattle.std.specs.Ordering.{int_eq}
 use Rattle.std.specs.Str.{bytes_eq}
-use Rattle.dl_headers.specs.declared.fault.HeaderFault.TheVariants.{Version, Length}
-use Rattle.dl_bytes.specs.Htyp.{htyp_of, len_of, version, header_len}
+use Rattle.dl_headers.specs.Reading.{front_fault}
+use Rattle.dl_headers.specs.declared.fault.HeaderFault.{HeaderFault}
+use Rattle.dl_headers.specs.declared.fault.HeaderFault.TheVariants.{Short}
+use Rattle.dl_bytes.specs.Htyp.{len_of}
+use Rattle.dl_bytes.specs.Limits.{payload_limit, text_limit, frame_limit}
 use Rattle.dl_bytes.specs.Level.{own_level_of}
 use Rattle.dl_bytes.specs.Number.{At, at, bytes_at, number_at}
 use Rattle.dl_bytes.specs.declared.cursor.Cursor.{Cursor}
@@ -36,13 +39,10 @@ abbrev pub ◌>>=◌ : {A B : Type 0} → Reading A → (A → Reading B) → Re
 abbrev pub wait : {A : Type 0} → Option A → Reading A
 wait o = ok_or o NeedMore
 
--- What a function returned, and left to read, is what reading gives.
-abbrev pub Gives : {X Y : Type 0} → (X → Y) → Result X Stop → Reading Y → Type 0
-Gives view (Ok x) reading = reading ≡ Ok (view x)
-Gives view (Err stop) reading = reading ≡ Err stop
-
-abbrev pub Reads : {X Y : Type 0} → (X → Y) → Result X Stop → Cursor → Reading (Y × At) → Type 0
-Reads view result left reading = Gives (λ x. (view x, at left)) result reading
+-- What a function returned, seen by view, with what it left to read, is what reading gives.
+abbrev pub Returns : {X Y : Type 0} → (X → Y) → Result X Stop → Cursor → Reading (Y × At) → Type 0
+Returns view (Ok x) left reading = reading ≡ Ok (view x, at left)
+Returns view (Err stop) left reading = reading ≡ Err stop
 
 -- The same for a function that takes memory. Where there was none, the value is whole.
 abbrev pub Copies : Result UserMsg ReadError → Cursor → Reading (UserMsg × At) → Type 0
@@ -58,14 +58,15 @@ limited_at limit len c = if nat_lt limit len then Err (Bad (TooLong len)) else w
 unfoldable pub registered_level : ℤ → Reading (Option ℕ)
 registered_level z = ok_or (own_level_of (if int_eq z (negsuc 1) then negsuc 0 else z)) (Bad (Level z))
 
--- LEN of the message that begins here, which its HTYP and LEN show to be one
+-- LEN of a message, by the fault of its front and by LEN: it is waited for as a whole, and its LEN has a limit
+abbrev pub inner_of : Option HeaderFault → ℕ → Reading ℕ
+inner_of (Some (Short n)) len = Err NeedMore
+inner_of (Some fault) len = Err (Bad (Inner fault))
+inner_of None len = if nat_lt frame_limit len then Err (Bad (TooLong len)) else Ok len
+
+-- LEN of the message that begins here
 unfoldable pub inner_len : List ℕ → Reading ℕ
-inner_len bytes =
-    if nat_lt (length bytes) 4 then Err NeedMore
-    else if not (version (htyp_of bytes) == 1) then Err (Bad (Inner (Version (version (htyp_of bytes)))))
-    else if nat_lt (len_of bytes) (header_len (htyp_of bytes)) then Err (Bad (Inner (Length (len_of bytes))))
-    else if nat_lt 1984 (len_of bytes) then Err (Bad (TooLong (len_of bytes)))
-    else Ok (len_of bytes)
+inner_len bytes = inner_of (front_fault bytes) (len_of bytes)
 
 -- kind 1
 unfoldable pub log_at : At → Reading (UserMsg × At)
@@ -78,7 +79,7 @@ log_at c = do
 unfoldable pub register_app_at : At → Reading (UserMsg × At)
 register_app_at c = do
   app ← wait (app_at c)
-  text ← limited_at 255 app.0.len app.1
+  text ← limited_at text_limit app.0.len app.1
   Ok (RegisterApp app.0.apid app.0.pid text.0, text.1)
 
 -- kind 4
@@ -86,7 +87,7 @@ unfoldable pub register_context_at : At → Reading (UserMsg × At)
 register_context_at c = do
   context ← wait (context_at c)
   level ← registered_level context.0.level
-  text ← limited_at 255 context.0.len context.1
+  text ← limited_at text_limit context.0.len context.1
   Ok (RegisterContext context.0.apid context.0.ctid context.0.position level context.0.trace context.0.pid text.0, text.1)
 
 -- kind 6
@@ -101,7 +102,7 @@ log_level_at c = do
 unfoldable pub injection_at : At → Reading (UserMsg × At)
 injection_at c = do
   service ← wait (service_at c)
-  body ← limited_at 1390 service.0.len service.1
+  body ← limited_at payload_limit service.0.len service.1
   Ok (Injection service.0.position service.0.service body.0, body.1)
 
 -- the fields of this kind

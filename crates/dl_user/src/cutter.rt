@@ -6,8 +6,8 @@ ghost use Rattle.dl_user.specs.Cutter.{Feeds, Cuts};
 
 use crate::fault::{ReadError, Stop, UserFault};
 use crate::read::front;
-use dl_bytes::{Buffer, FRAME_LIMIT, UserMsg};
-use std::alloc::{AllocError, Global};
+use dl_bytes::{Buffer, FRAME_LIMIT, OutOfMemory, UserMsg};
+use std::alloc::Global;
 use std::marker::Model;
 
 /// The bytes of the longest user message: its marker, its kind, and a log message.
@@ -52,7 +52,7 @@ impl Model for UserCutter {
 
 impl UserCutter {
     /// A cutter of a channel that nothing came on. It takes its memory here, and that of each message when it is given.
-    pub fn make(alloc: Global) -> Result<UserCutter, AllocError>
+    pub fn make(alloc: Global) -> Result<UserCutter, OutOfMemory>
         ensures { IfOk result (λ cutter. cutter ≡ unfed) }
     {
         Ok(UserCutter {

@@ -2,21 +2,21 @@
 
 ghost use Rattle.std.specs.Prelude.{◌≡◌};
 
+use dl_bytes::OutOfMemory;
 use dl_headers::HeaderFault;
-use std::alloc::AllocError;
 
 /// What is wrong with a channel's bytes, in the place of a user message. It shows as soon as its bytes are there.
 #[derive(Clone, Copy, Debug, PartialEq, Eq)]
 pub enum UserFault {
     /// The first four bytes aren't the marker.
     Marker,
-    /// The kind is none of 1 to 8.
+    /// The kind, which is none of 1 to 8.
     Kind(u32),
-    /// The message inside a log message has a bad header.
+    /// The message inside a log message has a bad header: what is wrong with it.
     Inner(HeaderFault),
-    /// The length of a text, a body or a log message is above its limit.
+    /// The length of a text, a body or a log message in bytes, which is above its limit.
     TooLong(u32),
-    /// The level is outside its range.
+    /// The level, which is outside its range.
     Level(i8),
 }
 
@@ -32,6 +32,7 @@ pub enum Stop {
 /// Why no message was given.
 #[derive(Clone, Copy, Debug)]
 pub enum ReadError {
+    /// No message stands at the front.
     Stop(Stop),
     /// It is whole, and there is no memory for it.
     OutOfMemory,
@@ -47,12 +48,12 @@ impl From<Stop> for ReadError {
     }
 }
 
-impl From<AllocError> for ReadError {
+impl From<OutOfMemory> for ReadError {
     ghost use Rattle.dl_user.specs.declared.fault.ReadError.TheVariants.{OutOfMemory};
 
     ghost from_gives = { λ _ error. error ≡ OutOfMemory };
 
-    fn from(_error: AllocError) -> ReadError {
+    fn from(_error: OutOfMemory) -> ReadError {
         ReadError::OutOfMemory
     }
 }

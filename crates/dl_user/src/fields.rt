@@ -8,23 +8,30 @@ use dl_bytes::{Cursor, Id, UserMsg};
 /// Kind 2, before the text.
 #[derive(Clone, Copy)]
 pub struct AppFields {
+    /// The application's id.
     pub apid: Id,
+    /// The process id of the application.
     pub pid: u32,
-    /// The length of the text.
+    /// The length of the text in bytes.
     pub len: u32,
 }
 
 /// Kind 4, before the text.
 #[derive(Clone, Copy)]
 pub struct ContextFields {
+    /// The application's id.
     pub apid: Id,
+    /// The context's id.
     pub ctid: Id,
+    /// The context's place in the application's own table.
     pub position: u32,
     /// The log level that it registers with, which is still to be judged.
     pub level: i8,
+    /// The trace status.
     pub trace: i8,
+    /// The process id of the application.
     pub pid: u32,
-    /// The length of the text.
+    /// The length of the text in bytes.
     pub len: u32,
 }
 
@@ -33,16 +40,20 @@ pub struct ContextFields {
 pub struct SettingFields {
     /// The log level, which is still to be judged.
     pub level: u8,
+    /// The trace status.
     pub trace: i8,
+    /// The context's place in the application's own table.
     pub position: u32,
 }
 
 /// Kind 7, before the body.
 #[derive(Clone, Copy)]
 pub struct ServiceFields {
+    /// The context's place in the application's own table.
     pub position: u32,
+    /// The service id.
     pub service: u32,
-    /// The length of the body.
+    /// The length of the body in bytes.
     pub len: u32,
 }
 

@@ -1,13 +1,16 @@
 //! Laws of user messages and of their cutting, each as what a function that does nothing ensures.
 
 ghost use Rattle.std.specs.Prelude.{◌≡◌, List, ℕ, ◌++◌};
+ghost use Rattle.dl_bytes.specs.Bytes.{IsBytes};
+ghost use Rattle.dl_bytes.specs.Cutting.{Call, Runs, fed_by, given_by, AreCut};
 ghost use Rattle.dl_bytes.specs.declared.user.UserMsg.{UserMsg};
 ghost use Rattle.dl_user.specs.declared.fault.UserFault.{UserFault};
 ghost use Rattle.dl_user.specs.declared.fault.Stop.{Stop};
 ghost use Rattle.dl_user.specs.Faults.{Shows};
-ghost use Rattle.dl_user.specs.Cut.{IsBytes, IsSpelled, Begins, Stops, AreSpelled, IsCut, messages_of, rest_of};
+ghost use Rattle.dl_user.specs.Cut.{IsSpelled, Begins, Stops, IsCut, messages_of, rest_of};
 ghost use Rattle.dl_user.specs.Channel.{Channel, unfed};
-ghost use Rattle.dl_user.specs.Cutter.{Call, Runs, fed_by, given_by};
+ghost use Rattle.dl_user.specs.declared.cutter.UserCut.{UserCut};
+ghost use Rattle.dl_user.specs.Cutter.{Does, messages_in};
 
 /// No spelling of a user message begins another one.
 pub fn no_spelling_begins_another()
@@ -49,8 +52,8 @@ pub fn a_cut_goes_on()
 /// However the bytes came, a cutter has given the first messages of the bytes that it took and holds what is behind
 /// them, and where it gives no more this is their cut.
 pub fn a_cutter_gives_the_cut()
-    ensures so_far { (calls : List Call) (new : Channel) → Runs unfed calls new
-        → AreSpelled (fed_by calls) (given_by calls) new.unread }
-    ensures whole { (calls : List Call) (new : Channel) (stop : Stop) → Runs unfed calls new → Stops new.unread stop
-        → IsCut (fed_by calls) (given_by calls) new.unread stop }
+    ensures so_far { (calls : List (Call UserCut)) (new : Channel) → Runs Does unfed calls new
+        → AreCut Begins (fed_by calls) (given_by messages_in calls) new.unread }
+    ensures whole { (calls : List (Call UserCut)) (new : Channel) (stop : Stop) → Runs Does unfed calls new
+        → Stops new.unread stop → IsCut (fed_by calls) (given_by messages_in calls) new.unread stop }
 {}

@@ -3,19 +3,20 @@
 ghost use Rattle.std.specs.Prelude.{◌≡◌, IfOk};
 ghost use Rattle.dl_bytes.specs.Number.{At, at};
 ghost use Rattle.dl_user.specs.Front.{IsFront};
-ghost use Rattle.dl_user.specs.Reading.{Gives, Reads, Copies, limited_at, registered_level as registered_level_of, inner_len as inner_len_of, log_at, register_app_at, register_context_at, log_level_at, injection_at, kind_at, fields_at, message_at};
+ghost use Rattle.dl_user.specs.Reading.{Returns, Copies, limited_at, registered_level as registered_level_of, inner_len as inner_len_of, log_at, register_app_at, register_context_at, log_level_at, injection_at, kind_at, fields_at, message_at};
 
 use crate::fault::{ReadError, Stop, UserFault};
 use crate::fields;
 use crate::write::MARKER;
 use dl_bytes::{
-    Bytes, Cursor, FRAME_LIMIT, Level, Order, OwnLevel, PAYLOAD_LIMIT, TEXT_LIMIT, UserMsg,
+    Bytes, Cursor, FRAME_LIMIT, Level, Order, OutOfMemory, OwnLevel, PAYLOAD_LIMIT, TEXT_LIMIT,
+    UserMsg,
 };
 use dl_headers::{HeaderFault, read_front};
-use std::alloc::{AllocError, Global};
+use std::alloc::Global;
 
 /// Bytes of their own memory.
-fn copied(alloc: Global, bytes: &[u8]) -> Result<Bytes, AllocError>
+fn copied(alloc: Global, bytes: &[u8]) -> Result<Bytes, OutOfMemory>
     ensures { IfOk result (λ copy. copy ≡ bytes.now) }
 {
     Ok(Bytes::over(Vec::from_slice(alloc, bytes)?))
@@ -24,7 +25,7 @@ fn copied(alloc: Global, bytes: &[u8]) -> Result<Bytes, AllocError>
 /// The next `len` bytes, which may be at most `limit`.
 #[tactic(auto, unfolding(crate::specs::Reading::limited_at))]
 fn limited<'a>(cursor: &mut Cursor<'a>, len: u32, limit: usize) -> Result<&'a [u8], Stop>
-    ensures { Reads (λ bytes. bytes.now) result cursor.new (limited_at limit len (at cursor.old)) }
+    ensures { Returns (λ bytes. bytes.now) result cursor.new (limited_at limit len (at cursor.old)) }
 {
     if len as usize > limit {
         return Err(Stop::Bad(UserFault::TooLong(len)));
@@ -35,7 +36,7 @@ fn limited<'a>(cursor: &mut Cursor<'a>, len: u32, limit: usize) -> Result<&'a [u
 /// The level that a context registers with. For no level of its own -1 stands, and in messages of libdlt -2.
 #[tactic(auto, unfolding(crate::specs::Reading::registered_level))]
 fn registered_level(number: i8) -> Result<OwnLevel, Stop>
-    ensures { Gives (λ level. level) result (registered_level_of number) }
+    ensures { result ≡ registered_level_of number }
 {
     OwnLevel::of(if number == -2 { -1 } else { number }).ok_or(Stop::Bad(UserFault::Level(number)))
 }
@@ -43,7 +44,7 @@ fn registered_level(number: i8) -> Result<OwnLevel, Stop>
 /// LEN of the message that begins here. It shows in its first four bytes whether it can be one.
 #[tactic(auto, unfolding(crate::specs::Reading::inner_len))]
 fn inner_len(bytes: &[u8]) -> Result<u16, Stop>
-    ensures { Gives (λ len. len) result (inner_len_of bytes.now) }
+    ensures { result ≡ inner_len_of bytes.now }
 {
     match read_front(bytes) {
         Ok(front) if front.len as usize > FRAME_LIMIT => {
@@ -101,7 +102,7 @@ fn register_context(alloc: Global, cursor: &mut Cursor) -> Result<UserMsg, ReadE
 /// Kind 6: the level of a context.
 #[tactic(auto, unfolding(crate::specs::Reading::log_level_at))]
 fn log_level(cursor: &mut Cursor) -> Result<UserMsg, Stop>
-    ensures { Reads (λ msg. msg) result cursor.new (log_level_at (at cursor.old)) }
+    ensures { Returns (λ msg. msg) result cursor.new (log_level_at (at cursor.old)) }
 {
     let setting = fields::setting(cursor).ok_or(Stop::NeedMore)?;
     let Some(level) = Level::of(setting.level) else {
@@ -131,7 +132,7 @@ fn injection(alloc: Global, cursor: &mut Cursor) -> Result<UserMsg, ReadError>
 /// The kind of the message, behind its marker.
 #[tactic(auto, unfolding(crate::specs::Reading::kind_at))]
 fn kind(cursor: &mut Cursor) -> Result<u32, Stop>
-    ensures { Reads (λ kind. kind) result cursor.new (kind_at (at cursor.old)) }
+    ensures { Returns (λ kind. kind) result cursor.new (kind_at (at cursor.old)) }
 {
     let front = cursor.bytes(4).ok_or(Stop::NeedMore)?;
     if front != MARKER.as_slice() {

@@ -3,16 +3,16 @@
 ghost use Rattle.std.specs.Prelude.{◌≡◌, ◌<◌, ◌≤◌, ◌^◌, ◌++◌, negsuc, length, IfOk, IfSome, OnOk};
 ghost use Rattle.dl_bytes.specs.UserMessage.{IsFit};
 ghost use Rattle.dl_user.specs.Cut.{HasRanges, IsSpelled};
-ghost use Rattle.dl_user.specs.Layout.{user_message, kind_of as kind_of_message, fields_of, long, signed, counted, level_number};
+ghost use Rattle.dl_user.specs.Layout.{user_message, kind_of as kind_of_message, fields_of, uint32, signed, level_number};
 
-use dl_bytes::{Bytes, OwnLevel, UserMsg};
-use std::alloc::{AllocError, Global};
+use dl_bytes::{Bytes, OutOfMemory, OwnLevel, UserMsg};
+use std::alloc::Global;
 
 /// The bytes that each user message begins with.
 pub const MARKER: [u8; 4] = *b"DUH\x01";
 
 /// The bytes of a user message. A context without a level of its own has the level -1 there.
-pub fn write_user(alloc: Global, msg: &UserMsg) -> Result<Bytes, AllocError>
+pub fn write_user(alloc: Global, msg: &UserMsg) -> Result<Bytes, OutOfMemory>
     requires { IsFit msg.now }
     ensures written { IfOk result (λ bytes. bytes ≡ user_message msg.now) }
     // What is spelled is read again, whatever follows it.
@@ -42,7 +42,7 @@ fn kind_of(msg: &UserMsg) -> u32
 }
 
 /// Adds what stands behind the kind.
-fn put_fields(out: &mut Vec<u8>, msg: &UserMsg) -> Result<(), AllocError>
+fn put_fields(out: &mut Vec<u8>, msg: &UserMsg) -> Result<(), OutOfMemory>
     requires { IsFit msg.now }
     ensures fields { OnOk result (out.new.items ≡ out.old.items ++ fields_of (negsuc 0) msg.now) }
     ensures ranges { OnOk result (HasRanges msg.now) }
@@ -105,23 +105,23 @@ fn put_fields(out: &mut Vec<u8>, msg: &UserMsg) -> Result<(), AllocError>
 }
 
 /// Adds a number of four bytes.
-fn put_number(out: &mut Vec<u8>, number: u32) -> Result<(), AllocError>
-    ensures { OnOk result (out.new.items ≡ out.old.items ++ long number) }
+fn put_number(out: &mut Vec<u8>, number: u32) -> Result<(), OutOfMemory>
+    ensures { OnOk result (out.new.items ≡ out.old.items ++ uint32 number) }
 {
     out.extend_from_slice(&number.to_le_bytes())
 }
 
 /// Adds the process id of a registration and the description.
-fn put_process(out: &mut Vec<u8>, pid: u32, text: &[u8]) -> Result<(), AllocError>
+fn put_process(out: &mut Vec<u8>, pid: u32, text: &[u8]) -> Result<(), OutOfMemory>
     requires { length text.now < 2 ^ 32 }
-    ensures { OnOk result (out.new.items ≡ out.old.items ++ (long pid ++ counted text.now)) }
+    ensures { OnOk result (out.new.items ≡ out.old.items ++ (uint32 pid ++ uint32 (length text.now) ++ text.now)) }
 {
     put_number(out, pid)?;
     put_counted(out, text)
 }
 
 /// Adds the level that a context has of its own, as a signed byte.
-fn put_level(out: &mut Vec<u8>, level: OwnLevel) -> Result<(), AllocError>
+fn put_level(out: &mut Vec<u8>, level: OwnLevel) -> Result<(), OutOfMemory>
     ensures number { OnOk result (out.new.items ≡ out.old.items ++ signed (level_number (negsuc 0) level)) }
     ensures range { IfSome level (λ n. n ≤ 6) }
 {
@@ -129,9 +129,9 @@ fn put_level(out: &mut Vec<u8>, level: OwnLevel) -> Result<(), AllocError>
 }
 
 /// Adds bytes behind their length.
-fn put_counted(out: &mut Vec<u8>, bytes: &[u8]) -> Result<(), AllocError>
+fn put_counted(out: &mut Vec<u8>, bytes: &[u8]) -> Result<(), OutOfMemory>
     requires { length bytes.now < 2 ^ 32 }
-    ensures { OnOk result (out.new.items ≡ out.old.items ++ counted bytes.now) }
+    ensures { OnOk result (out.new.items ≡ out.old.items ++ (uint32 (length bytes.now) ++ bytes.now)) }
 {
     put_number(out, bytes.len() as u32)?;
     out.extend_from_slice(bytes)

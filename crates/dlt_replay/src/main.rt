@@ -2,8 +2,7 @@
 #![tactic(auto)]
 
 use dl_real::{Reading, Writing};
-use dl_replay::replay;
-use dl_replay::status::OUT_OF_MEMORY;
+use dl_replay::{Status, replay};
 use std::env;
 use std::io::ErrorKind;
 use std::process::ExitCode;
@@ -21,7 +20,7 @@ fn words(rt: &(impl Env + AllocGlobal)) -> Option<Vec<String>> {
 fn main(rt: HostRuntime) -> ExitCode {
     let Some(words) = words(&rt) else {
         let _ = rt.eprintln("dlt_replay: out of memory");
-        return ExitCode::from(OUT_OF_MEMORY);
+        return ExitCode::from(Status::OutOfMemory.number());
     };
     let mut input = Reading::over(rt.stdin());
     let mut out = Writing::over(rt.stdout());

@@ -2,9 +2,9 @@
 
 use crate::shown::arguments;
 use dl_args::{
-    ArgFault, Order, PayloadFull, Width, add_bool, add_named_bool, add_named_raw, add_named_sint,
-    add_named_text, add_named_uint, add_raw, add_sint, add_text, add_uint, read_args, sint_fits,
-    uint_fits,
+    Arg, ArgFault, Order, PayloadFull, Width, add_bool, add_named_bool, add_named_raw,
+    add_named_sint, add_named_text, add_named_uint, add_raw, add_sint, add_text, add_uint,
+    read_args, sint_fits, uint_fits,
 };
 use dl_bytes::Payload;
 use std::test::Fail;
@@ -110,6 +110,28 @@ fn written(rt: HostRuntime) -> Result<(), Fail> {
         found.as_str(),
         "bool:-,1; sint16:-,-,-2; raw:-,0aff; uint8:74,6d73,7; uint128:-,-,300; utf8:-,6869; bool:74,0; sint8:,,-128; utf8:74,; raw:74,0a"
     );
+    Ok(())
+}
+
+/// The most arguments that a message can have, read in one call: unsigned numbers of 8 bits, from 0 to 254.
+#[test]
+fn most_arguments(rt: HostRuntime) -> Result<(), Fail> {
+    let mut payload = Vec::new(rt.alloc());
+    for number in 0..255 {
+        payload.extend_from_slice(&[0x41, 0, 0, 0, number])?;
+    }
+    let found = read_args(rt.alloc(), &payload, Order::Little, 255).ok();
+    let args = found.ok_or("no arguments")?;
+    assert_eq!(rt; args.all().len(), 255);
+    for (place, arg) in args.all().iter().enumerate() {
+        let Arg::Uint { value, .. } = arg else {
+            return Err("no number".into());
+        };
+        assert_eq!(rt; *value, place as u128);
+    }
+    payload.truncate(1274);
+    let short = read_args(rt.alloc(), &payload, Order::Little, 255);
+    assert_eq!(rt; short.err(), Some(ArgFault::Short(1270)));
     Ok(())
 }
 

@@ -4,10 +4,10 @@ use Rattle.dl_control.proofs.RequestLaws.{found_in, only_in, fault_in, fault_cut
 use Rattle.dl_control.proofs.request.read_request.Goals as goal
 
 pub returns-in_default-clause-fault : goal.returns-in_default-clause-fault
-returns-in_default-clause-fault c = fault_cut c.args.order c.args.payload.now (λ i. omega (arith, c.type_inv.payload i)) c.in_default.ensures
+returns-in_default-clause-fault c = fault_cut c.args.order c.args.payload.now (λ i. omega (arith, c.type_inv.payload i)) c.in_default.ensures.read
 
 pub returns-clause-exact : goal.returns-clause-exact
-returns-clause-exact c = c.request_of_service.ensures ∙ ap request_of (sym c.in-Some.ensures)
+returns-clause-exact c = c.request_of_service.ensures ∙ ap request_of (sym c.in-Some.ensures.read)
 
 pub returns-clause-found : goal.returns-clause-found
 returns-clause-found c =

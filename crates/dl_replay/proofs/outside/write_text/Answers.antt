@@ -1,4 +1,4 @@
-use Rattle.std.proofs.Common.{arith, ◌≡◌, ◌-◌, length, drop, take, length-drop}
+use Rattle.std.proofs.Common.{arith, ◌∙◌, ◌≡◌, ◌-◌, length, drop, take, length-drop}
 use Rattle.std.proofs.lemmas.List.{take_all}
 use Rattle.dl_outside.specs.Outside.{Takes}
 use Rattle.dl_outside.specs.declared.sink.Took.TheVariants.{Bytes}
@@ -14,5 +14,5 @@ loop-done-preserved g c =
     record {
       within = omega (arith, taken.1, length-drop c.loop-done.done c.args.text.now);
       held = wrote (g.O.Sink.held c.args.out.now) (g.O.Sink.held c.loop-done.out) (g.O.Sink.held c.write.new.self) c.args.text.now c.loop-done.done c.in-Bytes.n c.loop-done.invariant.held taken;
-      later = omega (arith, c.in-Bytes.ensures.cause);
+      well = c.in-Bytes.ensures.cause ∙ c.loop-done.invariant.well;
     }

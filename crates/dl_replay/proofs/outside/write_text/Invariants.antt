@@ -7,7 +7,7 @@ abbrev pub invariant-loop-done : goal.invariant-loop-done
 invariant-loop-done g l = record {
   within : l.done ≤ length l.text;
   held : IfSome (g.O.Sink.held l.initial.out) (λ bytes. g.O.Sink.held l.out ≡ Some (bytes ++ take l.done l.text));
-  later : g.O.Sink.faults l.initial.out ≤ g.O.Sink.faults l.out;
+  well : g.O.Sink.faults l.out ≡ g.O.Sink.faults l.initial.out;
 }
 
 abbrev pub decreases-loop-done : goal.decreases-loop-done

@@ -2,8 +2,8 @@ use Rattle.std.proofs.Common.{◌≡◌, ◌++◌, ◌+◌, ◌∷◌, [], take,
 use Rattle.std.specs.List.{flat_map}
 use Rattle.std.specs.Option.{option_map_or}
 use Rattle.std.proofs.lemmas.List.{take_more}
-use Rattle.dl_model.specs.Events.{clients, client_of}
-use Rattle.dl_model.specs.Report.{block_of}
+use Rattle.dl_replay.specs.Events.{clients, client_of}
+use Rattle.dl_replay.specs.Report.{block_of}
 use Rattle.dl_replay.proofs.Printing.{blocks_more}
 use Rattle.dl_replay.proofs.report.print.Goals as goal
 

@@ -1,7 +1,7 @@
 use Rattle.std.proofs.Common.{◌≡◌, take}
 use Rattle.std.specs.List.{flat_map}
-use Rattle.dl_model.specs.Events.{clients}
-use Rattle.dl_model.specs.Report.{block_of}
+use Rattle.dl_replay.specs.Events.{clients}
+use Rattle.dl_replay.specs.Report.{block_of}
 use Rattle.dl_replay.proofs.report.print.Given as goal
 
 abbrev pub invariant-loop-event : goal.invariant-loop-event

@@ -1,6 +1,6 @@
 use Rattle.std.proofs.Common.{◌≡◌, ◌++◌, take}
 use Rattle.std.specs.List.{flat_map}
-use Rattle.dl_model.specs.Report.{frame_line}
+use Rattle.dl_replay.specs.Report.{frame_line}
 use Rattle.dl_replay.proofs.report.push_block.Given as goal
 
 abbrev pub invariant-loop-frame : goal.invariant-loop-frame

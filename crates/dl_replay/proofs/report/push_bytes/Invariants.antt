@@ -1,6 +1,6 @@
 use Rattle.std.proofs.Common.{◌≡◌, ◌++◌, ◌∷◌, take}
 use Rattle.std.specs.List.{flat_map}
-use Rattle.dl_model.specs.Report.{hex_byte}
+use Rattle.dl_replay.specs.Report.{hex_byte}
 use Rattle.dl_replay.proofs.report.push_bytes.Given as goal
 
 abbrev pub invariant-loop-byte : goal.invariant-loop-byte

@@ -1,5 +1,5 @@
 use Rattle.std.proofs.Common.{◌≡◌, drop}
-use Rattle.dl_model.specs.Report.{why_of}
+use Rattle.dl_replay.specs.Report.{why_of}
 use Rattle.dl_replay.proofs.report.reason.Given as goal
 
 abbrev pub invariant-loop-event : goal.invariant-loop-event

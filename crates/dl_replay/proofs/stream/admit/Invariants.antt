@@ -1,5 +1,5 @@
 use Rattle.std.proofs.Common.{◌≡◌, ◌++◌, take}
-use Rattle.dl_model.specs.Frames.{admitted}
+use Rattle.dl_replay.specs.Frames.{admitted}
 use Rattle.dl_replay.proofs.stream.admit.Given as goal
 
 abbrev pub invariant-loop-event : goal.invariant-loop-event

@@ -1,7 +1,7 @@
 use Rattle.std.proofs.Common.{◌≡◌, ◌+◌, take}
 use Rattle.std.specs.List.{suffix_len}
 use Rattle.std.specs.Prelude.{not}
-use Rattle.dl_model.specs.Events.{is_close}
+use Rattle.dl_replay.specs.Events.{is_close}
 use Rattle.dl_replay.proofs.stream.since_close.Given as goal
 
 abbrev pub invariant-loop-i : goal.invariant-loop-i

@@ -2,7 +2,9 @@ use Rattle.std.proofs.Common.{◌≡◌, ℕ, List, ◌∷◌, ◌++◌, sym, ap
 use Rattle.std.specs.Prelude.{encode_utf8, string_bytes}
 use Rattle.std.specs.Str.Iter.{chars_rest}
 use Rattle.std.proofs.lemmas.Str.{encode_ascii}
+use Rattle.std.specs.Option.{ok_or}
 use Rattle.dl_script.specs.Argument.{unescaped}
+use Rattle.dl_script.specs.declared.kind.ScriptKind.TheVariants.{Fields}
 use Rattle.dl_script.proofs.Quotes.{plain, escape, no_escape}
 use Rattle.dl_script.proofs.argument.unescape.Goals as goal
 
@@ -19,8 +21,8 @@ loop-c-preserved-then-c-ne92 c =
 
 pub returns-then-not-is_escapable : goal.returns-then-not-is_escapable
 returns-then-not-is_escapable c =
-    sym (no_escape (string_bytes c.loop-c.text) (chars_rest c.loop-c.chars) (unescaped c.args.quoted.now) c.loop-c.invariant c.in-Some-next.escaped (chars_rest c.next-in-Some.new.self)
-    (behind_backslash c.in-Some.c _ _ _ c.if-c-ne92.false c.in-Some.ensures.steps.0 c.in-Some-next.ensures.steps.0) (sym c.if-not-is_escapable.ensures))
+    sym (ap (λ o. ok_or o Fields) (no_escape (string_bytes c.loop-c.text) (chars_rest c.loop-c.chars) (unescaped c.args.quoted.now) c.loop-c.invariant c.in-Some-next.escaped (chars_rest c.next-in-Some.new.self)
+    (behind_backslash c.in-Some.c _ _ _ c.if-c-ne92.false c.in-Some.ensures.steps.0 c.in-Some-next.ensures.steps.0) (sym c.if-not-is_escapable.ensures)))
 
 pub loop-c-preserved : goal.loop-c-preserved
 loop-c-preserved c =

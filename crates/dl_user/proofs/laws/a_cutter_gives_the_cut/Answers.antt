@@ -1,9 +1,8 @@
-use Rattle.dl_user.specs.Channel.{unfed}
-use Rattle.dl_user.proofs.Cuts.{runs_spelled}
+use Rattle.dl_user.proofs.Cuts.{so_far}
 use Rattle.dl_user.proofs.laws.a_cutter_gives_the_cut.Goals as goal
 
 pub returns-clause-so_far : goal.returns-clause-so_far
-returns-clause-so_far c = λ calls new runs. runs_spelled calls unfed new runs
+returns-clause-so_far c = so_far
 
 pub returns-clause-whole : goal.returns-clause-whole
-returns-clause-whole c = λ calls new stop runs stops. (runs_spelled calls unfed new runs, stops)
+returns-clause-whole c = λ calls new stop runs stops. (so_far calls new runs, stops)

@@ -1,4 +1,4 @@
-use Rattle.dl_model.specs.declared.event.Why.TheVariants.{Left}
+use Rattle.dl_replay.specs.declared.event.Why.TheVariants.{Left}
 use Rattle.dl_replay.proofs.Counting.{Closed-counts, closes}
 use Rattle.dl_replay.proofs.machine.Machine.close.Goals as goal
 

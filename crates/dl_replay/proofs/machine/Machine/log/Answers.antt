@@ -1,17 +1,16 @@
-use Rattle.std.proofs.Common.{ap, ◌∙◌, refl, unwrap_or}
-use Rattle.dl_bytes.specs.Level.{severity_number}
-use Rattle.dl_replay.proofs.Counting.{passing-counts, filtered-counts, logs, passes_is}
+use Rattle.std.proofs.Common.{ap, ◌∙◌, refl, sym, unwrap_or}
+use Rattle.dl_replay.proofs.Counting.{passing-counts, filtered-counts, logs}
 use Rattle.dl_replay.proofs.machine.Machine.log.Goals as goal
 
 pub invariant_of-self-then-passes : goal.invariant_of-self-then-passes
 invariant_of-self-then-passes c =
     rw c.in_ok-push.ensures.items
-    (passing-counts _ _ _ _ _ _ _ _ c.self.invariant _ refl (passes_is (severity_number c.args.severity) c.effective-held.result c.passes.result c.passes.ensures ∙ c.if-passes.true))
+    (passing-counts _ _ _ _ _ _ _ _ c.self.invariant _ refl (sym c.passes.ensures ∙ c.if-passes.true))
 
 pub invariant_of-self-else-passes : goal.invariant_of-self-else-passes
 invariant_of-self-else-passes c =
     rw c.in_ok-push.ensures.items
-    (filtered-counts _ _ _ _ _ _ _ _ c.self.invariant _ refl (passes_is (severity_number c.args.severity) c.effective-held.result c.passes.result c.passes.ensures ∙ c.if-passes.false))
+    (filtered-counts _ _ _ _ _ _ _ _ c.self.invariant _ refl (sym c.passes.ensures ∙ c.if-passes.false))
 
 pub returns-then-passes : goal.returns-then-passes
 returns-then-passes c =

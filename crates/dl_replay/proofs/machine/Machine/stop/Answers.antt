@@ -1,4 +1,4 @@
-use Rattle.dl_model.specs.declared.event.Why.TheVariants.{Stopped}
+use Rattle.dl_replay.specs.declared.event.Why.TheVariants.{Stopped}
 use Rattle.dl_replay.proofs.Counting.{Closed-counts}
 use Rattle.dl_replay.proofs.machine.Machine.stop.Goals as goal
 

@@ -1,0 +1,11 @@
+//! What happened: the events of the daemon, the records of log calls, and the journal that takes the events.
+#![tactic(auto)]
+
+mod event;
+mod journal;
+mod record;
+
+pub use dl_bytes::Done;
+pub use event::{Event, Why};
+pub use journal::{Counted, Journal, Kept};
+pub use record::{Answer, Record, RecordList};

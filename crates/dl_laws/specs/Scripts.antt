@@ -1,0 +1,110 @@
+-- Scripts of the examples on steps.
+use Rattle.std.specs.Prelude.{ℕ, ◌+◌, List, [], ◌∷◌, ◌++◌, length, replicate, codes, Option, Some}
+use Rattle.byteorder.specs.Endian.{little_bytes}
+use Rattle.dl_bytes.specs.Id.{zero_id}
+use Rattle.dl_bytes.specs.Payload.{Arguments}
+use Rattle.dl_bytes.specs.declared.level.Severity.{Severity}
+use Rattle.dl_bytes.specs.declared.level.Severity.TheVariants.{Info}
+use Rattle.dl_events.specs.declared.record.Record.{Record}
+use Rattle.dl_events.specs.declared.record.Answer.{Answer}
+use Rattle.dl_steps.specs.declared.line.CallLine.{CallLine}
+use Rattle.dl_steps.specs.declared.step.LevelEvents.TheVariants.{Later}
+use Rattle.dl_steps.specs.declared.step.Step.{Step}
+use Rattle.dl_steps.specs.declared.step.Step.TheVariants.{App, Context, Levels, Writer, Call, Log, Load, Push, Take, Connect, Bytes}
+use Rattle.dl_model.specs.Setting.{Setting}
+use Rattle.dl_model.specs.TraceFiles.{StoredFile}
+use Rattle.dl_model.specs.RegistryExamples.{id, control, query, defaults}
+
+-- the written form of one text argument
+abbrev pub text : List ℕ → Arguments
+text letters = record { bytes = (0x00 ∷ 0x82 ∷ 0x00 ∷ 0x00 ∷ []) ++ little_bytes 2 (length letters + 1) ++ letters ++ 0 ∷ []; args = 1 }
+
+-- a text of so many letters x
+abbrev pub fill : ℕ → Arguments
+fill n = text (replicate n 0x78)
+
+-- ---- lines
+
+abbrev pub app : List ℕ → ℕ → Step
+app apid capacity = App (record { apid = id apid; capacity = capacity; text = [] })
+
+abbrev pub context : List ℕ → List ℕ → Option ℕ → Step
+context apid ctid level = Context (record { apid = id apid; ctid = id ctid; level = level; text = [] })
+
+abbrev pub writer : List ℕ → Step
+writer apid = Writer (id apid)
+
+-- a call of writer 1 in the context TEST
+abbrev pub call_line : Severity → ℕ → Arguments → CallLine
+call_line severity at payload = record { writer = 1; ctid = codes "TEST"; severity = severity; at = at; payload = payload }
+
+-- an application with a ring of this capacity, its context TEST at info, and writer 1
+abbrev pub one_writer : ℕ → List Step
+one_writer capacity = app (codes "LOG1") capacity ∷ context (codes "LOG1") (codes "TEST") (Some 4) ∷ writer (codes "LOG1") ∷ []
+
+-- an info call and its take; the same call alone
+abbrev pub log_info : ℕ → List ℕ → Step
+log_info at letters = Log (call_line Info at (text letters))
+
+abbrev pub call_info : ℕ → List ℕ → Step
+call_info at letters = Call (call_line Info at (text letters))
+
+-- ---- scripts
+
+abbrev pub two_clients_script : List Step
+two_clients_script = one_writer 16 ++ log_info 1 (codes "z") ∷ Connect ∷ log_info 1 (codes "a") ∷ Connect ∷ log_info 1 (codes "b") ∷ []
+
+abbrev pub full_ring_script : List Step
+full_ring_script =
+    one_writer 1 ++ Connect ∷ call_info 1 (codes "a") ∷ call_info 2 (codes "b") ∷ Take (id (codes "LOG1")) ∷ call_info 3 (codes "c") ∷ []
+
+-- a request of client 1, as bytes
+abbrev pub ask : List ℕ → Step
+ask payload = Bytes 1 (query payload)
+
+-- SetLogLevel of all contexts
+abbrev pub set_all : ℕ → List ℕ
+set_all level = 1 ∷ 0 ∷ 0 ∷ 0 ∷ (zero_id ++ zero_id ++ (level ∷ 0 ∷ 0 ∷ 0 ∷ 0 ∷ []))
+
+abbrev pub between_script : List Step
+between_script =
+    one_writer 16 ++ Connect ∷ Load (call_line Info 1 (text (codes "a"))) ∷ ask (set_all 3) ∷ Push 1 ∷ call_info 2 (codes "b") ∷ []
+
+-- what became of a call, and the version and the level that its load gave
+pub record Loaded : Type 0 where
+  pub answer : Answer
+  pub version : ℕ
+  pub held : ℕ
+
+abbrev pub with_level : Answer → ℕ → ℕ → Loaded
+with_level answer version held = record { answer = answer; version = version; held = held }
+
+abbrev pub loaded_level : Record → Loaded
+loaded_level r = with_level r.answer r.version r.held
+
+-- an info call of a text of so many letters, and its take
+abbrev pub log_filled : ℕ → Step
+log_filled n = Log (call_line Info 1 (fill n))
+
+-- a trace in files of 2000 bytes, and 4000 bytes in all
+abbrev pub small_files : Setting
+small_files = record defaults { directory = codes "trace"; file_size = 2000; max_size = 4000 }
+
+-- trace file 4 of an earlier run, with 1500 bytes
+abbrev pub file_four : StoredFile
+file_four = record { number = 4; bytes = replicate 1500 0 }
+
+-- Level events wait, and a client asks for a lower level
+abbrev pub later_script : List Step
+later_script = one_writer 16 ++ Connect ∷ Levels Later ∷ ask (set_all 3) ∷ []
+
+-- GetSoftwareVersion
+abbrev pub version : List ℕ
+version = 0x13 ∷ 0 ∷ 0 ∷ 0 ∷ []
+
+-- an injection of one byte for the context TEST of LOG1
+abbrev pub injection : Step
+injection = Bytes 1 (control (codes "LOG1") (codes "TEST") (0xff ∷ 0x0f ∷ 0 ∷ 0 ∷ 1 ∷ 0 ∷ 0 ∷ 0 ∷ 0xab ∷ []))
+
+abbrev pub injections_script : List Step
+injections_script = one_writer 16 ++ Connect ∷ []

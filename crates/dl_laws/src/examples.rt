@@ -1,0 +1,119 @@
+//! Examples of whole runs: what the definitions give for small scripts.
+#![tactic(auto, unfolding(dl_model::specs::Steps::changes, dl_control::specs::Reading::request_of, dl_control::specs::Reading::log_level_at, dl_control::specs::Reading::default_level_at, dl_control::specs::Reading::injection_of, dl_control::specs::Reading::body_at))]
+
+ghost use Rattle.std.specs.Prelude.{◌≡◌, ℕ, List, [], ◌∷◌, ◌++◌, codes, map, drop, replicate, count_by, true, false};
+ghost use Rattle.dl_steps.specs.declared.step.Step.TheVariants.{Connect, Close, Level, Levels, Bytes, User, Inject};
+ghost use Rattle.dl_steps.specs.declared.step.LevelEvents.TheVariants.{Now};
+ghost use Rattle.dl_model.specs.RegistryExamples.{hex, defaults, query, store, reset_all, id};
+ghost use Rattle.dl_model.specs.Journal.{is_connect};
+ghost use Rattle.dl_model.specs.Steps.{run};
+ghost use Rattle.dl_model.specs.Replay.{stream_of, printed};
+ghost use Rattle.dl_model.specs.Marks.{records_of, journal};
+ghost use Rattle.dl_bytes.specs.declared.outcome.Done.TheVariants.{Yes, Failed};
+ghost use Rattle.dl_events.specs.declared.record.Answer.TheVariants.{Filtered, Queued, Lost};
+ghost use Rattle.dl_laws.specs.Scripts.{log_info, one_writer, log_filled, small_files, file_four, version, injection, injections_script, ask, call_info, later_script, two_clients_script, full_ring_script, between_script, with_level, loaded_level};
+
+/// A client that is there hears a call, and leaves.
+pub fn one_call()
+    ensures stream { stream_of defaults (run defaults [] (one_writer 16 ++ Connect ∷ log_info 100 (codes "hi") ∷ Close 1 ∷ [])) 1
+        ≡ hex (codes "3D 00 00 23 45 43 55 31 00 00 00 01 00 00 00 64 41 01 4C 4F 47 31 54 45 53 54 00 82 00 00 03 00 68 69 00") ∷ [] }
+    ensures report { printed defaults [] [] true (one_writer 16 ++ Connect ∷ log_info 100 (codes "hi") ∷ Close 1 ∷ [])
+        ≡ codes "client 1 left 1 35 complete\n3D 00 00 23 45 43 55 31 00 00 00 01 00 00 00 64 41 01 4C 4F 47 31 54 45 53 54 00 82 00 00 03 00 68 69 00\napp LOG1 calls 1 queued 1 filtered 0 lost 0 reported 0\n" }
+{}
+
+/// A client is handed what waited for it, and no overflow record.
+pub fn waits_for_a_client()
+    ensures { stream_of defaults (run defaults []
+        (one_writer 16 ++ log_info 1 (codes "a") ∷ log_info 2 (codes "b") ∷ log_info 3 (codes "c") ∷ Connect ∷ log_info 4 (codes "d") ∷ Close 1 ∷ [])) 1
+        ≡ hex (codes "3D 00 00 22 45 43 55 31 00 00 00 01 00 00 00 01 41 01 4C 4F 47 31 54 45 53 54 00 82 00 00 02 00 61 00") ∷ hex (codes "3D 01 00 22 45 43 55 31 00 00 00 01 00 00 00 02 41 01 4C 4F 47 31 54 45 53 54 00 82 00 00 02 00 62 00") ∷ hex (codes "3D 02 00 22 45 43 55 31 00 00 00 01 00 00 00 03 41 01 4C 4F 47 31 54 45 53 54 00 82 00 00 02 00 63 00") ∷ hex (codes "3D 03 00 22 45 43 55 31 00 00 00 01 00 00 00 04 41 01 4C 4F 47 31 54 45 53 54 00 82 00 00 02 00 64 00") ∷ [] }
+{}
+
+/// The second client, which comes while the first is there, is handed nothing.
+pub fn two_clients()
+    ensures first { stream_of defaults (run defaults [] two_clients_script) 1
+        ≡ hex (codes "3D 00 00 22 45 43 55 31 00 00 00 01 00 00 00 01 41 01 4C 4F 47 31 54 45 53 54 00 82 00 00 02 00 7A 00") ∷ hex (codes "3D 01 00 22 45 43 55 31 00 00 00 01 00 00 00 01 41 01 4C 4F 47 31 54 45 53 54 00 82 00 00 02 00 61 00") ∷ hex (codes "3D 02 00 22 45 43 55 31 00 00 00 01 00 00 00 01 41 01 4C 4F 47 31 54 45 53 54 00 82 00 00 02 00 62 00") ∷ [] }
+    ensures second { stream_of defaults (run defaults [] two_clients_script) 2
+        ≡ hex (codes "3D 02 00 22 45 43 55 31 00 00 00 01 00 00 00 01 41 01 4C 4F 47 31 54 45 53 54 00 82 00 00 02 00 62 00") ∷ [] }
+{}
+
+/// A ring that holds one call: the second call is lost, and the daemon tells it at the end.
+pub fn a_full_ring()
+    ensures answers { map (λ r. r.answer) (records_of 1 (run defaults [] full_ring_script)) ≡ Queued ∷ Lost ∷ Queued ∷ [] }
+    ensures stream { stream_of defaults (run defaults [] full_ring_script) 1
+        ≡ hex (codes "3D 00 00 22 45 43 55 31 00 00 00 01 00 00 00 01 41 01 4C 4F 47 31 54 45 53 54 00 82 00 00 02 00 61 00") ∷ hex (codes "3D 02 00 22 45 43 55 31 00 00 00 01 00 00 00 03 41 01 4C 4F 47 31 54 45 53 54 00 82 00 00 02 00 63 00") ∷ hex (codes "25 00 00 1C 45 43 55 31 26 01 4C 4F 47 31 00 00 00 00 14 00 00 00 00 01 01 00 00 00") ∷ [] }
+{}
+
+/// A level that changes between the load and the push of a call doesn't count for it; the next call loads the new one.
+pub fn a_level_between_load_and_push()
+    ensures versions { map loaded_level (records_of 1 (run defaults [] between_script)) ≡ with_level Queued 1 4 ∷ with_level Filtered 2 3 ∷ [] }
+    ensures stream { stream_of defaults (run defaults [] between_script) 1
+        ≡ hex (codes "25 00 00 17 45 43 55 31 26 01 44 41 31 00 44 43 31 00 01 00 00 00 00") ∷ hex (codes "3D 00 00 22 45 43 55 31 00 00 00 01 00 00 00 01 41 01 4C 4F 47 31 54 45 53 54 00 82 00 00 02 00 61 00") ∷ [] }
+{}
+
+/// A buffer of 70 bytes holds two frames of 34: the third is refused, and the fourth with it, though it is smaller.
+pub fn a_full_buffer()
+    ensures { stream_of (record defaults { buffer = 70 }) (run (record defaults { buffer = 70 }) []
+        (one_writer 16 ++ log_info 1 (codes "a") ∷ log_info 1 (codes "b") ∷ log_info 1 (codes "long") ∷ log_info 1 [] ∷ Connect ∷ [])) 1
+        ≡ hex (codes "3D 00 00 22 45 43 55 31 00 00 00 01 00 00 00 01 41 01 4C 4F 47 31 54 45 53 54 00 82 00 00 02 00 61 00") ∷ hex (codes "3D 01 00 22 45 43 55 31 00 00 00 01 00 00 00 01 41 01 4C 4F 47 31 54 45 53 54 00 82 00 00 02 00 62 00") ∷ hex (codes "25 00 00 1C 45 43 55 31 26 01 44 41 31 00 44 43 31 00 14 00 00 00 00 01 02 00 00 00") ∷ [] }
+{}
+
+/// Nine stored frames of 500 bytes in files of 2000, of which 4000 bytes may stand: the first file went when the third
+/// began.
+pub fn trace_files_rotate()
+    ensures { printed small_files [] [] false (one_writer 16 ++ replicate 9 (log_filled 451))
+        ≡ codes "backlog 9 4356 0\napp LOG1 calls 9 queued 9 filtered 0 lost 0 reported 0\nfile trace/dlt_offlinetrace.000002.dlt 2000\nfile trace/dlt_offlinetrace.000003.dlt 500\n" }
+{}
+
+/// The same where file 4 of an earlier run stands, with 1500 bytes: this run's files have the numbers behind it, and it
+/// goes when it has no room.
+pub fn earlier_files_stand()
+    ensures two { printed small_files [] (file_four ∷ []) false (one_writer 16 ++ replicate 2 (log_filled 451))
+        ≡ codes "backlog 2 968 0\napp LOG1 calls 2 queued 2 filtered 0 lost 0 reported 0\nfile trace/dlt_offlinetrace.000004.dlt 1500\nfile trace/dlt_offlinetrace.000005.dlt 1000\n" }
+    ensures nine { printed small_files [] (file_four ∷ []) false (one_writer 16 ++ replicate 9 (log_filled 451))
+        ≡ codes "backlog 9 4356 0\napp LOG1 calls 9 queued 9 filtered 0 lost 0 reported 0\nfile trace/dlt_offlinetrace.000006.dlt 2000\nfile trace/dlt_offlinetrace.000007.dlt 500\n" }
+    ensures none { printed small_files [] (file_four ∷ []) false [] ≡ codes "file trace/dlt_offlinetrace.000004.dlt 1500\n" }
+{}
+
+/// A bad header behind a request: the request is served, and then the client is closed.
+pub fn a_malformed_client()
+    ensures { stream_of defaults (run defaults [] (one_writer 16 ++ Connect ∷ Bytes 1 (query version ++ hex (codes "41 00 00 04")) ∷ ask version ∷ [])) 1
+        ≡ hex (codes "25 00 00 24 45 43 55 31 26 01 44 41 31 00 44 43 31 00 13 00 00 00 00 09 00 00 00 64 6C 74 5F 72 75 6E 20 31") ∷ [] }
+{}
+
+/// Where Level events wait, the new level counts from the event before which it is handed out: the call that was loaded
+/// in between holds the old one.
+pub fn level_events_wait()
+    ensures later { map loaded_level (records_of 1 (run defaults [] (later_script ++ call_info 1 (codes "a") ∷ Level ∷ call_info 2 (codes "b") ∷ [])))
+        ≡ with_level Queued 1 4 ∷ with_level Filtered 2 3 ∷ [] }
+    ensures now { map loaded_level (records_of 1 (run defaults [] (later_script ++ Levels Now ∷ call_info 1 (codes "a") ∷ Connect ∷ call_info 2 (codes "b") ∷ [])))
+        ≡ with_level Queued 1 4 ∷ with_level Filtered 2 3 ∷ [] }
+{}
+
+/// An application on a channel of its own registers, and logs a message of its own; four other bytes end the channel.
+#[tactic(auto, unfolding(dl_model::specs::Steps::changes, dl_user::specs::Reading::limited_at, dl_user::specs::Reading::inner_len, dl_user::specs::Reading::log_at, dl_user::specs::Reading::register_app_at, dl_user::specs::Reading::fields_at, dl_user::specs::Reading::kind_at, dl_user::specs::Reading::message_at, dl_user::specs::Fields::app_at))]
+pub fn a_user_channel()
+    ensures { stream_of defaults (run defaults [] (Connect ∷ User 1 (hex (codes "44 55 48 01 02 00 00 00 53 4F 43 4B 01 00 00 00 03 00 00 00 61 62 63 44 55 48"))
+        ∷ User 1 (hex (codes "01 01 00 00 00 20 00 00 05 AA")) ∷ User 1 (hex (codes "00 00 00 00")) ∷ User 1 (hex (codes "44 55 48 01 01 00 00 00 20 00 00 05 AA")) ∷ [])) 1
+        ≡ hex (codes "20 00 00 05 AA") ∷ [] }
+{}
+
+/// A Store and a Reset, where the folder does the one and fails at the other: the replies say so, and the own level of
+/// the context stays.
+pub fn a_folder_that_fails()
+    ensures { stream_of defaults (run defaults (Yes ∷ Failed ∷ []) (one_writer 16 ++ Connect ∷ ask store ∷ ask reset_all ∷ log_info 1 (codes "a") ∷ [])) 1
+        ≡ hex (codes "25 00 00 17 45 43 55 31 26 01 44 41 31 00 44 43 31 00 05 00 00 00 00") ∷ hex (codes "25 00 00 17 45 43 55 31 26 01 44 41 31 00 44 43 31 00 06 00 00 00 02") ∷ hex (codes "3D 00 00 22 45 43 55 31 00 00 00 01 00 00 00 01 41 01 4C 4F 47 31 54 45 53 54 00 82 00 00 02 00 61 00") ∷ [] }
+{}
+
+/// The ninth client is refused while eight are open, and taken once one of them has gone.
+pub fn nine_clients()
+    ensures full { count_by is_connect (journal (run defaults [] (replicate 9 Connect))) ≡ 8 }
+    ensures room { count_by is_connect (journal (run defaults [] (replicate 9 Connect ++ Close 3 ∷ Connect ∷ []))) ≡ 9 }
+{}
+
+/// The queue of an application takes 16 injections; the next one is refused until the application takes one out.
+pub fn injections_wait()
+    ensures full { drop 16 (stream_of defaults (run defaults [] (injections_script ++ replicate 17 injection)) 1)
+        ≡ hex (codes "25 00 00 17 45 43 55 31 26 01 44 41 31 00 44 43 31 00 FF 0F 00 00 02") ∷ [] }
+    ensures taken { drop 16 (stream_of defaults (run defaults [] (injections_script ++ replicate 16 injection ++ Inject (id (codes "LOG1")) ∷ injection ∷ [])) 1)
+        ≡ hex (codes "25 00 00 17 45 43 55 31 26 01 44 41 31 00 44 43 31 00 FF 0F 00 00 00") ∷ [] }
+{}

@@ -1,0 +1,7 @@
+pub mod Numbered
+pub mod OneMore
+pub mod Order
+pub mod Presence
+pub mod AppPresence
+pub mod OwnLevels
+pub mod ContextPresence

@@ -1,0 +1,191 @@
+-- The registry of a journal, the Level events that it owes, and which journals are well-formed.
+use Rattle.std.specs.Prelude.{◌≡◌, ℕ, ◌+◌, ◌<◌, ◌≤◌, ◌⊎◌, Bool, true, false, ◌==◌, List, [], ◌∷◌, ◌++◌, length, count_by, if◌then◌else◌, Option, Some, None, unwrap_or}
+use Rattle.std.specs.List.{concat, list_any}
+use Rattle.std.specs.Option.{option_map}
+use Rattle.std.specs.Result.{is_ok, result_unwrap_or}
+use Rattle.dl_bytes.specs.declared.outcome.Done.{Done}
+use Rattle.dl_bytes.specs.declared.user.UserMsg.{UserMsg}
+use Rattle.dl_events.specs.declared.event.Event.{Event}
+use Rattle.dl_events.specs.declared.event.Event.TheVariants.{User, Level, Connect, Request, Close}
+use Rattle.dl_events.specs.declared.event.Why.{Why}
+use Rattle.dl_events.specs.declared.event.Why.TheVariants as why
+use Rattle.dl_model.specs.declared.registry.LevelChange.{LevelChange}
+use Rattle.dl_model.specs.declared.registry.Slot.{Slot}
+use Rattle.dl_model.specs.Along.{along, last_that}
+use Rattle.dl_model.specs.History.{slot_after}
+use Rattle.dl_model.specs.Registry.{Registry, applied, next_change}
+use Rattle.dl_model.specs.Reply.{asked, served, reply_frame_to}
+use Rattle.dl_model.specs.Setting.{Setting}
+
+-- ---- the registry of a journal
+
+-- at the beginning: the stored default level, or else that of `ContextLogLevel`; the stored own levels; nobody there
+abbrev pub start : Setting → Registry
+start setting = record { level = unwrap_or setting.stored.level setting.level; stored = setting.stored.own; apps = [] }
+
+-- what one event makes of the registry: a user message that is refused leaves it
+abbrev pub step : Setting → (ℕ → Slot) → Registry → Event → Registry
+step setting slots registry (User channel msg moment) = result_unwrap_or (applied slots registry channel msg) registry
+step setting slots registry (Request client frame answer) = served setting slots registry (asked frame) answer
+step setting slots registry _ = registry
+
+-- the registry that these events make of another one, after those before
+abbrev pub after : Setting → List Event → Registry → List Event → Registry
+after setting before registry [] = registry
+after setting before registry (event ∷ events) =
+    after setting (before ++ event ∷ []) (step setting (slot_after setting.first before) registry event) events
+
+-- the registry of a journal
+abbrev pub registry_of : Setting → List Event → Registry
+registry_of setting events = after setting [] (start setting) events
+
+-- what each slot holds after a journal
+abbrev pub slots_of : Setting → List Event → ℕ → Slot
+slots_of setting events = slot_after setting.first events
+
+-- a user message with the channel on which it came
+pub record Told : Type 0 where
+  pub channel : ℕ
+  pub msg : UserMsg
+
+-- the message of an event, where the checks find no refusal in the registry of the events before it
+abbrev pub accepted_at : Setting → List Event → Event → List Told
+accepted_at setting before (User channel msg moment) =
+    if is_ok (applied (slots_of setting before) (registry_of setting before) channel msg)
+    then record { channel = channel; msg = msg } ∷ []
+    else []
+accepted_at setting before _ = []
+
+-- the messages that were accepted, in order
+abbrev pub accepted : Setting → List Event → List Told
+accepted setting events = along (accepted_at setting) events
+
+-- the Level event that a journal owes next, where it owes one
+abbrev pub owed : Setting → List Event → Option LevelChange
+owed setting events = next_change (slots_of setting events) (registry_of setting events)
+
+-- the bytes of the reply to a request that comes after a journal
+abbrev pub reply_after : Setting → List Event → List ℕ → Done → List ℕ
+reply_after setting events frame answer = reply_frame_to setting (slots_of setting events) (registry_of setting events) frame answer
+
+-- ---- clients
+
+abbrev pub is_connect : Event → Bool
+is_connect (Connect client) = true
+is_connect _ = false
+
+abbrev pub is_close : Event → Bool
+is_close (Close client why) = true
+is_close _ = false
+
+-- it says of a client that it came or that it went
+abbrev pub comes_or_goes : ℕ → Event → Bool
+comes_or_goes client (Connect other) = other == client
+comes_or_goes client (Close other why) = other == client
+comes_or_goes client _ = false
+
+-- a client is open where it came and did not go since
+abbrev pub IsOpen : ℕ → List Event → Type 0
+IsOpen client events = last_that (comes_or_goes client) events ≡ Some (Connect client)
+
+abbrev pub is_request_of : ℕ → Event → Bool
+is_request_of client (Request other frame answer) = other == client
+is_request_of client _ = false
+
+-- a client was closed at the daemon's stop
+abbrev pub is_stop : Event → Bool
+is_stop (Close client why.Stopped) = true
+is_stop (Close client (why.Stuck left)) = true
+is_stop _ = false
+
+abbrev pub IsStopping : List Event → Type 0
+IsStopping events = list_any is_stop events ≡ true
+
+abbrev pub IsRunning : List Event → Type 0
+IsRunning events = list_any is_stop events ≡ false
+
+-- ---- what events put into the clients' streams: the frames that an event admits, the bytes that a client was sent, and
+-- the most bytes of a backlog
+
+pub record Sending : Type 0 where
+  pub frames : Event → List (List ℕ)
+  pub sent : List Event → ℕ → List (List ℕ)
+  pub buffer : ℕ
+
+abbrev pub is_slow : Event → Bool
+is_slow (Close client (why.Slow room need)) = true
+is_slow _ = false
+
+-- the first event that is no Close of a slow client
+abbrev pub next_put : List Event → Option Event
+next_put [] = None
+next_put (event ∷ events) = if is_slow event then next_put events else Some event
+
+-- the need is that of the next event's frames
+abbrev pub IsFramesNeed : Sending → List Event → ℕ → Type 0
+IsFramesNeed sending events need =
+    option_map (λ event. length (concat (sending.frames event))) (next_put events) ≡ Some need
+
+-- the need is that of a reply, whose request is then no event
+pub record IsReplyNeed (setting : Setting) (before : List Event) (need : ℕ) : Type 0 where
+  pub frame : List ℕ
+  pub answer : Done
+  pub length_is : need ≡ length (reply_after setting before frame answer)
+  pub limit : need ≤ 65535
+
+-- A client is closed as slow: its outbox, of the buffer's size and 131,072 bytes more, has less room than is needed. It
+-- holds at most what was put into the client's stream.
+pub record IsTooSlow (setting : Setting) (sending : Sending) (before : List Event) (client room need : ℕ) (events : List Event) : Type 0 where
+  pub short : room < need
+  pub needed : (IsFramesNeed sending events need) ⊎ (IsReplyNeed setting before need)
+  pub held : sending.buffer + 131072 ≤ room + length (concat (sending.sent before client))
+
+-- ---- well-formed journals
+
+-- no Level event is owed
+abbrev pub IsSettled : Setting → List Event → Type 0
+IsSettled setting before = owed setting before ≡ None
+
+-- clients are numbered from 1 to 32 in the order in which they come, and at most 8 are open
+pub record MayConnect (setting : Setting) (before : List Event) (client : ℕ) : Type 0 where
+  pub settled : IsSettled setting before
+  pub running : IsRunning before
+  pub number : client ≡ 1 + count_by is_connect before
+  pub limit : client ≤ 32
+  pub at_most : count_by is_connect before < count_by is_close before + 8
+
+-- a client that is open has at most 1000 requests
+pub record MayRequest (setting : Setting) (before : List Event) (client : ℕ) : Type 0 where
+  pub settled : IsSettled setting before
+  pub is_open : IsOpen client before
+  pub limit : count_by (is_request_of client) before < 1000
+
+-- what a Close tells of a slow client is so
+abbrev pub IsSlowAsTold : Setting → Sending → List Event → ℕ → Why → List Event → Type 0
+IsSlowAsTold setting sending before client (why.Slow room need) events = IsTooSlow setting sending before client room need events
+IsSlowAsTold setting sending before client _ events = Unit {0}
+
+-- a client is closed once, and one that is slow for that cause
+pub record MayClose (setting : Setting) (sending : Sending) (before : List Event) (client : ℕ) (why : Why) (events : List Event) : Type 0 where
+  pub settled : IsSettled setting before
+  pub is_open : IsOpen client before
+  pub slow : IsSlowAsTold setting sending before client why events
+
+-- An event stands in its turn, after those before it, with those that follow. Where Level events are owed they come first,
+-- the least slot first, and none stands that isn't owed. Once clients are closed at the daemon's stop, only Closes,
+-- Requests and their Level events follow.
+abbrev pub IsInTurn : Setting → Sending → List Event → Event → List Event → Type 0
+IsInTurn setting sending before (Level slot level) events = owed setting before ≡ Some (record { slot = slot; level = level })
+IsInTurn setting sending before (Connect client) events = MayConnect setting before client
+IsInTurn setting sending before (Request client frame answer) events = MayRequest setting before client
+IsInTurn setting sending before (Close client why) events = MayClose setting sending before client why events
+IsInTurn setting sending before event events = IsSettled setting before × IsRunning before
+
+abbrev pub AreInTurn : Setting → Sending → List Event → List Event → Type 0
+AreInTurn setting sending before [] = Unit {0}
+AreInTurn setting sending before (event ∷ events) =
+    IsInTurn setting sending before event events × AreInTurn setting sending (before ++ event ∷ []) events
+
+-- a well-formed journal: each event stands in its turn
+abbrev pub IsWellFormed : Setting → Sending → List Event → Type 0
+IsWellFormed setting sending events = AreInTurn setting sending [] events

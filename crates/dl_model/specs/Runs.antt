@@ -1,0 +1,49 @@
+-- What each mark of a run rests on: the marks before it.
+use Rattle.std.specs.Prelude.{◌≡◌, ℕ, ◌+◌, ◌%◌, ◌<◌, true, false, List, [], ◌∷◌, ◌++◌, slice_get, Some, None}
+use Rattle.dl_bytes.specs.Level.{passes}
+use Rattle.dl_events.specs.declared.event.Event.{Event}
+use Rattle.dl_events.specs.declared.event.Event.TheVariants as event
+use Rattle.dl_model.specs.Setting.{Setting}
+use Rattle.dl_model.specs.Journal.{slots_of}
+use Rattle.dl_model.specs.Marks.{Call, Mark, Filtered, Passed, Queued, Refused, Counted, Noted, journal, calls_of, passed_of, to_push, to_count, queued, taken, is_full, pending}
+
+-- A call as its load made it, where the writer's call before it was finished: its number is the next of its writer, its
+-- message counter the number of the writer's calls that passed before, modulo 256, and its version and level are what
+-- its slot held last.
+pub record IsLoaded (setting : Setting) (call : Call) (done : List Mark) : Type 0 where
+  pub none_to_push : to_push call.item.writer done ≡ None
+  pub none_to_count : to_count call.item.writer done ≡ None
+  pub number : call.item.call ≡ 1 + calls_of call.item.writer done
+  pub counter : call.item.mcnt ≡ passed_of call.item.writer done % 256
+  pub version : call.version ≡ (slots_of setting (journal done) call.slot).version
+  pub held : call.held ≡ (slots_of setting (journal done) call.slot).level
+
+-- A Log event is that of the first call that its application's ring took and the daemon didn't take yet.
+pub record IsNext (app writer number : ℕ) (done : List Mark) : Type 0 where
+  pub call : Call
+  pub first : slice_get (queued app done) (taken app done) ≡ Some call
+  pub writer_is : call.item.writer ≡ writer
+  pub number_is : call.item.call ≡ number
+
+-- what an event rests on: that of a Log is in its ring, and a Lost tells all losses that are pending
+abbrev pub EventRestsOn : List Mark → Event → Type 0
+EventRestsOn done (event.Log app writer call moment) = IsNext app writer call done
+EventRestsOn done (event.Lost app count moment) = (count ≡ pending app done) × (0 < count)
+EventRestsOn done _ = Unit {0}
+
+abbrev pub RestsOn : Setting → List Mark → Mark → Type 0
+-- a call is filtered where its severity is above the level of its own load, and passes where it isn't
+RestsOn setting done (Filtered call) = IsLoaded setting call done × (passes call.item.severity call.held ≡ false)
+RestsOn setting done (Passed call) = IsLoaded setting call done × (passes call.item.severity call.held ≡ true)
+-- the call that the writer's last step let through is queued, or refused where the ring is full
+RestsOn setting done (Queued call) = (to_push call.item.writer done ≡ Some call) × (is_full call.item.app done ≡ false)
+RestsOn setting done (Refused call) = (to_push call.item.writer done ≡ Some call) × (is_full call.item.app done ≡ true)
+-- the call that the ring refused at the writer's last step is counted
+RestsOn setting done (Counted call) = to_count call.item.writer done ≡ Some call
+RestsOn setting done (Noted e) = EventRestsOn done e
+RestsOn setting done _ = Unit {0}
+
+-- each of these marks rests on those before it
+abbrev pub AreFounded : Setting → List Mark → List Mark → Type 0
+AreFounded setting before [] = Unit {0}
+AreFounded setting before (mark ∷ marks) = RestsOn setting before mark × AreFounded setting (before ++ mark ∷ []) marks

@@ -1,0 +1,17 @@
+-- What does not change in a run.
+use Rattle.std.specs.Prelude.{ℕ, Bool, List}
+use Rattle.dl_bytes.specs.declared.conf.Stored.{Stored}
+
+-- The configuration (the control unit's id, the level of `ContextLogLevel`, the bytes of the backlog, where trace files
+-- are and how many bytes one of them and all of them have, and whether clients may send data to applications), the stored
+-- configuration that was read, and the version at which each slot begins.
+pub record Setting : Type 0 where
+  pub ecu : List ℕ
+  pub level : ℕ
+  pub buffer : ℕ
+  pub directory : List ℕ
+  pub file_size : ℕ
+  pub max_size : ℕ
+  pub injection : Bool
+  pub stored : Stored
+  pub first : ℕ

@@ -1,0 +1,130 @@
+//! A script, line by line.
+
+ghost use Rattle.std.specs.Prelude.{◌≡◌, ◌≤◌, length};
+ghost use Rattle.dl_script.specs.Earlier.{nothing};
+ghost use Rattle.dl_script.specs.Fields.{lines_of};
+ghost use Rattle.dl_script.specs.Line.{step_of, scenario_line_of};
+ghost use Rattle.dl_script.specs.Script.{text_limit, entries, error_at, steps_of, scenario_of, Reads, Judges};
+
+use crate::by_word::{scenario_line, step};
+use crate::claim::Known;
+use crate::fields::says_nothing;
+use crate::kind::{LineError, ScriptError, ScriptKind};
+use bstr::ByteSlice;
+use dl_steps::{Scenario, ScenarioLine, Step, StepList};
+use std::alloc::Global;
+
+/// The most bytes of a script.
+pub const TEXT_LIMIT: usize = 16_777_216;
+
+/// The step that a line says after the lines before it.
+#[tactic(auto, unfolding(crate::specs::Script::judged))]
+fn judged_step(alloc: Global, known: &mut Known, line: &[u8]) -> Result<Step, LineError>
+    ensures { Judges step_of line.now result known.old known.new }
+{
+    let said = step(alloc, line)?;
+    known.admit(said.claim)?;
+    match said.line {
+        Some(step) => Ok(step),
+        None => Err(LineError::Fault(ScriptKind::Payload)),
+    }
+}
+
+/// The line of a scenario that a line says after the lines before it.
+#[tactic(auto, unfolding(crate::specs::Script::judged))]
+fn judged_line(alloc: Global, known: &mut Known, line: &[u8]) -> Result<ScenarioLine, LineError>
+    ensures { Judges scenario_line_of line.now result known.old known.new }
+{
+    let said = scenario_line(alloc, line)?;
+    known.admit(said.claim)?;
+    match said.line {
+        Some(line) => Ok(line),
+        None => Err(LineError::Fault(ScriptKind::Payload)),
+    }
+}
+
+impl LineError {
+    /// The same of a script, at this line.
+    fn at(self, line: u32) -> ScriptError
+        ensures { result ≡ error_at line self }
+    {
+        match self {
+            LineError::Fault(kind) => ScriptError::Fault { line, kind },
+            LineError::OutOfMemory => ScriptError::OutOfMemory,
+        }
+    }
+}
+
+/// The steps of a text, or its first bad line.
+#[tactic(auto, unfolding(crate::specs::Script::entries))]
+fn steps(alloc: Global, text: &[u8]) -> Result<Vec<Step>, ScriptError>
+    requires { length text.now ≤ text_limit }
+    ensures { Reads (λ v. v.items) result (entries step_of nothing 1 (lines_of text.now)) }
+{
+    let mut known = Known::new(alloc);
+    let mut steps = Vec::new(alloc);
+    let mut number = 0;
+    for line in text.lines() {
+        number += 1;
+        if says_nothing(line) {
+            continue;
+        }
+        match judged_step(alloc, &mut known, line) {
+            Ok(step) => steps.push(step)?,
+            Err(error) => return Err(error.at(number)),
+        }
+    }
+    Ok(steps)
+}
+
+/// The lines of a scenario of a text, or its first bad line.
+#[tactic(auto, unfolding(crate::specs::Script::entries))]
+fn scenario_lines(alloc: Global, text: &[u8]) -> Result<Vec<ScenarioLine>, ScriptError>
+    requires { length text.now ≤ text_limit }
+    ensures { Reads (λ v. v.items) result (entries scenario_line_of nothing 1 (lines_of text.now)) }
+{
+    let mut known = Known::new(alloc);
+    let mut lines = Vec::new(alloc);
+    let mut place = 0;
+    for line in text.lines() {
+        place += 1;
+        if says_nothing(line) {
+            continue;
+        }
+        match judged_line(alloc, &mut known, line) {
+            Ok(entry) => lines.push(entry)?,
+            Err(error) => return Err(error.at(place)),
+        }
+    }
+    Ok(lines)
+}
+
+/// The step script that a text is, or its first bad line and what is wrong with it. The text has at most 16,777,216
+/// bytes. Memory is taken line by line, so want of memory may come before a line that is bad.
+#[tactic(auto, unfolding(crate::specs::Script::script_of))]
+pub fn read_steps(alloc: Global, text: &[u8]) -> Result<StepList, ScriptError>
+    ensures { Reads (λ list. list) result (steps_of text.now) }
+{
+    if text.len() > TEXT_LIMIT {
+        return Err(ScriptError::Fault {
+            line: 0,
+            kind: ScriptKind::Size,
+        });
+    }
+    Ok(StepList::over(steps(alloc, text)?))
+}
+
+/// The scenario that a text is, or its first bad line and what is wrong with it. The text has at most 16,777,216 bytes.
+/// Memory is taken line by line, so want of memory may come before a line that is bad.
+#[tactic(auto, unfolding(crate::specs::Script::script_of))]
+pub fn read_scenario(alloc: Global, text: &[u8]) -> Result<Scenario, ScriptError>
+    ensures { Reads (λ list. list) result (scenario_of text.now) }
+{
+    if text.len() > TEXT_LIMIT {
+        return Err(ScriptError::Fault {
+            line: 0,
+            kind: ScriptKind::Size,
+        });
+    }
+    Ok(Scenario::over(scenario_lines(alloc, text)?))
+}

@@ -1,0 +1,4 @@
+pub mod Digits
+pub mod IdTexts
+pub mod LineEnds
+pub mod LineParts

@@ -1,0 +1,4 @@
+pub mod Lines
+pub mod IdText
+pub mod Decimal
+pub mod Faults
