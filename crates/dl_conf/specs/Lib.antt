@@ -1,0 +1,4 @@
+pub mod Setting
+pub mod Conf
+pub mod Outcome
+pub mod Stored
