@@ -1,0 +1,4 @@
+pub mod State
+pub mod Order
+pub mod Rule
+pub mod Ends

@@ -1,0 +1,26 @@
+//! What each pass of a queue of injections knows.
+
+use dl_bytes::Injection;
+use std::collections::LinkedList;
+
+/// An injection as it lies in the queue: with its number among those pushed, from 0.
+#[derive(Debug, Drop)]
+pub struct Entry {
+    pub number: u64,
+    pub injection: Injection,
+}
+
+/// What a pass knows. No value of it is made: it stands in proofs alone.
+pub struct View {
+    /// It may push.
+    pub pushes: bool,
+    pub pushed: LinkedList<Injection>,
+    /// It may take.
+    pub takes: bool,
+    pub taken: LinkedList<Entry>,
+    /// It may make further passes that take.
+    pub gives: bool,
+    pub splits: u64,
+    /// What each pass that it took in had taken.
+    pub joined: LinkedList<LinkedList<Entry>>,
+}

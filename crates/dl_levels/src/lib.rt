@@ -1,0 +1,13 @@
+//! The log level of each slot, in one word that the daemon changes and every writer reads without waiting.
+#![tactic(auto)]
+
+mod history;
+mod keeper;
+mod reader;
+#[cfg(test)]
+mod tests;
+mod words;
+
+pub use history::{Change, Read, Seen};
+pub use keeper::{LevelKeeper, Worn, make_levels};
+pub use reader::LevelReader;

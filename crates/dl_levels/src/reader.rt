@@ -1,0 +1,79 @@
+//! The end of the level words that a writer has: one load a look, and never a wait.
+
+ghost use Rattle.std.specs.Prelude.{◌≡◌, ◌-◌, ◌/◌, ◌%◌, ◌<◌, ◌≤◌, [], ◌∷◌, ◌++◌};
+ghost use Rattle.dl_levels.specs.History.{read, NoneAbove};
+
+use crate::history::Seen;
+use crate::words::{Load, Seats, View, Words};
+use atomic_table::Seat;
+use dl_bytes::Level;
+use std::alloc::Global;
+use std::marker::Model;
+use std::sync::Arc;
+
+/// Reads the level of each slot. It may be sent to another thread, and its calls never wait.
+#[derive(Drop)]
+pub struct LevelReader {
+    pub(crate) words: Arc<Words, Global>,
+    pub(crate) seat: Seat<(), View>,
+    // an owner of the words for each reader that can still be split off, so that a split takes no memory
+    pub(crate) spare: Vec<Arc<Words, Global>>,
+}
+
+impl Model for LevelReader {
+    ghost use Rattle.dl_levels.specs.States.{ReaderState};
+
+    ghost Value = { ReaderState };
+
+    ghost use Rattle.dl_levels.specs.Ends.{reader_state, IsReader};
+
+    ghost view = { reader_state };
+
+    ghost invariant = { IsReader };
+}
+
+// What a word says of its slot.
+fn seen(word: u64) -> Seen
+    requires { word % 16 ≤ 6 }
+    ensures version { result.version ≡ word / 16 }
+    ensures level { result.level ≡ word % 16 }
+{
+    let Some(level) = Level::of((word % 16) as u8) else {
+        unreachable!()
+    };
+    Seen {
+        version: word / 16,
+        level,
+    }
+}
+
+impl LevelReader {
+    /// The level of a slot, found by one load. No earlier read of this reader found a later version.
+    pub fn load(&mut self, slot: u16) -> Seen
+        requires { slot < self.old.slots }
+        ensures reads { self.new ≡ record self.old { reads = self.old.reads ++ read slot result.version result.level ∷ [] } }
+        ensures newest { NoneAbove slot result.version self.old.reads }
+    {
+        let words = &self.words.shared;
+        let word = words.load::<Load>(&mut self.seat, usize::from(slot));
+        seen(word)
+    }
+
+    /// A reader for another thread, which has read what this one has. The reader that `make_levels` gave can be split
+    /// 64 times, and one that was split off can't. No memory.
+    pub fn split(&mut self) -> LevelReader
+        requires { 0 < self.old.splits_left }
+        ensures this { self.new ≡ record self.old { splits_left = self.old.splits_left - 1 } }
+        ensures other { result ≡ record self.old { splits_left = 0 } }
+    {
+        let Some(words) = self.spare.pop() else {
+            unreachable!()
+        };
+        let seat = words.shared.split_seat::<Seats>(&mut self.seat);
+        LevelReader {
+            words,
+            seat,
+            spare: Vec::new(*self.spare.allocator()),
+        }
+    }
+}

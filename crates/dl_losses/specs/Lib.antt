@@ -1,0 +1,4 @@
+pub mod Losses
+pub mod States
+pub mod Rule
+pub mod Ends

@@ -1,0 +1,13 @@
+//! The ring of an application: a bounded queue into which its writers push their log calls, and from which the daemon
+//! takes them.
+#![tactic(auto)]
+
+mod push;
+mod ring;
+mod take;
+mod view;
+
+pub use dl_injections::{InjectPush, InjectTake, make_injections};
+pub use push::RingPush;
+pub use ring::make_ring;
+pub use take::RingTake;

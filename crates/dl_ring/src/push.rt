@@ -1,0 +1,86 @@
+//! The passes with which writers push.
+
+ghost use Rattle.std.specs.Prelude.{◌≡◌, ◌+◌, ◌≤◌, ◌∷◌, [], ◌++◌, true, false, OnOk, OnErr, IfErr};
+ghost use Rattle.dl_views.specs.Views.{times};
+ghost use Rattle.dl_ring.specs.Order.{MetFull};
+ghost use Rattle.dl_ring.specs.State.{unused_push};
+
+use crate::ring::{Push, Ring, RingPass, new_pass};
+use dl_bytes::Item;
+use dl_views::one_more;
+use std::marker::{Brand, Model};
+use std::sync::{Arc, Wait};
+
+/// One writer's pass of a ring. Passes push at once from many threads, each under a number of its own.
+#[derive(Drop)]
+pub struct RingPush {
+    pub(crate) ring: Arc<Ring>,
+    pub(crate) pass: RingPass,
+    /// How many pushes were refused.
+    pub(crate) refusals: u64,
+    /// Of the first pass: an owner of the ring for each number that it has not given.
+    pub(crate) spare: Option<Vec<Option<Arc<Ring>>>>,
+}
+
+impl Model for RingPush {
+    ghost use Rattle.std.specs.Prelude.{◌≡◌, false, MatchOption};
+    ghost use Rattle.std.specs.Arc.{arc_value};
+    ghost use Rattle.crossbeam_queue.specs.Passes.{view as knows, IsPassOf, ruled_capacity};
+    ghost use Rattle.dl_ring.specs.State.{PushState};
+    ghost use Rattle.dl_ring.specs.Ends.{IsPusher, HasOwners};
+
+    ghost Value = { PushState };
+
+    ghost view = { λ p. record {
+      ring = p.pass.table_id;
+      capacity = ruled_capacity (arc_value p.ring);
+      number = (knows p.pass).number;
+      pushed = (knows p.pass).pushed;
+      refusals = p.refusals;
+      first = (knows p.pass).gives;
+      given = (knows p.pass).given;
+    } };
+
+    ghost invariant = { λ p. IsPassOf (arc_value p.ring) p.pass × IsPusher (knows p.pass)
+        × MatchOption p.spare ((knows p.pass).gives ≡ false) (λ owners. HasOwners (arc_value p.ring) (knows p.pass).given owners.items) };
+}
+
+impl RingPush {
+    /// Puts an item at the end of the ring, at one step. It comes back only where the ring was full at that step.
+    pub fn push<R: Wait>(&mut self, rt: &R, item: Item) -> Result<(), Item>
+        requires { item.writer ≡ self.old.number }
+        ensures pushed { OnOk result (self.new ≡ record self.old { pushed = self.old.pushed ++ item ∷ [] }) }
+        ensures refused { OnErr result (self.new ≡ record self.old { refusals = self.old.refusals + 1 }) }
+        ensures back { IfErr result (λ back. back ≡ item) }
+        ensures full { OnErr result (MetFull self.old.capacity self.old.number self.old.pushed) }
+    {
+        match self.ring.push_as::<Push, R>(rt, &mut self.pass, item) {
+            Ok(()) => Ok(()),
+            Err(back) => {
+                self.refusals = one_more(rt, self.refusals);
+                Err(back)
+            }
+        }
+    }
+
+    /// A pass for another writer, under its number. The first pass makes them all.
+    pub fn split(&mut self, writer: u8) -> RingPush
+        requires first { self.old.first ≡ true }
+        requires positive { 1 ≤ writer }
+        requires fresh { times writer self.old.given ≡ 0 }
+        ensures given { self.new ≡ record self.old { given = self.old.given ++ writer ∷ [] } }
+        ensures new { result ≡ unused_push self.old.ring self.old.capacity writer false }
+    {
+        let Some(owners) = &mut self.spare else {
+            unreachable!()
+        };
+        let ring = owners[usize::from(writer)].take().unwrap();
+        let pass = new_pass::<Brand>(&self.ring, &mut self.pass, writer);
+        RingPush {
+            ring,
+            pass,
+            refusals: 0,
+            spare: None,
+        }
+    }
+}
