@@ -9,6 +9,8 @@ mod captures;
 #[cfg(test)]
 mod faults;
 #[cfg(test)]
+mod hub;
+#[cfg(test)]
 mod payloads;
 #[cfg(test)]
 mod played;

@@ -1,0 +1,488 @@
+-- What each entry of traffic does to a hub that stands as the traffic before it has it.
+use Rattle.std.proofs.Common.{◌≡◌, ◌≢◌, ℕ, ◌+◌, ◌-◌, ◌≤◌, ◌<◌, ◌⊎◌, inl, inr, Bool, true, false, cond, eqb, leb, take, drop, List, [], ◌∷◌, ◌++◌, length, map, Option, Some, None, refl, sym, ap, ◌∙◌, append_assoc, length-append, subst, suc, zero, arith}
+use Rattle.std.specs.Prelude.{count_by, slice_get, slice_set, option_map, is_some, IfSome, IsSomeAnd, ◌||◌, ◌&&◌}
+use Rattle.std.specs.List.{concat, list_any, range_with_len, after_last}
+use Rattle.std.proofs.lemmas.List.{append-nil, length-map, length-set, take-append-drop}
+use Rattle.std.proofs.lemmas.List.Elements.{filter_map-append}
+use Rattle.std.proofs.lemmas.List.Folds.{concat-append}
+use Rattle.std.proofs.lemmas.List.Sums.{sum_by-append, sum_by-cons}
+use Rattle.std.proofs.lemmas.Option.{slice_get-map, slice_get_within}
+use Rattle.std.proofs.lemmas.Bool.{lt-leb}
+use Rattle.std.proofs.lemmas.Bool.Decides.{nat_tests, leb_tells, eqb_tells}
+use Rattle.circular_buffer.proofs.Places.{slice_get-set_same, slice_get-set_other, slice_get-append_left, slice_get-append_right}
+use Rattle.dl_model.specs.Along.{along_from}
+use Rattle.dl_model.specs.Traffic as traffic
+use Rattle.dl_model.specs.Traffic.{Traffic, Comes, Admit, Reply, Goes, comer_of, frame_of, comes_or_goes, is_coming, is_going, clients, admitted_in}
+use Rattle.dl_model.specs.Backlog.{size_of, waiting, fitting, refused, handed_over}
+use Rattle.dl_model.specs.ClientStream.{put, sent}
+use Rattle.dl_laws.proofs.Lists.{along-one}
+use Rattle.std.proofs.Math.Nat.{eq-zero-or-pos}
+use Rattle.dl_laws.proofs.ClientStreams.{fitting-one, is_open-one, same_number, waiting-comes, waiting-goes, waiting-admit, waiting-reply}
+use Rattle.dl_hub.specs.State as state
+use Rattle.dl_hub.specs.State.{Client, Waiting, Stored, Hub, stored, keeps, added, with_frame, with_reply, without, consumed, bytes_before, shut}
+use Rattle.dl_hub.specs.Follows.{IsAfter, IsStream, IsBacklog, is_reply_to, took_more}
+
+-- ---- lists and options
+
+pub mapped : {A B : Type 0} (f : A → B) (o : Option A) (y : B) → option_map f o ≡ Some y → (x : A) × (o ≡ Some x) × (f x ≡ y)
+mapped f None y h = absurd cc
+mapped f (Some x) y h = (x, refl, cc)
+
+pub any_numbered : {C : Type 0} (p : ℕ → Bool) (q : C → Bool) (xs : List C) (first : ℕ)
+    → ((place : ℕ) (x : C) → slice_get xs place ≡ Some x → p (first + place) ≡ q x)
+    → list_any p (range_with_len first (length xs)) ≡ list_any q xs
+any_numbered p q [] first same = refl
+any_numbered p q (x ∷ xs) first same =
+    let here : p first ≡ q x = subst (λ n. p n ≡ q x) (omega arith) (same 0 x refl) in
+    let later = any_numbered p q xs (first + 1) (λ place y there. subst (λ n. p n ≡ q y) (omega arith) (same (suc place) y there)) in
+    rw (here, later) refl
+
+none_numbered : (n first count : ℕ) → first + count ≤ n → list_any (λ m. eqb m n) (range_with_len first count) ≡ false
+none_numbered n first zero above = refl
+none_numbered n first (suc count) above =
+    let here : eqb first n ≡ false = grind (arith, nat_tests) in
+    rw (here, none_numbered n (first + 1) count (omega arith)) refl
+
+pub one_more_number : (first count : ℕ) → range_with_len first count ++ (first + count) ∷ [] ≡ range_with_len first (suc count)
+one_more_number first zero = ap (λ n. n ∷ []) (omega arith)
+one_more_number first (suc count) = ap (λ xs. first ∷ xs) (ap (λ n. range_with_len (first + 1) count ++ n ∷ []) (omega arith) ∙ one_more_number (first + 1) count)
+
+-- ---- one stream
+
+stream-of : {ecu : List ℕ} {buffer : ℕ} {ts : List Traffic} {taken : List ℕ} {number : ℕ} {client : Client} (t : Traffic) (frames : List (List ℕ)) (now : Client)
+    → IsStream ecu buffer ts taken number client
+    → put ecu buffer number ts t ≡ frames
+    → traffic.is_open number (ts ++ t ∷ []) ≡ state.is_open now
+    → client.frames + length frames ≡ now.frames
+    → client.bytes + size_of frames ≡ now.bytes
+    → count_by (is_reply_to number) (ts ++ t ∷ []) ≡ now.replies
+    → IfSome now.outbox (λ new. IsSomeAnd client.outbox (λ old. old.bytes ++ concat frames ≡ new.bytes))
+    → IsStream ecu buffer (ts ++ t ∷ []) taken number now
+stream-of {ecu} {buffer} {ts} {taken} {number} {client} t frames now is puts there more_frames more_bytes replies left =
+    let all : sent ecu buffer number (ts ++ t ∷ []) ≡ sent ecu buffer number ts ++ frames = along-one (put ecu buffer number) ts t ∙ ap (λ fs. sent ecu buffer number ts ++ fs) puts in
+    record {
+      is_there = there;
+      frames = rw (all, length-append (sent ecu buffer number ts) frames, is.frames) more_frames;
+      bytes = rw (all, sum_by-append length (sent ecu buffer number ts) frames, is.bytes) more_bytes;
+      replies = replies;
+      left = rw all (joined now.outbox client.outbox left is.left);
+    } where
+      joined : (new old : Option Waiting) → IfSome new (λ n. IsSomeAnd old (λ o. o.bytes ++ concat frames ≡ n.bytes))
+          → IfSome old (λ o. concat (sent ecu buffer number ts) ≡ taken ++ o.bytes)
+          → IfSome new (λ n. concat (sent ecu buffer number ts ++ frames) ≡ taken ++ n.bytes)
+      joined None old h was = tt {0}
+      joined (Some n) None h was = absurd h
+      joined (Some n) (Some o) h was =
+          concat-append (sent ecu buffer number ts) frames ∙ ap (λ bytes. bytes ++ concat frames) was ∙ append_assoc taken o.bytes (concat frames) ∙ ap (λ bytes. taken ++ bytes) h
+
+-- ---- the hub
+
+-- the traffic says that a client is open exactly where the hub has one
+pub any_open : (ts : List Traffic) (taken : ℕ → List ℕ) (hub : Hub) → IsAfter ts taken hub → traffic.is_any_open ts ≡ state.is_any_open hub
+any_open ts taken hub is =
+    ap (list_any (λ c. traffic.is_open c ts)) is.came
+    ∙ any_numbered (λ c. traffic.is_open c ts) state.is_open hub.clients 1
+    (λ place client there. subst (λ n. traffic.is_open n ts ≡ state.is_open client) (omega arith) (is.streams place client there).is_there)
+
+-- nothing waits where a client is open
+pub nothing_waits : (ts : List Traffic) (taken : ℕ → List ℕ) (hub : Hub) → IsAfter ts taken hub → state.is_any_open hub ≡ true → waiting ts ≡ []
+nothing_waits ts taken hub is any = ap (λ b. cond b [] (admitted_in (after_last is_going ts))) (any_open ts taken hub is ∙ any)
+
+-- an entry that isn't a coming leaves the clients that came
+same_clients : (ts : List Traffic) (t : Traffic) → comer_of t ≡ None → clients (ts ++ t ∷ []) ≡ clients ts
+same_clients ts t none = filter_map-append comer_of ts (t ∷ []) ∙ rw none (append-nil (clients ts))
+
+same_admissions : (ts : List Traffic) (t : Traffic) → frame_of t ≡ None → admitted_in (ts ++ t ∷ []) ≡ admitted_in ts
+same_admissions ts t none = filter_map-append frame_of ts (t ∷ []) ∙ rw none (append-nil (admitted_in ts))
+
+more_admissions : (ts : List Traffic) (frame : List ℕ) → length (admitted_in (ts ++ Admit frame ∷ [])) ≡ length (admitted_in ts) + 1
+more_admissions ts frame = ap length (filter_map-append frame_of ts (Admit frame ∷ [])) ∙ length-append (admitted_in ts) (frame ∷ [])
+
+-- replies to a client, with one entry more
+same_replies : (number : ℕ) (ts : List Traffic) (t : Traffic) → is_reply_to number t ≡ false → count_by (is_reply_to number) (ts ++ t ∷ []) ≡ count_by (is_reply_to number) ts
+same_replies number ts t none = sum_by-append (λ x. cond (is_reply_to number x) 1 0) ts (t ∷ []) ∙ rw none (omega arith)
+
+more_replies : (number : ℕ) (ts : List Traffic) (t : Traffic) → is_reply_to number t ≡ true → count_by (is_reply_to number) (ts ++ t ∷ []) ≡ count_by (is_reply_to number) ts + 1
+more_replies number ts t one = sum_by-append (λ x. cond (is_reply_to number x) 1 0) ts (t ∷ []) ∙ rw one (omega arith)
+
+-- an entry of other clients leaves a stream
+untouched : {ecu : List ℕ} {buffer : ℕ} {ts : List Traffic} {taken : List ℕ} {number : ℕ} {client : Client} (t : Traffic)
+    → IsStream ecu buffer ts taken number client → put ecu buffer number ts t ≡ [] → comes_or_goes number t ≡ false → is_reply_to number t ≡ false
+    → IsStream ecu buffer (ts ++ t ∷ []) taken number client
+untouched {ecu} {buffer} {ts} {taken} {number} {client} t is puts quiet silent =
+    stream-of t [] client is puts
+    (is_open-one number ts t ∙ rw quiet is.is_there)
+    (omega arith) (omega arith)
+    (same_replies number ts t silent ∙ is.replies)
+    (itself client.outbox) where
+      itself : (o : Option Waiting) → IfSome o (λ new. IsSomeAnd o (λ old. old.bytes ++ concat [] ≡ new.bytes))
+      itself None = tt {0}
+      itself (Some w) = append-nil w.bytes
+
+-- ---- a frame is admitted
+
+admit_stream : {ecu : List ℕ} {buffer : ℕ} {ts : List Traffic} {taken : List ℕ} {number : ℕ} {client : Client} (frame : List ℕ)
+    → IsStream ecu buffer ts taken number client → IsStream ecu buffer (ts ++ Admit frame ∷ []) taken number (with_frame frame client)
+admit_stream {ecu} {buffer} {ts} {taken} {number} {client} frame is = by_outbox client.outbox is where
+  by_outbox : (o : Option Waiting) → IsStream ecu buffer ts taken number (record { outbox = o; frames = client.frames; bytes = client.bytes; replies = client.replies })
+      → IsStream ecu buffer (ts ++ Admit frame ∷ []) taken number (with_frame frame (record { outbox = o; frames = client.frames; bytes = client.bytes; replies = client.replies }))
+  by_outbox None is = untouched (Admit frame) is (rw is.is_there refl) refl refl
+  by_outbox (Some w) is =
+      stream-of (Admit frame) (frame ∷ []) (with_frame frame (record { outbox = Some w; frames = client.frames; bytes = client.bytes; replies = client.replies })) is
+      (rw is.is_there refl) (is_open-one number ts (Admit frame) ∙ is.is_there) refl (omega arith)
+      (same_replies number ts (Admit frame) refl ∙ is.replies)
+      (ap (λ xs. w.bytes ++ xs) (append-nil frame))
+
+-- where a client is open, each open one is sent it
+pub admit-open : (frame : List ℕ) (ts : List Traffic) (taken : ℕ → List ℕ) (hub : Hub) → IsAfter ts taken hub → state.is_any_open hub ≡ true
+    → IsAfter (ts ++ Admit frame ∷ []) taken (record hub { clients = map (with_frame frame) hub.clients; admitted = hub.admitted + 1 })
+admit-open frame ts taken hub is any = record {
+  came = same_clients ts (Admit frame) refl ∙ is.came ∙ ap (range_with_len 1) (sym (length-map hub.clients (with_frame frame)));
+  admissions = more_admissions ts frame ∙ ap (λ n. n + 1) is.admissions;
+  streams = λ place client there.
+      let old = mapped (with_frame frame) (slice_get hub.clients place) client (sym (slice_get-map (with_frame frame) hub.clients place) ∙ there) in
+      subst (λ c. IsStream hub.ecu hub.buffer (ts ++ Admit frame ∷ []) (taken (place + 1)) (place + 1) c) old.2 (admit_stream frame (is.streams place old.0 old.1));
+  untaken = λ number above. is.untaken number (rw (length-map hub.clients (with_frame frame)) at above);
+  unanswered = λ number above. same_replies number ts (Admit frame) refl ∙ is.unanswered number (rw (length-map hub.clients (with_frame frame)) at above);
+  waits =
+      let still : waiting (ts ++ Admit frame ∷ []) ≡ waiting ts =
+      waiting-admit frame ts ∙ ap (λ b. cond b [] (waiting ts ++ frame ∷ [])) (any_open ts taken hub is ∙ any) ∙ sym (nothing_waits ts taken hub is any) in
+      rw still (record { bytes = is.waits.bytes; frames_kept = is.waits.frames_kept; refusals = is.waits.refusals });
+}
+
+-- ---- a frame waits
+
+-- what the buffer keeps is all, where nothing is refused
+kept_all : (limit : ℕ) (frames : List (List ℕ)) → refused limit frames ≡ 0 → (fitting limit frames ≡ frames) × (size_of frames ≤ limit)
+kept_all limit [] none = (refl, omega arith)
+kept_all limit (f ∷ fs) none = by_size (leb_tells (length f) limit) none (kept_all (limit - length f) fs) where
+  by_size : ((leb (length f) limit ≡ true) × (length f ≤ limit)) ⊎ ((leb (length f) limit ≡ false) × (limit < length f)) → refused limit (f ∷ fs) ≡ 0
+      → (refused (limit - length f) fs ≡ 0 → (fitting (limit - length f) fs ≡ fs) × (size_of fs ≤ limit - length f))
+      → (fitting limit (f ∷ fs) ≡ f ∷ fs) × (size_of (f ∷ fs) ≤ limit)
+  by_size (inl fits) none shorter =
+      let less : refused (limit - length f) fs ≡ 0 = omega (arith, rw fits.0 at none) in
+      let rest = shorter less in
+      (rw (fits.0, rest.0) refl, omega (arith, fits.1, rest.1, sum_by-cons length f fs))
+  by_size (inr above) none shorter = absurd (no_room (rw above.0 at none)) where
+    no_room : suc (length fs) - 0 ≡ 0 → ⊥
+    no_room e = omega (arith, e)
+
+-- where a frame was refused, the frames that wait have more bytes than the limit
+too_many : (limit : ℕ) (frames : List (List ℕ)) → 0 < refused limit frames → limit < size_of frames
+too_many limit [] some = absurd (omega (arith, some))
+too_many limit (f ∷ fs) some = by_size (leb_tells (length f) limit) some (too_many (limit - length f) fs) where
+  by_size : ((leb (length f) limit ≡ true) × (length f ≤ limit)) ⊎ ((leb (length f) limit ≡ false) × (limit < length f)) → 0 < refused limit (f ∷ fs)
+      → (0 < refused (limit - length f) fs → limit - length f < size_of fs) → limit < size_of (f ∷ fs)
+  by_size (inl fits) some shorter =
+      let less : 0 < refused (limit - length f) fs = omega (arith, rw fits.0 at some) in
+      omega (arith, fits.1, shorter less, sum_by-cons length f fs)
+  by_size (inr above) some shorter = omega (arith, above.1, sum_by-cons length f fs)
+
+pub bytes_of : (frames : List (List ℕ)) → length (concat frames) ≡ size_of frames
+bytes_of [] = refl
+bytes_of (f ∷ fs) = length-append f (concat fs) ∙ rw (bytes_of fs) (sym (sum_by-cons length f fs))
+
+size_behind : (frames : List (List ℕ)) (f : List ℕ) → size_of (frames ++ f ∷ []) ≡ size_of frames + length f
+size_behind frames f = sum_by-append length frames (f ∷ []) ∙ omega arith
+
+-- a frame that comes to the backlog
+pub backlog-one : (f : List ℕ) (frames : List (List ℕ)) (ecu : List ℕ) (store : Stored) (some later : List Client) (n m : ℕ)
+    → IsBacklog store.ring.capacity frames (state.hub_of ecu store some n)
+    → IsBacklog store.ring.capacity (frames ++ f ∷ []) (state.hub_of ecu (stored f store) later m)
+backlog-one f frames ecu store some later n m is = by_refused (eq-zero-or-pos store.refused) where
+  refuses : keeps f store ≡ false
+      → refused store.ring.capacity (frames ++ f ∷ []) ≡ store.refused + 1
+      → fitting store.ring.capacity (frames ++ f ∷ []) ≡ fitting store.ring.capacity frames
+      → IsBacklog store.ring.capacity (frames ++ f ∷ []) (state.hub_of ecu (stored f store) later m)
+  refuses is_so more same = rw is_so (record { bytes = ap concat same ∙ is.bytes; frames_kept = ap length same ∙ is.frames_kept; refusals = more })
+
+  by_size : (store.refused ≡ 0) → ((leb (length store.ring.bytes + length f) store.ring.capacity ≡ true) × (length store.ring.bytes + length f ≤ store.ring.capacity))
+      ⊎ ((leb (length store.ring.bytes + length f) store.ring.capacity ≡ false) × (store.ring.capacity < length store.ring.bytes + length f))
+      → IsBacklog store.ring.capacity (frames ++ f ∷ []) (state.hub_of ecu (stored f store) later m)
+  by_size none (inl fits) =
+      let all = kept_all store.ring.capacity frames (is.refusals ∙ none) in
+      let bytes : length store.ring.bytes ≡ size_of frames = ap length (sym is.bytes ∙ ap concat all.0) ∙ bytes_of frames in
+      let within : leb (size_of (frames ++ f ∷ [])) store.ring.capacity ≡ true = rw (size_behind frames f, sym bytes) fits.0 in
+      let kept : fitting store.ring.capacity (frames ++ f ∷ []) ≡ frames ++ f ∷ [] = fitting-one store.ring.capacity frames f ∙ rw within refl in
+      let is_so : keeps f store ≡ true = rw (none, fits.0) refl in
+      rw is_so (record {
+        bytes = ap concat kept ∙ concat-append frames (f ∷ []) ∙ rw (append-nil f) (ap (λ xs. xs ++ f) (ap concat (sym all.0) ∙ is.bytes));
+        frames_kept = ap length kept ∙ length-append frames (f ∷ []) ∙ ap (λ k. k + 1) (ap length (sym all.0) ∙ is.frames_kept);
+        refusals = ap (λ fs. length (frames ++ f ∷ []) - length fs) kept ∙ omega (arith, none);
+      })
+  by_size none (inr above) =
+      let all = kept_all store.ring.capacity frames (is.refusals ∙ none) in
+      let bytes : length store.ring.bytes ≡ size_of frames = ap length (sym is.bytes ∙ ap concat all.0) ∙ bytes_of frames in
+      let past : leb (size_of (frames ++ f ∷ [])) store.ring.capacity ≡ false = rw (size_behind frames f, sym bytes) above.0 in
+      let same : fitting store.ring.capacity (frames ++ f ∷ []) ≡ fitting store.ring.capacity frames = fitting-one store.ring.capacity frames f ∙ rw past refl in
+      refuses (rw (none, above.0) refl)
+      (ap (λ fs. length (frames ++ f ∷ []) - length fs) same ∙ omega (arith, none, is.refusals, length-append frames (f ∷ []), ap length all.0))
+      same
+
+  by_refused : (store.refused ≡ 0) ⊎ (0 < store.refused) → IsBacklog store.ring.capacity (frames ++ f ∷ []) (state.hub_of ecu (stored f store) later m)
+  by_refused (inl none) = by_size none (leb_tells (length store.ring.bytes + length f) store.ring.capacity)
+  by_refused (inr some_were) =
+      let many = too_many store.ring.capacity frames (subst (λ k. 0 < k) (sym is.refusals) some_were) in
+      let past : leb (size_of (frames ++ f ∷ [])) store.ring.capacity ≡ false = rw (size_behind frames f) (lt-leb (size_of frames + length f) store.ring.capacity (omega (arith, many))) in
+      let same : fitting store.ring.capacity (frames ++ f ∷ []) ≡ fitting store.ring.capacity frames = fitting-one store.ring.capacity frames f ∙ rw past refl in
+      let not_none : eqb store.refused 0 ≡ false = grind (arith, nat_tests) in
+      refuses (rw not_none refl)
+      (ap (λ fs. length (frames ++ f ∷ []) - length fs) same ∙ omega (arith, is.refusals, some_were, length-append frames (f ∷ [])))
+      same
+
+neither : (a b : Bool) → (a || b) ≡ false → (a ≡ false) × (b ≡ false)
+neither true b e = absurd cc
+neither false b e = (refl, e)
+
+pub one_of : {A : Type 0} {x y : A} → Some x ≡ Some y → x ≡ y
+one_of e = cc
+
+-- a client that isn't open is sent nothing
+shut_each : (all : List Client) → list_any state.is_open all ≡ false → (place : ℕ) (client : Client) → slice_get all place ≡ Some client → state.is_open client ≡ false
+shut_each [] none place client there = absurd cc
+shut_each (c ∷ cs) none zero client there = subst (λ x. state.is_open x ≡ false) (one_of there) (neither (state.is_open c) (list_any state.is_open cs) none).0
+shut_each (c ∷ cs) none (suc place) client there = shut_each cs (neither (state.is_open c) (list_any state.is_open cs) none).1 place client there
+
+closed_stream : {ecu : List ℕ} {buffer : ℕ} {ts : List Traffic} {taken : List ℕ} {number : ℕ} {client : Client} (frame : List ℕ)
+    → IsStream ecu buffer ts taken number client → state.is_open client ≡ false → IsStream ecu buffer (ts ++ Admit frame ∷ []) taken number client
+closed_stream frame is shut = untouched (Admit frame) is (rw (is.is_there, shut) refl) refl refl
+
+-- where no client is open, it waits
+pub admit-waits : (frame : List ℕ) (ts : List Traffic) (taken : ℕ → List ℕ) (ecu : List ℕ) (store : Stored) (all : List Client) (n : ℕ)
+    → IsAfter ts taken (state.hub_of ecu store all n) → state.is_any_open (state.hub_of ecu store all n) ≡ false
+    → IsAfter (ts ++ Admit frame ∷ []) taken (state.hub_of ecu (stored frame store) all (n + 1))
+admit-waits frame ts taken ecu store all n is none =
+    let hub = state.hub_of ecu store all n in
+    let nobody : traffic.is_any_open ts ≡ false = any_open ts taken hub is ∙ none in
+    record {
+      came = same_clients ts (Admit frame) refl ∙ is.came;
+      admissions = more_admissions ts frame ∙ ap (λ k. k + 1) is.admissions;
+      streams = λ place client there. closed_stream frame (is.streams place client there) (shut_each all none place client there);
+      untaken = is.untaken;
+      unanswered = λ number above. same_replies number ts (Admit frame) refl ∙ is.unanswered number above;
+      waits = rw (waiting-admit frame ts ∙ ap (λ b. cond b [] (waiting ts ++ frame ∷ [])) nobody) (backlog-one frame (waiting ts) ecu store all all n (n + 1) is.waits);
+    }
+
+-- ---- one client changes
+
+-- an entry of one client: its own stream changes, and the others stay
+pub one_changes : (t : Traffic) (number : ℕ) (change : Client → Client) (old : Client) (ts : List Traffic) (taken : ℕ → List ℕ) (hub : Hub)
+    → IsAfter ts taken hub
+    → slice_get hub.clients number ≡ Some old
+    → comer_of t ≡ None → frame_of t ≡ None
+    → ((other : ℕ) → other ≢ number → (put hub.ecu hub.buffer (other + 1) ts t ≡ []) × (comes_or_goes (other + 1) t ≡ false) × (is_reply_to (other + 1) t ≡ false))
+    → IsStream hub.ecu hub.buffer (ts ++ t ∷ []) (taken (number + 1)) (number + 1) (change old)
+    → IsBacklog hub.buffer (waiting (ts ++ t ∷ [])) hub
+    → IsAfter (ts ++ t ∷ []) taken (record hub { clients = slice_set hub.clients number (change old) })
+one_changes t number change old ts taken hub is found no_comer no_frame quiet stream backlog = record {
+  came = same_clients ts t no_comer ∙ is.came ∙ ap (range_with_len 1) (sym (length-set hub.clients number (change old)));
+  admissions = ap length (same_admissions ts t no_frame) ∙ is.admissions;
+  streams = λ place client there. by_place place client there (eqb_tells place number);
+  untaken = λ other above. is.untaken other (rw (length-set hub.clients number (change old)) at above);
+  unanswered = λ other above.
+      let past : length hub.clients < other = rw (length-set hub.clients number (change old)) at above in
+      let not_it : other - 1 ≢ number = λ e. absurd (omega (arith, e, past, slice_get_within hub.clients number old found)) in
+      same_replies other ts t (subst (λ n. is_reply_to n t ≡ false) (omega (arith, past)) (quiet (other - 1) not_it).2) ∙ is.unanswered other past;
+  waits = record { bytes = backlog.bytes; frames_kept = backlog.frames_kept; refusals = backlog.refusals };
+} where
+  by_place : (place : ℕ) (client : Client) → slice_get (slice_set hub.clients number (change old)) place ≡ Some client → ((eqb place number ≡ true) × (place ≡ number)) ⊎ ((eqb place number ≡ false) × (place ≢ number))
+      → IsStream hub.ecu hub.buffer (ts ++ t ∷ []) (taken (place + 1)) (place + 1) client
+  by_place place client there (inl e) =
+      let now : change old ≡ client = one_of (sym (slice_get-set_same hub.clients number (change old) (slice_get_within hub.clients number old found)) ∙ ap (slice_get (slice_set hub.clients number (change old))) (sym e.1) ∙ there) in
+      subst (λ n. IsStream hub.ecu hub.buffer (ts ++ t ∷ []) (taken (n + 1)) (n + 1) client) (sym e.1)
+      (subst (λ c. IsStream hub.ecu hub.buffer (ts ++ t ∷ []) (taken (number + 1)) (number + 1) c) now stream)
+  by_place place client there (inr other) =
+      let was = sym (slice_get-set_other hub.clients number place (change old) other.1) ∙ there in
+      untouched t (is.streams place client was) (quiet place other.1).0 (quiet place other.1).1 (quiet place other.1).2
+
+other_number : (place number : ℕ) → place ≢ number → eqb (number + 1) (place + 1) ≡ false
+other_number place number differ = grind (arith, nat_tests)
+
+-- a reply
+pub reply-follows : (frame : List ℕ) (number : ℕ) (old : Client) (ts : List Traffic) (taken : ℕ → List ℕ) (hub : Hub)
+    → IsAfter ts taken hub → slice_get hub.clients number ≡ Some old → state.is_open old ≡ true
+    → IsAfter (ts ++ Reply (number + 1) frame ∷ []) taken (record hub { clients = slice_set hub.clients number (with_reply frame old) })
+reply-follows frame number old ts taken hub is found there =
+    let t = Reply (number + 1) frame in
+    let stream = is.streams number old found in
+    let same : waiting (ts ++ t ∷ []) ≡ waiting ts = waiting-reply (number + 1) frame ts in
+    one_changes t number (with_reply frame) old ts taken hub is found refl refl
+    (λ other differ. (rw (other_number other number differ) refl, refl, other_number other number differ))
+    (stream-of t (frame ∷ []) (with_reply frame old) stream
+    (rw (same_number (number + 1), stream.is_there, there) refl)
+    (is_open-one (number + 1) ts t ∙ stream.is_there ∙ there ∙ sym (still_open old.outbox there))
+    refl (omega arith)
+    (more_replies (number + 1) ts t (same_number (number + 1)) ∙ ap (λ n. n + 1) stream.replies)
+    (longer old.outbox))
+    (rw same is.waits) where
+      still_open : (o : Option Waiting) → is_some o ≡ true → is_some (option_map (added frame) o) ≡ true
+      still_open None e = absurd cc
+      still_open (Some w) e = refl
+
+      longer : (o : Option Waiting) → IfSome (option_map (added frame) o) (λ new. IsSomeAnd o (λ was. was.bytes ++ concat (frame ∷ []) ≡ new.bytes))
+      longer None = tt {0}
+      longer (Some w) = ap (λ xs. w.bytes ++ xs) (append-nil frame)
+
+-- a client goes
+pub goes-follows : (number : ℕ) (old : Client) (ts : List Traffic) (taken : ℕ → List ℕ) (hub : Hub)
+    → IsAfter ts taken hub → slice_get hub.clients number ≡ Some old → state.is_open old ≡ true → state.is_any_open hub ≡ true
+    → IsAfter (ts ++ Goes (number + 1) ∷ []) taken (record hub { clients = slice_set hub.clients number (shut old) })
+goes-follows number old ts taken hub is found there any =
+    let t = Goes (number + 1) in
+    let stream = is.streams number old found in
+    let same : waiting (ts ++ t ∷ []) ≡ waiting ts = waiting-goes (number + 1) ts ∙ sym (nothing_waits ts taken hub is any) in
+    one_changes t number shut old ts taken hub is found refl refl
+    (λ other differ. (refl, other_number other number differ, refl))
+    (stream-of t [] (shut old) stream refl
+    (is_open-one (number + 1) ts t ∙ ap (λ b. cond b false (traffic.is_open (number + 1) ts)) (same_number (number + 1)))
+    (omega arith) (omega arith)
+    (same_replies (number + 1) ts t refl ∙ stream.replies)
+    (tt {0}))
+    (rw same is.waits)
+
+-- ---- a client comes
+
+and_false : (a : Bool) → (a && false) ≡ false
+and_false true = refl
+and_false false = refl
+
+cond_same : {A : Type 0} (b : Bool) (x : A) → cond b x x ≡ x
+cond_same true x = refl
+cond_same false x = refl
+
+-- a client that has not come was sent nothing
+never_came : (ecu : List ℕ) (buffer number : ℕ) (before ts : List Traffic) → traffic.is_open number before ≡ false → list_any (λ m. eqb m number) (clients ts) ≡ false
+    → (along_from (put ecu buffer number) before ts ≡ []) × (traffic.is_open number (before ++ ts) ≡ false)
+never_came ecu buffer number before [] closed none = (refl, ap (traffic.is_open number) (append-nil before) ∙ closed)
+never_came ecu buffer number before (Comes m ∷ ts) closed none =
+    let other = neither (eqb m number) (list_any (λ k. eqb k number) (clients ts)) none in
+    let still : traffic.is_open number (before ++ Comes m ∷ []) ≡ false = is_open-one number before (Comes m) ∙ rw other.0 closed in
+    let rest = never_came ecu buffer number (before ++ Comes m ∷ []) ts still other.1 in
+    (rw (other.0, rest.0) refl, ap (traffic.is_open number) (sym (append_assoc before (Comes m ∷ []) ts)) ∙ rest.1)
+never_came ecu buffer number before (Admit frame ∷ ts) closed none =
+    let still : traffic.is_open number (before ++ Admit frame ∷ []) ≡ false = is_open-one number before (Admit frame) ∙ closed in
+    let rest = never_came ecu buffer number (before ++ Admit frame ∷ []) ts still none in
+    (rw (closed, rest.0) refl, ap (traffic.is_open number) (sym (append_assoc before (Admit frame ∷ []) ts)) ∙ rest.1)
+never_came ecu buffer number before (Reply m frame ∷ ts) closed none =
+    let still : traffic.is_open number (before ++ Reply m frame ∷ []) ≡ false = is_open-one number before (Reply m frame) ∙ closed in
+    let rest = never_came ecu buffer number (before ++ Reply m frame ∷ []) ts still none in
+    (rw (closed, and_false (eqb m number), rest.0) refl, ap (traffic.is_open number) (sym (append_assoc before (Reply m frame ∷ []) ts)) ∙ rest.1)
+never_came ecu buffer number before (Goes m ∷ ts) closed none =
+    let still : traffic.is_open number (before ++ Goes m ∷ []) ≡ false = is_open-one number before (Goes m) ∙ rw closed (cond_same (eqb m number) false) in
+    let rest = never_came ecu buffer number (before ++ Goes m ∷ []) ts still none in
+    (rest.0, ap (traffic.is_open number) (sym (append_assoc before (Goes m ∷ []) ts)) ∙ rest.1)
+
+-- a new client, that is handed what waits
+pub comes-follows : (new : Client) (number : ℕ) (ts : List Traffic) (taken : ℕ → List ℕ) (hub : Hub)
+    → IsAfter ts taken hub
+    → number ≡ length hub.clients + 1
+    → IsSomeAnd new.outbox (λ outbox. concat (handed_over hub.ecu hub.buffer (waiting ts)) ≡ outbox.bytes)
+    → length (handed_over hub.ecu hub.buffer (waiting ts)) ≡ new.frames
+    → size_of (handed_over hub.ecu hub.buffer (waiting ts)) ≡ new.bytes
+    → new.replies ≡ 0
+    → IsAfter (ts ++ Comes number ∷ []) taken (record { ecu = hub.ecu; buffer = hub.buffer; clients = hub.clients ++ new ∷ []; admitted = hub.admitted; backlog = []; frames = 0; refused = 0 })
+comes-follows new number ts taken hub is numbered outbox frames bytes replies = record {
+  came = filter_map-append comer_of ts (t ∷ []) ∙ ap (λ xs. xs ++ number ∷ []) is.came
+      ∙ rw (numbered) (ap (λ n. range_with_len 1 (length hub.clients) ++ n ∷ []) (omega arith) ∙ one_more_number 1 (length hub.clients)) ∙ ap (range_with_len 1) (sym longer);
+  admissions = ap length (same_admissions ts t refl) ∙ is.admissions;
+  streams = λ place client there. by_place place client there (leb_tells (length hub.clients) place);
+  untaken = λ other above. is.untaken other (omega (arith, above, longer));
+  unanswered = λ other above. same_replies other ts t refl ∙ is.unanswered other (omega (arith, above, longer));
+  waits = rw (waiting-comes number ts) (record { bytes = refl; frames_kept = refl; refusals = refl });
+} where
+  t : Traffic
+  t = Comes number
+
+  longer : length (hub.clients ++ new ∷ []) ≡ suc (length hub.clients)
+  longer = length-append hub.clients (new ∷ []) ∙ omega arith
+
+  nobody : list_any (λ m. eqb m number) (clients ts) ≡ false
+  nobody = ap (list_any (λ m. eqb m number)) is.came ∙ none_numbered number 1 (length hub.clients) (omega (arith, numbered))
+
+  nothing : (along_from (put hub.ecu hub.buffer number) [] ts ≡ []) × (traffic.is_open number ts ≡ false)
+  nothing = never_came hub.ecu hub.buffer number [] ts refl nobody
+
+  due : List (List ℕ)
+  due = handed_over hub.ecu hub.buffer (waiting ts)
+
+  all : sent hub.ecu hub.buffer number (ts ++ t ∷ []) ≡ due
+  all = along-one (put hub.ecu hub.buffer number) ts t ∙ rw (nothing.0, same_number number) refl
+
+  first : taken number ≡ []
+  first = is.untaken number (omega (arith, numbered))
+
+  is_new : (o : Option Waiting) → IsSomeAnd o (λ outbox. concat due ≡ outbox.bytes) → (is_some o ≡ true) × IfSome o (λ outbox. concat (sent hub.ecu hub.buffer number (ts ++ t ∷ [])) ≡ taken number ++ outbox.bytes)
+  is_new None h = absurd h
+  is_new (Some w) h = (refl, rw (all, first) h)
+
+  new_stream : IsStream hub.ecu hub.buffer (ts ++ t ∷ []) (taken number) number new
+  new_stream = record {
+    is_there = is_open-one number ts t ∙ rw (same_number number) (sym (is_new new.outbox outbox).0);
+    frames = ap length all ∙ frames;
+    bytes = ap size_of all ∙ bytes;
+    replies = same_replies number ts t refl ∙ is.unanswered number (omega (arith, numbered)) ∙ sym replies;
+    left = (is_new new.outbox outbox).1;
+  }
+
+  by_place : (place : ℕ) (client : Client) → slice_get (hub.clients ++ new ∷ []) place ≡ Some client → ((leb (length hub.clients) place ≡ true) × (length hub.clients ≤ place)) ⊎ ((leb (length hub.clients) place ≡ false) × (place < length hub.clients))
+      → IsStream hub.ecu hub.buffer (ts ++ t ∷ []) (taken (place + 1)) (place + 1) client
+  by_place place client there (inr below) =
+      let was = sym (slice_get-append_left hub.clients (new ∷ []) place below.1) ∙ there in
+      let other : eqb number (place + 1) ≡ false = grind (arith, nat_tests, numbered, below.1) in
+      untouched t (is.streams place client was) (rw other refl) other refl
+  by_place place client there (inl past) =
+      let last : place ≡ length hub.clients = omega (arith, past.1, longer, slice_get_within (hub.clients ++ new ∷ []) place client there) in
+      let it : new ≡ client = one_of (sym (slice_get-append_right hub.clients (new ∷ []) place 0 (omega (arith, last))) ∙ there) in
+      let its : number ≡ place + 1 = omega (arith, numbered, last) in
+      subst (λ n. IsStream hub.ecu hub.buffer (ts ++ t ∷ []) (taken n) n client) its (subst (λ c. IsStream hub.ecu hub.buffer (ts ++ t ∷ []) (taken number) number c) it new_stream)
+
+-- ---- a link takes bytes
+
+pub took-follows : (count number : ℕ) (old : Client) (ts : List Traffic) (taken : ℕ → List ℕ) (hub : Hub)
+    → IsAfter ts taken hub → slice_get hub.clients number ≡ Some old → IsSomeAnd old.outbox (λ outbox. count ≤ length outbox.bytes)
+    → IsAfter ts (took_more taken (number + 1) (bytes_before count old.outbox)) (record hub { clients = slice_set hub.clients number (without count old) })
+took-follows count number old ts taken hub is found fits = record {
+  came = is.came ∙ ap (range_with_len 1) (sym same_length);
+  admissions = is.admissions;
+  streams = λ place client there. by_place place client there (eqb_tells place number);
+  untaken = λ other above.
+      let past : length hub.clients < other = rw same_length at above in
+      let not_it : eqb other (number + 1) ≡ false = grind (arith, nat_tests, past, slice_get_within hub.clients number old found) in
+      rw not_it (is.untaken other past);
+  unanswered = λ other above. is.unanswered other (rw same_length at above);
+  waits = record { bytes = is.waits.bytes; frames_kept = is.waits.frames_kept; refusals = is.waits.refusals };
+} where
+  same_length : length (slice_set hub.clients number (without count old)) ≡ length hub.clients
+  same_length = length-set hub.clients number (without count old)
+
+  more : ℕ → List ℕ
+  more = took_more taken (number + 1) (bytes_before count old.outbox)
+
+  shorter : (o : Option Waiting) → IsSomeAnd o (λ outbox. count ≤ length outbox.bytes)
+      → IfSome o (λ outbox. concat (sent hub.ecu hub.buffer (number + 1) ts) ≡ taken (number + 1) ++ outbox.bytes)
+      → (is_some (option_map (consumed count) o) ≡ is_some o)
+      × IfSome (option_map (consumed count) o) (λ outbox. concat (sent hub.ecu hub.buffer (number + 1) ts) ≡ (taken (number + 1) ++ bytes_before count o) ++ outbox.bytes)
+  shorter None h was = absurd h
+  shorter (Some w) h was = (refl, was ∙ ap (λ xs. taken (number + 1) ++ xs) (sym (take-append-drop count w.bytes)) ∙ sym (append_assoc (taken (number + 1)) (take count w.bytes) (drop count w.bytes)))
+
+  stream : IsStream hub.ecu hub.buffer ts (more (number + 1)) (number + 1) (without count old)
+  stream =
+      let was = is.streams number old found in
+      let its = shorter old.outbox fits was.left in
+      rw (same_number (number + 1)) (record {
+        is_there = was.is_there ∙ sym its.0;
+        frames = was.frames;
+        bytes = was.bytes;
+        replies = was.replies;
+        left = its.1;
+      })
+
+  by_place : (place : ℕ) (client : Client) → slice_get (slice_set hub.clients number (without count old)) place ≡ Some client
+      → ((eqb place number ≡ true) × (place ≡ number)) ⊎ ((eqb place number ≡ false) × (place ≢ number)) → IsStream hub.ecu hub.buffer ts (more (place + 1)) (place + 1) client
+  by_place place client there (inl e) =
+      let now : without count old ≡ client = one_of (sym (slice_get-set_same hub.clients number (without count old) (slice_get_within hub.clients number old found)) ∙ ap (slice_get (slice_set hub.clients number (without count old))) (sym e.1) ∙ there) in
+      subst (λ n. IsStream hub.ecu hub.buffer ts (more (n + 1)) (n + 1) client) (sym e.1) (subst (λ c. IsStream hub.ecu hub.buffer ts (more (number + 1)) (number + 1) c) now stream)
+  by_place place client there (inr other) =
+      let was = sym (slice_get-set_other hub.clients number place (without count old) other.1) ∙ there in
+      let same : more (place + 1) ≡ taken (place + 1) = rw (other_number number place (λ e. other.1 (sym e))) refl in
+      subst (λ xs. IsStream hub.ecu hub.buffer ts xs (place + 1) client) (sym same) (is.streams place client was)

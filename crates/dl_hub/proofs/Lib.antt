@@ -1,0 +1,5 @@
+pub mod Overflow
+pub mod Following
+pub mod Keeping
+pub mod Calls
+pub mod Pumping

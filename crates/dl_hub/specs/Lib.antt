@@ -1,0 +1,5 @@
+pub mod State
+pub mod Overflow
+pub mod Kept
+pub mod Follows
+pub mod Pumping

@@ -1,0 +1,157 @@
+-- What contracts see of the hub and its clients.
+use Rattle.std.specs.Prelude.{ℕ, ◌+◌, ◌-◌, ◌≤◌, ◌==◌, ◌&&◌, nat_le, Bool, true, List, [], ◌++◌, length, take, drop, slice_get, slice_set, Option, Some, None, is_some, option_map, IfSome, IsSomeAnd, if◌then◌else◌}
+use Rattle.std.specs.Option.{option_and_then, option_map_or}
+use Rattle.std.specs.List.{list_any}
+
+-- bytes that wait, and how many may wait at most
+pub record Waiting : Type 0 where
+  pub bytes : List ℕ
+  pub capacity : ℕ
+
+-- A client that came. It has an outbox while it is open; the frames and bytes are those put into its stream so far, the
+-- replies those among them.
+pub record Client : Type 0 where
+  pub outbox : Option Waiting
+  pub frames : ℕ
+  pub bytes : ℕ
+  pub replies : ℕ
+
+-- The backlog: the bytes of the frames that wait, how many they are, and how many were refused.
+pub record Stored : Type 0 where
+  pub ring : Waiting
+  pub frames : ℕ
+  pub refused : ℕ
+
+-- The hub: the control unit that its overflow records name, the size of its backlog, the clients by their numbers from
+-- 1, how many frames were admitted, and the backlog with how many frames it holds and how many it refused.
+pub record Hub : Type 0 where
+  pub ecu : List ℕ
+  pub buffer : ℕ
+  pub clients : List Client
+  pub admitted : ℕ
+  pub backlog : List ℕ
+  pub frames : ℕ
+  pub refused : ℕ
+
+abbrev pub is_open : Client → Bool
+is_open client = is_some client.outbox
+
+-- a client can take so many bytes more: its outbox has room for them, or it has none
+abbrev pub takes : ℕ → Client → Bool
+takes more client = option_map_or (λ outbox. nat_le (length outbox.bytes + more) outbox.capacity) client.outbox true
+
+-- a client is open
+abbrev pub is_any_open : Hub → Bool
+is_any_open hub = list_any is_open hub.clients
+
+-- how many bytes an outbox can hold
+abbrev pub outbox_limit : ℕ → ℕ
+outbox_limit buffer = buffer + 131072
+
+-- what waits, with more at its end
+abbrev pub added : List ℕ → Waiting → Waiting
+added more waiting = record { bytes = waiting.bytes ++ more; capacity = waiting.capacity }
+
+-- what waits, with so many bytes gone from its front
+abbrev pub consumed : ℕ → Waiting → Waiting
+consumed count waiting = record { bytes = drop count waiting.bytes; capacity = waiting.capacity }
+
+-- what waits, with all bytes gone
+abbrev pub emptied : Waiting → Waiting
+emptied waiting = record { bytes = []; capacity = waiting.capacity }
+
+-- a client that had a frame put into its stream; a client that is gone has none
+abbrev pub with_frame : List ℕ → Client → Client
+with_frame frame client = record {
+  outbox = option_map (added frame) client.outbox;
+  frames = if is_open client then client.frames + 1 else client.frames;
+  bytes = if is_open client then client.bytes + length frame else client.bytes;
+  replies = client.replies;
+}
+
+-- a client that had a reply put into its stream
+abbrev pub with_reply : List ℕ → Client → Client
+with_reply frame client = record {
+  outbox = option_map (added frame) client.outbox;
+  frames = client.frames + 1;
+  bytes = client.bytes + length frame;
+  replies = client.replies + 1;
+}
+
+-- a client whose link took so many bytes
+abbrev pub without : ℕ → Client → Client
+without count client = record {
+  outbox = option_map (consumed count) client.outbox;
+  frames = client.frames;
+  bytes = client.bytes;
+  replies = client.replies;
+}
+
+-- the first bytes of an outbox
+abbrev pub bytes_before : ℕ → Option Waiting → List ℕ
+bytes_before count outbox = option_map_or (λ waiting. take count waiting.bytes) outbox []
+
+-- a client that is open no longer
+abbrev pub shut : Client → Client
+shut client = record { outbox = None; frames = client.frames; bytes = client.bytes; replies = client.replies }
+
+-- a backlog keeps a frame: it refused none so far, and the frame fits
+abbrev pub keeps : List ℕ → Stored → Bool
+keeps frame store = (store.refused == 0) && nat_le (length store.ring.bytes + length frame) store.ring.capacity
+
+-- a backlog that a frame came to: kept or refused
+abbrev pub stored : List ℕ → Stored → Stored
+stored frame store = record {
+  ring = record { bytes = if keeps frame store then store.ring.bytes ++ frame else store.ring.bytes; capacity = store.ring.capacity };
+  frames = if keeps frame store then store.frames + 1 else store.frames;
+  refused = if keeps frame store then store.refused else store.refused + 1;
+}
+
+-- a client that is handed the frames that wait
+abbrev pub handed : ℕ → Stored → Client
+handed capacity store = record {
+  outbox = Some (record { bytes = store.ring.bytes; capacity = capacity });
+  frames = store.frames;
+  bytes = length store.ring.bytes;
+  replies = 0;
+}
+
+-- ---- the hub
+
+-- the hub of these parts
+abbrev pub hub_of : List ℕ → Stored → List Client → ℕ → Hub
+hub_of ecu store clients admitted = record {
+  ecu = ecu;
+  buffer = store.ring.capacity;
+  clients = clients;
+  admitted = admitted;
+  backlog = store.ring.bytes;
+  frames = store.frames;
+  refused = store.refused;
+}
+
+-- a hub to which nobody came
+abbrev pub fresh : List ℕ → ℕ → Hub
+fresh ecu buffer = record { ecu = ecu; buffer = buffer; clients = []; admitted = 0; backlog = []; frames = 0; refused = 0 }
+
+-- the client of a number from 1, where it came
+abbrev pub client_of : Hub → ℕ → Option Client
+client_of hub number = if number == 0 then None else slice_get hub.clients (number - 1)
+
+-- its outbox, where it is open
+abbrev pub outbox_of : Hub → ℕ → Option Waiting
+outbox_of hub number = option_and_then (λ client. client.outbox) (client_of hub number)
+
+-- a client is open and has room for so many bytes
+abbrev pub HasRoom : ℕ → Hub → ℕ → Type 0
+HasRoom more hub number = IsSomeAnd (outbox_of hub number) (λ outbox. length outbox.bytes + more ≤ outbox.capacity)
+
+-- each open client has room for so many bytes
+abbrev pub EachHasRoom : ℕ → Hub → Type 0
+EachHasRoom more hub = (number : ℕ) → IfSome (outbox_of hub number) (λ outbox. length outbox.bytes + more ≤ outbox.capacity)
+
+-- the hub where one client has changed
+abbrev pub changed : ℕ → (Client → Client) → Hub → Hub
+changed number change hub = record hub {
+  clients = option_map_or (λ client. slice_set hub.clients (number - 1) (change client)) (client_of hub number) hub.clients;
+}

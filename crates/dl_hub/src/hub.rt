@@ -1,0 +1,353 @@
+//! The hub: all clients, and the backlog.
+
+ghost use Rattle.std.specs.Prelude.{◌≡◌, ◌≤◌, ◌<◌, ◌↔◌, ◌^◌, ◌+◌, ℕ, true, false, [], Err, IfOk, OnErr, IfSome, count_by, IsTrue, IsSome, IsSomeAnd, length, take, map, option_map, vec_capacity};
+ghost use Rattle.std.specs.List.{All, list_all};
+ghost use Rattle.dl_model.specs.Traffic.{Comes, Admit, Reply, Goes};
+ghost use Rattle.dl_hub.specs.State.{client_of, outbox_of, outbox_limit, takes, HasRoom, EachHasRoom, changed, without, with_frame, with_reply, shut, is_open, is_any_open, fresh};
+ghost use Rattle.dl_model.specs.Backlog.{size_of};
+ghost use Rattle.dl_model.specs.Overflow.{overflow_frames};
+ghost use Rattle.dl_control.specs.Reply.{daemon_apid, daemon_ctid};
+ghost use Rattle.dl_hub.specs.Overflow.{came, left_over};
+ghost use Rattle.dl_hub.specs.Follows.{Adds, IsAfter};
+ghost use Rattle.dl_outside.specs.Outside.{Stays};
+ghost use Rattle.dl_hub.specs.Pumping.{Pumps, HasFailed, HasWaited};
+ghost use Rattle.dl_hub.specs.declared.hub.HubFault.TheVariants as HubFault;
+ghost use Rattle.dl_hub.specs.declared.hub.Pumped.TheVariants as Pumped;
+
+use crate::client::Client;
+use crate::ring::Ring;
+use crate::store::Store;
+use dl_bytes::{Backlog, Frame, Id, OutOfMemory};
+use dl_outside::{Link, Sends};
+use std::alloc::Global;
+use std::marker::Model;
+
+/// The most clients that are open at once.
+pub const CLIENTS_AT_ONCE: usize = 8;
+
+/// The most clients that come in one run.
+pub const CLIENT_LIMIT: usize = 32;
+
+/// How many bytes more than the backlog an outbox can hold.
+pub const OUTBOX_EXTRA: usize = 131_072;
+
+/// Why a client can't connect.
+#[derive(Clone, Copy, Debug, PartialEq, Eq)]
+pub enum HubFault {
+    /// 32 clients have connected in this run.
+    Spent,
+    /// Eight clients are open.
+    Full,
+}
+
+/// How far an outbox was sent.
+#[derive(Clone, Copy, Debug, PartialEq, Eq)]
+pub enum Pumped {
+    /// Nothing is left of it.
+    All,
+    /// The link takes nothing now.
+    Busy,
+    /// The link failed.
+    Failed,
+}
+
+/// The clients of the daemon, and the frames that wait for one.
+#[derive(Drop)]
+pub struct Hub {
+    ecu: Id,
+    store: Store,
+    clients: Vec<Client>,
+    free: Vec<Ring>,
+    admitted: u64,
+}
+
+impl Model for Hub {
+    ghost use Rattle.std.specs.Prelude.{◌≤◌, vec_capacity};
+    ghost use Rattle.dl_hub.specs.State as state;
+    ghost use Rattle.dl_hub.specs.Kept.{Fits};
+
+    ghost Value = { state.Hub };
+
+    ghost view = { λ h. state.hub_of h.ecu h.store h.clients.items h.admitted };
+
+    ghost invariant = { λ h. Fits (state.hub_of h.ecu h.store h.clients.items h.admitted) h.free.items
+        × (32 ≤ vec_capacity h.clients) × (8 ≤ vec_capacity h.free) };
+}
+
+impl Hub {
+    /// A hub without clients, of a control unit, with a backlog of at most `buffer` bytes. It takes all its memory here.
+    pub fn make(alloc: Global, ecu: Id, buffer: u32) -> Result<Hub, OutOfMemory>
+        ensures value { IfOk result (λ hub. hub ≡ fresh ecu buffer) }
+        ensures after { IfOk result (λ hub. IsAfter [] (λ _. []) hub) }
+    {
+        let buffer = buffer as usize;
+        Ok(Hub {
+            ecu,
+            store: Store::make(alloc, buffer)?,
+            clients: Vec::with_capacity(alloc, CLIENT_LIMIT)?,
+            free: outboxes(alloc, buffer + OUTBOX_EXTRA)?,
+            admitted: 0,
+        })
+    }
+
+    /// How many clients have come.
+    fn came(&self) -> usize
+        ensures { result ≡ length self.now.clients }
+    {
+        self.clients.len()
+    }
+
+    /// Whether a client is open: it came, and has not gone.
+    pub fn is_open(&self, client: u32) -> bool
+        ensures { IsTrue result ↔ IsSome (outbox_of self.now client) }
+    {
+        match self.client(client) {
+            Some(client) => client.is_open(),
+            None => false,
+        }
+    }
+
+    /// A client that came, by its number.
+    fn client(&self, client: u32) -> Option<&Client>
+        ensures limit { IfSome (client_of self.now client) (λ c. IfSome c.outbox (λ outbox. outbox.capacity ≡ outbox_limit self.now.buffer)) }
+        ensures value { option_map (λ r. r.now) result ≡ client_of self.now client }
+    {
+        if client == 0 {
+            return None;
+        }
+        self.clients.get(client as usize - 1)
+    }
+
+    /// Whether any client is open.
+    pub fn any_open(&self) -> bool
+        ensures { result ≡ is_any_open self.now }
+    {
+        self.free.len() < CLIENTS_AT_ONCE
+    }
+
+    /// A client's outbox, where it is open.
+    fn outbox(&self, client: u32) -> Option<&Ring>
+        ensures limit { IfSome (outbox_of self.now client) (λ outbox. outbox.capacity ≡ outbox_limit self.now.buffer) }
+        ensures value { option_map (λ r. r.now) result ≡ outbox_of self.now client }
+    {
+        self.client(client)?.outbox()
+    }
+
+    /// How many more bytes a client's outbox can hold.
+    pub fn room(&self, client: u32) -> u64
+        requires { IsSome (outbox_of self.now client) }
+        ensures value { IsSomeAnd (outbox_of self.now client) (λ outbox. result + length outbox.bytes ≡ outbox.capacity) }
+        ensures limit { IsSomeAnd (outbox_of self.now client) (λ outbox. outbox.capacity ≡ outbox_limit self.now.buffer) }
+    {
+        match self.outbox(client) {
+            Some(outbox) => outbox.room() as u64,
+            None => 0,
+        }
+    }
+
+    /// How many frames were admitted.
+    pub fn admitted(&self) -> u64
+        ensures { result ≡ self.now.admitted }
+    {
+        self.admitted
+    }
+
+    /// Whether each open client has room for this many bytes more: the test of what `admit` asks for.
+    pub fn each_has_room(&self, more: u64) -> bool
+        ensures { IsTrue result ↔ EachHasRoom more self.now }
+    {
+        all_take(&self.clients, more)
+    }
+
+    /// Bytes from the front of a client's outbox, as many as stand together; none only where it is empty.
+    pub fn front(&self, client: u32) -> &[u8]
+        requires { IsSome (outbox_of self.now client) }
+        ensures front { IsSomeAnd (outbox_of self.now client) (λ outbox. result.now ≡ take (length result.now) outbox.bytes) }
+        ensures within { IsSomeAnd (outbox_of self.now client) (λ outbox. length result.now ≤ length outbox.bytes) }
+        ensures some { IsSomeAnd (outbox_of self.now client) (λ outbox. length result.now ≡ 0 → length outbox.bytes ≡ 0) }
+    {
+        match self.outbox(client) {
+            Some(outbox) => outbox.front(),
+            None => &[],
+        }
+    }
+
+    /// Takes bytes from the front of a client's outbox, since its link took them.
+    pub fn took(&mut self, client: u32, count: usize)
+        requires { IsSomeAnd (outbox_of self.old client) (λ outbox. count ≤ length outbox.bytes) }
+        ensures { self.new ≡ changed client (without count) self.old }
+    {
+        self.clients[client as usize - 1].consume(count);
+    }
+
+    /// Connects a client, and answers its number, from 1. Where no client is open it is handed the backlog.
+    pub fn connect(&mut self) -> Result<u32, HubFault>
+        ensures spent { (result ≡ Err HubFault.Spent) ↔ (length self.old.clients ≡ 32) }
+        ensures full { (result ≡ Err HubFault.Full) ↔ ((length self.old.clients < 32) × (count_by is_open self.old.clients ≡ 8)) }
+        ensures refused { OnErr result (self.new ≡ self.old) }
+        ensures number { IfOk result (λ number. number ≡ length self.old.clients + 1) }
+        ensures admitted { self.new.admitted ≡ self.old.admitted }
+        ensures adds { IfOk result (λ number. Adds (Comes number) self.old self.new) }
+    {
+        if self.clients.len() == CLIENT_LIMIT {
+            return Err(HubFault::Spent);
+        }
+        let is_first = self.free.len() == CLIENTS_AT_ONCE;
+        let Some(outbox) = self.free.pop() else {
+            return Err(HubFault::Full);
+        };
+        let client = comer(&mut self.store, self.ecu, outbox, is_first);
+        self.clients.push(client).unwrap();
+        Ok(self.clients.len() as u32)
+    }
+
+    /// Admits a frame: each open client is sent it, and where none is open it waits in the backlog, or is refused there.
+    pub fn admit(&mut self, frame: &Frame)
+        requires room { EachHasRoom (length frame.now) self.old }
+        requires few { self.old.admitted < 2 ^ 40 }
+        ensures adds { Adds (Admit frame.now) self.old self.new }
+        ensures rooms { (more : ℕ) → EachHasRoom (length frame.now + more) self.old → EachHasRoom more self.new }
+        ensures count { self.new.admitted ≡ self.old.admitted + 1 }
+    {
+        if self.any_open() {
+            self.send_each(frame);
+        } else {
+            self.keep(frame);
+        }
+    }
+
+    /// Admits a frame where a client is open: it is put into the stream of each.
+    fn send_each(&mut self, frame: &Frame)
+        requires open { is_any_open self.old ≡ true }
+        requires room { EachHasRoom (length frame.now) self.old }
+        requires few { self.old.admitted < 2 ^ 40 }
+        ensures adds { Adds (Admit frame.now) self.old self.new }
+        ensures rooms { (more : ℕ) → EachHasRoom (length frame.now + more) self.old → EachHasRoom more self.new }
+        ensures count { self.new.admitted ≡ self.old.admitted + 1 }
+    {
+        put_each(&mut self.clients, frame.bytes());
+        self.admitted += 1;
+    }
+
+    /// Admits a frame where no client is open: it waits in the backlog, or is refused there.
+    fn keep(&mut self, frame: &Frame)
+        requires closed { is_any_open self.old ≡ false }
+        requires few { self.old.admitted < 2 ^ 40 }
+        ensures adds { Adds (Admit frame.now) self.old self.new }
+        ensures rooms { (more : ℕ) → EachHasRoom (length frame.now + more) self.old → EachHasRoom more self.new }
+        ensures count { self.new.admitted ≡ self.old.admitted + 1 }
+    {
+        self.store.admit(frame.bytes());
+        self.admitted += 1;
+    }
+
+    /// Puts a reply into a client's stream.
+    pub fn reply(&mut self, client: u32, frame: &[u8])
+        requires room { HasRoom (length frame.now) self.old client }
+        requires size { length frame.now ≤ 65535 }
+        requires few { IsSomeAnd (client_of self.old client) (λ c. c.replies < 1000) }
+        ensures adds { Adds (Reply client frame.now) self.old self.new }
+        ensures value { self.new ≡ changed client (with_reply frame.now) self.old }
+    {
+        self.clients[client as usize - 1].add_reply(frame);
+    }
+
+    /// Ends a client's connection: what its link has not taken is dropped.
+    pub fn close(&mut self, client: u32)
+        requires { IsSome (outbox_of self.old client) }
+        ensures adds { Adds (Goes client) self.old self.new }
+        ensures value { self.new ≡ changed client shut self.old }
+    {
+        if let Some(outbox) = self.clients[client as usize - 1].close() {
+            self.free.push(outbox).unwrap();
+        }
+    }
+
+    /// Sends a client's outbox through its link, until nothing is left or the link takes nothing more.
+    pub fn pump<L: Link>(&mut self, client: u32, link: &mut L) -> Pumped
+        requires { IsSome (outbox_of self.old client) }
+        ensures sent { Pumps client self.old self.new (L.taken link.old) (L.taken link.new) }
+        ensures all { result ≡ Pumped.All → IsSomeAnd (outbox_of self.new client) (λ outbox. outbox.bytes ≡ []) }
+        ensures faults { HasFailed result (L.faults link.old) (L.faults link.new) }
+        ensures waits { HasWaited result (L.waits link.old) (L.waits link.new) }
+        ensures idles { L.idles link.new ≡ L.idles link.old }
+        ensures left { Stays (L.left link.old) (L.left link.new) }
+        ensures given { Stays (L.given link.old) (L.given link.new) }
+    {
+        loop {
+            let piece = self.front(client);
+            if piece.is_empty() {
+                return Pumped::All;
+            }
+            match link.send(piece) {
+                Sends::Bytes(count) => self.took(client, count),
+                Sends::Busy => return Pumped::Busy,
+                Sends::Failed => return Pumped::Failed,
+            }
+        }
+    }
+
+    /// How many frames and how many bytes were put into a client's stream.
+    pub fn sent(&self, client: u32) -> (u64, u64)
+        requires { (1 ≤ client) × (client ≤ length self.now.clients) }
+        ensures { IsSomeAnd (client_of self.now client) (λ c. result ≡ (c.frames, c.bytes)) }
+    {
+        self.clients[client as usize - 1].put()
+    }
+
+    /// What waits for a client.
+    pub fn backlog(&self) -> Backlog
+        ensures { result ≡ record { frames = self.now.frames; bytes = length self.now.backlog; refused = self.now.refused } }
+    {
+        Backlog {
+            frames: self.store.frames(),
+            bytes: self.store.len(),
+            refused: self.store.refused(),
+        }
+    }
+}
+
+/// Whether all of them can take this many bytes more.
+fn all_take(clients: &[Client], more: u64) -> bool
+    ensures { result ≡ list_all (takes more) clients.now }
+{
+    clients.iter().all(|client| client.has_room(more))
+}
+
+/// An empty outbox for each client that may be open at once.
+fn outboxes(alloc: Global, capacity: usize) -> Result<Vec<Ring>, OutOfMemory>
+    ensures { IfOk result (λ free. (length free.items ≡ 8) × (8 ≤ vec_capacity free) × All (λ r. (r.bytes ≡ []) × (r.capacity ≡ capacity)) free.items) }
+{
+    let mut free = Vec::with_capacity(alloc, CLIENTS_AT_ONCE)?;
+    for _i in 0..CLIENTS_AT_ONCE {
+        free.push(Ring::make(alloc, capacity)?)?;
+    }
+    Ok(free)
+}
+
+/// A new client. The first of those that are open is handed what waits.
+fn comer(store: &mut Store, ecu: Id, outbox: Ring, is_first: bool) -> Client
+    requires empty { outbox.bytes ≡ [] }
+    requires refused { store.old.refused ≤ 2 ^ 40 }
+    requires frames { store.old.frames ≤ 2 ^ 40 }
+    requires room { length store.old.ring.bytes + size_of (overflow_frames ecu daemon_apid daemon_ctid store.old.refused) ≤ outbox.capacity }
+    ensures client { result ≡ came is_first ecu outbox.capacity store.old }
+    ensures left { store.new ≡ left_over is_first store.old }
+{
+    if is_first {
+        store.hand_over(ecu, outbox)
+    } else {
+        Client::new(outbox)
+    }
+}
+
+/// Puts a frame into the stream of each client that is open.
+fn put_each(clients: &mut [Client], frame: &[u8])
+    requires room { All (λ c. IfSome c.outbox (λ r. length r.bytes + length frame.now ≤ r.capacity)) clients.old }
+    requires counts { All (λ c. (c.frames < 2 ^ 63) × (c.bytes + length frame.now < 2 ^ 63)) clients.old }
+    ensures { clients.new ≡ map (with_frame frame.now) clients.old }
+{
+    for client in clients.iter_mut() {
+        client.add(frame);
+    }
+}
