@@ -10,6 +10,7 @@ mod frame;
 mod htyp;
 mod id;
 mod item;
+pub mod laws;
 mod level;
 mod list;
 mod moment;

@@ -1,6 +1,7 @@
 -- What the hub keeps to beside the traffic: sizes that no count passes.
 use Rattle.std.specs.Prelude.{◌≡◌, ℕ, ◌+◌, ◌*◌, ◌≤◌, ◌^◌, List, [], length, count_by, IfSome}
 use Rattle.std.specs.List.{All}
+use Rattle.dl_bytes.specs.Limits.{frame_limit}
 use Rattle.dl_hub.specs.State.{Client, Waiting, Hub, is_open, outbox_limit}
 
 -- a client's outbox has the size of an outbox, and its counts are bounded by the frames that were admitted
@@ -25,4 +26,4 @@ pub record Fits (hub : Hub) (free : List Waiting) : Type 0 where
   pub admissions : hub.admitted ≤ 2 ^ 40
   pub frames : hub.frames ≤ hub.admitted
   pub refusals : hub.refused ≤ hub.admitted
-  pub bytes : length hub.backlog ≤ 1984 * hub.frames
+  pub bytes : length hub.backlog ≤ frame_limit * hub.frames

@@ -1,11 +1,7 @@
 pub mod Outside
-pub mod Kept
 pub mod Folder
 pub mod Link
 pub mod Links
 pub mod Lends
 pub mod Net
 pub mod Dial
-pub mod Wire
-pub mod Shelf
-pub mod Clients

@@ -1,6 +1,6 @@
 //! One run of the replay over objects in memory.
 
-use dl_outside::{Failing, MemorySink, MemorySource};
+use dl_memory::{Failing, MemorySink, MemorySource};
 use dl_replay::replay;
 use std::alloc::{AllocError, Global};
 

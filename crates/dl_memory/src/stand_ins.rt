@@ -1,0 +1,135 @@
+//! Clocks, a gate and a dial in memory.
+
+ghost use Rattle.std.specs.Prelude.{◌≡◌, ◌<◌, ◌==◌, [], ℕ, List, Some, if◌then◌else◌};
+
+use crate::memory::MemorySource;
+use dl_bytes::Moment;
+use dl_outside::{Clock, Dial, DialFault, Gate};
+use std::alloc::Global;
+use std::marker::Model;
+use std::sync::atomic::{AtomicBool, Ordering};
+
+/// A clock that stands.
+#[derive(Clone, Copy, Debug)]
+pub struct StandingClock {
+    /// What it always tells.
+    pub moment: Moment,
+}
+
+impl Clock for StandingClock {
+    fn now(&self) -> Moment {
+        self.moment
+    }
+}
+
+/// A call of a worker: the number of its writer, from 1, and that of the call, from 1.
+#[derive(Clone, Copy, Debug, PartialEq, Eq)]
+pub struct Passing {
+    /// The writer's number.
+    pub writer: u8,
+    /// The call's number.
+    pub call: u64,
+}
+
+/// A gate that holds one worker before a call until another one came to a call of its own, for so many turns at most.
+#[derive(Drop)]
+pub struct HoldingGate {
+    held: Passing,
+    until: Passing,
+    turns: u64,
+    is_open: AtomicBool,
+}
+
+impl HoldingGate {
+    /// A gate that holds the first worker until the second has come.
+    pub fn make(held: Passing, until: Passing, turns: u64) -> HoldingGate {
+        HoldingGate {
+            held,
+            until,
+            turns,
+            is_open: AtomicBool::new(false),
+        }
+    }
+}
+
+impl Gate for HoldingGate {
+    fn pass(&self, writer: u8, call: u64) {
+        let now = Passing { writer, call };
+        if now == self.until {
+            self.is_open.store(true, Ordering::SeqCst);
+        }
+        if now != self.held {
+            return;
+        }
+        for _ in 0..self.turns {
+            if self.is_open.load(Ordering::SeqCst) {
+                break;
+            }
+        }
+    }
+}
+
+/// A dial in memory: one port gives bytes, every other one none. It never fails.
+#[derive(Debug, Drop)]
+pub struct MemoryDial {
+    alloc: Global,
+    port: u16,
+    bytes: Vec<u8>,
+    piece: usize,
+}
+
+impl Model for MemoryDial {
+    ghost use Rattle.std.specs.Prelude.{◌<◌};
+    ghost use Rattle.dl_memory.specs.Kept.{Served};
+
+    ghost Value = { Served };
+
+    ghost view = { λ d. record { port = d.port; bytes = d.bytes.items } };
+
+    ghost invariant = { λ d. 0 < d.piece };
+}
+
+impl MemoryDial {
+    /// A dial whose port gives these bytes, in pieces of at most so many.
+    pub fn make(alloc: Global, port: u16, bytes: Vec<u8>, piece: usize) -> MemoryDial
+        requires { 0 < piece }
+        ensures { result ≡ record { port = port; bytes = bytes.items } }
+    {
+        MemoryDial {
+            alloc,
+            port,
+            bytes,
+            piece,
+        }
+    }
+
+    /// What a port gives.
+    fn served(&self, port: u16) -> &[u8]
+        ensures { result.now ≡ (if port == self.now.port then self.now.bytes else []) }
+    {
+        if port == self.port {
+            self.bytes.as_slice()
+        } else {
+            &[]
+        }
+    }
+}
+
+impl Dial for MemoryDial {
+    type S = MemorySource;
+
+    ghost serves = { λ d. Some (λ port. if port == d.port then d.bytes else []) };
+
+    ghost faults = { λ _. 0 };
+
+    fn dial(&mut self, port: u16) -> Result<MemorySource, DialFault> {
+        match Vec::from_slice(self.alloc, self.served(port)) {
+            Ok(bytes) => Ok(MemorySource::make(bytes, self.piece)),
+            Err(_) => Err(DialFault::OutOfMemory),
+        }
+    }
+
+    fn faults(&self) -> u64 {
+        0
+    }
+}
