@@ -45,7 +45,8 @@ impl Model for InjectPush {
 }
 
 impl InjectPush {
-    /// Puts an injection at the end of the queue, at one step. It comes back only where the queue held 16 at that step.
+    /// Puts an injection at the end of the queue, or gives it back. After a refusal it is known that at least 16 injections
+    /// were pushed before.
     pub fn push<R: Wait>(&mut self, rt: &R, item: Injection) -> Result<(), Injection>
         ensures pushed { OnOk result (self.new ≡ record self.old { pushed = self.old.pushed ++ item ∷ [] }) }
         ensures refused { OnErr result (self.new ≡ record self.old { refusals = self.old.refusals + 1 }) }

@@ -6,7 +6,9 @@ use std::collections::LinkedList;
 /// An injection as it lies in the queue: with its number among those pushed, from 0.
 #[derive(Debug, Drop)]
 pub struct Entry {
+    /// Its number.
     pub number: u64,
+    /// The injection.
     pub injection: Injection,
 }
 
@@ -14,12 +16,15 @@ pub struct Entry {
 pub struct View {
     /// It may push.
     pub pushes: bool,
+    /// What it pushed, in order.
     pub pushed: LinkedList<Injection>,
     /// It may take.
     pub takes: bool,
+    /// What it took, in order.
     pub taken: LinkedList<Entry>,
     /// It may make further passes that take.
     pub gives: bool,
+    /// How many it made.
     pub splits: u64,
     /// What each pass that it took in had taken.
     pub joined: LinkedList<LinkedList<Entry>>,

@@ -46,7 +46,8 @@ impl Model for RingPush {
 }
 
 impl RingPush {
-    /// Puts an item at the end of the ring, at one step. It comes back only where the ring was full at that step.
+    /// Puts an item at the end of the ring, or gives it back. After a refusal it is known that there was a moment at which
+    /// the ring was full, with all that this pass had pushed taken before or lying in it.
     pub fn push<R: Wait>(&mut self, rt: &R, item: Item) -> Result<(), Item>
         requires { item.writer ≡ self.old.number }
         ensures pushed { OnOk result (self.new ≡ record self.old { pushed = self.old.pushed ++ item ∷ [] }) }

@@ -7,13 +7,17 @@ use std::collections::LinkedList;
 pub struct View {
     /// It may push, under its number.
     pub pushes: bool,
+    /// The number of its writer.
     pub number: u8,
+    /// What it pushed, in order.
     pub pushed: LinkedList<Item>,
     /// It may give numbers to new passes.
     pub gives: bool,
+    /// The numbers that it gave to further passes.
     pub given: LinkedList<u8>,
     /// It may take.
     pub takes: bool,
+    /// What it took, in order.
     pub taken: LinkedList<Item>,
     /// The passes that it took in.
     pub joined: LinkedList<Sent>,
@@ -21,6 +25,8 @@ pub struct View {
 
 /// What a joined pass had pushed, under its number.
 pub struct Sent {
+    /// The number of its writer.
     pub number: u8,
+    /// What it had pushed, in order.
     pub items: LinkedList<Item>,
 }
