@@ -1,12 +1,12 @@
 -- Lines that were read, before those that are left.
 use Rattle.std.proofs.Common.{◌≡◌, ℕ, ◌+◌, true, false, List, [], ◌∷◌, ◌++◌, Result, Ok, Err, refl, sym, ap, append_assoc}
 use Rattle.dl_script.specs.Earlier.{Declared}
-use Rattle.dl_script.specs.Fields.{is_ignored}
+use Rattle.dl_script.specs.Line.{is_ignored}
 use Rattle.dl_script.specs.Script.{judged, before, entries}
-use Rattle.dl_script.specs.declared.kind.ScriptKind.{ScriptKind}
-use Rattle.dl_script.specs.declared.kind.ScriptError.{ScriptError}
-use Rattle.dl_script.specs.declared.kind.ScriptError.TheVariants.{Fault}
-use Rattle.dl_script.specs.declared.line.Read.{Read}
+use Rattle.dl_fields.specs.declared.kind.ScriptKind.{ScriptKind}
+use Rattle.dl_script.specs.declared.error.ScriptError.{ScriptError}
+use Rattle.dl_script.specs.declared.error.ScriptError.TheVariants.{Fault}
+use Rattle.dl_script.specs.declared.read.Read.{Read}
 
 -- entries before those that follow, as far as these can be read
 abbrev pub all_before : {A : Type 0} → List A → Result (List A) ScriptError → Result (List A) ScriptError

@@ -1,11 +1,5 @@
-pub mod Kind
-pub mod Fields
-pub mod Value
-pub mod Argument
-pub mod Spelling
-pub mod Added
 pub mod Earlier
 pub mod Line
 pub mod Script
 pub mod Generated
-pub mod Joined
+pub mod Spelled

@@ -4,17 +4,18 @@ use Rattle.std.specs.Option.{ok_or}
 use Rattle.dl_steps.specs.declared.step.Step.{Step}
 use Rattle.dl_steps.specs.declared.scenario.ScenarioLine.{ScenarioLine}
 use Rattle.dl_script.specs.Earlier.{Declared, nothing, refusal, noted}
-use Rattle.dl_script.specs.Fields.{lines_of, is_ignored}
-use Rattle.dl_script.specs.Kind.{◌>>=◌}
-use Rattle.dl_script.specs.Line.{step_of, scenario_line_of}
+use Rattle.dl_text.specs.Faults.{size_limit}
+use Rattle.dl_text.specs.Lines.{lines_of}
+use Rattle.dl_fields.specs.Kind.{◌>>=◌}
+use Rattle.dl_script.specs.Line.{is_ignored, step_of, scenario_line_of}
 use Rattle.dl_script.specs.declared.claim.Claim.{Claim}
-use Rattle.dl_script.specs.declared.kind.ScriptKind.{ScriptKind}
-use Rattle.dl_script.specs.declared.kind.ScriptKind.TheVariants.{Size, Payload}
-use Rattle.dl_script.specs.declared.kind.LineError.{LineError}
-use Rattle.dl_script.specs.declared.kind.LineError.TheVariants as bad
-use Rattle.dl_script.specs.declared.kind.ScriptError.{ScriptError}
-use Rattle.dl_script.specs.declared.kind.ScriptError.TheVariants.{Fault, OutOfMemory}
-use Rattle.dl_script.specs.declared.line.Read.{Read}
+use Rattle.dl_fields.specs.declared.kind.ScriptKind.{ScriptKind}
+use Rattle.dl_fields.specs.declared.kind.ScriptKind.TheVariants.{Size, Payload}
+use Rattle.dl_fields.specs.declared.kind.LineError.{LineError}
+use Rattle.dl_fields.specs.declared.kind.LineError.TheVariants as bad
+use Rattle.dl_script.specs.declared.error.ScriptError.{ScriptError}
+use Rattle.dl_script.specs.declared.error.ScriptError.TheVariants.{Fault, OutOfMemory}
+use Rattle.dl_script.specs.declared.read.Read.{Read}
 
 -- what is declared with one line more, or why the line may not follow
 abbrev pub admitted : Declared → Claim → Option ScriptKind → Result Declared ScriptKind
@@ -47,13 +48,9 @@ entries line_of known number (line ∷ lines) =
     if is_ignored line then entries line_of known (number + 1) lines
     else either (λ said. before said.0 (entries line_of said.1 (number + 1) lines)) (λ kind. Err (Fault number kind)) (judged line_of known line)
 
--- the most bytes of a script
-abbrev pub text_limit : ℕ
-text_limit = 16777216
-
 -- what a script says, from its first line on
 unfoldable pub script_of : {A : Type 0} → (List ℕ → Result (Read A) ScriptKind) → List ℕ → Result (List A) ScriptError
-script_of line_of text = if nat_lt text_limit (length text) then Err (Fault 0 Size) else entries line_of nothing 1 (lines_of text)
+script_of line_of text = if nat_lt size_limit (length text) then Err (Fault 0 Size) else entries line_of nothing 1 (lines_of text)
 
 -- the step script of a text, or its fault
 abbrev pub steps_of : List ℕ → Result (List Step) ScriptError

@@ -2,39 +2,28 @@
 
 ghost use Rattle.std.specs.Prelude.{◌≡◌};
 ghost use Rattle.dl_steps.specs.declared.step.Step.TheVariants as step;
-ghost use Rattle.dl_script.specs.Fields.{texts};
-ghost use Rattle.dl_script.specs.Kind.{Says};
-ghost use Rattle.dl_script.specs.Line.{says, called, calls, step_by_word, step_word, scenario_word, scenario_by_word, line_of_text, worded, step_of, scenario_line_of};
+ghost use Rattle.dl_fields.specs.Fields.{texts};
+ghost use Rattle.dl_fields.specs.Kind.{Says};
+ghost use Rattle.dl_script.specs.Line.{called, step_by_word, step_word, scenario_word, scenario_by_word, line_of_text, step_of, scenario_line_of};
 ghost use Rattle.dl_script.specs.declared.word.StepWord.TheVariants as word;
 ghost use Rattle.dl_script.specs.declared.word.ScenarioWord.TheVariants as scene;
 
 use crate::claim::Claim;
-use crate::fields::{fields, first_blank, skip_blanks};
-use crate::kind::{LineError, ScriptKind};
-use crate::line::{
-    Call, Read, app, app_id, bare, client_bytes, client_number, clock, context, leave, levels,
-    log_call, user, writer_number,
-};
+use crate::read::{Read, all_calls, one_call, says};
 use crate::word::{ScenarioWord, StepWord, scenario_word, step_word};
+use dl_fields::{
+    Call, LineError, ScriptKind, app, app_id, bare, client_bytes, client_number, clock, context,
+    fields, leave, levels, log_call, user, worded, writer_number,
+};
 use dl_steps::{ScenarioLine, Step};
 use std::alloc::Global;
 use std::str::from_utf8;
-
-/// What a line declares or asks, and what it says.
-fn says<T>(claim: Claim, line: T) -> Read<T>
-    ensures { result ≡ says claim line }
-{
-    Read {
-        claim,
-        line: Some(line),
-    }
-}
 
 /// What a log call declares and says: the step that `load`, `call` or `log` is.
 fn loaded(call: Call) -> Read<Step>
     ensures { result ≡ called step.Load call }
 {
-    let claim = call.claim();
+    let claim = one_call(&call);
     match call.into_line() {
         Some(line) => says(claim, Step::Load(line)),
         None => Read { claim, line: None },
@@ -44,7 +33,7 @@ fn loaded(call: Call) -> Read<Step>
 fn called(call: Call) -> Read<Step>
     ensures { result ≡ called step.Call call }
 {
-    let claim = call.claim();
+    let claim = one_call(&call);
     match call.into_line() {
         Some(line) => says(claim, Step::Call(line)),
         None => Read { claim, line: None },
@@ -54,7 +43,7 @@ fn called(call: Call) -> Read<Step>
 fn logged(call: Call) -> Read<Step>
     ensures { result ≡ called step.Log call }
 {
-    let claim = call.claim();
+    let claim = one_call(&call);
     match call.into_line() {
         Some(line) => says(claim, Step::Log(line)),
         None => Read { claim, line: None },
@@ -278,7 +267,7 @@ fn scenario_by_word(
         }
         ScenarioWord::Calls => {
             let call = log_call(alloc, fields, 1, 1_000_000)?;
-            Ok(call.into_calls())
+            Ok(all_calls(call))
         }
         ScenarioWord::Client => {
             bare(fields)?;
@@ -303,17 +292,6 @@ fn scenario_by_word(
             ))
         }
     }
-}
-
-/// A line's word, up to the first blank, and what stands behind it.
-#[tactic(auto, using(crate::proofs::Boundaries::word_end))]
-fn worded(line: &str) -> (&str, &str)
-    ensures word { result.0.now ≡ (worded line.now).0 }
-    ensures rest { result.1.now ≡ (worded line.now).1 }
-{
-    let text = skip_blanks(line);
-    let end = first_blank(text.as_bytes()).unwrap_or(text.len());
-    text.split_at(end)
 }
 
 /// What a line of a step script says that is text.

@@ -4,8 +4,8 @@ ghost use Rattle.std.specs.Prelude.{◌≡◌, ◌<◌, ◌+◌, IfSome, length,
 ghost use Rattle.dl_script.specs.Earlier.{nothing, is_app, is_of, is_context, numbered, logs_under, Admits};
 ghost use Rattle.dl_script.specs.declared.claim.Claim.TheVariants as claim;
 
-use crate::kind::{LineError, ScriptKind};
 use dl_bytes::Id;
+use dl_fields::{LineError, ScriptKind};
 use std::alloc::Global;
 use std::marker::Model;
 

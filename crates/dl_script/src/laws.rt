@@ -1,37 +1,18 @@
-//! Laws of what fields say.
+//! Laws of what lines say.
 
-ghost use Rattle.std.specs.Prelude.{◌≡◌, ◌++◌, List, ℕ, true, Some, Ok};
+ghost use Rattle.std.specs.Prelude.{◌≡◌, ◌≤◌, ◌++◌, List, ℕ, true, Some, Ok, length};
 ghost use Rattle.std.specs.List.{list_all};
 ghost use Rattle.std.specs.Str.{is_utf8};
-ghost use Rattle.dl_bytes.specs.Payload.{Arguments};
-ghost use Rattle.dl_bytes.specs.declared.cursor.Order.TheVariants.{Little};
-ghost use Rattle.dl_args.specs.Reading as reading;
-ghost use Rattle.dl_args.specs.declared.arg.Arg.{Arg};
-ghost use Rattle.dl_script.specs.Argument.{argument_of, arguments_of, payload_of};
-ghost use Rattle.dl_script.specs.Fields.{fields_of};
-ghost use Rattle.dl_script.specs.Joined.{is_field, is_plain, parted_by_blanks};
-ghost use Rattle.dl_script.specs.Line.{step_word, scenario_word, step_by_word, scenario_by_word, step_of, scenario_line_of};
+ghost use Rattle.dl_fields.specs.Joined.{is_field, is_plain, parted_by_blanks};
+ghost use Rattle.dl_steps.specs.declared.scenario.ScenarioLine.{ScenarioLine};
+ghost use Rattle.dl_steps.specs.declared.step.Step.{Step};
+ghost use Rattle.dl_text.specs.Faults.{size_limit};
+ghost use Rattle.dl_script.specs.Earlier.{nothing};
+ghost use Rattle.dl_script.specs.Script.{steps_of, scenario_of};
+ghost use Rattle.dl_script.specs.Spelled.{SpellsStep, SpellsScenarioLine, step_claim, scenario_claim, IsSayableStep, IsSayableScenarioLine, AreSpelled, MayFollow, text_of};
+ghost use Rattle.dl_script.specs.Line.{says, step_word, scenario_word, step_by_word, scenario_by_word, step_of, scenario_line_of};
 ghost use Rattle.dl_script.specs.declared.word.StepWord.{StepWord};
 ghost use Rattle.dl_script.specs.declared.word.ScenarioWord.{ScenarioWord};
-ghost use Rattle.dl_script.specs.Spelling.{spelling, IsSayable};
-
-/// A script can say every argument that has a written form, with any text, every number of its width, and any bytes but
-/// none; what it says is read as that very argument. A name and a unit have letters, digits and `_`.
-pub fn each_argument_can_be_said()
-    ensures { (a : Arg) → IsSayable a → argument_of (spelling a) ≡ Ok a }
-{}
-
-/// What a log line says is what a reader of its message's payload reads: the same arguments in the same order.
-pub fn what_is_said_is_read()
-    ensures { (fields : List (List ℕ)) (args : List Arg) (payload : Arguments) → arguments_of fields ≡ Ok args
-        → payload_of args ≡ Some payload → reading.arguments_of Little payload.args payload.bytes ≡ Ok args }
-{}
-
-/// Fields that are parted by blanks are read as those fields: quoted texts, and bytes without a blank that begin with no
-/// quote.
-pub fn fields_are_parted_by_blanks()
-    ensures { (fields : List (List ℕ)) → list_all is_field fields ≡ true → fields_of (parted_by_blanks fields) ≡ Some fields }
-{}
 
 /// A line of a word and of fields, parted by blanks, says what the word makes of those fields.
 pub fn a_line_is_a_word_with_fields()
@@ -39,4 +20,25 @@ pub fn a_line_is_a_word_with_fields()
         → is_utf8 (word ++ parted_by_blanks fields) ≡ true → step_word word ≡ Some w → step_of (word ++ parted_by_blanks fields) ≡ step_by_word w fields }
     ensures scenario { (word : List ℕ) (w : ScenarioWord) (fields : List (List ℕ)) → is_plain word ≡ true → list_all is_field fields ≡ true
         → is_utf8 (word ++ parted_by_blanks fields) ≡ true → scenario_word word ≡ Some w → scenario_line_of (word ++ parted_by_blanks fields) ≡ scenario_by_word w fields }
+{}
+
+/// A line that spells a step, or a line of a scenario, is read as that, with what it declares and asks.
+pub fn a_line_says_what_it_spells()
+    ensures step { (line : List ℕ) (s : Step) → SpellsStep line s → step_of line ≡ Ok (says (step_claim s) s) }
+    ensures scenario { (line : List ℕ) (entry : ScenarioLine) → SpellsScenarioLine line entry → scenario_line_of line ≡ Ok (says (scenario_claim entry) entry) }
+{}
+
+/// Each step, and each line of a scenario, has a line that spells it, but for what no script can say: an id without a
+/// name, a number out of its range, no bytes, a line feed or what is no UTF-8 in a text, a blank in a text with a name.
+pub fn a_line_can_spell_each()
+    ensures step { (s : Step) → IsSayableStep s → (line : List ℕ) × SpellsStep line s }
+    ensures scenario { (entry : ScenarioLine) → IsSayableScenarioLine entry → (line : List ℕ) × SpellsScenarioLine line entry }
+{}
+
+/// A text of such lines, of which each may follow those before it, is read as what they spell.
+pub fn a_script_says_what_its_lines_spell()
+    ensures steps { (lines : List (List ℕ)) (steps : List Step) → AreSpelled SpellsStep lines steps → MayFollow step_claim nothing steps
+        → length (text_of lines) ≤ size_limit → steps_of (text_of lines) ≡ Ok steps }
+    ensures scenario { (lines : List (List ℕ)) (scenario : List ScenarioLine) → AreSpelled SpellsScenarioLine lines scenario → MayFollow scenario_claim nothing scenario
+        → length (text_of lines) ≤ size_limit → scenario_of (text_of lines) ≡ Ok scenario }
 {}

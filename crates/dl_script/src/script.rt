@@ -1,21 +1,37 @@
 //! A script, line by line.
 
 ghost use Rattle.std.specs.Prelude.{◌≡◌, ◌≤◌, length};
+ghost use Rattle.std.specs.List.{list_all};
 ghost use Rattle.dl_script.specs.Earlier.{nothing};
-ghost use Rattle.dl_script.specs.Fields.{lines_of};
-ghost use Rattle.dl_script.specs.Line.{step_of, scenario_line_of};
-ghost use Rattle.dl_script.specs.Script.{text_limit, entries, error_at, steps_of, scenario_of, Reads, Judges};
+ghost use Rattle.dl_text.specs.Faults.{size_limit};
+ghost use Rattle.dl_text.specs.Lines.{is_blank, lines_of};
+ghost use Rattle.dl_script.specs.Line.{is_ignored, step_of, scenario_line_of};
+ghost use Rattle.dl_script.specs.Script.{entries, steps_of, scenario_of, Reads, Judges};
 
 use crate::by_word::{scenario_line, step};
 use crate::claim::Known;
-use crate::fields::says_nothing;
-use crate::kind::{LineError, ScriptError, ScriptKind};
-use bstr::ByteSlice;
+use crate::error::ScriptError;
+use dl_fields::{LineError, ScriptKind};
 use dl_steps::{Scenario, ScenarioLine, Step, StepList};
+use dl_text::{SIZE_LIMIT, is_blank, lines};
 use std::alloc::Global;
 
-/// The most bytes of a script.
-pub const TEXT_LIMIT: usize = 16_777_216;
+/// Whether all bytes are blanks.
+fn is_empty(line: &[u8]) -> bool
+    ensures { result ≡ list_all is_blank line.now }
+{
+    line.iter().all(|b| is_blank(*b))
+}
+
+/// Whether a line says nothing: a comment, or blanks alone.
+fn says_nothing(line: &[u8]) -> bool
+    ensures { result ≡ is_ignored line.now }
+{
+    match line {
+        [b'#', ..] => true,
+        _ => is_empty(line),
+    }
+}
 
 /// The step that a line says after the lines before it.
 #[tactic(auto, unfolding(crate::specs::Script::judged))]
@@ -43,35 +59,23 @@ fn judged_line(alloc: Global, known: &mut Known, line: &[u8]) -> Result<Scenario
     }
 }
 
-impl LineError {
-    /// The same of a script, at this line.
-    fn at(self, line: u32) -> ScriptError
-        ensures { result ≡ error_at line self }
-    {
-        match self {
-            LineError::Fault(kind) => ScriptError::Fault { line, kind },
-            LineError::OutOfMemory => ScriptError::OutOfMemory,
-        }
-    }
-}
-
 /// The steps of a text, or its first bad line.
 #[tactic(auto, unfolding(crate::specs::Script::entries))]
 fn steps(alloc: Global, text: &[u8]) -> Result<Vec<Step>, ScriptError>
-    requires { length text.now ≤ text_limit }
+    requires { length text.now ≤ size_limit }
     ensures { Reads (λ v. v.items) result (entries step_of nothing 1 (lines_of text.now)) }
 {
     let mut known = Known::new(alloc);
     let mut steps = Vec::new(alloc);
     let mut number = 0;
-    for line in text.lines() {
+    for line in lines(text) {
         number += 1;
         if says_nothing(line) {
             continue;
         }
         match judged_step(alloc, &mut known, line) {
             Ok(step) => steps.push(step)?,
-            Err(error) => return Err(error.at(number)),
+            Err(error) => return Err(ScriptError::at(number, error)),
         }
     }
     Ok(steps)
@@ -80,23 +84,23 @@ fn steps(alloc: Global, text: &[u8]) -> Result<Vec<Step>, ScriptError>
 /// The lines of a scenario of a text, or its first bad line.
 #[tactic(auto, unfolding(crate::specs::Script::entries))]
 fn scenario_lines(alloc: Global, text: &[u8]) -> Result<Vec<ScenarioLine>, ScriptError>
-    requires { length text.now ≤ text_limit }
+    requires { length text.now ≤ size_limit }
     ensures { Reads (λ v. v.items) result (entries scenario_line_of nothing 1 (lines_of text.now)) }
 {
     let mut known = Known::new(alloc);
-    let mut lines = Vec::new(alloc);
+    let mut scenario = Vec::new(alloc);
     let mut place = 0;
-    for line in text.lines() {
+    for line in lines(text) {
         place += 1;
         if says_nothing(line) {
             continue;
         }
         match judged_line(alloc, &mut known, line) {
-            Ok(entry) => lines.push(entry)?,
-            Err(error) => return Err(error.at(place)),
+            Ok(entry) => scenario.push(entry)?,
+            Err(error) => return Err(ScriptError::at(place, error)),
         }
     }
-    Ok(lines)
+    Ok(scenario)
 }
 
 /// The step script that a text is, or its first bad line and what is wrong with it. The text has at most 16,777,216
@@ -105,7 +109,7 @@ fn scenario_lines(alloc: Global, text: &[u8]) -> Result<Vec<ScenarioLine>, Scrip
 pub fn read_steps(alloc: Global, text: &[u8]) -> Result<StepList, ScriptError>
     ensures { Reads (λ list. list) result (steps_of text.now) }
 {
-    if text.len() > TEXT_LIMIT {
+    if text.len() > SIZE_LIMIT {
         return Err(ScriptError::Fault {
             line: 0,
             kind: ScriptKind::Size,
@@ -120,7 +124,7 @@ pub fn read_steps(alloc: Global, text: &[u8]) -> Result<StepList, ScriptError>
 pub fn read_scenario(alloc: Global, text: &[u8]) -> Result<Scenario, ScriptError>
     ensures { Reads (λ list. list) result (scenario_of text.now) }
 {
-    if text.len() > TEXT_LIMIT {
+    if text.len() > SIZE_LIMIT {
         return Err(ScriptError::Fault {
             line: 0,
             kind: ScriptKind::Size,

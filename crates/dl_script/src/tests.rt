@@ -9,7 +9,7 @@ use std::test::Fail;
 const DECLARED: &str = "app LOG1 16\ncontext LOG1 TEST info\nwriter LOG1\nconnect\n";
 
 /// Lines behind these four that may follow them.
-const GOOD: [&str; 44] = [
+const GOOD: [&str; 29] = [
     "",
     "\n \t\n# \"\n#\u{e9}\n",
     "app A 1\napp B 4096 \"\"\napp C 007 \"a \\\"b\\\\\"\t",
@@ -20,19 +20,8 @@ const GOOD: [&str; 44] = [
     "load 1 TEST fatal 0",
     "push 1\ncount 1\npush 001",
     "call 1 TEST verbose 4294967295 \"\"",
-    "log 1 TEST info 1 \"a\" bool:0 bool:1",
     "log 1 TEST info 1 fill:0 fill:1370",
-    "log 1 TEST info 1 sint8:-128 sint8:127 sint8:-0 sint8:007",
-    "log 1 TEST info 1 sint16:-32768 sint32:2147483647",
-    "log 1 TEST info 1 sint64:-9223372036854775808",
-    "log 1 TEST info 1 sint128:-170141183460469231731687303715884105728",
-    "log 1 TEST info 1 uint8:255 uint16:65535 uint32:4294967295",
-    "log 1 TEST info 1 uint128:340282366920938463463374607431768211455",
-    "log 1 TEST info 1 raw:00 raw:aBcD",
-    "log 1 TEST info 1 named:::\"a\"",
-    "log 1 TEST info 1 named:n::\"ab\" named:n_9::bool:1",
     "log 1 TEST info 1 named:n:V:sint8:1 named:n::uint8:1",
-    "log 1 TEST info 1 named:::fill:3 named:n::raw:0A",
     "take LOG1\nlosses LOG1\ninject LOG1",
     "levels later\nlevel\nlevels now\nlevel",
     "connect\nbytes 2 00\nclose 2\nclose 2\nbytes 2 00",
@@ -46,13 +35,9 @@ const GOOD: [&str; 44] = [
     "context LOG1 a:b info",
     "app LOG2 1\ncontext LOG2 TEST info\nwriter LOG2\nlog 2 TEST info 1",
     "log 1 TEST warn 1 \"\\\\\" \"\\\"\"",
-    "log 1 TEST warn 1 \"tab\there\"",
-    "log 1 TEST warn 1 \"\u{e9}\u{20ac}\"",
     "level ",
     "load 1 TEST info 1 \"x\"\npush 1\ncount 1",
-    "log 1 TEST info 1 named:a:b:uint8:1",
     "clock 00000000000000000000000000000000000000000000001 01",
-    "log 1 TEST info 1 uint8:0000000000000000000000000000000000000000000000000001",
     "app A 16 \"x\"",
 ];
 
@@ -76,13 +61,12 @@ const BAD_WORDS: [(&str, u32, ScriptKind); 15] = [
 ];
 
 /// Lines behind the four that declare, the first bad line among them, and what is wrong with it: the fields come before what they say.
-const BAD_FIELDS: [(&str, u32, ScriptKind); 23] = [
+const BAD_FIELDS: [(&str, u32, ScriptKind); 22] = [
     ("app", 5, ScriptKind::Fields),
     ("app A", 5, ScriptKind::Fields),
     ("app LONGER x \"a\" b", 5, ScriptKind::Fields),
     ("app A 16 text", 5, ScriptKind::Fields),
     ("app A 16 \"open", 5, ScriptKind::Fields),
-    ("app A 16 \"a\\n\"", 5, ScriptKind::Fields),
     ("app A 16 \"a\"b", 5, ScriptKind::Fields),
     ("app A 16 \"a\\\"", 5, ScriptKind::Fields),
     ("app LONGER 16 text", 5, ScriptKind::Fields),
@@ -103,7 +87,7 @@ const BAD_FIELDS: [(&str, u32, ScriptKind); 23] = [
 ];
 
 /// Lines behind the four that declare, the first bad line among them, and what is wrong with it: so do arguments of no known form.
-const BAD_ARGUMENTS: [(&str, u32, ScriptKind); 23] = [
+const BAD_ARGUMENTS: [(&str, u32, ScriptKind); 14] = [
     ("levels soon", 5, ScriptKind::Fields),
     ("levels \"now\"", 5, ScriptKind::Fields),
     ("levels now now", 5, ScriptKind::Fields),
@@ -115,21 +99,8 @@ const BAD_ARGUMENTS: [(&str, u32, ScriptKind); 23] = [
     ("user 1", 5, ScriptKind::Fields),
     ("log 9 LONGER info 1 bool:2", 5, ScriptKind::Fields),
     ("log 1 TEST info 1 a", 5, ScriptKind::Fields),
-    ("log 1 TEST info 1 bool:", 5, ScriptKind::Fields),
-    ("log 1 TEST info 1 sint7:1", 5, ScriptKind::Fields),
-    ("log 1 TEST info 1 uint:1", 5, ScriptKind::Fields),
-    ("log 1 TEST info 1 float32:1", 5, ScriptKind::Fields),
-    ("log 1 TEST info 1 named:n:\"a\"", 5, ScriptKind::Fields),
     ("log 1 TEST info 1 named:n::\"a b\"", 5, ScriptKind::Fields),
-    ("log 1 TEST info 1 named:n:u:bool:1", 5, ScriptKind::Fields),
     ("log 1 TEST info 1 named:n:u:fill:x", 5, ScriptKind::Fields),
-    ("log 1 TEST info 1 named:n:u:\"a\"", 5, ScriptKind::Fields),
-    ("log 1 TEST info 1 named:n-::uint8:1", 5, ScriptKind::Fields),
-    (
-        "log 1 TEST info 1 named:n::named:n::bool:1",
-        5,
-        ScriptKind::Fields,
-    ),
     ("log x TEST info 1 uint8:x a", 5, ScriptKind::Fields),
 ];
 
@@ -155,23 +126,14 @@ const BAD_IDS: [(&str, u32, ScriptKind); 17] = [
 ];
 
 /// Lines behind the four that declare, the first bad line among them, and what is wrong with it: and on.
-const BAD_NUMBERS: [(&str, u32, ScriptKind); 17] = [
+const BAD_NUMBERS: [(&str, u32, ScriptKind); 12] = [
     ("log -1 LONGER info 1", 5, ScriptKind::Number),
     ("log 1 TEST info 4294967296", 5, ScriptKind::Number),
     ("clock 4294967296 0", 5, ScriptKind::Number),
     ("clock 0 1000000", 5, ScriptKind::Number),
     ("log 1 NONE info 1 fill:1391", 5, ScriptKind::Number),
-    ("log 1 TEST info 1 fill:", 5, ScriptKind::Number),
-    ("log 1 TEST info 1 uint8:256", 5, ScriptKind::Number),
-    ("log 1 TEST info 1 uint8:-1", 5, ScriptKind::Number),
     ("log 1 TEST info 1 sint8:128 raw:0", 5, ScriptKind::Number),
-    (
-        "log 1 TEST info 1 named:n::sint8:-129",
-        5,
-        ScriptKind::Number,
-    ),
     ("log 1 TEST info 1 raw: uint8:x", 5, ScriptKind::Hex),
-    ("log 1 TEST info 1 raw:0g", 5, ScriptKind::Hex),
     ("bytes 1 0", 5, ScriptKind::Hex),
     ("bytes 9 xx", 5, ScriptKind::Hex),
     ("user 0 00", 5, ScriptKind::Number),

@@ -1,6 +1,6 @@
 use Rattle.std.proofs.Common.{◌≡◌, ◌+◌, ◌≤◌, length}
 use Rattle.dl_script.specs.Earlier.{nothing}
-use Rattle.dl_script.specs.Fields.{lines_of}
+use Rattle.dl_text.specs.Lines.{lines_of}
 use Rattle.dl_script.specs.Line.{step_of}
 use Rattle.dl_script.specs.Script.{entries}
 use Rattle.dl_script.proofs.Entries.{all_before}

@@ -1,0 +1,15 @@
+pub mod Cutting
+pub mod Numbers
+pub mod Boundaries
+pub mod Quotes
+pub mod Payloads
+pub mod Refused
+pub mod Closed
+pub mod Spellings
+pub mod Values
+pub mod JoinedFields
+pub mod Letters
+pub mod QuotedFields
+pub mod SpelledFields
+pub mod SpelledArguments
+pub mod SpelledLines

@@ -1,0 +1,9 @@
+pub mod Kind
+pub mod Fields
+pub mod Joined
+pub mod Value
+pub mod Argument
+pub mod Spelling
+pub mod Added
+pub mod Line
+pub mod Spells

@@ -1,0 +1,120 @@
+//! A line of a script, cut into fields.
+
+ghost use Rattle.std.specs.Prelude.{◌≡◌, false, not, ◌≤◌, ◌<◌, ◌+◌, IfSome, IfOk, option_map, length, drop};
+ghost use Rattle.std.specs.List.{position};
+ghost use Rattle.std.specs.Str.{IsCharBoundary};
+ghost use Rattle.dl_text.specs.Lines.{is_blank, without_blanks_before};
+ghost use Rattle.dl_fields.specs.Fields.{worded, quoted_len, is_end, field_len, fields_of, texts};
+
+use dl_bytes::OutOfMemory;
+use dl_text::is_blank;
+use std::alloc::Global;
+
+/// The place of the first blank.
+fn first_blank(text: &[u8]) -> Option<usize>
+    ensures value { result ≡ position is_blank text.now }
+    ensures within { IfSome result (λ n. n ≤ length text.now) }
+{
+    text.iter().position(|b| is_blank(*b))
+}
+
+/// The place of the first byte that is no blank.
+fn first_letter(text: &[u8]) -> Option<usize>
+    ensures value { result ≡ position (λ b. not (is_blank b)) text.now }
+    ensures within { IfSome result (λ n. n ≤ length text.now) }
+{
+    text.iter().position(|b| !is_blank(*b))
+}
+
+/// The text without the blanks at its front.
+#[tactic(auto, using(crate::proofs::Boundaries::behind_them))]
+fn skip_blanks(text: &str) -> &str
+    ensures value { result.now ≡ without_blanks_before text.now }
+    ensures within { length result.now ≤ length text.now }
+{
+    let blanks = first_letter(text.as_bytes()).unwrap_or(text.len());
+    &text[blanks..]
+}
+
+/// A line's word, up to the first blank, and what stands behind it.
+#[tactic(auto, using(crate::proofs::Boundaries::word_end))]
+pub fn worded(line: &str) -> (&str, &str)
+    ensures word { result.0.now ≡ (worded line.now).0 }
+    ensures rest { result.1.now ≡ (worded line.now).1 }
+{
+    let text = skip_blanks(line);
+    let end = first_blank(text.as_bytes()).unwrap_or(text.len());
+    text.split_at(end)
+}
+
+/// The length of a quoted text behind its first quote, its closing quote included.
+pub fn closing_quote(text: &[u8]) -> Option<usize>
+    ensures value { result ≡ quoted_len false text.now }
+    ensures within { IfSome result (λ n. (0 < n) × (n ≤ length text.now)) }
+{
+    let mut escaped = false;
+    for (i, b) in text.iter().enumerate() {
+        if escaped {
+            if *b != b'"' && *b != b'\\' {
+                return None;
+            }
+            escaped = false;
+        } else if *b == b'"' {
+            return Some(i + 1);
+        } else {
+            escaped = *b == b'\\';
+        }
+    }
+    None
+}
+
+/// Whether a field ends where this text begins.
+fn ends_field(text: &[u8]) -> bool
+    ensures { result ≡ is_end text.now }
+{
+    match text {
+        [] => true,
+        [b, ..] => is_blank(*b),
+    }
+}
+
+/// The length of the field at the front of a text.
+#[tactic(auto, unfolding(crate::specs::Fields::field_len))]
+fn front_field(text: &str) -> Option<usize>
+    ensures value { result ≡ field_len text.now }
+    ensures within { IfSome result (λ n. (0 < n) × (n ≤ length text.now)) }
+    ensures boundary { IfSome result (IsCharBoundary text.now) }
+{
+    match text.as_bytes() {
+        [] => None,
+        [b'"', rest @ ..] => {
+            let n = closing_quote(rest)?;
+            if ends_field(&rest[n..]) {
+                Some(n + 1)
+            } else {
+                None
+            }
+        }
+        [_, rest @ ..] => Some(first_blank(rest).unwrap_or(rest.len()) + 1),
+    }
+}
+
+/// The fields of a line, each as it stands there; none where a quoted one is broken.
+pub fn fields(alloc: Global, line: &str) -> Result<Option<Vec<&str>>, OutOfMemory>
+    ensures { IfOk result (λ found. option_map (λ v. texts v.items) found ≡ fields_of line.now) }
+{
+    let mut fields = Vec::new(alloc);
+    let mut text = line;
+    loop {
+        let rest = skip_blanks(text);
+        if rest.is_empty() {
+            return Ok(Some(fields));
+        }
+        let Some(len) = front_field(rest) else {
+            return Ok(None);
+        };
+        let (field, after) = rest.split_at(len);
+        fields.push(field)?;
+        text = after;
+    }
+}

@@ -1,0 +1,4 @@
+pub mod WholeAccounts
+pub mod SameRuns
+pub mod ClientParts
+pub mod OwnFiles

@@ -1,0 +1,4 @@
+pub mod Telling
+pub mod Accounting
+pub mod Looking
+pub mod Books

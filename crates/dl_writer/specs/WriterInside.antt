@@ -1,0 +1,21 @@
+-- The fields of a writer, and what is true of them.
+use Rattle.std.specs.Prelude.{◌≡◌, ◌+◌, ◌*◌, ◌%◌, ◌^◌, ◌<◌, ◌≤◌, length}
+use Rattle.dl_writer.specs.declared.writer.Writer.TheInside as writer
+use Rattle.dl_writer.specs.State.{WriterState}
+use Rattle.dl_writer.specs.Calls.{passed}
+
+abbrev pub writer_state : writer.Inside → WriterState
+writer_state w = record { app = w.app; calls = w.calls; push = w.push; reader = w.reader; losses = w.losses; injections = w.injections }
+
+-- the counts are of what its ends show, and its slots and its application's words are there
+pub record IsWriter (w : writer.Inside) : Type 0 where
+  pub app : w.app < 16
+  pub number : w.number ≡ w.push.number
+  pub low : 1 ≤ w.number
+  pub high : w.number ≤ 32
+  pub slots : 64 * w.app + 64 ≤ w.reader.slots
+  pub apps : w.app < w.losses.apps
+  pub counter : w.mcnt ≡ passed (writer_state w) % 256
+  pub made : passed (writer_state w) ≤ w.calls
+  pub few : w.calls ≤ 2 ^ 40
+  pub given : w.injected ≡ length w.injections.taken

@@ -1,0 +1,254 @@
+//! The calls of one thread.
+
+ghost use Rattle.std.specs.Prelude.{◌≡◌, ◌+◌, ◌*◌, ◌<◌, ◌≤◌, ◌^◌, ◌%◌, ℕ, false, not, [], IfOk, IfSome, IfNone, OnErr, OnSome, length};
+ghost use Rattle.std.specs.Result.{result_err};
+ghost use Rattle.dl_bytes.specs.Level.{passes};
+ghost use Rattle.dl_model.specs.Report.{is_answer};
+ghost use Rattle.dl_ring.specs.Order.{MetFull};
+ghost use Rattle.dl_ring.specs.State.{unused_push};
+ghost use Rattle.dl_injections.specs.Order.{Rises, MetEmpty};
+ghost use Rattle.dl_injections.specs.State.{unused_take};
+ghost use Rattle.dl_writer.specs.Items.{item_with};
+ghost use Rattle.dl_writer.specs.Calls.{after, answered, asked, call_fault, item_of, passed, slot, with_empty, with_injection, LooksUp, Tells};
+
+use crate::call::Call;
+use crate::fault::LogFault;
+use dl_bytes::{Ctx, Injection, Level, Payload, Severity};
+use dl_events::{Answer, Record};
+use dl_injections::InjectTake;
+use dl_levels::LevelReader;
+use dl_losses::LossWriter;
+use dl_ring::RingPush;
+use dl_views::one_more;
+use std::marker::Model;
+use std::sync::Wait;
+
+/// The most calls of one writer, 2^40.
+pub const CALL_LIMIT: u64 = 0x100_0000_0000;
+
+/// What a writer shares with the daemon: its ends of the objects of its application.
+#[derive(Drop)]
+pub struct WriterEnds {
+    /// The ring into which it pushes, under its own number.
+    pub push: RingPush,
+    /// The level words of all contexts.
+    pub reader: LevelReader,
+    /// The loss words of all applications.
+    pub losses: LossWriter,
+    /// The queue of the application's injections.
+    pub injections: InjectTake,
+}
+
+/// Logs for one thread of an application. Its calls take no memory and no lock.
+#[derive(Drop)]
+pub struct Writer {
+    app: u8,
+    number: u8,
+    // how many calls it made
+    calls: u64,
+    // how many of them passed their level, modulo 256: the message counter of the next one that does
+    mcnt: u8,
+    // how many injections it was given
+    injected: u64,
+    push: RingPush,
+    reader: LevelReader,
+    losses: LossWriter,
+    injections: InjectTake,
+}
+
+impl Model for Writer {
+    ghost use Rattle.dl_writer.specs.State.{WriterState};
+    ghost use Rattle.dl_writer.specs.WriterInside.{writer_state, IsWriter};
+
+    ghost Value = { WriterState };
+
+    ghost view = { writer_state };
+
+    ghost invariant = { IsWriter };
+}
+
+impl Writer {
+    /// A writer of this application, 0 to 15, with this number, 1 to 32. Its ends were not used yet.
+    pub fn of(app: u8, number: u8, ends: WriterEnds) -> Writer
+        requires app { app < 16 }
+        requires number { (1 ≤ number) × (number ≤ 32) }
+        requires push { ends.push ≡ unused_push ends.push.ring ends.push.capacity number false }
+        requires reader { 64 * app + 64 ≤ ends.reader.slots }
+        requires apps { app < ends.losses.apps }
+        requires losses { ends.losses.counted ≡ [] }
+        requires injections { ends.injections ≡ unused_take ends.injections.queue false }
+        ensures { result ≡ record { app = app; calls = 0; push = ends.push; reader = ends.reader; losses = ends.losses; injections = ends.injections } }
+    {
+        let WriterEnds {
+            push,
+            reader,
+            losses,
+            injections,
+        } = ends;
+        Writer {
+            app,
+            number,
+            calls: 0,
+            mcnt: 0,
+            injected: 0,
+            push,
+            reader,
+            losses,
+            injections,
+        }
+    }
+
+    /// Logs a message of a context of this writer's application: one load of the context's level, and where that lets
+    /// the severity through one push into the ring, or one count where the ring was full. `at` is the timestamp, in
+    /// units of 0.1 ms. The record tells what became of it. It may wait for the one step of the ring.
+    pub fn log<R: Wait>(
+        &mut self,
+        rt: &R,
+        ctx: &Ctx,
+        severity: Severity,
+        at: u32,
+        payload: &Payload,
+    ) -> Result<Record, LogFault>
+        ensures fault { result_err result ≡ call_fault self.old ctx.now }
+        ensures refused { OnErr result (self.new ≡ self.old) }
+        ensures told { IfOk result (λ r. Tells self.old ctx.now severity at payload.now r) }
+        ensures made { IfOk result (λ r. self.new ≡ after self.old r) }
+    {
+        if ctx.app() != self.app {
+            return Err(LogFault::Foreign);
+        }
+        if self.calls == CALL_LIMIT {
+            return Err(LogFault::Spent);
+        }
+        let slot = slot_of(ctx);
+        let seen = self.reader.load(slot);
+        let call = self.next_call(ctx, severity, at);
+        self.calls += 1;
+        let answer = self.answer(rt, seen.level, &call, payload);
+        Ok(Record {
+            item: call.item(payload),
+            slot,
+            version: seen.version,
+            held: seen.level,
+            answer,
+        })
+    }
+
+    /// Whether a message of this severity would pass now, by a load of its own. It is not a call, and it never waits.
+    pub fn would_pass(&mut self, ctx: &Ctx, severity: Severity) -> bool
+        requires { ctx.now.app ≡ self.old.app }
+        ensures { LooksUp self.old ctx.now severity result self.new }
+    {
+        self.reader.load(slot_of(ctx)).level.passes(severity)
+    }
+
+    /// The oldest injection that waits for the application, if one does: one take.
+    pub fn next_injection<R: Wait>(&mut self, rt: &R) -> Option<Injection>
+        ensures taken { IfSome result (λ injection. (number : ℕ) × (self.new ≡ with_injection self.old number injection)) }
+        ensures rises { OnSome result (Rises self.new.injections.taken) }
+        ensures none { IfNone result (self.new ≡ with_empty self.old) }
+        ensures empty { IfNone result (MetEmpty self.old.injections.taken) }
+        ensures asked { asked self.new ≡ asked self.old + 1 }
+        ensures rest { self.new ≡ record self.old { injections = self.new.injections } }
+    {
+        let injection = self.injections.take(rt)?;
+        self.injected = one_more(rt, self.injected);
+        Some(injection)
+    }
+
+    /// The writer's number, 1 to 32: the session id of its messages.
+    pub fn number(&self) -> u8
+        ensures value { result ≡ self.now.push.number }
+        ensures range { (1 ≤ result) × (result ≤ 32) }
+    {
+        self.number
+    }
+
+    /// Its application's number, 0 to 15.
+    pub fn app(&self) -> u8
+        ensures value { result ≡ self.now.app }
+        ensures range { result < 16 }
+    {
+        self.app
+    }
+
+    /// How many injections it was given.
+    pub fn injected(&self) -> u64
+        ensures { result ≡ length self.now.injections.taken }
+    {
+        self.injected
+    }
+
+    /// Its ends, for the daemon to take back.
+    pub fn into_ends(self) -> WriterEnds
+        ensures { result ≡ record { push = self.push; reader = self.reader; losses = self.losses; injections = self.injections } }
+    {
+        let Writer {
+            app: _,
+            number: _,
+            calls: _,
+            mcnt: _,
+            injected: _,
+            push,
+            reader,
+            losses,
+            injections,
+        } = self;
+        WriterEnds {
+            push,
+            reader,
+            losses,
+            injections,
+        }
+    }
+}
+
+impl Writer {
+    // The next call, with the message counter of the next that passes.
+    fn next_call(&self, ctx: &Ctx, severity: Severity, at: u32) -> Call
+        requires { self.now.calls < 2 ^ 40 }
+        ensures { result ≡ record { app = self.now.app; writer = self.now.push.number; number = self.now.calls + 1; apid = ctx.now.apid; ctid = ctx.now.ctid; severity = severity; at = at; mcnt = passed self.now % 256 } }
+    {
+        Call {
+            app: self.app,
+            writer: self.number,
+            number: self.calls + 1,
+            apid: ctx.apid(),
+            ctid: ctx.ctid(),
+            severity,
+            at,
+            mcnt: self.mcnt,
+        }
+    }
+
+    // What becomes of a call that found this level: where that lets it through, it is pushed once, and counted once where
+    // the ring was full.
+    fn answer<R: Wait>(&mut self, rt: &R, level: Level, call: &Call, payload: &Payload) -> Answer
+        requires writer { call.now.writer ≡ self.old.push.number }
+        requires app { call.now.app ≡ self.old.app }
+        requires number { passed self.old < self.old.calls }
+        ensures filtered { is_answer Answer.Filtered result ≡ not (passes call.now.severity level) }
+        ensures full { result ≡ Answer.Lost → MetFull self.old.push.capacity self.old.push.number self.old.push.pushed }
+        ensures made { self.new ≡ answered self.old result (item_with call.now payload.now) }
+    {
+        if !level.passes(call.severity) {
+            return Answer::Filtered;
+        }
+        self.mcnt = self.mcnt.wrapping_add(1);
+        match self.push.push(rt, call.item(payload)) {
+            Ok(()) => Answer::Queued,
+            Err(_refused) => {
+                self.losses.count(self.app);
+                Answer::Lost
+            }
+        }
+    }
+}
+
+// The slot of a context in the level words.
+fn slot_of(ctx: &Ctx) -> u16
+    ensures value { result ≡ slot ctx.now }
+    ensures range { result < 64 * ctx.now.app + 64 }
+{
+    64 * u16::from(ctx.app()) + u16::from(ctx.place())
+}
