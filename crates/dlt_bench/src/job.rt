@@ -1,0 +1,78 @@
+//! The jobs that are measured, and what each leaves behind.
+
+use crate::{cutting, sending};
+use std::alloc::Global;
+
+/// A job that is measured.
+#[derive(Clone, Copy, Debug, PartialEq, Eq)]
+pub enum Job {
+    /// A stream is cut into its messages.
+    Cut,
+    /// The headers of each message are read.
+    Heads,
+    /// The arguments of each message are read in place.
+    Borrowed,
+    /// The arguments of each message are read into memory of their own.
+    Owned,
+    /// A channel is cut into its user messages.
+    Users,
+    /// The frame of a log call is written.
+    Frames,
+    /// A frame is admitted by a hub with one client, and taken from its outbox.
+    Hub,
+}
+
+/// What came of a job.
+#[derive(Clone, Copy, Debug, PartialEq, Eq)]
+pub struct Tally {
+    /// How often it was done.
+    pub times: u64,
+    /// On how many bytes.
+    pub bytes: u64,
+    /// A sum over what came out, so that none of the work is for nothing.
+    pub sum: u64,
+}
+
+impl Tally {
+    /// Nothing done yet.
+    pub fn new() -> Tally {
+        Tally {
+            times: 0,
+            bytes: 0,
+            sum: 0,
+        }
+    }
+
+    /// Once more, on so many bytes, with this outcome.
+    pub fn count(&mut self, bytes: usize, outcome: u64) {
+        self.times = self.times.wrapping_add(1);
+        self.bytes = self.bytes.wrapping_add(bytes as u64);
+        self.sum = self.sum.wrapping_add(outcome);
+    }
+}
+
+impl Job {
+    /// The job of this name.
+    pub fn of(name: &str) -> Option<Job> {
+        match name {
+            "cut" => Some(Job::Cut),
+            "heads" => Some(Job::Heads),
+            "borrowed" => Some(Job::Borrowed),
+            "owned" => Some(Job::Owned),
+            "users" => Some(Job::Users),
+            "frames" => Some(Job::Frames),
+            "hub" => Some(Job::Hub),
+            _ => None,
+        }
+    }
+
+    /// Does the job at least so often; nothing where there was no memory, or something was read that isn't there.
+    pub fn run(self, alloc: Global, count: u32) -> Option<Tally> {
+        match self {
+            Job::Cut | Job::Heads | Job::Borrowed | Job::Owned => cutting::run(alloc, self, count),
+            Job::Users => cutting::run_users(alloc, count),
+            Job::Frames => Some(sending::run_frames(count)),
+            Job::Hub => sending::run_hub(alloc, count),
+        }
+    }
+}
