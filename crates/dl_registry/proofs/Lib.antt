@@ -1,0 +1,9 @@
+pub mod Finding
+pub mod Numbers
+pub mod Waiting
+pub mod Entries
+pub mod Fitting
+pub mod Messages
+pub mod Releveling
+pub mod Informing
+pub mod Following

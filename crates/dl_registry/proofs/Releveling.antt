@@ -1,0 +1,224 @@
+-- New levels for all contexts fit, where they are written slot by slot.
+use Rattle.std.proofs.Common.{◌≡◌, ◌≢◌, ◌⊎◌, inl, inr, ℕ, ◌+◌, ◌*◌, ◌/◌, ◌%◌, ◌<◌, ◌≤◌, Bool, true, false, not, cond, List, [], ◌∷◌, ◌++◌, length, map, reverse, Option, Some, None, is_some, refl, sym, ap, subst, ◌∙◌, true≢false, arith}
+use Rattle.std.specs.Prelude.{nat_eq, ◌==◌, ◌||◌, ◌&&◌}
+use Rattle.std.specs.List.{AllByRecursion, IsDistinct, find, list_any}
+use Rattle.std.specs.Map.{values_of}
+use Rattle.std.specs.Option.{option_and_then, option_map, option_or}
+use Rattle.std.proofs.lemmas.Bool.{cases_lt}
+use Rattle.std.proofs.lemmas.Bool.Decides.{eqb_tells}
+use Rattle.std.proofs.lemmas.List.{reverse-append}
+use Rattle.std.proofs.lemmas.Map.Keys.{IsDistinct-head, IsDistinct-tail, IsDistinct-cons}
+use Rattle.dl_model.specs.declared.registry.Context.{Context}
+use Rattle.dl_model.specs.declared.registry.Slot.{Slot}
+use Rattle.dl_model.specs.History.{last_version}
+use Rattle.dl_model.specs.Registry.{App, Registry, ArePlaced, IsInOrder, IsNumbered, Relevel, effective, level_at, numbers, places, releveled, releveled_app, releveled_context, slot_of, wears, wears_app, wears_context}
+use Rattle.dl_model.proofs.Order.{in_order-releveled}
+use Rattle.dl_registry.specs.Kept.{Fits}
+use Rattle.dl_registry.specs.Refresh.{level_among, level_in_app, level_in_apps}
+use Rattle.dl_registry.specs.Table.{Table, held_at, wanted_at}
+use Rattle.dl_registry.proofs.Finding.{numbers_of, valued, valued-absent, valued-reverse}
+use Rattle.dl_registry.proofs.Fitting.{level_of, fits, place_of}
+
+-- ---- the contexts of one application
+
+-- searches by the number alone find the same, where they agree at each number
+found_alike : {A : Type 0} (f : A → ℕ) (p q : ℕ → Bool) (es : List (List ℕ × A)) → AllByRecursion (λ n. p n ≡ q n) (numbers_of f es) → find (λ x. p (f x)) (values_of es) ≡ find (λ x. q (f x)) (values_of es)
+found_alike f p q [] all = refl
+found_alike f p q (e ∷ es) all = ap (λ b. cond b (Some e.1) (find (λ x. p (f x)) (values_of es))) all.0 ∙ ap (cond (q (f e.1)) (Some e.1)) (found_alike f p q es all.1)
+
+found_nowhere : {A : Type 0} (f : A → ℕ) (p : ℕ → Bool) (es : List (List ℕ × A)) → AllByRecursion (λ n. p n ≡ false) (numbers_of f es) → find (λ x. p (f x)) (values_of es) ≡ None
+found_nowhere f p [] all = refl
+found_nowhere f p (e ∷ es) all = ap (λ b. cond b (Some e.1) (find (λ x. p (f x)) (values_of es))) all.0 ∙ found_nowhere f p es all.1
+
+each : (P Q : ℕ → Type 0) → ((n : ℕ) → P n → Q n) → (ns : List ℕ) → AllByRecursion P ns → AllByRecursion Q ns
+each P Q step [] all = tt
+each P Q step (n ∷ ns) all = (step n all.0, each P Q step ns all.1)
+
+-- places that are apart give slots that are apart
+other_slot : (number a b : ℕ) → nat_eq a b ≡ false → nat_eq (slot_of number a) (slot_of number b) ≡ false
+other_slot number a b is = elim (eqb_tells (slot_of number a) (slot_of number b)) [
+  | inl same ↦ elim (eqb_tells a b) [ inl here ↦ absurd (true≢false (sym here.0 ∙ is)) | inr there ↦ absurd (there.1 (omega (arith, same.1))) ]
+  | inr there ↦ there.0
+]
+
+other_slots : (number place : ℕ) (es : List (List ℕ × Context)) → AllByRecursion (λ y. nat_eq place y ≡ false) (places es)
+    → AllByRecursion (λ y. nat_eq (slot_of number place) y ≡ false) (numbers_of (λ (c : Context). slot_of number c.place) es)
+other_slots number place [] all = tt
+other_slots number place (e ∷ es) all = (other_slot number place e.1.place all.0, other_slots number place es all.1)
+
+slots_apart : (number : ℕ) (es : List (List ℕ × Context)) → IsDistinct nat_eq (places es) → IsDistinct nat_eq (numbers_of (λ (c : Context). slot_of number c.place) es)
+unfolding IsDistinct
+slots_apart number [] apart = tt
+slots_apart number (e ∷ es) apart =
+    IsDistinct-cons nat_eq (slot_of number e.1.place) (numbers_of (λ (c : Context). slot_of number c.place) es)
+    (other_slots number e.1.place es (IsDistinct-head nat_eq e.1.place (places es) apart))
+    (slots_apart number es (IsDistinct-tail nat_eq e.1.place (places es) apart))
+
+here_test : (number slot : ℕ) → number ≡ slot / 64 → (place : ℕ) → place < 64 → (slot_of number place == slot) ≡ (place == slot % 64)
+here_test number slot here place below = elim (eqb_tells place (slot % 64)) [
+  | inl a ↦ elim (eqb_tells (slot_of number place) slot) [ inl b ↦ b.0 ∙ sym a.0 | inr b ↦ absurd (b.1 (omega (arith, here, a.1))) ]
+  | inr a ↦ elim (eqb_tells (slot_of number place) slot) [ inl b ↦ absurd (a.1 (omega (arith, here, b.1))) | inr b ↦ b.0 ∙ sym a.0 ]
+]
+
+there_test : (number slot : ℕ) → number ≢ slot / 64 → (place : ℕ) → place < 64 → (slot_of number place == slot) ≡ false
+there_test number slot there place below = elim (eqb_tells (slot_of number place) slot) [ inl b ↦ absurd (there (omega (arith, b.1))) | inr b ↦ b.0 ]
+
+-- what is written of an application is its level at each of its slots
+level_in_app-is : (level : ℕ) (app : App) (slot : ℕ) → IsNumbered 64 (places app.contexts) → level_in_app level app slot ≡ cond (app.number == slot / 64) (level_of level (Some app) slot) None
+level_in_app-is level app slot is =
+    ap (option_map (effective level)) (valued-reverse (λ (c : Context). slot_of app.number c.place) slot app.contexts (slots_apart app.number app.contexts is.apart))
+    ∙ elim (eqb_tells app.number (slot / 64)) [
+      | inl here ↦
+          ap (option_map (effective level)) (found_alike place_of (λ n. slot_of app.number n == slot) (λ n. n == slot % 64) app.contexts
+          (each (λ n. n < 64) (λ n. (slot_of app.number n == slot) ≡ (n == slot % 64)) (here_test app.number slot here.1) (places app.contexts) is.below))
+          ∙ sym (ap (λ b. cond b (level_of level (Some app) slot) None) here.0)
+      | inr there ↦
+          ap (option_map (effective level)) (found_nowhere place_of (λ n. slot_of app.number n == slot) app.contexts
+          (each (λ n. n < 64) (λ n. (slot_of app.number n == slot) ≡ false) (there_test app.number slot there.1) (places app.contexts) is.below))
+          ∙ sym (ap (λ b. cond b (level_of level (Some app) slot) None) there.0)
+    ]
+
+-- ---- all applications
+
+or_assoc : {A : Type 0} (a b c : Option A) → option_or (option_or a b) c ≡ option_or a (option_or b c)
+or_assoc None b c = refl
+or_assoc (Some x) b c = refl
+
+level_in_apps-append : (level : ℕ) (xs ys : List App) (slot : ℕ) → level_in_apps level (xs ++ ys) slot ≡ option_or (level_in_apps level xs slot) (level_in_apps level ys slot)
+level_in_apps-append level [] ys slot = refl
+level_in_apps-append level (x ∷ xs) ys slot =
+    ap (option_or (level_in_app level x slot)) (level_in_apps-append level xs ys slot) ∙ sym (or_assoc (level_in_app level x slot) (level_in_apps level xs slot) (level_in_apps level ys slot))
+
+or_none : {A : Type 0} (o : Option A) → option_or o None ≡ o
+or_none None = refl
+or_none (Some x) = refl
+
+-- what is written of all applications is the level at each slot
+pub level_in_apps-is : (level : ℕ) (es : List (List ℕ × App)) (slot : ℕ) → IsDistinct nat_eq (numbers es) → ArePlaced es
+    → level_in_apps level (reverse (values_of es)) slot ≡ level_of level (valued (λ (a : App). a.number) (slot / 64) es) slot
+level_in_apps-is level [] slot apart placed = refl
+level_in_apps-is level (e ∷ es) slot apart placed =
+    ap (λ xs. level_in_apps level xs slot) (reverse-append (e.1 ∷ []) (values_of es))
+    ∙ (level_in_apps-append level (reverse (values_of es)) (e.1 ∷ []) slot
+    ∙ (ap (λ o. option_or o (option_or (level_in_app level e.1 slot) None)) (level_in_apps-is level es slot (IsDistinct-tail nat_eq e.1.number (numbers es) apart) placed.1)
+    ∙ (ap (λ o. option_or (level_of level (valued (λ (a : App). a.number) (slot / 64) es) slot) o) (or_none (level_in_app level e.1 slot) ∙ level_in_app-is level e.1 slot placed.0)
+    ∙ elim (eqb_tells e.1.number (slot / 64)) [
+      | inl here ↦
+          let none : valued (λ (a : App). a.number) (slot / 64) es ≡ None =
+          valued-absent (λ (a : App). a.number) (slot / 64) es (subst (λ n. AllByRecursion (λ y. nat_eq n y ≡ false) (numbers es)) here.1 (IsDistinct-head nat_eq e.1.number (numbers es) apart)) in
+          ap (λ o. option_or (level_of level o slot) (cond (e.1.number == slot / 64) (level_of level (Some e.1) slot) None)) none
+          ∙ (ap (λ b. cond b (level_of level (Some e.1) slot) None) here.0
+          ∙ sym (ap (λ b. level_of level (cond b (Some e.1) (valued (λ (a : App). a.number) (slot / 64) es)) slot) here.0))
+      | inr there ↦
+          ap (λ b. option_or (level_of level (valued (λ (a : App). a.number) (slot / 64) es) slot) (cond b (level_of level (Some e.1) slot) None)) there.0
+          ∙ (or_none (level_of level (valued (λ (a : App). a.number) (slot / 64) es) slot)
+          ∙ sym (ap (λ b. level_of level (cond b (Some e.1) (valued (λ (a : App). a.number) (slot / 64) es)) slot) there.0))
+    ])))
+
+-- ---- the same slots have contexts, before and after
+
+context_stays : (old new : ℕ) (relevel : Relevel) (apid : List ℕ) (place : ℕ) (es : List (List ℕ × Context))
+    → is_some (option_map (effective new) (valued place_of place (map (releveled_context relevel apid) es))) ≡ is_some (option_map (effective old) (valued place_of place es))
+context_stays old new relevel apid place [] = refl
+context_stays old new relevel apid place (e ∷ es) = by (e.1.place == place) (context_stays old new relevel apid place es) where
+  by : (b : Bool)
+      → is_some (option_map (effective new) (valued place_of place (map (releveled_context relevel apid) es))) ≡ is_some (option_map (effective old) (valued place_of place es))
+      → is_some (option_map (effective new) (cond b (Some (releveled_context relevel apid e).1) (valued place_of place (map (releveled_context relevel apid) es)))) ≡ is_some (option_map (effective old) (cond b (Some e.1) (valued place_of place es)))
+  by true rest = refl
+  by false rest = rest
+
+app_stays : (old new : ℕ) (relevel : Relevel) (slot : ℕ) (es : List (List ℕ × App))
+    → is_some (level_of new (valued (λ (a : App). a.number) (slot / 64) (map (releveled_app relevel) es)) slot) ≡ is_some (level_of old (valued (λ (a : App). a.number) (slot / 64) es) slot)
+app_stays old new relevel slot [] = refl
+app_stays old new relevel slot (e ∷ es) = by (e.1.number == slot / 64) (app_stays old new relevel slot es) where
+  by : (b : Bool)
+      → is_some (level_of new (valued (λ (a : App). a.number) (slot / 64) (map (releveled_app relevel) es)) slot) ≡ is_some (level_of old (valued (λ (a : App). a.number) (slot / 64) es) slot)
+      → is_some (level_of new (cond b (Some (releveled_app relevel e).1) (valued (λ (a : App). a.number) (slot / 64) (map (releveled_app relevel) es))) slot)
+      ≡ is_some (level_of old (cond b (Some e.1) (valued (λ (a : App). a.number) (slot / 64) es)) slot)
+  by true rest = context_stays old new relevel e.0 (slot % 64) e.1.contexts
+  by false rest = rest
+
+-- ---- no slot at its last version changes
+
+or_first : (a b : Bool) → (a || b) ≡ false → a ≡ false
+or_first false b is = refl
+or_first true b is = is
+
+or_second : (a b : Bool) → (a || b) ≡ false → b ≡ false
+or_second false b is = is
+or_second true b is = absurd (true≢false is)
+
+same_levels : (worn : Bool) (a b : ℕ) → worn ≡ true → (worn && not (a == b)) ≡ false → a ≡ b
+same_levels worn a b is none = elim (eqb_tells a b) [
+  | inl same ↦ same.1
+  | inr other ↦ absurd (true≢false (sym (ap (λ w. w && not (a == b)) is ∙ ap not other.0) ∙ none))
+]
+
+context_keeps : (slots : ℕ → Slot) (old new : ℕ) (relevel : Relevel) (app : List ℕ × App) (slot : ℕ) → app.1.number ≡ slot / 64 → (slots slot).version ≡ last_version
+    → (es : List (List ℕ × Context)) → list_any (wears_context slots old new relevel app) es ≡ false
+    → option_map (effective new) (valued place_of (slot % 64) (map (releveled_context relevel app.0) es)) ≡ option_map (effective old) (valued place_of (slot % 64) es)
+context_keeps slots old new relevel app slot number last [] none = refl
+context_keeps slots old new relevel app slot number last (e ∷ es) none = elim (eqb_tells e.1.place (slot % 64)) [
+  | inl here ↦
+      let at : slot ≡ slot_of app.1.number e.1.place = omega (arith, here.1, number) in
+      let worn : ((slots (slot_of app.1.number e.1.place)).version == last_version) ≡ true = elim (eqb_tells (slots (slot_of app.1.number e.1.place)).version last_version) [
+        | inl is ↦ is.0
+        | inr other ↦ absurd (other.1 (ap (λ n. (slots n).version) (sym at) ∙ last))
+      ] in
+      let same : effective old e.1 ≡ effective new (releveled_context relevel app.0 e).1 =
+      same_levels ((slots (slot_of app.1.number e.1.place)).version == last_version) (effective old e.1) (effective new (releveled_context relevel app.0 e).1) worn
+      (or_first (wears_context slots old new relevel app e) (list_any (wears_context slots old new relevel app) es) none) in
+      ap (λ b. option_map (effective new) (cond b (Some (releveled_context relevel app.0 e).1) (valued place_of (slot % 64) (map (releveled_context relevel app.0) es)))) here.0
+      ∙ (ap Some (sym same) ∙ sym (ap (λ b. option_map (effective old) (cond b (Some e.1) (valued place_of (slot % 64) es))) here.0))
+  | inr other ↦
+      ap (λ b. option_map (effective new) (cond b (Some (releveled_context relevel app.0 e).1) (valued place_of (slot % 64) (map (releveled_context relevel app.0) es)))) other.0
+      ∙ (context_keeps slots old new relevel app slot number last es (or_second (wears_context slots old new relevel app e) (list_any (wears_context slots old new relevel app) es) none)
+      ∙ sym (ap (λ b. option_map (effective old) (cond b (Some e.1) (valued place_of (slot % 64) es))) other.0))
+]
+
+app_keeps : (slots : ℕ → Slot) (old new : ℕ) (relevel : Relevel) (slot : ℕ) → (slots slot).version ≡ last_version
+    → (es : List (List ℕ × App)) → list_any (wears_app slots old new relevel) es ≡ false
+    → level_of new (valued (λ (a : App). a.number) (slot / 64) (map (releveled_app relevel) es)) slot ≡ level_of old (valued (λ (a : App). a.number) (slot / 64) es) slot
+app_keeps slots old new relevel slot last [] none = refl
+app_keeps slots old new relevel slot last (e ∷ es) none = elim (eqb_tells e.1.number (slot / 64)) [
+  | inl here ↦
+      ap (λ b. level_of new (cond b (Some (releveled_app relevel e).1) (valued (λ (a : App). a.number) (slot / 64) (map (releveled_app relevel) es))) slot) here.0
+      ∙ (context_keeps slots old new relevel e slot here.1 last e.1.contexts (or_first (wears_app slots old new relevel e) (list_any (wears_app slots old new relevel) es) none)
+      ∙ sym (ap (λ b. level_of old (cond b (Some e.1) (valued (λ (a : App). a.number) (slot / 64) es)) slot) here.0))
+  | inr other ↦
+      ap (λ b. level_of new (cond b (Some (releveled_app relevel e).1) (valued (λ (a : App). a.number) (slot / 64) (map (releveled_app relevel) es))) slot) other.0
+      ∙ (app_keeps slots old new relevel slot last es (or_second (wears_app slots old new relevel e) (list_any (wears_app slots old new relevel) es) none)
+      ∙ sym (ap (λ b. level_of old (cond b (Some e.1) (valued (λ (a : App). a.number) (slot / 64) es)) slot) other.0))
+]
+
+-- ---- no slot is beyond the last
+
+beyond : (r : Registry) (slot : ℕ) → IsInOrder r → 1024 ≤ slot → level_at r slot ≡ None
+beyond r slot is out = ap (λ o. level_of r.level o slot) (valued-absent (λ (a : App). a.number) (slot / 64) r.apps (each (λ n. n < 16) (λ n. nat_eq (slot / 64) n ≡ false) apart (numbers r.apps) is.numbered.below)) where
+  apart : (n : ℕ) → n < 16 → nat_eq (slot / 64) n ≡ false
+  apart n below = elim (eqb_tells (slot / 64) n) [ inl same ↦ absurd (omega (arith, same.1)) | inr other ↦ other.0 ]
+
+-- where there was no level there is none
+or_old : (new old : Option ℕ) → is_some new ≡ is_some old → option_or new old ≡ new
+or_old (Some x) old same = refl
+or_old None None same = refl
+or_old None (Some x) same = absurd (true≢false (sym same))
+
+pub fits-releveled : (r : Registry) (t u : Table) (level : ℕ) (relevel : Relevel) → Fits r t → wears (held_at t.first t.held) r level relevel ≡ false → u.first ≡ t.first → u.held ≡ t.held
+    → ((slot : ℕ) → 1024 ≤ slot → wanted_at u slot ≡ wanted_at t slot)
+    → ((slot : ℕ) → slot < 1024 → wanted_at u slot ≡ option_or (level_in_apps level (reverse (values_of (map (releveled_app relevel) r.apps))) slot) (wanted_at t slot))
+    → Fits (releveled level relevel r) u
+fits-releveled r t u level relevel fit none first held outside inside =
+    fits r (releveled level relevel r) t u fit order first held
+    (λ slot. elim (cases_lt slot 1024) [
+      | inl within ↦
+          inside slot within
+          ∙ (ap (λ o. option_or o (wanted_at t slot)) (level_in_apps-is level (map (releveled_app relevel) r.apps) slot order.numbered.apart order.placed)
+          ∙ (ap (option_or (level_at (releveled level relevel r) slot)) (fit.levels slot)
+          ∙ or_old (level_at (releveled level relevel r) slot) (level_at r slot) (app_stays r.level level relevel slot r.apps)))
+      | inr out ↦ outside slot out ∙ (fit.levels slot ∙ (beyond r slot fit.order out ∙ sym (beyond (releveled level relevel r) slot order out)))
+    ])
+    (λ slot last. inl (app_keeps (held_at t.first t.held) r.level level relevel slot last r.apps none))
+  where
+    order : IsInOrder (releveled level relevel r)
+    order = in_order-releveled level relevel r fit.order

@@ -1,0 +1,5 @@
+pub mod Table
+pub mod Change
+pub mod Kept
+pub mod Refresh
+pub mod Info

@@ -1,0 +1,213 @@
+//! User messages: who comes, who tells itself anew, and who goes.
+
+ghost use Rattle.std.specs.Prelude.{◌≡◌, ◌||◌, if◌then◌else◌, Ok, Err, None, IfSome, IsSomeAnd};
+ghost use Rattle.dl_model.specs.declared.registry.RegistryFault.TheVariants as fault;
+ghost use Rattle.std.specs.Map.{lookup};
+ghost use Rattle.std.specs.Str.{bytes_eq};
+ghost use Rattle.dl_bytes.specs.Id.{zero_id};
+ghost use Rattle.dl_bytes.specs.declared.user.UserMsg.TheVariants as msgs;
+ghost use Rattle.dl_model.specs.Registry.{applied, app_of, app_registered, app_unregistered, context_of, context_registered, context_unregistered, for_app};
+ghost use Rattle.dl_registry.specs.Change.{changed_app, changed_context, told_again, context_told_again};
+ghost use Rattle.dl_registry.specs.Kept.{Applies, slots};
+
+use crate::application::Application;
+use crate::apps;
+use crate::registry::{LAST_VERSION, Registry, copied, own_for};
+use crate::table::slot_of;
+use dl_bytes::{Bytes, Id, OwnLevel, UserMsg};
+use dl_model::{Context, RegistryFault};
+
+/// Whether an id has no letter.
+fn is_zero(id: Id) -> bool
+    ensures { result ≡ bytes_eq id zero_id }
+{
+    id == Id::from_bytes([0; 4])
+}
+
+impl Registry {
+    /// What a user message of a channel makes of the registry. One that is refused changes nothing.
+    pub fn apply(&mut self, channel: u16, msg: &UserMsg) -> Result<(), RegistryFault>
+        ensures { Applies (applied (slots self.old) self.old.registry channel msg.now) self.old result self.new }
+    {
+        match msg {
+            UserMsg::RegisterApp { apid, pid, text } => {
+                self.register_app(channel, *apid, *pid, text)
+            }
+            UserMsg::UnregisterApp { apid, .. } => self.unregister_app(channel, *apid),
+            UserMsg::RegisterContext {
+                apid,
+                ctid,
+                position,
+                level,
+                text,
+                ..
+            } => self.register_context(channel, *apid, *ctid, *position, *level, text),
+            UserMsg::UnregisterContext { apid, ctid, .. } => {
+                self.unregister_context(channel, *apid, *ctid)
+            }
+            UserMsg::Log(_)
+            | UserMsg::LogLevel { .. }
+            | UserMsg::Injection { .. }
+            | UserMsg::Overflow { .. } => Ok(()),
+        }
+    }
+
+    /// An application registers on a channel, or tells itself anew.
+    fn register_app(
+        &mut self,
+        channel: u16,
+        apid: Id,
+        pid: u32,
+        text: &Bytes,
+    ) -> Result<(), RegistryFault>
+        ensures { Applies (applied (slots self.old) self.old.registry channel (msgs.RegisterApp apid pid text.now)) self.old result self.new }
+    {
+        if is_zero(apid) {
+            return Err(RegistryFault::ZeroId);
+        }
+        match self.apps.get(&apid) {
+            None => self.add_app(channel, apid, pid, text),
+            Some(app) => {
+                if app.channel() != channel {
+                    return Err(RegistryFault::Taken);
+                }
+                self.tell_app(apid, pid, text)
+            }
+        }
+    }
+
+    /// An application that is there tells itself anew.
+    fn tell_app(&mut self, apid: Id, pid: u32, text: &Bytes) -> Result<(), RegistryFault>
+        ensures { Applies (Ok (record self.old.registry { apps = changed_app apid (told_again pid text.now) self.old.registry.apps })) self.old result self.new }
+    {
+        let text = copied(self.alloc, text)?;
+        apps::tell_app(&mut self.apps, apid, pid, text);
+        Ok(())
+    }
+
+    /// An application comes.
+    fn add_app(
+        &mut self,
+        channel: u16,
+        apid: Id,
+        pid: u32,
+        text: &Bytes,
+    ) -> Result<(), RegistryFault>
+        requires { lookup (bytes_eq apid) self.old.registry.apps ≡ None }
+        ensures { Applies (app_registered self.old.registry channel apid pid text.now None) self.old result self.new }
+    {
+        let Some(number) = apps::free_number(&self.apps) else {
+            return Err(RegistryFault::AppsFull);
+        };
+        let text = copied(self.alloc, text)?;
+        let app = Application::make(self.alloc, channel, number, pid, text);
+        apps::add_app(&mut self.apps, apid, app)?;
+        Ok(())
+    }
+
+    /// An application goes, with its contexts.
+    fn unregister_app(&mut self, channel: u16, apid: Id) -> Result<(), RegistryFault>
+        ensures { Applies (app_unregistered self.old.registry apid (app_of self.old.registry channel apid)) self.old result self.new }
+    {
+        let Some(app) = self.app_of(channel, apid) else {
+            return Err(RegistryFault::UnknownApp);
+        };
+        let number = app.number();
+        apps::remove_app(&mut self.apps, apid);
+        self.table.clear_app(number);
+        Ok(())
+    }
+
+    /// A context of an application registers, or tells itself anew.
+    fn register_context(
+        &mut self,
+        channel: u16,
+        apid: Id,
+        ctid: Id,
+        position: u32,
+        own: OwnLevel,
+        text: &Bytes,
+    ) -> Result<(), RegistryFault>
+        ensures { Applies (if bytes_eq apid zero_id || bytes_eq ctid zero_id then Err fault.ZeroId
+            else for_app (app_of self.old.registry channel apid) (λ app. context_registered (slots self.old) self.old.registry apid ctid position own text.now app (context_of app ctid)))
+            self.old result self.new }
+    {
+        if is_zero(apid) || is_zero(ctid) {
+            return Err(RegistryFault::ZeroId);
+        }
+        let Some(app) = self.app_of(channel, apid) else {
+            return Err(RegistryFault::UnknownApp);
+        };
+        let number = app.number();
+        match app.context(ctid) {
+            Some(_) => self.tell_context(apid, ctid, position, text),
+            None => self.add_context(apid, ctid, number, position, own, text),
+        }
+    }
+
+    /// A context that is there tells itself anew, and keeps its own level.
+    fn tell_context(
+        &mut self,
+        apid: Id,
+        ctid: Id,
+        position: u32,
+        text: &Bytes,
+    ) -> Result<(), RegistryFault>
+        ensures { Applies (Ok (record self.old.registry { apps = changed_app apid (changed_context ctid (context_told_again position text.now)) self.old.registry.apps })) self.old result self.new }
+    {
+        let text = copied(self.alloc, text)?;
+        apps::tell_context(&mut self.apps, apid, ctid, position, text);
+        Ok(())
+    }
+
+    /// A context comes, of the application that has this number.
+    fn add_context(
+        &mut self,
+        apid: Id,
+        ctid: Id,
+        number: u8,
+        position: u32,
+        own: OwnLevel,
+        text: &Bytes,
+    ) -> Result<(), RegistryFault>
+        requires { IsSomeAnd (lookup (bytes_eq apid) self.old.registry.apps) (λ app. (app.number ≡ number) × (context_of app ctid ≡ None)) }
+        ensures { IfSome (lookup (bytes_eq apid) self.old.registry.apps) (λ app.
+            Applies (context_registered (slots self.old) self.old.registry apid ctid position own text.now app None) self.old result self.new) }
+    {
+        let Some(place) = self.table.free_place(number) else {
+            return Err(RegistryFault::ContextsFull);
+        };
+        let slot = slot_of(number, place);
+        if self.table.held(slot).version == LAST_VERSION {
+            return Err(RegistryFault::Worn);
+        }
+        let own = own_for(&self.stored, apid, ctid, own);
+        let text = copied(self.alloc, text)?;
+        let context = Context {
+            place,
+            own,
+            position,
+            text,
+        };
+        let level = own.effective(self.level);
+        apps::add_context(&mut self.apps, apid, ctid, context)?;
+        self.table.give(slot, level);
+        Ok(())
+    }
+
+    /// A context goes.
+    fn unregister_context(&mut self, channel: u16, apid: Id, ctid: Id) -> Result<(), RegistryFault>
+        ensures { Applies (for_app (app_of self.old.registry channel apid) (λ app. context_unregistered self.old.registry apid ctid app (context_of app ctid))) self.old result self.new }
+    {
+        let Some(app) = self.app_of(channel, apid) else {
+            return Err(RegistryFault::UnknownApp);
+        };
+        let Some(context) = app.context(ctid) else {
+            return Err(RegistryFault::UnknownContext);
+        };
+        let slot = slot_of(app.number(), context.place);
+        apps::remove_context(&mut self.apps, apid, ctid);
+        self.table.clear(slot);
+        Ok(())
+    }
+}

@@ -1,0 +1,119 @@
+//! The applications by their ids, in the order in which they came.
+
+ghost use Rattle.std.specs.Prelude.{◌≡◌, ◌==◌, ◌++◌, ◌∷◌, ◌<◌, ◌≤◌, [], OnOk, OnErr, IfSome, None, length, map};
+ghost use Rattle.std.specs.List.{list_any};
+ghost use Rattle.std.specs.Map.{lookup, remove_entry, values_of};
+ghost use Rattle.std.specs.Str.{bytes_eq};
+ghost use Rattle.dl_model.specs.Registry.{IsNumbered, numbers, least_free, context_of, with_new_context, without, releveled_app};
+ghost use Rattle.dl_registry.specs.Change.{changed_app, told_again, changed_context, context_told_again, without_context, relevel_of, changed_entry};
+
+use crate::application::Application;
+use crate::relevel::Relevel;
+use dl_bytes::{Bytes, Id, OutOfMemory};
+use dl_model::Context;
+use indexmap::IndexMap;
+
+/// Applications by their ids.
+pub type Apps = IndexMap<Id, Application>;
+
+/// The least number that no application has, where one of the 16 is free.
+#[tactic(auto, using(crate::proofs::Entries::any_number))]
+pub fn free_number(apps: &Apps) -> Option<u8>
+    requires { IsNumbered 16 (numbers apps.now.entries) }
+    ensures none { result ≡ None → 16 ≤ length apps.now.entries }
+    ensures some { IfSome result (λ number. (number ≡ least_free (numbers apps.now.entries)) × (length apps.now.entries < 16)) }
+{
+    for number in 0..16 {
+        if !has_number(apps, number) {
+            return Some(number);
+        }
+    }
+    None
+}
+
+/// Whether an application has this number.
+fn has_number(apps: &Apps, number: u8) -> bool
+    ensures { result ≡ list_any (λ app. number == app.number) (values_of apps.now.entries) }
+{
+    apps.values().any(|app| number == app.number())
+}
+
+/// The application of this id tells itself anew.
+pub fn tell_app(apps: &mut Apps, apid: Id, pid: u32, text: Bytes)
+    ensures { apps.new.entries ≡ changed_app apid (told_again pid text) apps.old.entries }
+{
+    if let Some(app) = apps.get_mut(&apid) {
+        app.tell(pid, text);
+    }
+}
+
+/// A context of the application of this id tells itself anew.
+pub fn tell_context(apps: &mut Apps, apid: Id, ctid: Id, position: u32, text: Bytes)
+    ensures { apps.new.entries ≡ changed_app apid (changed_context ctid (context_told_again position text)) apps.old.entries }
+{
+    if let Some(app) = apps.get_mut(&apid) {
+        app.tell_context(ctid, position, text);
+    }
+}
+
+/// An application that was not there comes, as the last.
+pub fn add_app(apps: &mut Apps, apid: Id, app: Application) -> Result<(), OutOfMemory>
+    requires { lookup (bytes_eq apid) apps.old.entries ≡ None }
+    ensures added { OnOk result (apps.new.entries ≡ apps.old.entries ++ (apid, app) ∷ []) }
+    ensures unchanged { OnErr result (apps.new.entries ≡ apps.old.entries) }
+{
+    apps.insert(apid, app)?;
+    Ok(())
+}
+
+/// A context that was not there comes, as the last of its application.
+pub fn add_context(apps: &mut Apps, apid: Id, ctid: Id, context: Context) -> Result<(), OutOfMemory>
+    requires { IfSome (lookup (bytes_eq apid) apps.old.entries) (λ app. context_of app ctid ≡ None) }
+    ensures added { OnOk result (apps.new.entries ≡ changed_app apid (λ app. with_new_context app ctid context) apps.old.entries) }
+    ensures unchanged { OnErr result (apps.new.entries ≡ changed_app apid (λ app. app) apps.old.entries) }
+{
+    match apps.get_mut(&apid) {
+        Some(app) => app.add_context(ctid, context),
+        None => Ok(()),
+    }
+}
+
+/// The application of this id goes, with its contexts. The others keep their order.
+pub fn remove_app(apps: &mut Apps, apid: Id)
+    ensures gone { apps.new.entries ≡ without apid apps.old.entries }
+    ensures once { remove_entry (bytes_eq apid) apps.old.entries ≡ without apid apps.old.entries }
+{
+    apps.shift_remove(&apid);
+}
+
+/// A context of the application of this id goes.
+pub fn remove_context(apps: &mut Apps, apid: Id, ctid: Id)
+    ensures gone { apps.new.entries ≡ changed_app apid (without_context ctid) apps.old.entries }
+    ensures once { IfSome (lookup (bytes_eq apid) apps.old.entries) (λ app. remove_entry (bytes_eq ctid) app.contexts ≡ without ctid app.contexts) }
+{
+    if let Some(app) = apps.get_mut(&apid) {
+        app.remove_context(ctid);
+    }
+}
+
+/// The contexts of all applications get these own levels.
+pub fn relevel(apps: &mut Apps, levels: &Relevel)
+    ensures { apps.new.entries ≡ map (releveled_app (relevel_of levels.now)) apps.old.entries }
+{
+    for place in 0..apps.len() {
+        relevel_at(apps, place, levels);
+    }
+}
+
+/// The contexts of the application at this place of the order get their own levels.
+fn relevel_at(apps: &mut Apps, place: usize, levels: &Relevel)
+    ensures { apps.new.entries ≡ changed_entry (releveled_app (relevel_of levels.now)) apps.old.entries place }
+{
+    let Some((apid, _)) = apps.get_index(place) else {
+        return;
+    };
+    let apid = *apid;
+    if let Some(app) = apps.get_index_mut(place) {
+        app.relevel(apid, levels);
+    }
+}

@@ -1,0 +1,187 @@
+//! Levels that clients set: own levels, the default level, and both again as at the beginning.
+
+ghost use Rattle.std.specs.Prelude.{◌≡◌, ◌<◌, ◌≤◌, ℕ, is_ok, [], length, reverse, IfOk};
+ghost use Rattle.std.specs.Map.{values_of};
+ghost use Rattle.std.specs.Option.{option_or};
+ghost use Rattle.dl_model.specs.Registry.{wears, wears_app, wears_context, unless_worn, matching, own_set, default_set, reset, no_own};
+ghost use Rattle.dl_registry.specs.Change.{relevel_of};
+ghost use Rattle.dl_registry.specs.Kept.{Sets, slots};
+ghost use Rattle.dl_registry.specs.Refresh.{level_in_app, level_in_apps};
+ghost use Rattle.dl_registry.specs.Table.{wanted_at};
+
+use crate::application::Application;
+use crate::apps::{self, Apps};
+use crate::info::matching_of;
+use crate::registry::{LAST_VERSION, Registry};
+use crate::relevel::Relevel;
+use crate::table::{SlotTable, slot_of};
+use dl_bytes::{Id, Level, OwnLevel, Sequence, StoredLevel};
+use dl_model::{Context, SetFault};
+use std::alloc::Global;
+
+/// A default level, with own levels for contexts.
+#[derive(Clone, Copy, Debug)]
+struct NewLevels {
+    level: Level,
+    own: Relevel,
+}
+
+/// The ids that match all contexts.
+const ALL: [u8; 4] = [0; 4];
+
+impl Registry {
+    /// Sets the own level of all contexts that both ids match, the zero id matching all, and tells how many they are. Nothing
+    /// is set where a slot at its last version would change.
+    pub fn set_own(&mut self, apid: Id, ctid: Id, level: OwnLevel) -> Result<u32, SetFault>
+        ensures set { Sets (own_set (slots self.old) self.old.registry apid ctid level) self.old result self.new }
+        ensures count { IfOk result (λ count. count ≡ length (matching self.old.registry apid ctid)) }
+    {
+        let count = self.matching(apid, ctid);
+        if count == 0 {
+            return Err(SetFault::Nobody);
+        }
+        let own = Relevel::Set {
+            apid,
+            ctid,
+            own: level,
+        };
+        let level = self.level;
+        match self.relevel(&NewLevels { level, own }) {
+            Ok(()) => Ok(count),
+            Err(fault) => Err(fault),
+        }
+    }
+
+    /// Sets the default level, which all contexts follow that have none of their own.
+    pub fn set_default(&mut self, level: Level) -> Result<(), SetFault>
+        ensures { Sets (default_set (slots self.old) self.old.registry level) self.old result self.new }
+    {
+        let own = Relevel::Keep;
+        self.relevel(&NewLevels { level, own })
+    }
+
+    /// Sets the default level, takes all own levels away, and forgets what was stored.
+    pub fn reset(&mut self, level: Level) -> Result<(), SetFault>
+        ensures { Sets (reset (slots self.old) self.old.registry level) self.old result self.new }
+    {
+        let own = none_of_their_own();
+        match self.relevel(&NewLevels { level, own }) {
+            Ok(()) => {
+                self.stored = nothing_stored(self.alloc);
+                Ok(())
+            }
+            Err(fault) => Err(fault),
+        }
+    }
+
+    /// Whether `reset` with this level would be done.
+    pub fn reset_fits(&self, level: Level) -> bool
+        ensures { result ≡ is_ok (reset (slots self.now) self.now.registry level) }
+    {
+        let own = none_of_their_own();
+        !self.wears(&NewLevels { level, own })
+    }
+
+    /// How many contexts both ids match, at most the 1024 that there can be.
+    pub(crate) fn matching(&self, apid: Id, ctid: Id) -> u32
+        ensures { result ≡ length (matching self.now.registry apid ctid) }
+    {
+        let mut count: usize = 0;
+        for (id, app) in self.apps.iter() {
+            count = count.saturating_add(matching_of(apid, ctid, *id, app));
+        }
+        count as u32
+    }
+
+    /// Whether a context's slot is at its last version, and these levels would change its effective level.
+    fn wears_context(
+        &self,
+        new: &NewLevels,
+        apid: Id,
+        app: &Application,
+        ctid: Id,
+        context: &Context,
+    ) -> bool
+        ensures { result ≡ wears_context (slots self.now) self.now.registry.level new.now.level (relevel_of new.now.own) (apid, app.now) (ctid, context.now) }
+    {
+        let slot = slot_of(app.number(), context.place);
+        let own = new.own.own(apid, ctid, context.own);
+        self.table.held(slot).version == LAST_VERSION
+            && context.own.effective(self.level) != own.effective(new.level)
+    }
+
+    /// The same of any context of an application.
+    fn wears_app(&self, new: &NewLevels, apid: Id, app: &Application) -> bool
+        ensures { result ≡ wears_app (slots self.now) self.now.registry.level new.now.level (relevel_of new.now.own) (apid, app.now) }
+    {
+        app.contexts().iter().any(|(ctid, context)| self.wears_context(
+            new, apid, app, *ctid, context,
+        ))
+    }
+
+    /// The same of any context.
+    fn wears(&self, new: &NewLevels) -> bool
+        ensures { result ≡ wears (slots self.now) self.now.registry new.now.level (relevel_of new.now.own) }
+    {
+        self.apps
+            .iter()
+            .any(|(apid, app)| self.wears_app(new, *apid, app))
+    }
+
+    /// Sets these levels, unless a slot at its last version would change.
+    fn relevel(&mut self, new: &NewLevels) -> Result<(), SetFault>
+        ensures { Sets (unless_worn (slots self.old) self.old.registry new.now.level (relevel_of new.now.own)) self.old result self.new }
+    {
+        if self.wears(new) {
+            return Err(SetFault::Worn);
+        }
+        self.level = new.level;
+        apps::relevel(&mut self.apps, &new.own);
+        refresh(&mut self.table, self.level, &self.apps);
+        Ok(())
+    }
+}
+
+/// No context has a level of its own.
+fn none_of_their_own() -> Relevel
+    ensures { relevel_of result ≡ no_own }
+{
+    let all = Id::from_bytes(ALL);
+    Relevel::Set {
+        apid: all,
+        ctid: all,
+        own: OwnLevel::of(-1).unwrap(),
+    }
+}
+
+/// No stored levels.
+fn nothing_stored(alloc: Global) -> Sequence<StoredLevel>
+    ensures { result ≡ [] }
+{
+    Sequence::over(Vec::new(alloc))
+}
+
+/// The effective level of each context goes to its slot.
+fn refresh(table: &mut SlotTable, level: Level, apps: &Apps)
+    ensures first { table.new.first ≡ table.old.first }
+    ensures held { table.new.held ≡ table.old.held }
+    ensures outside { (slot : ℕ) → 1024 ≤ slot → wanted_at table.new slot ≡ wanted_at table.old slot }
+    ensures levels { (slot : ℕ) → slot < 1024 → wanted_at table.new slot ≡ option_or (level_in_apps level (reverse (values_of apps.now.entries)) slot) (wanted_at table.old slot) }
+{
+    for app in apps.values() {
+        refresh_app(table, level, app);
+    }
+}
+
+/// The effective level of each context of an application goes to its slot.
+fn refresh_app(table: &mut SlotTable, level: Level, app: &Application)
+    ensures first { table.new.first ≡ table.old.first }
+    ensures held { table.new.held ≡ table.old.held }
+    ensures outside { (slot : ℕ) → 1024 ≤ slot → wanted_at table.new slot ≡ wanted_at table.old slot }
+    ensures levels { (slot : ℕ) → slot < 1024 → wanted_at table.new slot ≡ option_or (level_in_app level app.now slot) (wanted_at table.old slot) }
+{
+    let number = app.number();
+    for context in app.contexts().values() {
+        table.give(slot_of(number, context.place), context.own.effective(level));
+    }
+}
