@@ -1,0 +1,214 @@
+-- What each call of a receiver leaves.
+use Rattle.std.proofs.Common.{◌≡◌, ℕ, ◌+◌, ◌-◌, ◌<◌, min, nat_eq, Bool, true, false, Option, List, [], ◌∷◌, ◌++◌, length, take, drop, map, Some, refl, sym, ap, subst, ◌∙◌, append_assoc, length-append, take-append-drop, arith}
+use Rattle.std.specs.Prelude.{IsSome}
+use Rattle.std.specs.HashMap as hash
+use Rattle.std.proofs.lemmas.List.{append-nil, map-append}
+use Rattle.dl_bytes.specs.Cutting.{AreCut}
+use Rattle.dl_headers.specs.declared.fault.HeaderFault.{HeaderFault}
+use Rattle.dl_message.specs.Cut.{IsOpen, rest_fault}
+use Rattle.dl_message.specs.Cutting.{Cutting, Begins, Cuts, Feeds, unfed}
+use Rattle.dl_message.specs.declared.cutter.Cut.TheVariants.{Message, NeedMore, Bad}
+use Rattle.dl_message.proofs.Cuts.{its_cut}
+use Rattle.dl_message.proofs.Pieces.{piece_long}
+use Rattle.dl_receive.specs.declared.kind.Kind.{Kind}
+use Rattle.dl_receive.specs.declared.printer.Printer.{Printer}
+use Rattle.dl_receive.specs.declared.receiver.Receiver.{Receiver}
+use Rattle.dl_receive.specs.MessageKind.{kind_of}
+use Rattle.dl_receive.specs.Program.{stream_rest, IsBad, IsWhole, IsTruncated}
+use Rattle.dl_receive.specs.Receiving.{Keeps, IsAfter, IsReady, IsAt, Took}
+use Rattle.dl_receive.specs.Streams.{TookAll}
+use Rattle.dl_receive.proofs.Sinks.{took_nothing}
+use Rattle.dl_receive.specs.Text.{lines_of, text_of, len_limit, received}
+use Rattle.dl_receive.proofs.Counters.{text-one}
+use Rattle.dl_receive.proofs.StreamCuts.{cut_fed, cut_one, bad_stream, shown_is, rest_now, good_now}
+
+-- a receiver of these parts
+abbrev pub with : Cutting → Printer → Receiver
+with cutter printer = record { cutter = cutter; printer = printer }
+
+-- ---- made
+
+received-none : received [] ≡ text_of []
+unfolding received
+received-none = refl
+
+pub made : (cutter : Cutting) (printer : Printer) → cutter ≡ unfed len_limit → printer.text.items ≡ [] → Keeps printer [] → IsAt [] (with cutter printer)
+made cutter printer is empty keeps =
+    let unread : cutter.unread ≡ [] = ap (λ (c : Cutting). c.unread) is in
+    let room : cutter.room ≡ len_limit + 4 = ap (λ (c : Cutting). c.room) is in
+    let limit : cutter.limit ≡ len_limit = ap (λ (c : Cutting). c.limit) is in
+    let nothing : IsOpen len_limit [] = record { good = refl; ends = (its_cut len_limit []).ends } in
+    record {
+      after = record {
+        given = [];
+        limit = limit;
+        cut = sym unread;
+        keeps = keeps;
+        text = ap (λ (t : List ℕ). received [] ++ t) empty ∙ append-nil (received []) ∙ received-none;
+      };
+      ready = record {
+        limit = limit;
+        is_open = subst (IsOpen len_limit) (sym unread) nothing;
+        room = omega (arith, room, ap length unread);
+        more = omega (arith, room);
+      };
+      shown = empty;
+    }
+
+-- ---- a message is given
+
+module _ (stream shown : List ℕ) (old : Receiver) (cutter : Cutting) (printer : Printer) (after : IsAfter stream shown old) (cuts : Cuts old.cutter Message cutter)
+    (keeps : (before : List Kind) → Keeps old.printer before → Keeps printer (before ++ kind_of cutter.message ∷ []))
+    (text : (before : List Kind) → Keeps old.printer before → printer.text.items ≡ old.printer.text.items ++ lines_of before (kind_of cutter.message)) where
+  given_one : map kind_of (after.given ++ cutter.message ∷ []) ≡ map kind_of after.given ++ kind_of cutter.message ∷ []
+  given_one = map-append kind_of after.given (cutter.message ∷ [])
+
+  begins_here : Begins len_limit old.cutter.unread cutter.message cutter.unread
+  begins_here = subst (λ (n : ℕ). Begins n old.cutter.unread cutter.message cutter.unread) after.limit cuts.0
+
+  pub message_printed : IsAfter stream shown (with cutter printer)
+  message_printed = record {
+    given = after.given ++ cutter.message ∷ [];
+    limit = ap (λ (c : Cutting). c.limit) cuts.1 ∙ after.limit;
+    cut = cut_one len_limit stream old.cutter.unread cutter.unread cutter.message after.given after.cut begins_here;
+    keeps = subst (λ (ks : List Kind). Keeps printer ks) (sym given_one) (keeps (map kind_of after.given) after.keeps);
+    text =
+        ap (λ (t : List ℕ). shown ++ t) (text (map kind_of after.given) after.keeps)
+        ∙ sym (append_assoc shown old.printer.text.items (lines_of (map kind_of after.given) (kind_of cutter.message)))
+        ∙ ap (λ (t : List ℕ). t ++ lines_of (map kind_of after.given) (kind_of cutter.message)) after.text
+        ∙ sym (text-one (map kind_of after.given) (kind_of cutter.message))
+        ∙ ap text_of (sym given_one);
+  }
+
+-- what is unread gets shorter with each message
+pub shorter : (old new : Cutting) → Cuts old Message new → length new.unread < length old.unread
+shorter old new cuts =
+    let piece = cuts.0.0 in
+    omega (arith, ap length cuts.0.2, length-append piece new.unread, (piece_long old.limit piece cuts.0.1).1)
+
+-- ---- no message is given: nothing changes but what the cutter lends
+
+pub same_unread : (stream shown : List ℕ) (old : Receiver) (cutter : Cutting) → cutter.limit ≡ old.cutter.limit → cutter.unread ≡ old.cutter.unread
+    → IsAfter stream shown old → IsAfter stream shown (with cutter old.printer)
+same_unread stream shown old cutter limit unread after = record {
+  given = after.given;
+  limit = limit ∙ after.limit;
+  cut = subst (AreCut (Begins len_limit) stream after.given) (sym unread) after.cut;
+  keeps = after.keeps;
+  text = after.text;
+}
+
+pub needs_more : (stream shown : List ℕ) (old : Receiver) (cutter : Cutting) → Cuts old.cutter NeedMore cutter → IsAfter stream shown old → IsAfter stream shown (with cutter old.printer)
+needs_more stream shown old cutter cuts = same_unread stream shown old cutter (ap (λ (c : Cutting). c.limit) cuts.2) (ap (λ (c : Cutting). c.unread) cuts.2)
+
+pub is_bad : (stream shown : List ℕ) (old : Receiver) (cutter : Cutting) (fault : HeaderFault) → Cuts old.cutter (Bad fault) cutter → IsAfter stream shown old → IsAfter stream shown (with cutter old.printer)
+is_bad stream shown old cutter fault cuts = same_unread stream shown old cutter (ap (λ (c : Cutting). c.limit) cuts.1) (ap (λ (c : Cutting). c.unread) cuts.1)
+
+pub ready_now : (old new : Cutting) (printer : Printer) → old.limit ≡ len_limit → Cuts old NeedMore new → IsReady (with new printer)
+ready_now old new printer limit cuts =
+    let unread : new.unread ≡ old.unread = ap (λ (c : Cutting). c.unread) cuts.2 in
+    let room : new.room ≡ old.limit + 4 - length old.unread = ap (λ (c : Cutting). c.room) cuts.2 in
+    record {
+      limit = ap (λ (c : Cutting). c.limit) cuts.2 ∙ limit;
+      is_open = subst (IsOpen len_limit) (sym unread) (subst (λ (n : ℕ). IsOpen n old.unread) limit cuts.0);
+      room = omega (arith, room, limit, ap length unread);
+      more = cuts.1;
+    }
+
+some_fault : (limit : ℕ) (rest : List ℕ) (fault : HeaderFault) → rest_fault limit rest ≡ Some fault → IsSome (rest_fault limit rest)
+some_fault limit rest fault e = rw e refl
+
+pub bad_now : (old new : Cutting) (fault : HeaderFault) → old.limit ≡ len_limit → Cuts old (Bad fault) new → IsSome (rest_fault len_limit new.unread)
+bad_now old new fault limit cuts =
+    let unread : new.unread ≡ old.unread = ap (λ (c : Cutting). c.unread) cuts.1 in
+    let e : rest_fault len_limit new.unread ≡ Some fault = ap (rest_fault len_limit) unread ∙ ap (λ (n : ℕ). rest_fault n old.unread) (sym limit) ∙ cuts.0 in
+    some_fault len_limit new.unread fault e
+
+-- ---- fed
+
+pub fed : (stream shown piece : List ℕ) (old : Receiver) (count : ℕ) (cutter : Cutting) → Feeds old.cutter piece count cutter → IsAfter stream shown old
+    → IsAfter (stream ++ take count piece) shown (with cutter old.printer)
+fed stream shown piece old count cutter feeds after =
+    let unread : cutter.unread ≡ old.cutter.unread ++ take count piece = ap (λ (c : Cutting). c.unread) feeds.taken in
+    record {
+      given = after.given;
+      limit = ap (λ (c : Cutting). c.limit) feeds.taken ∙ after.limit;
+      cut = subst (AreCut (Begins len_limit) (stream ++ take count piece) after.given) (sym unread) (cut_fed len_limit stream old.cutter.unread (take count piece) after.given after.cut);
+      keeps = after.keeps;
+      text = after.text;
+    }
+
+-- ---- taken
+
+pub is_shown : (stream shown : List ℕ) (receiver : Receiver) → IsAfter stream shown receiver → IsReady receiver → shown ++ receiver.printer.text.items ≡ received stream
+is_shown stream shown receiver after ready = shown_is stream shown receiver after ready.is_open
+
+pub is_bad_stream : (stream shown more : List ℕ) (receiver : Receiver) → IsAfter stream shown receiver → IsSome (rest_fault len_limit receiver.cutter.unread)
+    → IsBad (stream ++ more) × (shown ++ receiver.printer.text.items ≡ received (stream ++ more))
+is_bad_stream stream shown more receiver after bad =
+    let b = bad_stream stream receiver.cutter.unread more after.given after.cut bad in
+    (b.0, after.text ∙ b.1)
+
+pub cleared : (stream shown : List ℕ) (old : Receiver) (printer : Printer) → printer.counters ≡ old.printer.counters → printer.text.items ≡ []
+    → IsAfter stream shown old → IsReady old → IsAt stream (with old.cutter printer)
+cleared stream shown old printer counters empty after ready =
+    let whole = shown_is stream shown old after ready.is_open in
+    record {
+      after = record {
+        given = after.given;
+        limit = after.limit;
+        cut = after.cut;
+        keeps = λ session. ap (λ m. hash.get nat_eq m session) counters ∙ after.keeps session;
+        text = ap (λ (t : List ℕ). received stream ++ t) empty ∙ append-nil (received stream) ∙ sym whole ∙ after.text;
+      };
+      ready = record { limit = ready.limit; is_open = ready.is_open; room = ready.room; more = ready.more };
+      shown = empty;
+    }
+
+-- ---- at the end
+
+pub nothing_left : (xs : List ℕ) → length xs ≡ 0 → xs ≡ []
+nothing_left [] e = refl
+nothing_left (x ∷ xs) e = absurd (omega arith)
+
+module _ (stream : List ℕ) (receiver : Receiver) (at : IsAt stream receiver) where
+  left_is : receiver.cutter.unread ≡ stream_rest stream
+  left_is = rest_now stream (received stream) receiver at.after at.ready.is_open
+
+  pub ends_whole : (count : ℕ) → count ≡ min (len_limit + 4) receiver.cutter.room → count ≡ len_limit + 4 → IsWhole stream
+  ends_whole count is all = sym left_is ∙ nothing_left receiver.cutter.unread (omega (arith, is, all, at.ready.room))
+
+  pub ends_truncated : (count : ℕ) → count ≡ min (len_limit + 4) receiver.cutter.room → (count ≡ len_limit + 4 → ⊥) → IsTruncated stream
+  ends_truncated count is less = (
+    good_now stream (received stream) receiver at.after at.ready.is_open,
+    λ none. less (omega (arith, is, at.ready.room, ap length (left_is ∙ none))),
+  )
+
+-- ---- between
+
+pub took_text : (more : Bool) (stream shown : List ℕ) (receiver : Receiver) → Took more stream shown receiver → shown ++ receiver.printer.text.items ≡ received stream
+took_text true stream shown receiver took = is_shown stream shown receiver took.0 took.1
+took_text false stream shown receiver took = took.1
+
+pub takes_start : (old : Option (List ℕ)) → TookAll old old (received [])
+unfolding received text_of
+takes_start old = took_nothing old
+
+-- so much of a piece is taken, and its messages are printed
+pub takes : (stream shown done rest : List ℕ) (old new : Receiver) (taken : ℕ) (cutter : Cutting) → IsAfter (stream ++ done) shown old → Feeds old.cutter rest taken cutter
+    → ((s t : List ℕ) → IsAfter s t (with cutter old.printer) → IsAfter s t new) → IsAfter (stream ++ (done ++ take taken rest)) shown new
+takes stream shown done rest old new taken cutter after feeds prints =
+    let here = prints ((stream ++ done) ++ take taken rest) shown (fed (stream ++ done) shown rest old taken cutter feeds after) in
+    subst (λ (s : List ℕ). IsAfter s shown new) (append_assoc stream done (take taken rest)) here
+
+-- with what is left of the piece, all of it
+pub whole_piece : (done rest piece : List ℕ) (taken : ℕ) → done ++ rest ≡ piece → (done ++ take taken rest) ++ drop taken rest ≡ piece
+whole_piece done rest piece taken e = append_assoc done (take taken rest) (drop taken rest) ∙ ap (λ (x : List ℕ). done ++ x) (take-append-drop taken rest) ∙ e
+
+pub bad_piece : (stream shown done rest piece : List ℕ) (new : Receiver) (taken : ℕ) → done ++ rest ≡ piece → IsAfter (stream ++ (done ++ take taken rest)) shown new
+    → IsSome (rest_fault len_limit new.cutter.unread) → IsBad (stream ++ piece) × (shown ++ new.printer.text.items ≡ received (stream ++ piece))
+bad_piece stream shown done rest piece new taken e after bad =
+    let all : (stream ++ (done ++ take taken rest)) ++ drop taken rest ≡ stream ++ piece =
+    append_assoc stream (done ++ take taken rest) (drop taken rest) ∙ ap (λ (x : List ℕ). stream ++ x) (whole_piece done rest piece taken e) in
+    subst (λ (s : List ℕ). IsBad s × (shown ++ new.printer.text.items ≡ received s)) all
+    (is_bad_stream (stream ++ (done ++ take taken rest)) shown (drop taken rest) new after bad)

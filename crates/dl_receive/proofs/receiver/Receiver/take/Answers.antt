@@ -1,0 +1,41 @@
+use Rattle.std.proofs.Common.{◌≡◌, ℕ, List, [], ◌++◌, length, take, Bool, sym, ap, subst, ◌∙◌, eqb-true}
+use Rattle.std.proofs.lemmas.List.{append-nil, take_rest}
+use Rattle.dl_receive.specs.Receiving.{IsAfter, Stands}
+use Rattle.dl_receive.proofs.Receivers.{takes, whole_piece, bad_piece, nothing_left}
+use Rattle.dl_receive.proofs.receiver.Receiver.take.Goals as goal
+
+pub returns-then-not-branch : goal.returns-then-not-branch
+returns-then-not-branch c = λ stream shown after.
+    let i = c.loop-rest.invariant in
+    let done = i.1.0 in
+    let rest = c.loop-rest.rest.now in
+    let new = c.print_whole.new.self in
+    let bad = subst (λ (b : Bool). Stands b new) c.if-not-branch.true c.in_ok-print_whole.ensures.stands in
+    bad_piece stream shown done rest c.args.piece.now new c.feed-taken.result i.1.1
+    (takes stream shown done rest c.loop-rest.self new c.feed-taken.result c.feed-taken.new.self (i.1.2 stream shown after) c.feed-taken.ensures c.in_ok-print_whole.ensures.after) bad
+
+pub loop-rest-preserved : goal.loop-rest-preserved
+loop-rest-preserved c =
+    let i = c.loop-rest.invariant in
+    let done = i.1.0 in
+    let rest = c.loop-rest.rest.now in
+    let taken = c.feed-taken.result in
+    let new = c.print_whole.new.self in
+    let ready = subst (λ (b : Bool). Stands b new) c.if-not-branch.false c.in_ok-print_whole.ensures.stands in (
+      ready,
+      (
+        done ++ take taken rest,
+        ap (λ (x : List ℕ). (done ++ take taken rest) ++ x) (take_rest rest taken) ∙ whole_piece done rest c.args.piece.now taken i.1.1,
+        λ stream shown after.
+            takes stream shown done rest c.loop-rest.self new taken c.feed-taken.new.self (i.1.2 stream shown after) c.feed-taken.ensures c.in_ok-print_whole.ensures.after,
+      ),
+    )
+
+pub returns : goal.returns
+returns c = λ stream shown after.
+    let i = c.loop-rest.invariant in
+    let done = i.1.0 in
+    let rest = c.loop-rest.rest.now in
+    let empty : rest ≡ [] = nothing_left rest (eqb-true (length rest) 0 (sym c.is_empty.ensures ∙ c.loop-rest-test.false)) in
+    let all : done ≡ c.args.piece.now = sym (append-nil done) ∙ ap (λ (x : List ℕ). done ++ x) (sym empty) ∙ i.1.1 in
+    (subst (λ (d : List ℕ). IsAfter (stream ++ d) shown c.loop-rest.self) all (i.1.2 stream shown after), i.0)

@@ -1,0 +1,9 @@
+pub mod MessageKind
+pub mod Text
+pub mod Words
+pub mod Status
+pub mod Streams
+pub mod Program
+pub mod Receiving
+pub mod Listening
+pub mod Calls

@@ -1,0 +1,15 @@
+//! A receiver: a client that prints each message of a daemon, and where messages are missing and how many.
+#![tactic(auto)]
+
+mod kind;
+pub mod laws;
+mod listen;
+mod output;
+mod printer;
+mod program;
+mod receiver;
+mod status;
+mod words;
+
+pub use program::{Received, receive};
+pub use status::Status;

@@ -1,0 +1,67 @@
+//! Listening to a source until it ends.
+
+ghost use Rattle.std.specs.Prelude.{◌≡◌, ◌++◌, ℕ, List};
+ghost use Rattle.dl_receive.specs.Listening.{Listened};
+ghost use Rattle.dl_receive.specs.Receiving.{Heard, IsAt, IsReady};
+ghost use Rattle.dl_receive.specs.Text.{received};
+
+use crate::output::write_text;
+use crate::receiver::Receiver;
+use crate::status::Status;
+use dl_outside::{Got, Sink, Source};
+use std::alloc::Global;
+
+/// How many bytes are asked for at once.
+const PIECE: usize = 8192;
+
+/// The most bytes that are read of a source, but for the last piece: 2^40.
+const LIMIT: u64 = 1_099_511_627_776;
+
+/// Prints the messages that a piece of the stream makes whole, and writes their lines. Answers how the stream ends, if
+/// it goes no further.
+fn hear<O: Sink>(receiver: &mut Receiver, piece: &[u8], out: &mut O) -> Option<Status>
+    requires { IsReady receiver.old }
+    ensures { (stream : List ℕ) → IsAt stream receiver.old
+        → (more : List ℕ) × (received (stream ++ piece.now) ≡ received stream ++ more)
+        × Heard (stream ++ piece.now) more
+        (record { held = O.held out.old; failed = O.faults out.old })
+        (record { held = O.held out.new; failed = O.faults out.new })
+        receiver.new result }
+{
+    let Ok(more) = receiver.take(piece) else {
+        return Some(Status::OutOfMemory);
+    };
+    let Ok(()) = write_text(out, receiver.text()) else {
+        return Some(Status::WriteFault);
+    };
+    receiver.clear();
+    if more { None } else { Some(Status::BadMessage) }
+}
+
+/// Reads a source to its end, and writes the lines of each message once it has come. The memory that it takes doesn't
+/// grow with the stream, but for the counter of each session.
+pub fn listen<S: Source, O: Sink>(alloc: Global, source: &mut S, out: &mut O) -> Status
+    ensures { Listened
+        (record { left = S.left source.old; reads_failed = S.faults source.old; held = O.held out.old; writes_failed = O.faults out.old })
+        (record { left = S.left source.new; reads_failed = S.faults source.new; held = O.held out.new; writes_failed = O.faults out.new })
+        result }
+{
+    let Ok(mut receiver) = Receiver::make(alloc) else {
+        return Status::OutOfMemory;
+    };
+    let mut buffer = [0; PIECE];
+    let mut total = 0;
+    while total < LIMIT {
+        let count = match source.read(&mut buffer) {
+            Got::Bytes(count) => count,
+            Got::End if receiver.is_whole() => return Status::Ok,
+            Got::End => return Status::Truncated,
+            Got::Failed => return Status::ReadFault,
+        };
+        total += count as u64;
+        if let Some(status) = hear(&mut receiver, &buffer[..count], out) {
+            return status;
+        }
+    }
+    Status::Limit
+}
