@@ -13,8 +13,6 @@ mod levels;
 mod registry;
 mod relevel;
 mod table;
-#[cfg(test)]
-mod tests;
 
 pub use dl_bytes::Stored;
 pub use dl_model::{LevelChange, RegistryFault, SetFault};

@@ -1,4 +1,5 @@
-//! Worked examples as tables: whole scripts through the replay, and rows of the hub, with objects in memory on all sides.
+//! Worked examples as tables: whole scripts through the replay, rows of the hub, of the registry and of the requests
+//! against it, with objects in memory on all sides.
 #![tactic(auto)]
 
 #[cfg(test)]
@@ -9,5 +10,9 @@ mod faults;
 mod hub;
 #[cfg(test)]
 mod played;
+#[cfg(test)]
+mod registry;
+#[cfg(test)]
+mod requests;
 #[cfg(test)]
 mod scripts;

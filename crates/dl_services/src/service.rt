@@ -1,0 +1,215 @@
+//! Serving a request: what it makes of the registry, and the reply.
+
+ghost use Rattle.std.specs.Prelude.{◌≡◌, ◌<◌, ◌∷◌, [], ◌++◌, Option, IfOk, OnErr, length, unwrap_or};
+ghost use Rattle.std.specs.Result.{result_ok};
+ghost use Rattle.byteorder.specs.Endian.{little_bytes};
+ghost use Rattle.dl_bytes.specs.Payload.{Arguments};
+ghost use Rattle.dl_model.specs.declared.registry.Context.{Context};
+ghost use Rattle.dl_model.specs.Registry.{App, reset};
+ghost use Rattle.dl_model.specs.Reply.{bare, own_requested, default_requested, status_of, done_status, reset_status, inject_status, info_reply, now_stored, where_done, version_name};
+ghost use Rattle.dl_registry.specs.Kept.{slots, with_registry};
+ghost use Rattle.dl_services.specs.Service.{Replies, Leaves, HasBody};
+ghost use Rattle.dl_services.specs.Wish.{stores, removes, sends, Wants};
+
+use crate::status::{DONE, FAILED, NO_CONTEXT, NOT_SUPPORTED, TOO_LONG, folder_status};
+use crate::wish::Want;
+use dl_bytes::{Bytes, Done, Id, Level, OutOfMemory, OwnLevel};
+use dl_control::{Reply, Request, RequestFault};
+use dl_model::SetFault;
+use dl_registry::{InfoFault, Registry};
+use std::alloc::Global;
+
+/// The service ids of requests that are no injections.
+mod id {
+    pub const SET_LOG_LEVEL: u32 = 0x01;
+
+    pub const GET_LOG_INFO: u32 = 0x03;
+
+    pub const GET_DEFAULT: u32 = 0x04;
+
+    pub const STORE: u32 = 0x05;
+
+    pub const RESET: u32 = 0x06;
+
+    pub const SET_DEFAULT: u32 = 0x11;
+
+    pub const VERSION: u32 = 0x13;
+}
+
+/// The name of this software's version.
+const VERSION_NAME: [u8; 9] = *b"dlt_run 1";
+
+/// Serves a request: the registry becomes what the request makes of it, and the reply tells how it went. `target` is APID
+/// and CTID of the request's message, `injection` whether clients may send data to applications, `level` the level of
+/// `ContextLogLevel`, `wish` what `wish_of` gave for the same of these, and `done` what came of it; where nothing was
+/// wished it is not looked at. Memory is taken for the body of a reply alone.
+pub fn serve(
+    alloc: Global,
+    registry: &mut Registry,
+    request: &Result<Request, RequestFault>,
+    target: (Id, Id),
+    injection: bool,
+    level: Level,
+    wish: Want,
+    done: Done,
+) -> Result<Reply, OutOfMemory>
+    requires { Wants injection level registry.old target request.now wish }
+    ensures reply { IfOk result (Replies injection level registry.old target request.now done) }
+    ensures registry { Leaves injection level registry.old request.now done registry.new }
+    ensures memory { OnErr result (HasBody injection level registry.old target request.now done) }
+    ensures unchanged { OnErr result (registry.new ≡ registry.old) }
+{
+    match request {
+        Ok(Request::SetLogLevel { apid, ctid, level }) => {
+            Ok(set_own(alloc, registry, *apid, *ctid, *level))
+        }
+        Ok(
+            Request::GetLogInfo {
+                options,
+                apid,
+                ctid,
+            },
+        ) => log_info(alloc, registry, *options, *apid, *ctid),
+        Ok(Request::GetDefault) => default_level(alloc, registry),
+        Ok(Request::Store) => Ok(store(alloc, registry, wish, done)),
+        Ok(Request::Reset) => Ok(reset(alloc, registry, level, wish, done)),
+        Ok(Request::SetDefault { level }) => Ok(set_default(alloc, registry, *level)),
+        Ok(Request::Version) => version(alloc),
+        Ok(Request::Inject { service, .. }) => Ok(inject(alloc, *service, wish, done)),
+        Ok(Request::Other { service }) => Ok(bare(alloc, *service, NOT_SUPPORTED)),
+        Err(RequestFault::Short { service } | RequestFault::Excess { service }) => {
+            Ok(bare(alloc, *service, FAILED))
+        }
+    }
+}
+
+/// A reply without a body.
+fn bare(alloc: Global, service: u32, status: u8) -> Reply
+    ensures { result ≡ bare service status }
+{
+    let body = Bytes::over(Vec::new(alloc));
+    Reply {
+        service,
+        status,
+        body,
+    }
+}
+
+/// SetLogLevel: the own level of all contexts that match.
+fn set_own(alloc: Global, registry: &mut Registry, apid: Id, ctid: Id, level: i8) -> Reply
+    ensures reply { result ≡ bare 0x01 (status_of (own_requested (slots registry.old) registry.old.registry apid ctid level)) }
+    ensures registry { registry.new ≡ with_registry registry.old (unwrap_or (own_requested (slots registry.old) registry.old.registry apid ctid level) registry.old.registry) }
+{
+    let Some(own) = OwnLevel::of(level) else {
+        return bare(alloc, id::SET_LOG_LEVEL, FAILED);
+    };
+    match registry.set_own(apid, ctid, own) {
+        Ok(_) => bare(alloc, id::SET_LOG_LEVEL, DONE),
+        Err(SetFault::Nobody | SetFault::Worn) => bare(alloc, id::SET_LOG_LEVEL, FAILED),
+    }
+}
+
+/// SetDefaultLogLevel.
+fn set_default(alloc: Global, registry: &mut Registry, level: u8) -> Reply
+    ensures reply { result ≡ bare 0x11 (status_of (default_requested (slots registry.old) registry.old.registry level)) }
+    ensures registry { registry.new ≡ with_registry registry.old (unwrap_or (default_requested (slots registry.old) registry.old.registry level) registry.old.registry) }
+{
+    let Some(level) = Level::of(level) else {
+        return bare(alloc, id::SET_DEFAULT, FAILED);
+    };
+    match registry.set_default(level) {
+        Ok(()) => bare(alloc, id::SET_DEFAULT, DONE),
+        Err(SetFault::Nobody | SetFault::Worn) => bare(alloc, id::SET_DEFAULT, FAILED),
+    }
+}
+
+/// StoreConfiguration: what was written is what is stored.
+fn store(alloc: Global, registry: &mut Registry, wish: Want, done: Done) -> Reply
+    requires { wish ≡ stores registry.old.registry }
+    ensures reply { result ≡ bare 0x05 (done_status done) }
+    ensures registry { registry.new ≡ with_registry registry.old (where_done done (now_stored registry.old.registry) registry.old.registry) }
+{
+    if let (Want::Put(_, stored), Done::Yes) = (wish, done) {
+        registry.keep(stored);
+    }
+    bare(alloc, id::STORE, folder_status(done))
+}
+
+/// ResetToFactoryDefault: where the file is gone, so are all levels that were set.
+fn reset(alloc: Global, registry: &mut Registry, level: Level, wish: Want, done: Done) -> Reply
+    requires { wish ≡ removes (result_ok (reset (slots registry.old) registry.old.registry level)) }
+    ensures reply { result ≡ bare 0x06 (reset_status (result_ok (reset (slots registry.old) registry.old.registry level)) done) }
+    ensures registry { registry.new ≡ with_registry registry.old (where_done done
+        (unwrap_or (result_ok (reset (slots registry.old) registry.old.registry level)) registry.old.registry) registry.old.registry) }
+{
+    let Want::Remove = wish else {
+        return bare(alloc, id::RESET, FAILED);
+    };
+    if done == Done::Yes {
+        registry.reset(level).unwrap();
+    }
+    bare(alloc, id::RESET, folder_status(done))
+}
+
+/// GetLogInfo.
+fn log_info(
+    alloc: Global,
+    registry: &Registry,
+    options: u8,
+    apid: Id,
+    ctid: Id,
+) -> Result<Reply, OutOfMemory>
+    ensures reply { IfOk result (λ reply. reply ≡ info_reply registry.now.registry options apid ctid) }
+    ensures memory { OnErr result (0 < length (info_reply registry.now.registry options apid ctid).body) }
+{
+    if options != 6 && options != 7 {
+        return Ok(bare(alloc, id::GET_LOG_INFO, NOT_SUPPORTED));
+    }
+    match registry.info(options, apid, ctid) {
+        Ok(body) => Ok(Reply {
+            service: id::GET_LOG_INFO,
+            status: options,
+            body,
+        }),
+        Err(InfoFault::Nobody) => Ok(bare(alloc, id::GET_LOG_INFO, NO_CONTEXT)),
+        Err(InfoFault::TooLong) => Ok(bare(alloc, id::GET_LOG_INFO, TOO_LONG)),
+        Err(InfoFault::OutOfMemory) => Err(OutOfMemory),
+    }
+}
+
+/// GetDefaultLogLevel.
+fn default_level(alloc: Global, registry: &Registry) -> Result<Reply, OutOfMemory>
+    ensures { IfOk result (λ reply. reply ≡ record { service = 0x04; status = 0; body = registry.now.registry.level ∷ [] }) }
+{
+    let level = registry.default_level().number();
+    let body = Vec::from_slice(alloc, &[level])?;
+    Ok(Reply {
+        service: id::GET_DEFAULT,
+        status: DONE,
+        body: Bytes::over(body),
+    })
+}
+
+/// GetSoftwareVersion: the name behind its length.
+fn version(alloc: Global) -> Result<Reply, OutOfMemory>
+    ensures { IfOk result (λ reply. reply ≡ record { service = 0x13; status = 0; body = little_bytes 4 (length version_name) ++ version_name }) }
+{
+    let mut body = Vec::with_capacity(alloc, 4 + VERSION_NAME.len())?;
+    body.extend_from_slice(&(VERSION_NAME.len() as u32).to_le_bytes())?;
+    body.extend_from_slice(&VERSION_NAME)?;
+    Ok(Reply {
+        service: id::VERSION,
+        status: DONE,
+        body: Bytes::over(body),
+    })
+}
+
+/// An injection: whether its data went into the queue.
+fn inject(alloc: Global, service: u32, wish: Want, done: Done) -> Reply
+    ensures { (body : Arguments) (target : Option (App × Context)) → wish ≡ sends service body target → result ≡ bare service (inject_status target done) }
+{
+    match (wish, done) {
+        (Want::Inject(_, _), Done::Yes) => bare(alloc, service, DONE),
+        _ => bare(alloc, service, FAILED),
+    }
+}
