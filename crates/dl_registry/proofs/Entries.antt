@@ -1,14 +1,13 @@
 -- Entries of a map in their order: one changed, one gone, and searches by what they have.
 use Rattle.std.proofs.Common.{◌≡◌, ℕ, zero, suc, ◌+◌, ◌<◌, ◌≤◌, Bool, true, false, not, cond, List, [], ◌∷◌, length, map, Option, Some, None, refl, sym, ap, ◌∙◌, arith}
 use Rattle.std.specs.Prelude.{nat_eq, ◌||◌, ◌==◌, slice_get, slice_set}
-use Rattle.std.specs.List.{AllByRecursion, filter, list_any}
+use Rattle.std.specs.List.{filter, list_any}
 use Rattle.std.specs.Map.{lookup, remove_entry, values_of}
 use Rattle.indexmap.specs.IndexMap.{set_value_at}
 use Rattle.std.specs.Option.{option_map_or}
-use Rattle.std.specs.Str.{bytes_eq}
 use Rattle.std.proofs.lemmas.Map.{NonePasses, lookup-none, none_passes_from_lookup}
 use Rattle.std.proofs.lemmas.List.{length-map}
-use Rattle.dl_model.specs.Registry.{App, IsNumbered, least_free, numbers, without}
+use Rattle.dl_model.specs.Registry.{App, IsNumbered, least_free, numbers}
 use Rattle.dl_registry.proofs.Numbers.{least_free_is, room_left, none_left}
 use Rattle.dl_registry.specs.Change.{changed_entry, changed_first}
 

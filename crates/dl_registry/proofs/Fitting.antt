@@ -1,17 +1,17 @@
 -- The effective levels after each change of the registry, and that the table has them.
-use Rattle.std.proofs.Common.{◌≡◌, ◌⊎◌, inl, inr, ℕ, ◌+◌, ◌*◌, ◌/◌, ◌%◌, ◌<◌, ◌≢◌, Bool, true, false, cond, List, [], ◌∷◌, ◌++◌, length, map, Option, Some, None, is_some, refl, sym, ap, subst, ◌∙◌, true≢false, arith}
+use Rattle.std.proofs.Common.{◌≡◌, ◌⊎◌, inl, inr, ℕ, ◌/◌, ◌%◌, ◌<◌, ◌≢◌, Bool, true, false, cond, List, [], Option, Some, None, refl, sym, ap, ◌∙◌, arith}
 use Rattle.std.specs.Prelude.{nat_eq, ◌==◌}
 use Rattle.std.specs.List.{find, list_any}
-use Rattle.std.specs.Map.{lookup, remove_entry, set_value, values_of}
+use Rattle.std.specs.Map.{lookup, remove_entry, values_of}
 use Rattle.std.specs.Option.{option_and_then, option_map, option_or}
 use Rattle.std.specs.Str.{bytes_eq}
 use Rattle.std.proofs.lemmas.Bool.Decides.{eqb_tells}
 use Rattle.dl_model.specs.declared.registry.Context.{Context}
 use Rattle.dl_model.specs.declared.registry.Slot.{Slot}
 use Rattle.dl_model.specs.History.{last_version}
-use Rattle.dl_model.specs.Registry.{App, Registry, IsInOrder, IsNumbered, context_of, effective, level_at, numbers, places, slot_of, with_app, with_new_app, with_context, with_new_context, without}
-use Rattle.dl_registry.specs.Table.{Table, held_at, wanted_at, waiting_at, differing, IsFresh}
-use Rattle.dl_registry.specs.Change.{told_again, context_told_again, without_context}
+use Rattle.dl_model.specs.Registry.{App, Registry, IsInOrder, IsNumbered, context_of, effective, level_at, places, slot_of, with_app, with_new_app, with_context, with_new_context, without}
+use Rattle.dl_registry.specs.Table.{Table, held_at, wanted_at, differing}
+use Rattle.dl_registry.specs.Change.{context_told_again, without_context}
 use Rattle.dl_registry.specs.Kept.{Fits}
 use Rattle.dl_registry.proofs.Finding.{valued, valued-push, valued-found, valued-set_value, valued-remove, valued-free}
 

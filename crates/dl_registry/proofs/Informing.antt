@@ -1,11 +1,10 @@
 -- What GetLogInfo tells, entry by entry, and how many entries there can be.
-use Rattle.std.proofs.Common.{◌≡◌, ℕ, ◌+◌, ◌*◌, ◌≤◌, Bool, true, false, not, cond, List, [], ◌∷◌, ◌++◌, length, map, Option, Some, None, refl, sym, ap, ◌∙◌, arith, length-append}
-use Rattle.std.specs.Prelude.{◌==◌}
+use Rattle.std.proofs.Common.{◌≡◌, ℕ, ◌+◌, ◌*◌, ◌≤◌, Bool, true, false, cond, List, [], ◌∷◌, ◌++◌, length, map, Option, Some, None, refl, sym, ap, ◌∙◌, arith, length-append}
 use Rattle.std.specs.List.{filter, filter_map, flat_map}
 use Rattle.std.proofs.lemmas.List.Elements.{filter_map-append}
 use Rattle.std.proofs.lemmas.List.{length-map, map-append}
 use Rattle.dl_model.specs.declared.registry.Context.{Context}
-use Rattle.dl_model.specs.Registry.{App, Registry, ArePlaced, IsInOrder, IsNumbered, matches, matching, matching_in, numbers, places}
+use Rattle.dl_model.specs.Registry.{App, Registry, ArePlaced, IsInOrder, matches, matching, matching_in, numbers, places}
 use Rattle.byteorder.specs.Endian.{little_bytes}
 use Rattle.dl_model.specs.Reply.{app_info, info_body, is_listed, listed}
 use Rattle.dl_model.proofs.Numbered.{IsNumbered-length}

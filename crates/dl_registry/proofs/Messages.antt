@@ -1,5 +1,5 @@
 -- What user messages leave fits.
-use Rattle.std.proofs.Common.{◌≡◌, ◌≢◌, ◌⊎◌, inl, inr, ℕ, ◌/◌, ◌%◌, ◌<◌, ◌≤◌, Bool, true, false, not, cond, List, [], ◌∷◌, ◌++◌, length, Option, Some, None, IsSome, IsSomeAnd, IfSome, is_some, Result, Ok, Err, IsOk, eq-eqb, refl, sym, ap, subst, ◌∙◌, true≢false, arith}
+use Rattle.std.proofs.Common.{◌≡◌, ◌≢◌, inl, inr, ℕ, ◌/◌, ◌%◌, ◌<◌, ◌≤◌, Bool, true, false, not, cond, List, [], ◌∷◌, ◌++◌, length, Option, Some, None, IsSome, IsSomeAnd, IfSome, is_some, Result, Ok, Err, IsOk, eq-eqb, refl, sym, ap, subst, ◌∙◌, arith}
 use Rattle.std.specs.Prelude.{nat_eq, nat_le, ◌==◌, if◌then◌else◌}
 use Rattle.std.specs.List.{AllByRecursion, list_any}
 use Rattle.std.specs.Map.{lookup, remove_entry, set_value}
@@ -10,7 +10,7 @@ use Rattle.dl_model.specs.declared.registry.RegistryFault.{RegistryFault}
 use Rattle.dl_model.specs.declared.registry.RegistryFault.TheVariants as fault
 use Rattle.dl_model.specs.declared.registry.Slot.{Slot}
 use Rattle.dl_model.specs.History.{last_version}
-use Rattle.dl_model.specs.Registry.{App, Registry, IsInOrder, IsNumbered, context_of, context_registered, effective, level_at, least_free, numbers, places, slot_of, stored_level, with_app, with_new_app, with_context, with_new_context, without}
+use Rattle.dl_model.specs.Registry.{App, Registry, IsNumbered, context_of, context_registered, effective, least_free, numbers, places, slot_of, stored_level, with_app, with_new_app, with_context, with_new_context, without}
 use Rattle.dl_model.proofs.Numbered.{IsNumbered-filter, IsNumbered-push, map-set_value, least_free-le-length, least_free-is_free}
 use Rattle.std.proofs.lemmas.List.{length-map, map-append}
 use Rattle.std.proofs.lemmas.Map.Steps.{set_value_same}

@@ -1,9 +1,9 @@
 -- New levels for all contexts fit, where they are written slot by slot.
-use Rattle.std.proofs.Common.{◌≡◌, ◌≢◌, ◌⊎◌, inl, inr, ℕ, ◌+◌, ◌*◌, ◌/◌, ◌%◌, ◌<◌, ◌≤◌, Bool, true, false, not, cond, List, [], ◌∷◌, ◌++◌, length, map, reverse, Option, Some, None, is_some, refl, sym, ap, subst, ◌∙◌, true≢false, arith}
+use Rattle.std.proofs.Common.{◌≡◌, ◌≢◌, inl, inr, ℕ, ◌/◌, ◌%◌, ◌<◌, ◌≤◌, Bool, true, false, not, cond, List, [], ◌∷◌, ◌++◌, map, reverse, Option, Some, None, is_some, refl, sym, ap, subst, ◌∙◌, true≢false, arith}
 use Rattle.std.specs.Prelude.{nat_eq, ◌==◌, ◌||◌, ◌&&◌}
 use Rattle.std.specs.List.{AllByRecursion, IsDistinct, find, list_any}
 use Rattle.std.specs.Map.{values_of}
-use Rattle.std.specs.Option.{option_and_then, option_map, option_or}
+use Rattle.std.specs.Option.{option_map, option_or}
 use Rattle.std.proofs.lemmas.Bool.{cases_lt}
 use Rattle.std.proofs.lemmas.Bool.Decides.{eqb_tells}
 use Rattle.std.proofs.lemmas.List.{reverse-append}
@@ -14,7 +14,7 @@ use Rattle.dl_model.specs.History.{last_version}
 use Rattle.dl_model.specs.Registry.{App, Registry, ArePlaced, IsInOrder, IsNumbered, Relevel, effective, level_at, numbers, places, releveled, releveled_app, releveled_context, slot_of, wears, wears_app, wears_context}
 use Rattle.dl_model.proofs.Order.{in_order-releveled}
 use Rattle.dl_registry.specs.Kept.{Fits}
-use Rattle.dl_registry.specs.Refresh.{level_among, level_in_app, level_in_apps}
+use Rattle.dl_registry.specs.Refresh.{level_in_app, level_in_apps}
 use Rattle.dl_registry.specs.Table.{Table, held_at, wanted_at}
 use Rattle.dl_registry.proofs.Finding.{numbers_of, valued, valued-absent, valued-reverse}
 use Rattle.dl_registry.proofs.Fitting.{level_of, fits, place_of}

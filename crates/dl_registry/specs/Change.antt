@@ -1,5 +1,5 @@
 -- What a change leaves of an application and its contexts.
-use Rattle.std.specs.Prelude.{ℕ, zero, suc, List, [], ◌∷◌, Option, slice_set, slice_get}
+use Rattle.std.specs.Prelude.{ℕ, zero, suc, List, [], ◌∷◌, slice_set, slice_get}
 use Rattle.std.specs.Option.{option_map_or}
 use Rattle.dl_model.specs.declared.registry.Context.{Context}
 use Rattle.std.specs.Map.{lookup, set_value}

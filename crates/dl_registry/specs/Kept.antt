@@ -4,7 +4,6 @@ use Rattle.std.specs.Option.{option_map}
 use Rattle.std.specs.List.{find}
 use Rattle.std.specs.Map.{values_of}
 use Rattle.dl_bytes.specs.declared.conf.Stored.{Stored}
-use Rattle.dl_bytes.specs.declared.conf.StoredLevel.{StoredLevel}
 use Rattle.dl_events.specs.declared.event.Event.{Event}
 use Rattle.dl_model.specs.declared.registry.LevelChange.{LevelChange}
 use Rattle.dl_model.specs.declared.registry.RegistryFault.{RegistryFault}
@@ -12,7 +11,7 @@ use Rattle.dl_model.specs.declared.registry.RegistryFault.TheVariants as fault
 use Rattle.dl_model.specs.declared.registry.SetFault.{SetFault}
 use Rattle.dl_model.specs.declared.registry.Slot.{Slot}
 use Rattle.dl_model.specs.Journal.{registry_of, slots_of}
-use Rattle.dl_model.specs.Registry.{App, Registry, IsInOrder, level_at, context_named, context_at, slot_of, next_change}
+use Rattle.dl_model.specs.Registry.{Registry, IsInOrder, level_at, context_named, context_at, slot_of, next_change}
 use Rattle.dl_model.specs.Setting.{Setting}
 use Rattle.dl_registry.specs.Table.{Table, held_at, held_after, wanted_at, unset, IsFresh}
 

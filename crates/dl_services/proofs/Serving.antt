@@ -1,5 +1,5 @@
 -- From what a request makes to what holds under each configuration, and back.
-use Rattle.std.proofs.Common.{◌≡◌, ℕ, Bool, List, [], Option, Some, None, Result, Ok, Err, refl, sym, subst}
+use Rattle.std.proofs.Common.{◌≡◌, ℕ, Bool, List, [], Option, None, Result, Ok, refl, sym, subst}
 use Rattle.std.specs.Result.{result_ok}
 use Rattle.dl_bytes.specs.declared.outcome.Done.{Done}
 use Rattle.dl_control.specs.declared.reply.Reply.{Reply}
@@ -13,7 +13,7 @@ use Rattle.dl_model.specs.Reply.{bare, inject_status, injected}
 use Rattle.dl_model.specs.Setting.{Setting}
 use Rattle.dl_registry.specs.Kept.{Kept, slots}
 use Rattle.dl_services.specs.Service.{Replies}
-use Rattle.dl_services.specs.Wish.{IsSetTo, stores, removes, sends, Wants}
+use Rattle.dl_services.specs.Wish.{stores, removes, sends, Wants}
 use Rattle.dl_services.specs.declared.wish.Want.{Want}
 
 -- one configuration with this `InjectionMode` and this level

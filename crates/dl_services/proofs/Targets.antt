@@ -7,7 +7,7 @@ use Rattle.std.specs.Option.{option_and_then, option_map}
 use Rattle.std.specs.Str.{bytes_eq}
 use Rattle.std.proofs.lemmas.Bool.Decides.{eqb_tells}
 use Rattle.dl_model.specs.declared.registry.Context.{Context}
-use Rattle.dl_model.specs.Registry.{App, Registry, IsInOrder, IsNumbered, ArePlaced, context_of, numbers, places, slot_of, of_channel}
+use Rattle.dl_model.specs.Registry.{App, Registry, IsInOrder, IsNumbered, ArePlaced, context_of, places, slot_of, of_channel}
 use Rattle.dl_registry.specs.Kept.{slot_named, channel_at}
 use Rattle.dl_registry.proofs.Finding.{valued-found}
 use Rattle.dl_services.specs.Wish.{target_of, number_and_place}

@@ -1,5 +1,5 @@
 -- What a request wants done before it is served: of the folder, or of the queue of an application.
-use Rattle.std.specs.Prelude.{◌≡◌, ℕ, Bool, List, Option, Some, None, Result, Ok, Err}
+use Rattle.std.specs.Prelude.{◌≡◌, ℕ, Bool, List, Option, Some, None, Result, Ok}
 use Rattle.std.specs.Option.{option_and_then, option_map}
 use Rattle.dl_bytes.specs.Payload.{Arguments}
 use Rattle.dl_conf.specs.Stored.{stored_text}

@@ -1,5 +1,5 @@
-//! Worked examples as tables: whole scripts through the replay, rows of the hub, of the registry and of the requests
-//! against it, with objects in memory on all sides.
+//! Worked examples as tables: whole scripts through the replay, rows of the hub, of the registry, of the requests against
+//! it and of the trace files, with objects in memory on all sides.
 #![tactic(auto)]
 
 #[cfg(test)]
@@ -16,3 +16,5 @@ mod registry;
 mod requests;
 #[cfg(test)]
 mod scripts;
+#[cfg(test)]
+mod trace;

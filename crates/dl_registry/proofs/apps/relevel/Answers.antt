@@ -1,4 +1,4 @@
-use Rattle.std.proofs.Common.{◌≡◌, ap, ◌∙◌, arith}
+use Rattle.std.proofs.Common.{ap, ◌∙◌, arith}
 use Rattle.dl_model.specs.Registry.{releveled_app}
 use Rattle.dl_registry.specs.Change.{changed_entry, relevel_of}
 use Rattle.dl_registry.proofs.Entries.{changed_first-more, changed_first-all}

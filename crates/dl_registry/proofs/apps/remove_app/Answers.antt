@@ -1,7 +1,6 @@
-use Rattle.std.proofs.Common.{◌≡◌, None, ap, sym, ◌∙◌}
-use Rattle.std.specs.Map.{lookup, remove_entry}
+use Rattle.std.proofs.Common.{ap, sym, ◌∙◌}
+use Rattle.std.specs.Map.{lookup}
 use Rattle.std.specs.Str.{bytes_eq}
-use Rattle.dl_model.specs.Registry.{without}
 use Rattle.dl_registry.proofs.Entries.{removed_is_filter}
 use Rattle.dl_registry.proofs.apps.remove_app.Goals as goal
 

@@ -1,4 +1,4 @@
-use Rattle.std.proofs.Common.{◌≡◌, ℕ, List, None, ap, sym, ◌∙◌}
+use Rattle.std.proofs.Common.{ℕ, List, ap, ◌∙◌}
 use Rattle.std.specs.Str.{bytes_eq}
 use Rattle.dl_model.specs.declared.registry.Context.{Context}
 use Rattle.dl_model.specs.Registry.{App, context_of, with_new_context}

@@ -1,7 +1,6 @@
-use Rattle.std.proofs.Common.{◌≡◌, ℕ, List, ap, sym, ◌∙◌, arith}
-use Rattle.dl_model.specs.declared.registry.Context.{Context}
+use Rattle.std.proofs.Common.{◌≡◌, ap, ◌∙◌, arith}
 use Rattle.dl_model.specs.Registry.{App, releveled_app, releveled_context}
-use Rattle.dl_registry.specs.Change.{changed_entry, changed_first, relevel_of}
+use Rattle.dl_registry.specs.Change.{changed_entry, relevel_of}
 use Rattle.dl_registry.proofs.Entries.{changed_first-more, changed_first-all}
 use Rattle.dl_registry.proofs.application.Application.relevel.Goals as goal
 

@@ -1,4 +1,4 @@
-use Rattle.std.proofs.Common.{subst, sym}
+use Rattle.std.proofs.Common.{subst}
 use Rattle.dl_model.specs.Registry.{Registry}
 use Rattle.dl_registry.specs.Kept.{Fits}
 use Rattle.dl_registry.proofs.Messages.{fits-add_app}

@@ -1,14 +1,13 @@
-use Rattle.std.proofs.Common.{◌≡◌, ◌≢◌, Some, Ok, Err, Result, subst, sym, ap, ◌∙◌, rules, unwrap_or, cond}
+use Rattle.std.proofs.Common.{◌≡◌, ◌≢◌, Some, Ok, Err, subst, sym, ap, ◌∙◌, rules, unwrap_or, cond}
 use Rattle.std.specs.Prelude.{◌==◌}
 use Rattle.dl_model.specs.declared.registry.Context.{Context}
 use Rattle.dl_model.specs.declared.registry.RegistryFault.TheVariants as fault
-use Rattle.dl_model.specs.declared.registry.RegistryFault.{RegistryFault}
 use Rattle.dl_model.specs.declared.registry.Slot.{Slot}
 use Rattle.dl_model.specs.History.{last_version}
 use Rattle.dl_model.specs.Registry.{Registry, slot_of, with_new_context}
 use Rattle.dl_registry.specs.Change.{changed_app}
 use Rattle.dl_registry.specs.Kept.{Kept, Fits, kept_of}
-use Rattle.dl_registry.specs.Table.{IsFirstFree, held_at, wanted_at}
+use Rattle.dl_registry.specs.Table.{held_at, wanted_at}
 use Rattle.dl_registry.proofs.Messages.{Adds, MayAdd, coming, with_coming, adds-full, adds-worn, adds-memory, adds-done, fits-coming, changed_app-same}
 use Rattle.dl_registry.proofs.registry.Registry.add_context.Goals as goal
 

@@ -1,5 +1,4 @@
 use Rattle.std.proofs.Common.{◌≡◌, [], subst, sym}
-use Rattle.dl_model.specs.Registry.{Registry}
 use Rattle.dl_registry.specs.Kept.{Fits}
 use Rattle.dl_registry.specs.Table.{Table}
 use Rattle.dl_registry.proofs.Waiting.{made_table, made_fits}

@@ -1,6 +1,6 @@
 use Rattle.std.proofs.Common.{ap, ◌∙◌}
 use Rattle.dl_model.specs.Registry.{Registry}
-use Rattle.dl_registry.specs.Kept.{Kept, owed_change}
+use Rattle.dl_registry.specs.Kept.{owed_change}
 use Rattle.dl_registry.proofs.Waiting.{next_waiting-owed}
 use Rattle.dl_registry.proofs.registry.Registry.next_change.Goals as goal
 

@@ -4,7 +4,6 @@ use Rattle.std.specs.List.{flat_map}
 use Rattle.std.specs.Map.Iter.{deref_pair}
 use Rattle.std.proofs.lemmas.Map.Iter.{iter_end}
 use Rattle.byteorder.specs.Endian.{little_bytes}
-use Rattle.dl_model.specs.Registry.{App}
 use Rattle.dl_model.specs.Reply.{info_body, listed}
 use Rattle.dl_registry.specs.Info.{info_of}
 use Rattle.dl_registry.specs.Kept.{Kept}

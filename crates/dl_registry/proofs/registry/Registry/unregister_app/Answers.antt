@@ -3,7 +3,7 @@ use Rattle.std.specs.Prelude.{◌==◌}
 use Rattle.std.specs.Map.{lookup}
 use Rattle.dl_registry.specs.Table.{wanted_at}
 use Rattle.std.specs.Str.{bytes_eq}
-use Rattle.dl_model.specs.Registry.{Registry, app_of, without}
+use Rattle.dl_model.specs.Registry.{Registry, app_of}
 use Rattle.dl_model.proofs.Order.{app_of_found}
 use Rattle.dl_registry.specs.Kept.{Kept, Fits}
 use Rattle.dl_registry.proofs.Messages.{fits-remove_app}

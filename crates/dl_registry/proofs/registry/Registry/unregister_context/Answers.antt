@@ -1,9 +1,9 @@
-use Rattle.std.proofs.Common.{◌≡◌, ℕ, cond, Some, None, IfSome, List, ap, subst, sym, ◌∙◌}
+use Rattle.std.proofs.Common.{◌≡◌, cond, Some, None, IfSome, ap, subst, sym, ◌∙◌}
 use Rattle.std.specs.Prelude.{◌==◌}
 use Rattle.std.specs.Map.{lookup, remove_entry, set_value}
 use Rattle.std.specs.Option.{option_map_or}
 use Rattle.std.specs.Str.{bytes_eq}
-use Rattle.dl_model.specs.Registry.{App, Registry, app_of, context_of, slot_of, without}
+use Rattle.dl_model.specs.Registry.{App, Registry, app_of, slot_of, without}
 use Rattle.dl_model.proofs.Order.{app_of_found}
 use Rattle.dl_registry.specs.Change.{without_context}
 use Rattle.dl_registry.specs.Kept.{Kept, Fits}

@@ -1,4 +1,4 @@
-use Rattle.std.proofs.Common.{◌≡◌, List, ℕ, replicate, ap, subst, sym, ◌∙◌}
+use Rattle.std.proofs.Common.{◌≡◌, ℕ, replicate, ap, subst, sym, ◌∙◌}
 use Rattle.dl_model.specs.declared.registry.Slot.{Slot}
 use Rattle.dl_registry.specs.Table.{Table, Holds, unset}
 use Rattle.dl_registry.proofs.Waiting.{made_table, made_holds}

@@ -1,6 +1,5 @@
-use Rattle.std.proofs.Common.{None, Some, ◌<◌, length, arith, subst}
-use Rattle.dl_registry.specs.Table.{Table, IsFresh}
-use Rattle.dl_registry.proofs.Waiting.{next_waiting-is, fresh_after}
+use Rattle.std.proofs.Common.{None, Some}
+use Rattle.dl_registry.proofs.Waiting.{next_waiting-is}
 use Rattle.dl_registry.proofs.table.SlotTable.next.Goals as goal
 
 pub returns-in-None-clause-change : goal.returns-in-None-clause-change

@@ -1,0 +1,17 @@
+pub mod Names
+pub mod Removing
+pub mod Batches
+pub mod Sound
+pub mod Trail
+pub mod Holding
+pub mod Cuts
+pub mod Joined
+pub mod Placing
+pub mod Placed
+pub mod Others
+pub mod Next
+pub mod Looping
+pub mod Running
+pub mod Finding
+pub mod Making
+pub mod Alike

@@ -1,0 +1,10 @@
+use Rattle.std.proofs.Common.{◌≡◌, List, take, Some}
+use Rattle.std.specs.Prelude.{IfSome}
+use Rattle.dl_outside.specs.Folder.{Files}
+use Rattle.dl_trace.specs.Steps.{names_of, without}
+use Rattle.dl_trace.proofs.files.remove_all.Given as goal
+
+abbrev pub invariant-loop-file : goal.invariant-loop-file
+invariant-loop-file g l =
+    IfSome (g.F.Folder.files l.fn.folder) (λ (folder : Files). g.F.Folder.files l.folder ≡ Some (without folder (names_of (take l.file-index l.files))))
+    × (g.F.Folder.faults l.folder ≡ g.F.Folder.faults l.fn.folder) × (g.F.Folder.appends l.folder ≡ g.F.Folder.appends l.fn.folder)

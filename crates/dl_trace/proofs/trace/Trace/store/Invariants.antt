@@ -1,0 +1,14 @@
+use Rattle.std.proofs.Common.{◌≡◌, ℕ, length}
+use Rattle.dl_trace.specs.Batch.{parted}
+use Rattle.dl_trace.specs.Stands.{ChangesTraceFiles}
+use Rattle.dl_trace.proofs.Looping.{SoFar}
+use Rattle.dl_trace.proofs.trace.Trace.store.Given as goal
+
+abbrev pub invariant-loop-sizes : goal.invariant-loop-sizes
+invariant-loop-sizes g l =
+    SoFar (parted l.fn.sizes l.fn.bytes) l.fn.self l.self (g.F.Folder.files l.fn.folder) (g.F.Folder.files l.folder) l.sizes l.bytes (g.F.Folder.appends l.fn.folder) (g.F.Folder.appends l.folder)
+    × (g.F.Folder.faults l.folder ≡ g.F.Folder.faults l.fn.folder)
+    × ChangesTraceFiles l.fn.self.directory (g.F.Folder.files l.fn.folder) (g.F.Folder.files l.folder)
+
+abbrev pub decreases-loop-sizes : goal.decreases-loop-sizes
+decreases-loop-sizes g l = length l.sizes

@@ -1,0 +1,10 @@
+pub mod State
+pub mod Stands
+pub mod Pieces
+pub mod Storing
+pub mod Steps
+pub mod Kept
+pub mod Batch
+pub mod Made
+pub mod Runs
+pub mod Found
