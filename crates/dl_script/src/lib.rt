@@ -8,8 +8,6 @@ mod generator;
 pub mod laws;
 mod read;
 mod script;
-#[cfg(test)]
-mod tests;
 mod word;
 
 pub use dl_fields::ScriptKind;

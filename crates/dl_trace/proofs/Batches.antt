@@ -1,12 +1,10 @@
 -- Frames one behind the other.
-use Rattle.std.proofs.Common.{◌≡◌, ℕ, zero, suc, ◌+◌, ◌-◌, ◌*◌, ◌≤◌, ◌<◌, Bool, true, false, cond, leb, List, [], ◌∷◌, ◌++◌, length, take, drop, map, refl, sym, ap, ◌∙◌, ◌⊎◌, inl, inr, arith, length-drop, length-append, append_assoc}
-use Rattle.std.specs.Prelude.{sum, sum_by, All}
-use Rattle.std.specs.List.{concat}
-use Rattle.std.proofs.lemmas.List.{take_at, drop_at, take-append-le, append-nil}
-use Rattle.std.proofs.lemmas.List.Elements.{All-head, All-tail, All-push, All-weaker}
+use Rattle.std.proofs.Common.{◌≡◌, ℕ, zero, suc, ◌*◌, ◌≤◌, List, [], ◌∷◌, ◌++◌, length, take, drop, refl, sym, ap, ◌∙◌, arith, length-drop, length-append}
+use Rattle.std.specs.Prelude.{sum}
+use Rattle.std.proofs.lemmas.List.{take_at, take-append-le, append-nil}
+use Rattle.std.proofs.lemmas.List.Elements.{All-push, All-weaker}
 use Rattle.std.proofs.lemmas.List.Sums.{sum_by-cons, sum_by_push, sum_by-le}
-use Rattle.std.proofs.lemmas.Bool.Decides.{leb_tells}
-use Rattle.dl_trace.specs.Batch.{parted, AreSizes, IsBatch, fit}
+use Rattle.dl_trace.specs.Batch.{parted, AreSizes}
 
 pub length-parted : (sizes bytes : List ℕ) → length (parted sizes bytes) ≡ length sizes
 length-parted [] bytes = refl

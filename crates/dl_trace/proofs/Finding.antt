@@ -1,22 +1,21 @@
 -- The trace files that a folder's names and sizes tell are just those that it holds.
-use Rattle.std.proofs.Common.{◌≡◌, ◌≢◌, ℕ, zero, suc, ◌+◌, ◌-◌, ◌*◌, ◌/◌, ◌%◌, ◌≤◌, ◌<◌, Bool, true, false, cond, eqb, T, List, [], ◌∷◌, ◌++◌, length, take, drop, map, Option, Some, None, refl, sym, ap, subst, ◌∙◌, append_assoc, arith, inl, inr}
-use Rattle.std.specs.Prelude.{◌⊎◌, ◌&&◌, codes, filter, IfSome, replicate, option_map, fold, max}
+use Rattle.std.proofs.Common.{◌≡◌, ◌≢◌, ℕ, suc, ◌+◌, ◌/◌, ◌%◌, ◌≤◌, ◌<◌, Bool, true, false, cond, eqb, T, List, [], ◌∷◌, ◌++◌, length, take, map, Option, Some, None, refl, sym, ap, subst, ◌∙◌, append_assoc, arith, inl, inr}
+use Rattle.std.specs.Prelude.{◌⊎◌, ◌&&◌, codes, filter}
 use Rattle.std.specs.List.{starts_with}
 use Rattle.std.specs.Bool.{nat_eq}
-use Rattle.std.specs.Ordering.{nat_cmp, eq_by_cmp, is_eq, is_lt, ordering_then}
-use Rattle.std.specs.Cmp.{eq_by_cmp_equiv, nat_cmp_total, tied_itself, nat_cmp_is}
+use Rattle.std.specs.Ordering.{nat_cmp, is_eq, is_lt, ordering_then}
+use Rattle.std.specs.Cmp.{nat_cmp_total, tied_itself, nat_cmp_is}
 use Rattle.std.specs.Cmp.Lexicographic.{slice_cmp, nat_list_cmp_total, pointwise}
 use Rattle.std.specs.declared.cmp.Ordering.{Ordering}
 use Rattle.std.specs.declared.cmp.Ordering.TheVariants.{Less, Equal, Greater}
 use Rattle.std.specs.FinMap as map
 use Rattle.std.specs.FinMap.{slice_cmp-IsAntisymmetric, nat_cmp-IsAntisymmetric, entries_sorted, get-entries}
 use Rattle.std.specs.FinMap.Entries.{find, is_sorted, below_all}
-use Rattle.std.proofs.lemmas.List.{take_at, append-nil}
-use Rattle.std.proofs.lemmas.Bool.{false≢true}
+use Rattle.std.proofs.lemmas.List.{take_at}
 use Rattle.std.proofs.lemmas.Bool.Decides.{eqb_tells, leb_tells}
 use Rattle.std.proofs.lemmas.Slice.Eq.{bytes_eq-Decides}
-use Rattle.dl_outside.specs.Folder.{Files, names_with, size_in}
-use Rattle.dl_model.specs.TraceFiles.{StoredFile, number_limit, six_digits, trace_name, greatest}
+use Rattle.dl_outside.specs.Folder.{Files, names_with}
+use Rattle.dl_model.specs.TraceFiles.{StoredFile, number_limit, six_digits, trace_name}
 use Rattle.dl_trace.specs.Stands.{bytes_of, AreRising, HasFiles, IsTraceName}
 use Rattle.dl_trace.specs.Found.{Found}
 use Rattle.dl_trace.proofs.Names.{value, value_of_digits}

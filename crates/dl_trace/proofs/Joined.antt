@@ -1,15 +1,14 @@
 -- Calls one after the other, as one call.
-use Rattle.std.proofs.Common.{◌≡◌, ℕ, ◌+◌, ◌≤◌, Bool, true, false, List, [], ◌∷◌, ◌++◌, length, Option, Some, None, refl, sym, ap, subst, ◌∙◌, append_assoc, arith}
+use Rattle.std.proofs.Common.{◌≡◌, ℕ, ◌+◌, true, false, List, [], ◌∷◌, ◌++◌, length, Option, Some, None, refl, sym, ap, subst, ◌∙◌, append_assoc}
 use Rattle.std.specs.Prelude.{IfSome, ◌↔◌}
 use Rattle.std.specs.List.{concat}
 use Rattle.std.proofs.lemmas.List.{append-nil}
-use Rattle.std.specs.FinMap as map
 use Rattle.dl_bytes.specs.declared.outcome.TraceEnd.{TraceEnd}
-use Rattle.dl_bytes.specs.declared.outcome.TraceEnd.TheVariants.{Failed, Spent, NoMemory}
+use Rattle.dl_bytes.specs.declared.outcome.TraceEnd.TheVariants.{Spent}
 use Rattle.dl_outside.specs.Folder.{Files}
 use Rattle.dl_model.specs.TraceFiles.{StoredFile, greatest, segments, trace_files, is_spent}
 use Rattle.dl_trace.specs.State.{Trace, IsAfter, IsSameTrace, files_after, number_after}
-use Rattle.dl_trace.specs.Stands.{HasFiles, ChangesTraceFiles, IsTraceName}
+use Rattle.dl_trace.specs.Stands.{HasFiles, ChangesTraceFiles}
 use Rattle.dl_trace.specs.Pieces.{pieces_of, frames_in}
 use Rattle.dl_trace.specs.Storing.{IsStored, Stops, Leaves}
 

@@ -1,13 +1,12 @@
 -- A call's pieces, one after the other.
-use Rattle.std.proofs.Common.{◌≡◌, ℕ, zero, suc, ◌+◌, ◌-◌, ◌≤◌, ◌<◌, Bool, true, false, cond, List, [], ◌∷◌, ◌++◌, length, take, drop, Option, Some, None, Ok, Err, refl, sym, ap, subst, ◌∙◌, append_assoc, length-append, arith}
-use Rattle.std.specs.Prelude.{sum, nat_le, IfNone}
+use Rattle.std.proofs.Common.{◌≡◌, ℕ, ◌+◌, ◌≤◌, Bool, true, false, cond, List, [], ◌∷◌, ◌++◌, length, take, drop, Option, Some, None, refl, sym, ap, subst, ◌∙◌, append_assoc, length-append, arith}
+use Rattle.std.specs.Prelude.{nat_le, IfNone}
 use Rattle.std.proofs.lemmas.List.{append-nil, take-append-drop, take_at}
 use Rattle.dl_bytes.specs.declared.outcome.TraceEnd.{TraceEnd}
 use Rattle.dl_outside.specs.Folder.{Files}
-use Rattle.dl_model.specs.TraceFiles.{StoredFile, number_limit, is_spent}
-use Rattle.dl_trace.specs.State.{Trace, IsAfter}
+use Rattle.dl_trace.specs.State.{Trace}
 use Rattle.dl_trace.specs.Batch.{parted, AreSizes, IsNext}
-use Rattle.dl_trace.specs.Pieces.{pieces, pieces_of, pieces_from, frames_in, room_of}
+use Rattle.dl_trace.specs.Pieces.{pieces_of, frames_in, room_of}
 use Rattle.dl_trace.specs.Storing.{IsStored, Stops, StoresNext}
 use Rattle.dl_trace.specs.Kept.{IsSound}
 use Rattle.dl_trace.proofs.Cuts.{parted-drop, sizes-rest}

@@ -1,14 +1,13 @@
 -- A trace that is made over files that stand.
-use Rattle.std.proofs.Common.{◌≡◌, ◌≢◌, ℕ, zero, suc, ◌+◌, ◌≤◌, ◌<◌, Bool, true, false, List, [], ◌∷◌, ◌++◌, length, take, map, get_or, Option, Some, None, refl, sym, ap, subst, ◌∙◌, append_assoc, arith, inl, inr}
-use Rattle.std.specs.Prelude.{◌⊎◌, IfSome, All, replicate, option_map, fold, max, codes, nat_lt}
-use Rattle.std.specs.List.{list_all}
+use Rattle.std.proofs.Common.{◌≡◌, ℕ, ◌+◌, ◌≤◌, ◌<◌, false, List, [], ◌∷◌, ◌++◌, length, take, map, get_or, Option, Some, None, refl, sym, ap, subst, ◌∙◌, arith, inl, inr}
+use Rattle.std.specs.Prelude.{◌⊎◌, IfSome, All, replicate, option_map, fold, max, codes}
 use Rattle.std.specs.FinMap as map
-use Rattle.std.proofs.lemmas.List.{append-nil, map-append, take_more, length-replicate}
+use Rattle.std.proofs.lemmas.List.{map-append, take_more, length-replicate}
 use Rattle.std.proofs.lemmas.List.Elements.{All-nil, All-cons}
 use Rattle.dl_bytes.specs.declared.outcome.TraceFile.{TraceFile}
-use Rattle.dl_outside.specs.Folder.{Files, size_in, names_with}
+use Rattle.dl_outside.specs.Folder.{Files, names_with}
 use Rattle.dl_outside.specs.Outside.{Stays}
-use Rattle.dl_model.specs.TraceFiles.{StoredFile, greatest, number_limit, six_digits, trace_name}
+use Rattle.dl_model.specs.TraceFiles.{StoredFile, number_limit, six_digits, trace_name}
 use Rattle.dl_trace.specs.State.{Trace, IsAfter, listed}
 use Rattle.dl_trace.specs.Stands.{HasFiles, IsTraceName}
 use Rattle.dl_trace.specs.Found.{AreFound, Found, IsNoFile, IsSize}

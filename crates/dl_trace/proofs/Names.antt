@@ -1,7 +1,6 @@
 -- Names of trace files: which number is in one, that no two numbers have one name, and that they are text.
-use Rattle.std.proofs.Common.{◌≡◌, ℕ, ◌+◌, ◌*◌, ◌/◌, ◌%◌, ◌<◌, ◌≤◌, List, [], ◌∷◌, ◌++◌, length, Option, Some, None, refl, sym, ap, ◌∙◌, append_assoc, arith}
-use Rattle.std.specs.Prelude.{codes}
-use Rattle.dl_model.specs.TraceFiles.{number_limit, six_digits, trace_name}
+use Rattle.std.proofs.Common.{◌≡◌, ℕ, ◌+◌, ◌*◌, ◌/◌, ◌%◌, ◌<◌, ◌≤◌, [], ◌∷◌, Option, Some, None, refl, arith}
+use Rattle.dl_model.specs.TraceFiles.{number_limit, six_digits}
 
 -- a letter with no value is no digit of a number
 pub no_digit : (letter : ℕ) (r : Option ℕ) → ((value : ℕ) → value < 10 → letter ≡ 48 + value → r ≡ Some value) → r ≡ None → (n : ℕ) → letter ≡ 48 + n % 10 → ⊥

@@ -1,6 +1,6 @@
 -- The next piece of frames of these sizes, wherever it goes.
-use Rattle.std.proofs.Common.{◌≡◌, ◌≢◌, ℕ, zero, suc, ◌+◌, ◌-◌, ◌≤◌, ◌<◌, Bool, true, false, cond, leb, List, [], ◌∷◌, ◌++◌, length, take, drop, map, Option, Some, None, Ok, Err, refl, sym, ap, subst, ◌∙◌, length-append, arith, inl, inr}
-use Rattle.std.specs.Prelude.{◌⊎◌, sum, sum_by, All, slice_index}
+use Rattle.std.proofs.Common.{◌≡◌, ℕ, suc, ◌+◌, ◌-◌, ◌≤◌, ◌<◌, Bool, true, false, cond, List, [], ◌∷◌, length, take, drop, map, Option, None, Ok, Err, refl, sym, ap, subst, ◌∙◌, length-append, arith, inl, inr}
+use Rattle.std.specs.Prelude.{sum, slice_index}
 use Rattle.std.specs.List.{concat}
 use Rattle.std.proofs.lemmas.List.{length-take-le}
 use Rattle.std.proofs.lemmas.List.Elements.{All-head}
@@ -9,13 +9,12 @@ use Rattle.dl_bytes.specs.declared.outcome.TraceEnd.{TraceEnd}
 use Rattle.dl_bytes.specs.declared.outcome.TraceEnd.TheVariants.{Spent}
 use Rattle.dl_bytes.specs.declared.outcome.TraceFile.{TraceFile}
 use Rattle.dl_outside.specs.Folder.{Files}
-use Rattle.dl_outside.specs.Outside.{Stays}
 use Rattle.dl_model.specs.Backlog.{size_of}
 use Rattle.dl_model.specs.TraceFiles.{number_limit}
 use Rattle.dl_trace.specs.State.{Trace}
 use Rattle.dl_trace.specs.Batch.{parted, AreSizes, fit}
 use Rattle.dl_trace.specs.Pieces.{pieces, pieces_of, last_size, room_of, room_for}
-use Rattle.dl_trace.specs.Steps.{grown_last, last_name, next_name, names_of, going_of, extended, with_file, ExtendsTrace, BeginsFile, Places, Extends, Begins}
+use Rattle.dl_trace.specs.Steps.{last_name, next_name, names_of, going_of, extended, with_file, ExtendsTrace, BeginsFile, Places, Extends, Begins}
 use Rattle.dl_trace.specs.Storing.{IsStored, Stops, StoresNext}
 use Rattle.dl_trace.specs.Kept.{IsSound}
 use Rattle.dl_trace.proofs.Sound.{size-grown, last_size-one, room_open}

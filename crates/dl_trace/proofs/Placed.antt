@@ -1,6 +1,6 @@
 -- A piece that begins a file, and a piece that could not be stored.
-use Rattle.std.proofs.Common.{◌≡◌, ◌≢◌, ℕ, zero, suc, ◌+◌, ◌-◌, ◌≤◌, ◌<◌, Bool, true, false, cond, leb, List, [], ◌∷◌, ◌++◌, length, take, drop, map, Option, Some, None, Ok, Err, refl, sym, ap, subst, ◌∙◌, append_assoc, length-append, arith, inl, inr}
-use Rattle.std.specs.Prelude.{IfSome, ◌↔◌, ◌⊎◌, nat_lt, sum_by}
+use Rattle.std.proofs.Common.{◌≡◌, ◌≢◌, ℕ, ◌+◌, ◌≤◌, ◌<◌, true, List, [], ◌∷◌, ◌++◌, length, take, drop, map, Option, Some, None, Ok, Err, refl, sym, ap, subst, ◌∙◌, append_assoc, arith, inl, inr}
+use Rattle.std.specs.Prelude.{IfSome, ◌↔◌, ◌⊎◌, nat_lt}
 use Rattle.std.specs.List.{concat}
 use Rattle.std.specs.FinMap as map
 use Rattle.std.proofs.lemmas.Bool.{false≢true}
@@ -13,9 +13,9 @@ use Rattle.dl_outside.specs.Folder.{Files, with_more}
 use Rattle.dl_outside.specs.Outside.{Stays}
 use Rattle.dl_model.specs.Backlog.{size_of}
 use Rattle.dl_model.specs.TraceFiles.{StoredFile, number_limit, trace_name, kept, is_spent}
-use Rattle.dl_trace.specs.State.{Trace, IsAfter, IsSameTrace, listed, files_after, number_after}
-use Rattle.dl_trace.specs.Stands.{HasFiles, HasFilesBut}
-use Rattle.dl_trace.specs.Pieces.{pieces_of, frames_in, room_of}
+use Rattle.dl_trace.specs.State.{Trace, IsAfter, listed, files_after, number_after}
+use Rattle.dl_trace.specs.Stands.{HasFiles}
+use Rattle.dl_trace.specs.Pieces.{pieces_of, room_of}
 use Rattle.dl_trace.specs.Steps.{going, going_of, closed_limit, last_name, next_name, names_of, without, HasFront, StopsRemoving, Extends, Begins, with_file}
 use Rattle.dl_trace.specs.Storing.{IsStored, Stops, IsCutShort, IsUnremoved, Leaves}
 use Rattle.dl_trace.specs.Kept.{IsSound}

@@ -1,29 +1,25 @@
 -- A piece that was put where it goes, for the frames that it holds.
-use Rattle.std.proofs.Common.{◌≡◌, ◌≢◌, ℕ, zero, suc, ◌+◌, ◌-◌, ◌≤◌, ◌<◌, Bool, true, false, cond, leb, ltb, List, [], ◌∷◌, ◌++◌, length, take, drop, map, Option, Some, None, Ok, Err, refl, sym, ap, subst, ◌∙◌, append_assoc, length-append, arith, inl, inr}
-use Rattle.std.specs.Prelude.{IfSome, ◌↔◌, ◌⊎◌, nat_lt, sum_by, fold, max}
+use Rattle.std.proofs.Common.{◌≡◌, ℕ, zero, suc, ◌+◌, ◌≤◌, ◌<◌, Bool, true, false, cond, leb, List, [], ◌∷◌, ◌++◌, length, take, drop, map, Option, Some, None, Ok, refl, sym, ap, subst, ◌∙◌, length-append, arith}
+use Rattle.std.specs.Prelude.{IfSome, nat_lt, sum_by, fold, max}
 use Rattle.std.specs.List.{concat}
-use Rattle.std.specs.FinMap as map
 use Rattle.std.proofs.lemmas.Bool.{false≢true}
-use Rattle.std.proofs.lemmas.Bool.Decides.{leb_tells, nat_tests}
-use Rattle.std.proofs.lemmas.List.{append-nil, map-append, take-append-drop}
+use Rattle.std.proofs.lemmas.Bool.Decides.{nat_tests}
+use Rattle.std.proofs.lemmas.List.{map-append}
 use Rattle.std.proofs.lemmas.List.Sums.{sum_by-cons}
-use Rattle.dl_bytes.specs.declared.outcome.TraceEnd.{TraceEnd}
-use Rattle.dl_bytes.specs.declared.outcome.TraceEnd.TheVariants.{Failed, Spent, NoMemory}
 use Rattle.dl_bytes.specs.declared.outcome.TraceFile.{TraceFile}
 use Rattle.dl_outside.specs.Folder.{Files, with_more}
-use Rattle.dl_outside.specs.Outside.{Stays}
 use Rattle.dl_model.specs.Backlog.{size_of}
-use Rattle.dl_model.specs.TraceFiles.{StoredFile, number_limit, trace_name, greatest, segments, kept, total_size, trace_files, is_spent}
+use Rattle.dl_model.specs.TraceFiles.{StoredFile, number_limit, trace_name, greatest, kept, total_size}
 use Rattle.dl_laws.proofs.Rotation.{newest_stands}
-use Rattle.dl_trace.specs.State.{Trace, IsAfter, IsSameTrace, listed, files_after, number_after}
-use Rattle.dl_trace.specs.Stands.{HasFiles, HasFilesBut, AreRising}
-use Rattle.dl_trace.specs.Pieces.{pieces_of, frames_in, last_size, room_of}
-use Rattle.dl_trace.specs.Steps.{bytes_in, going, going_of, closed_limit, grown_last, last_name, next_name, names_of, without, HasFront, StopsRemoving, Extends, Begins, extended, with_file}
-use Rattle.dl_trace.specs.Storing.{IsStored, Stops, IsCutShort, IsUnremoved, Leaves}
+use Rattle.dl_trace.specs.State.{Trace, IsAfter, listed, files_after, number_after}
+use Rattle.dl_trace.specs.Stands.{HasFiles, AreRising}
+use Rattle.dl_trace.specs.Pieces.{last_size, room_of}
+use Rattle.dl_trace.specs.Steps.{bytes_in, going, closed_limit, grown_last, last_name, names_of, Extends, extended}
+use Rattle.dl_trace.specs.Storing.{IsStored}
 use Rattle.dl_trace.specs.Kept.{IsSound}
 use Rattle.dl_trace.proofs.Sound.{last_size-one, last_name-one, room_open}
 use Rattle.dl_trace.proofs.Trail.{file_of, extends, begins_first, begins_later, newest_number}
-use Rattle.dl_trace.proofs.Holding.{AreBelow, below_more, below_last, names_in, grows, starts, all_go, split_at, stays_unknown}
+use Rattle.dl_trace.proofs.Holding.{AreBelow, below_more, below_last, names_in, grows}
 
 -- ---- the list of files
 

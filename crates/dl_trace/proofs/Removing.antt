@@ -1,6 +1,6 @@
 -- Files that go: how many, and what a folder holds without them.
-use Rattle.std.proofs.Common.{◌≡◌, ℕ, zero, suc, drop-cons, ◌+◌, ◌-◌, ◌≤◌, ◌<◌, Bool, true, false, cond, leb, List, [], ◌∷◌, ◌++◌, length, take, drop, get_or, map, Some, None, Option, refl, sym, ap, subst, ◌∙◌, ◌⊎◌, inl, inr, arith, length-drop}
-use Rattle.std.specs.Prelude.{sum_by, slice_set, slice_get, IfSome, Result, Ok, Err}
+use Rattle.std.proofs.Common.{◌≡◌, ℕ, zero, suc, drop-cons, ◌+◌, ◌-◌, ◌≤◌, ◌<◌, List, [], ◌∷◌, ◌++◌, length, take, drop, get_or, Some, None, Option, refl, sym, ap, subst, ◌∙◌, inl, inr, arith}
+use Rattle.std.specs.Prelude.{sum_by, slice_set, IfSome, Ok, Err}
 use Rattle.std.proofs.lemmas.List.{take-append-drop, take_more}
 use Rattle.std.specs.Option.{option_map_or}
 use Rattle.std.proofs.lemmas.Option.{slice_get-get_or}
@@ -8,12 +8,11 @@ use Rattle.std.specs.FinMap as map
 use Rattle.std.proofs.lemmas.Bool.Decides.{leb_tells}
 use Rattle.std.proofs.lemmas.List.Sums.{sum_by-cons}
 use Rattle.dl_bytes.specs.declared.outcome.TraceFile.{TraceFile}
-use Rattle.dl_bytes.specs.declared.outcome.TraceEnd.{TraceEnd}
 use Rattle.dl_outside.specs.declared.folder.FolderFault.{FolderFault}
 use Rattle.dl_outside.specs.declared.folder.FolderFault.TheVariants as fault
 use Rattle.dl_outside.specs.Folder.{Files, Appends, Removes, AllBut, with_more}
 use Rattle.dl_trace.specs.Pieces.{last_size}
-use Rattle.dl_trace.specs.Steps.{bytes_in, going, names_of, without, end_of, RemovesAll, StopsRemoving, Extends, HasFront, grown_last, last_name}
+use Rattle.dl_trace.specs.Steps.{bytes_in, going, names_of, without, end_of, RemovesAll, Extends, HasFront, grown_last, last_name}
 
 -- ---- how many go
 

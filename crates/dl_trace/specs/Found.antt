@@ -1,5 +1,5 @@
 -- The trace files among names, as a folder's answers tell them.
-use Rattle.std.specs.Prelude.{◌≡◌, ℕ, ◌≤◌, ◌⊎◌, List, [], ◌∷◌, ◌++◌, length, map, codes, Option, Some, None, IfSome}
+use Rattle.std.specs.Prelude.{◌≡◌, ℕ, ◌≤◌, ◌⊎◌, List, [], ◌∷◌, ◌++◌, map, codes, Option, Some, None, IfSome}
 use Rattle.std.specs.FinMap as map
 use Rattle.dl_bytes.specs.declared.outcome.TraceFile.{TraceFile}
 use Rattle.dl_outside.specs.Folder.{Files, size_in}

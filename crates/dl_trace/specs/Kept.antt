@@ -1,5 +1,5 @@
 -- What a trace keeps to.
-use Rattle.std.specs.Prelude.{◌≡◌, ℕ, ◌*◌, ◌<◌, ◌≤◌, true, length, All}
+use Rattle.std.specs.Prelude.{◌≡◌, ◌*◌, ◌<◌, ◌≤◌, true, length, All}
 use Rattle.std.specs.List.{list_all}
 use Rattle.dl_bytes.specs.Conf.{is_printable}
 use Rattle.dl_bytes.specs.declared.outcome.TraceFile.{TraceFile}

@@ -1,6 +1,6 @@
 //! The jobs that are measured, and what each leaves behind.
 
-use crate::{cutting, sending};
+use crate::{cutting, registering, sending};
 use std::alloc::Global;
 
 /// A job that is measured.
@@ -20,6 +20,10 @@ pub enum Job {
     Frames,
     /// A frame is admitted by a hub with one client, and taken from its outbox.
     Hub,
+    /// A user message is applied to a registry of 1024 contexts.
+    Apply,
+    /// A context is found in that registry.
+    Find,
 }
 
 /// What came of a job.
@@ -62,6 +66,8 @@ impl Job {
             "users" => Some(Job::Users),
             "frames" => Some(Job::Frames),
             "hub" => Some(Job::Hub),
+            "apply" => Some(Job::Apply),
+            "find" => Some(Job::Find),
             _ => None,
         }
     }
@@ -73,6 +79,8 @@ impl Job {
             Job::Users => cutting::run_users(alloc, count),
             Job::Frames => Some(sending::run_frames(count)),
             Job::Hub => sending::run_hub(alloc, count),
+            Job::Apply => registering::run_apply(alloc, count),
+            Job::Find => registering::run_find(alloc, count),
         }
     }
 }

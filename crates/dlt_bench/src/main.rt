@@ -5,6 +5,7 @@
 mod cutting;
 mod job;
 mod making;
+mod registering;
 mod sending;
 
 use job::{Job, Tally};
@@ -12,7 +13,7 @@ use std::env;
 use std::process::ExitCode;
 
 /// What is said where the words are no job and count.
-const USAGE: &str = "usage: dlt_bench cut|heads|borrowed|owned|users|frames|hub COUNT";
+const USAGE: &str = "usage: dlt_bench cut|heads|borrowed|owned|users|frames|hub|apply|find COUNT";
 
 /// The status where the words are no job and count.
 const WRONG_WORDS: u8 = 2;

@@ -1,5 +1,5 @@
-//! Worked examples as tables: whole scripts through the replay, rows of the hub, of the registry, of the requests against
-//! it and of the trace files, with objects in memory on all sides.
+//! Worked examples as tables: whole scripts through the replay, rows of the hub and of the trace files, with objects in
+//! memory on all sides.
 #![tactic(auto)]
 
 #[cfg(test)]
@@ -10,10 +10,6 @@ mod faults;
 mod hub;
 #[cfg(test)]
 mod played;
-#[cfg(test)]
-mod registry;
-#[cfg(test)]
-mod requests;
 #[cfg(test)]
 mod scripts;
 #[cfg(test)]

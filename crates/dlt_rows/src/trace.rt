@@ -1,5 +1,7 @@
 //! Rotation over a folder in memory.
 
+ghost use Rattle.std.specs.Prelude.{◌<◌, IfOk, length};
+
 use dl_bytes::{Bytes, Conf, Frame, Id, Level, Moment, OutOfMemory, Severity};
 use dl_memory::{Failing, MemoryFolder};
 use dl_outside::Folder;
@@ -8,7 +10,9 @@ use std::alloc::Global;
 use std::test::Fail;
 
 /// Files of at most 2000 bytes, and 4000 bytes in all.
-fn small_files(alloc: Global) -> Result<Conf, OutOfMemory> {
+fn small_files(alloc: Global) -> Result<Conf, OutOfMemory>
+    ensures { IfOk result (λ conf. 0 < length conf.directory) }
+{
     Ok(Conf {
         ecu: Id::from_bytes(*b"ECU1"),
         level: Level::from(Severity::Info),

@@ -1,7 +1,6 @@
-use Rattle.std.proofs.Common.{◌≡◌, ℕ, ◌+◌, ◌-◌, ◌<◌, List, length, sym, ap, ◌∙◌, subst, arith, Ok, Err}
+use Rattle.std.proofs.Common.{◌≡◌, ℕ, ◌+◌, ◌-◌, length, sym, ap, ◌∙◌, subst, arith, Err}
 use Rattle.std.specs.Prelude.{slice_set, get_or}
 use Rattle.dl_bytes.specs.declared.outcome.TraceEnd.{TraceEnd}
-use Rattle.dl_bytes.specs.declared.outcome.TraceFile.{TraceFile}
 use Rattle.dl_trace.specs.Steps.{Extends, last_name}
 use Rattle.dl_trace.proofs.Removing.{last_grown, last_named, extends_by, extends_not}
 use Rattle.dl_trace.proofs.files.extend_file.Goals as goal

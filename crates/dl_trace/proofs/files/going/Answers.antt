@@ -1,4 +1,4 @@
-use Rattle.std.proofs.Common.{◌≡◌, ℕ, ◌+◌, ◌-◌, ◌<◌, ◌≤◌, drop, ap, arith}
+use Rattle.std.proofs.Common.{ℕ, ◌+◌, ◌-◌, drop, ap, arith}
 use Rattle.std.specs.Prelude.{sum_by}
 use Rattle.dl_trace.specs.Steps.{bytes_in}
 use Rattle.dl_trace.proofs.Removing.{going_at, sum_at}

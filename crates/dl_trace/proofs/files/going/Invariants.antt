@@ -1,4 +1,4 @@
-use Rattle.std.proofs.Common.{◌≡◌, ℕ, ◌+◌, ◌≤◌, length, drop}
+use Rattle.std.proofs.Common.{◌≡◌, ◌+◌, ◌≤◌, length, drop}
 use Rattle.std.specs.Prelude.{sum_by}
 use Rattle.dl_trace.specs.Steps.{bytes_in}
 use Rattle.dl_trace.proofs.files.going.Given as goal

@@ -1,8 +1,7 @@
-use Rattle.std.proofs.Common.{◌≡◌, ℕ, ◌+◌, ◌<◌, List, take, drop, sym, ap, ◌∙◌, subst, arith, Ok, Err}
+use Rattle.std.proofs.Common.{sym, ◌∙◌, subst, arith, Err}
 use Rattle.dl_bytes.specs.declared.outcome.TraceEnd.{TraceEnd}
-use Rattle.dl_outside.specs.Folder.{Removes}
 use Rattle.dl_trace.specs.Steps.{names_of, RemovesAll}
-use Rattle.dl_trace.proofs.Removing.{names_of-more, names_of-split, removes_one_of, stops_there_at}
+use Rattle.dl_trace.proofs.Removing.{removes_one_of, stops_there_at}
 use Rattle.dl_trace.proofs.files.remove_all.Goals as goal
 
 pub returns-in-Err-clause-folder : goal.returns-in-Err-clause-folder

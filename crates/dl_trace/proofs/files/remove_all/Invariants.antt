@@ -1,4 +1,4 @@
-use Rattle.std.proofs.Common.{◌≡◌, List, take, Some}
+use Rattle.std.proofs.Common.{◌≡◌, take, Some}
 use Rattle.std.specs.Prelude.{IfSome}
 use Rattle.dl_outside.specs.Folder.{Files}
 use Rattle.dl_trace.specs.Steps.{names_of, without}

@@ -1,4 +1,4 @@
-use Rattle.std.proofs.Common.{◌≡◌, ℕ, List, [], ◌∷◌, ◌<◌, ◌≤◌, ◌+◌, ◌*◌, ◌++◌, length, arith, sym, ap, ◌∙◌, length-append, append_assoc, Ok}
+use Rattle.std.proofs.Common.{◌≡◌, ℕ, List, [], ◌∷◌, ◌<◌, ◌≤◌, ◌+◌, ◌++◌, length, arith, ap, ◌∙◌, length-append, append_assoc}
 use Rattle.dl_headers.specs.Header.{storage_header}
 use Rattle.dl_trace.specs.Batch.{parted}
 use Rattle.dl_trace.proofs.Batches.{length-parted, parted-one, bytes_most, one_more}

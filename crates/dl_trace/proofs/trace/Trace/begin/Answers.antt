@@ -1,10 +1,10 @@
-use Rattle.std.proofs.Common.{◌≡◌, ◌≤◌, ◌<◌, ◌+◌, ◌-◌, ◌∷◌, ◌++◌, [], Bool, true, false, List, ◌∙◌, sym, ap, subst, length, cond, drop, refl, rules}
+use Rattle.std.proofs.Common.{◌≡◌, ◌≤◌, ◌<◌, ◌+◌, ◌-◌, ◌∷◌, ◌++◌, [], Bool, true, false, List, ◌∙◌, sym, ap, subst, length, cond, drop, rules}
 use Rattle.std.specs.Prelude.{All, is_ok, ℕ}
 use Rattle.std.specs.Str.{IsAscii}
 use Rattle.dl_bytes.specs.declared.outcome.TraceFile.{TraceFile}
 use Rattle.dl_model.specs.TraceFiles.{number_limit, trace_name}
 use Rattle.dl_trace.specs.State.{Trace}
-use Rattle.dl_trace.specs.Steps.{going, going_of, next_name}
+use Rattle.dl_trace.specs.Steps.{going, going_of}
 use Rattle.dl_trace.proofs.Sound.{name_ascii, names_ascii, sound_begin, sound_kept}
 use Rattle.dl_trace.proofs.trace.Trace.begin.Goals as goal
 

@@ -1,4 +1,4 @@
-use Rattle.std.proofs.Common.{◌≡◌, ◌≤◌, Bool, true, List, ◌∙◌, sym, ap, subst, length, cond}
+use Rattle.std.proofs.Common.{◌≡◌, ◌≤◌, true, List, ◌∙◌, sym, ap, subst, length, cond}
 use Rattle.std.specs.Prelude.{All, is_ok}
 use Rattle.std.specs.Str.{IsAscii}
 use Rattle.dl_bytes.specs.declared.outcome.TraceFile.{TraceFile}

@@ -1,5 +1,4 @@
-use Rattle.std.proofs.Common.{◌≡◌, ℕ, List, None, Option, refl, sym, ap, subst, ◌∙◌, drop}
-use Rattle.dl_outside.specs.Folder.{Files}
+use Rattle.std.proofs.Common.{ℕ, List, refl, sym, ap, subst, ◌∙◌, drop}
 use Rattle.dl_trace.specs.State.{Trace}
 use Rattle.dl_trace.specs.Stands.{ChangesTraceFiles}
 use Rattle.dl_trace.specs.Batch.{parted}

@@ -1,4 +1,4 @@
-use Rattle.std.proofs.Common.{◌≡◌, ◌≤◌, ◌<◌, ℕ, Bool, true, false, cond, take, List, ◌∙◌, sym, ap, subst, Ok, Err}
+use Rattle.std.proofs.Common.{◌≡◌, ℕ, cond, take, ◌∙◌, sym, ap, subst, Ok, Err}
 use Rattle.dl_trace.specs.State.{Trace}
 use Rattle.dl_trace.specs.Kept.{IsSound}
 use Rattle.dl_trace.specs.Batch.{parted}

@@ -1,7 +1,7 @@
 //! The registry: each call that takes memory, once, and worked examples.
 
 use dl_bytes::{Bytes, Id, Level, OwnLevel, Sequence, UserMsg};
-use dl_registry::{LAST_VERSION, LevelChange, Registry, SetFault, Stored};
+use dl_registry::{InfoFault, LAST_VERSION, LevelChange, Registry, SetFault, Stored};
 use std::alloc::Global;
 use std::test::Fail;
 
@@ -105,5 +105,45 @@ fn comes_back(rt: HostRuntime) -> Result<(), Fail> {
     assert_eq!(rt; registry.apply(2, &app(alloc)?), Ok(()));
     assert_eq!(rt; registry.channel_of(0), Some(2));
     assert_eq!(rt; registry.find(apid, Id::from_bytes(CONTEXT)), None);
+    Ok(())
+}
+
+/// So many letters.
+fn letters(alloc: Global, count: usize) -> Result<Bytes, Fail> {
+    Ok(Bytes::over(vec![in alloc; b'x'; count]?))
+}
+
+/// Four applications, the first with a description of so many letters, with 62 contexts each that have the longest one.
+fn described(alloc: Global, first: usize) -> Result<Registry, Fail> {
+    let mut registry = empty(alloc)?;
+    for number in 0..4 {
+        let apid = Id::from_bytes([b'A', b'P', b'P', b'0' + number]);
+        let text = letters(alloc, if number == 0 { first } else { 0 })?;
+        let app = UserMsg::RegisterApp { apid, pid: 1, text };
+        registry.apply(1, &app).ok().ok_or("an application")?;
+        for place in 0..62 {
+            let context = UserMsg::RegisterContext {
+                apid,
+                ctid: Id::from_bytes([b'C', b'T', b'X', b'0' + place]),
+                position: 0,
+                level: OwnLevel::of(-1).ok_or("an own level")?,
+                trace: -1,
+                pid: 1,
+                text: letters(alloc, 255)?,
+            };
+            registry.apply(1, &context).ok().ok_or("a context")?;
+        }
+    }
+    Ok(registry)
+}
+
+/// A reply of 65,535 bytes, headers, service id and status included, is told; one byte more is too long.
+#[test]
+fn as_long_as_a_reply(rt: HostRuntime) -> Result<(), Fail> {
+    let all = Id::from_bytes([0; 4]);
+    let longest = described(rt.alloc(), 250)?.info(7, all, all);
+    assert_eq!(rt; longest.ok().ok_or("a body")?.all().len(), 65_512);
+    let longer = described(rt.alloc(), 251)?.info(7, all, all);
+    assert!(rt; matches!(longer, Err(InfoFault::TooLong)));
     Ok(())
 }

@@ -1,6 +1,6 @@
 //! Scripts and the first bad line of each.
 
-use crate::{ScriptError, ScriptKind, generate, read_scenario, read_steps};
+use dl_script::{ScriptError, ScriptKind, generate, read_scenario, read_steps};
 use dl_steps::StepList;
 use std::alloc::{AllocError, Global};
 use std::test::Fail;
