@@ -60,6 +60,7 @@ impl<'a> ArgReader<'a> {
     }
 
     /// The next argument, or why it can't be read; nothing where all are read. A fault is never want of memory.
+    #[inline(always)]
     #[tactic(auto, unfolding(crate::specs::Coming::coming))]
     pub fn next_arg(&mut self) -> Option<Result<ArgRef<'a>, ArgFault>>
         ensures { GivesNext self.old result self.new }
@@ -139,6 +140,7 @@ fn copy_args(alloc: Global, reader: ArgReader) -> Result<Result<ArgList, ArgFaul
 }
 
 /// The argument at the front, which begins at this place of the payload.
+#[inline(always)]
 #[tactic(auto, unfolding(crate::specs::Reading::arg_at))]
 fn read_arg<'a>(cursor: &mut Cursor<'a>, place: usize) -> Result<ArgRef<'a>, ArgFault>
     ensures { Returns arg_in result cursor.new (arg_at place (at cursor.old)) }
@@ -149,6 +151,7 @@ fn read_arg<'a>(cursor: &mut Cursor<'a>, place: usize) -> Result<ArgRef<'a>, Arg
 }
 
 /// An argument of this kind, behind its type info.
+#[inline(always)]
 #[tactic(auto, unfolding(crate::specs::Reading::kind_at))]
 fn read_kind<'a>(
     cursor: &mut Cursor<'a>,
@@ -167,6 +170,7 @@ fn read_kind<'a>(
     }
 }
 
+#[inline(always)]
 #[tactic(auto, unfolding(crate::specs::Reading::bool_at))]
 fn read_bool<'a>(cursor: &mut Cursor<'a>, place: usize, named: bool) -> Result<ArgRef<'a>, ArgFault>
     ensures { Returns arg_in result cursor.new (bool_at place named (at cursor.old)) }
@@ -181,6 +185,7 @@ fn read_bool<'a>(cursor: &mut Cursor<'a>, place: usize, named: bool) -> Result<A
     Ok(ArgRef::Bool { name, value })
 }
 
+#[inline(always)]
 #[tactic(auto, unfolding(crate::specs::Reading::sint_at))]
 fn read_sint<'a>(
     cursor: &mut Cursor<'a>,
@@ -201,6 +206,7 @@ fn read_sint<'a>(
     })
 }
 
+#[inline(always)]
 #[tactic(auto, unfolding(crate::specs::Reading::uint_at))]
 fn read_uint<'a>(
     cursor: &mut Cursor<'a>,
@@ -221,6 +227,7 @@ fn read_uint<'a>(
     })
 }
 
+#[inline(always)]
 #[tactic(auto, unfolding(crate::specs::Reading::text_arg_at))]
 fn read_text<'a>(
     cursor: &mut Cursor<'a>,
@@ -238,6 +245,7 @@ fn read_text<'a>(
     })
 }
 
+#[inline(always)]
 #[tactic(auto, unfolding(crate::specs::Reading::raw_at))]
 fn read_raw<'a>(cursor: &mut Cursor<'a>, place: usize, named: bool) -> Result<ArgRef<'a>, ArgFault>
     ensures { Returns arg_in result cursor.new (raw_at place named (at cursor.old)) }

@@ -1,5 +1,5 @@
 -- What contracts see of the hub and its clients.
-use Rattle.std.specs.Prelude.{ℕ, ◌+◌, ◌-◌, ◌≤◌, ◌==◌, ◌&&◌, nat_le, Bool, true, List, [], ◌++◌, length, take, drop, slice_get, slice_set, Option, Some, None, is_some, option_map, IfSome, IsSomeAnd, if◌then◌else◌}
+use Rattle.std.specs.Prelude.{◌≡◌, ℕ, ◌+◌, ◌-◌, ◌≤◌, ◌==◌, ◌&&◌, nat_le, Bool, true, List, [], ◌++◌, length, take, drop, slice_get, slice_set, Option, Some, None, is_some, option_map, IfSome, IsSomeAnd, if◌then◌else◌}
 use Rattle.std.specs.Option.{option_and_then, option_map_or}
 use Rattle.std.specs.List.{list_any}
 
@@ -155,3 +155,8 @@ abbrev pub changed : ℕ → (Client → Client) → Hub → Hub
 changed number change hub = record hub {
   clients = option_map_or (λ client. slice_set hub.clients (number - 1) (change client)) (client_of hub number) hub.clients;
 }
+
+-- what doesn't change of a hub: the control unit, and the size of its backlog
+pub record IsSameHub (old new : Hub) : Type 0 where
+  pub ecu : new.ecu ≡ old.ecu
+  pub buffer : new.buffer ≡ old.buffer

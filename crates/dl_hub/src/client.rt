@@ -89,6 +89,13 @@ impl Client {
         (self.frames, self.bytes)
     }
 
+    /// How many replies were put into its stream.
+    pub fn replies(&self) -> u32
+        ensures { result ≡ self.now.replies }
+    {
+        self.replies
+    }
+
     /// Puts a frame into its stream, where it is open.
     pub fn add(&mut self, frame: &[u8])
         requires room { IfSome self.old.outbox (λ r. length r.bytes + length frame.now ≤ r.capacity) }

@@ -3,7 +3,7 @@
 ghost use Rattle.std.specs.Prelude.{◌≡◌, ◌≤◌, ◌<◌, ◌↔◌, ◌^◌, ◌+◌, ℕ, true, false, [], Err, IfOk, OnErr, IfSome, count_by, IsTrue, IsSome, IsSomeAnd, length, take, map, option_map, vec_capacity};
 ghost use Rattle.std.specs.List.{All, list_all};
 ghost use Rattle.dl_model.specs.Traffic.{Comes, Admit, Reply, Goes};
-ghost use Rattle.dl_hub.specs.State.{client_of, outbox_of, outbox_limit, takes, HasRoom, EachHasRoom, changed, without, with_frame, with_reply, shut, is_open, is_any_open, fresh};
+ghost use Rattle.dl_hub.specs.State.{client_of, outbox_of, outbox_limit, takes, HasRoom, EachHasRoom, changed, without, with_frame, with_reply, shut, is_open, is_any_open, fresh, IsSameHub};
 ghost use Rattle.dl_model.specs.Backlog.{size_of};
 ghost use Rattle.dl_model.specs.Overflow.{overflow_frames};
 ghost use Rattle.dl_control.specs.Reply.{daemon_apid, daemon_ctid};
@@ -187,6 +187,7 @@ impl Hub {
         ensures refused { OnErr result (self.new ≡ self.old) }
         ensures number { IfOk result (λ number. number ≡ length self.old.clients + 1) }
         ensures admitted { self.new.admitted ≡ self.old.admitted }
+        ensures same { IsSameHub self.old self.new }
         ensures adds { IfOk result (λ number. Adds (Comes number) self.old self.new) }
     {
         if self.clients.len() == CLIENT_LIMIT {
@@ -208,6 +209,7 @@ impl Hub {
         ensures adds { Adds (Admit frame.now) self.old self.new }
         ensures rooms { (more : ℕ) → EachHasRoom (length frame.now + more) self.old → EachHasRoom more self.new }
         ensures count { self.new.admitted ≡ self.old.admitted + 1 }
+        ensures same { IsSameHub self.old self.new }
     {
         if self.any_open() {
             self.send_each(frame);
@@ -224,6 +226,7 @@ impl Hub {
         ensures adds { Adds (Admit frame.now) self.old self.new }
         ensures rooms { (more : ℕ) → EachHasRoom (length frame.now + more) self.old → EachHasRoom more self.new }
         ensures count { self.new.admitted ≡ self.old.admitted + 1 }
+        ensures same { IsSameHub self.old self.new }
     {
         put_each(&mut self.clients, frame.bytes());
         self.admitted += 1;
@@ -236,6 +239,7 @@ impl Hub {
         ensures adds { Adds (Admit frame.now) self.old self.new }
         ensures rooms { (more : ℕ) → EachHasRoom (length frame.now + more) self.old → EachHasRoom more self.new }
         ensures count { self.new.admitted ≡ self.old.admitted + 1 }
+        ensures same { IsSameHub self.old self.new }
     {
         self.store.admit(frame.bytes());
         self.admitted += 1;
@@ -293,6 +297,14 @@ impl Hub {
         ensures { IsSomeAnd (client_of self.now client) (λ c. result ≡ (c.frames, c.bytes)) }
     {
         self.clients[client as usize - 1].put()
+    }
+
+    /// How many replies were put into a client's stream: 1,000 is the most.
+    pub fn replies(&self, client: u32) -> u32
+        requires { (1 ≤ client) × (client ≤ length self.now.clients) }
+        ensures { IsSomeAnd (client_of self.now client) (λ c. result ≡ c.replies) }
+    {
+        self.clients[client as usize - 1].replies()
     }
 
     /// What waits for a client.

@@ -1,6 +1,6 @@
 //! The pass with which the daemon pushes.
 
-ghost use Rattle.std.specs.Prelude.{◌≡◌, ◌+◌, ◌≤◌, ℕ, ◌∷◌, [], ◌++◌, length, OnOk, OnErr, IfErr};
+ghost use Rattle.std.specs.Prelude.{◌≡◌, ◌+◌, ◌^◌, ◌<◌, ◌≤◌, ℕ, ◌∷◌, [], ◌++◌, length, OnOk, OnErr, IfErr};
 ghost use Rattle.dl_injections.specs.Order.{Holds};
 ghost use Rattle.dl_injections.specs.State.{with_pass};
 
@@ -90,6 +90,7 @@ impl InjectPush {
     pub fn look(&mut self)
         ensures same { self.new ≡ self.old }
         ensures rest { (left : ℕ) × Holds self.new left }
+        ensures few { length self.new.pushed < 2 ^ 64 }
     {
         self.queue.learn_as::<Look>(&mut self.pass);
     }

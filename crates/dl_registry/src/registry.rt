@@ -1,6 +1,6 @@
 //! The registry: who is there, at which levels, and what each slot holds.
 
-ghost use Rattle.std.specs.Prelude.{◌≡◌, ◌<◌, ◌≤◌, ◌==◌, ◌++◌, Some, IfOk, IfSome, OnOk};
+ghost use Rattle.std.specs.Prelude.{◌≡◌, ◌<◌, ◌≤◌, ◌==◌, ◌++◌, Some, length, IfOk, IfSome, OnOk};
 ghost use Rattle.std.specs.List.{find};
 ghost use Rattle.std.specs.Map.{values_of};
 ghost use Rattle.std.specs.Option.{option_map, option_or};
@@ -12,7 +12,7 @@ use crate::application::Application;
 use crate::apps::Apps;
 use crate::table::{SlotTable, slot_of};
 use dl_bytes::{Bytes, Id, Level, OutOfMemory, OwnLevel, Sequence, Stored, StoredLevel};
-use dl_model::LevelChange;
+use dl_model::{LevelChange, Slot};
 use indexmap::IndexMap;
 use std::alloc::Global;
 use std::marker::Model;
@@ -121,11 +121,27 @@ impl Registry {
         })
     }
 
+    /// What always holds of the slots, for callers whose own promise rests on it. It costs nothing.
+    pub fn slots_are_apart(&self)
+        // So a slot tells the number of one application and the place of one context.
+        ensures order { IsInOrder self.now.registry }
+        ensures all { length self.now.held ≡ 1024 }
+    {
+        self.table.has_all_slots();
+    }
+
     /// The level that filters where a context has none of its own.
     pub fn default_level(&self) -> Level
         ensures { result ≡ self.now.registry.level }
     {
         self.level
+    }
+
+    /// What a slot holds: the level that was set last, and its version.
+    pub fn held(&self, slot: u16) -> Slot
+        ensures { result ≡ slots self.now slot }
+    {
+        self.table.held(slot)
     }
 
     /// The slot of the context that has both ids.

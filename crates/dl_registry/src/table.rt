@@ -1,6 +1,6 @@
 //! The slots of all contexts: what the level word of each holds, and which ones wait for another level.
 
-ghost use Rattle.std.specs.Prelude.{◌≡◌, ◌<◌, ◌≤◌, ◌+◌, ◌*◌, ◌/◌, ◌==◌, ℕ, IfOk, IfSome, Some, None, replicate, if◌then◌else◌};
+ghost use Rattle.std.specs.Prelude.{◌≡◌, ◌<◌, ◌≤◌, ◌+◌, ◌*◌, ◌/◌, ◌==◌, ℕ, IfOk, IfSome, Some, None, length, replicate, if◌then◌else◌};
 ghost use Rattle.dl_model.specs.History.{last_version};
 ghost use Rattle.dl_model.specs.Registry.{slot_of as slot_number};
 ghost use Rattle.std.specs.Option.{option_map_or};
@@ -76,6 +76,13 @@ impl SlotTable {
             from: 0,
             to: 0,
         })
+    }
+
+    /// The table has each of the 1024 slots.
+    pub fn has_all_slots(&self)
+        ensures { length self.now.held ≡ 1024 }
+    {
+        let _held = &self.held;
     }
 
     /// What a slot holds.

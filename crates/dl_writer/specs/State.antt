@@ -1,5 +1,5 @@
 -- What contracts see of a writer and of a book.
-use Rattle.std.specs.Prelude.{◌≡◌, ℕ, List, length}
+use Rattle.std.specs.Prelude.{◌≡◌, ℕ, List, length, map}
 use Rattle.dl_events.specs.declared.record.Record.{Record}
 use Rattle.dl_ring.specs.State.{PushState}
 use Rattle.dl_levels.specs.States.{ReaderState}
@@ -25,3 +25,7 @@ pub record BookState : Type 0 where
 -- a book is whole where it has a record of every call of its writer
 abbrev pub IsWhole : BookState → Type 0
 IsWhole b = length b.records ≡ b.writer.calls
+
+-- the numbers of the books' writers
+abbrev pub numbers : List BookState → List ℕ
+numbers books = map (λ b. b.writer.push.number) books

@@ -16,6 +16,7 @@ pub record IsWriter (w : writer.Inside) : Type 0 where
   pub slots : 64 * w.app + 64 ≤ w.reader.slots
   pub apps : w.app < w.losses.apps
   pub counter : w.mcnt ≡ passed (writer_state w) % 256
+  pub queued : w.queued ≡ length w.push.pushed
   pub made : passed (writer_state w) ≤ w.calls
   pub few : w.calls ≤ 2 ^ 40
   pub given : w.injected ≡ length w.injections.taken

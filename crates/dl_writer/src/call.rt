@@ -27,11 +27,12 @@ pub struct Call {
 }
 
 impl Call {
-    /// The call with this payload, whose bytes are copied.
+    /// The call with this payload, whose bytes are copied. The payload is filled where it lies in the item: one that is
+    /// made apart is moved there as a whole, with all that it has room for.
     pub fn item(&self, payload: &Payload) -> Item
         ensures { result ≡ item_with self.now payload.now }
     {
-        Item {
+        let mut item = Item {
             app: self.app,
             writer: self.writer,
             call: self.number,
@@ -40,7 +41,12 @@ impl Call {
             severity: self.severity,
             at: self.at,
             mcnt: self.mcnt,
-            payload: payload.copy(),
+            payload: Payload::new(),
+        };
+        item.payload.extend_from_slice(payload.bytes());
+        for _argument in 0..payload.args() {
+            item.payload.count_argument();
         }
+        item
     }
 }

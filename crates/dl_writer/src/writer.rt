@@ -48,6 +48,8 @@ pub struct Writer {
     calls: u64,
     // how many of them passed their level, modulo 256: the message counter of the next one that does
     mcnt: u8,
+    // how many of these the ring took
+    queued: u64,
     // how many injections it was given
     injected: u64,
     push: RingPush,
@@ -90,6 +92,7 @@ impl Writer {
             number,
             calls: 0,
             mcnt: 0,
+            queued: 0,
             injected: 0,
             push,
             reader,
@@ -172,6 +175,14 @@ impl Writer {
         self.app
     }
 
+    /// How many of its calls the ring took.
+    pub fn queued(&self) -> u64
+        ensures value { result ≡ length self.now.push.pushed }
+        ensures range { result ≤ 2 ^ 40 }
+    {
+        self.queued
+    }
+
     /// How many injections it was given.
     pub fn injected(&self) -> u64
         ensures { result ≡ length self.now.injections.taken }
@@ -188,6 +199,7 @@ impl Writer {
             number: _,
             calls: _,
             mcnt: _,
+            queued: _,
             injected: _,
             push,
             reader,
@@ -236,7 +248,10 @@ impl Writer {
         }
         self.mcnt = self.mcnt.wrapping_add(1);
         match self.push.push(rt, call.item(payload)) {
-            Ok(()) => Answer::Queued,
+            Ok(()) => {
+                self.queued += 1;
+                Answer::Queued
+            }
             Err(_refused) => {
                 self.losses.count(self.app);
                 Answer::Lost
