@@ -1,0 +1,6 @@
+-- Text that is put together piece by piece.
+use Rattle.std.proofs.Common.{◌≡◌, ℕ, List, ◌++◌, append_assoc}
+
+pub in_six : (t1 t2 t3 t4 t5 t6 a b c d e f : List ℕ) → t1 ≡ a → t2 ≡ t1 ++ b → t3 ≡ t2 ++ c → t4 ≡ t3 ++ d → t5 ≡ t4 ++ e → t6 ≡ t5 ++ f
+    → t6 ≡ a ++ b ++ c ++ d ++ e ++ f
+in_six t1 t2 t3 t4 t5 t6 a b c d e f p q r s t u = rw (u, t, s, r, q, p) (simp append_assoc)
