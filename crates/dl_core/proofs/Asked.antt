@@ -1,0 +1,270 @@
+-- Requests by their kind: what they owe, what their replies are, and where their ids stand.
+use Rattle.std.proofs.Common.{◌≡◌, ℕ, suc, ◌+◌, ◌≤◌, Bool, true, false, cond, List, [], ◌∷◌, ◌++◌, length, take, drop, Option, Some, None, Result, Ok, Err, refl, sym, ap, subst, ◌∙◌, append_assoc, length-append, is_some, arith}
+use Rattle.std.specs.Prelude.{◌<◌, unwrap_or, IfOk, IfSome, OnErr, if◌then◌else◌}
+use Rattle.std.specs.List.{cons_option, filter_map}
+use Rattle.std.specs.Option.{option_map, option_and_then, option_or}
+use Rattle.std.specs.Result.{result_ok}
+use Rattle.std.proofs.lemmas.List.{take_at, drop_at}
+use Rattle.std.proofs.lemmas.List.FromFn.{length-range_with_len}
+use Rattle.byteorder.specs.Endian.{big_bytes}
+use Rattle.dl_bytes.specs.Htyp.{htyp_of, standard_len}
+use Rattle.dl_bytes.specs.declared.outcome.Done.{Done}
+use Rattle.dl_bytes.specs.declared.outcome.Done.TheVariants as done
+use Rattle.dl_control.specs.declared.reply.Reply.{Reply}
+use Rattle.dl_control.specs.declared.request.Request.{Request}
+use Rattle.dl_control.specs.declared.request.Request.TheVariants.{SetLogLevel, GetLogInfo, GetDefault, Store, Reset, SetDefault, Version, Inject, Other}
+use Rattle.dl_control.specs.declared.request.RequestFault.{RequestFault}
+use Rattle.dl_control.specs.declared.request.RequestFault.TheVariants.{Short, Excess}
+use Rattle.dl_headers.specs.declared.header.Standard.{Standard}
+use Rattle.dl_headers.specs.declared.header.Extended.{Extended}
+use Rattle.dl_headers.specs.Header.{standard_header, extended_header, optional, IsStandard, IsExtended}
+use Rattle.dl_headers.specs.Message.{Message, IsMessage}
+use Rattle.dl_model.specs.declared.registry.LevelChange.{LevelChange}
+use Rattle.dl_model.specs.declared.registry.Slot.{Slot}
+use Rattle.dl_model.specs.Registry.{Registry, all_slots, app_of, change_at, context_of, first_change, reset}
+use Rattle.dl_model.specs.Traffic as traffic
+use Rattle.dl_hub.specs.Follows as hub
+use Rattle.dl_hub.specs.State.{Hub}
+use Rattle.dl_control.specs.Reply.{control_reply}
+use Rattle.dl_model.specs.Reply.{apid_of, asked, bare, ctid_of, inject_status, now_stored, reply_to, reset_status, served, where_done}
+use Rattle.dl_model.specs.Setting.{Setting}
+use Rattle.dl_registry.specs.Kept.{Kept, slots, owed_change, with_registry}
+use Rattle.dl_services.specs.Service.{Replies, HasBody}
+use Rattle.dl_services.specs.Wish.{wanted}
+use Rattle.dl_services.specs.declared.wish.Want.TheVariants as want
+use Rattle.dl_core.specs.Serving.{has_body, changes_of, reply_now}
+use Rattle.dl_core.specs.Settings.{seen}
+use Rattle.dl_core.specs.State.{Core}
+use Rattle.dl_core.specs.Waiting.{waiting}
+
+-- ---- what a request sees of the configuration
+
+-- a request sees the level and `InjectionMode` alone
+pub reply_alike : (one other : Setting) (slots : ℕ → Slot) (registry : Registry) (apid ctid : List ℕ) (request : Result Request RequestFault) (answer : Done)
+    → one.level ≡ other.level → one.injection ≡ other.injection
+    → reply_to one slots registry apid ctid request answer ≡ reply_to other slots registry apid ctid request answer
+reply_alike one other slots registry apid ctid (Ok Reset) answer level mode =
+    ap (λ (n : ℕ). bare 0x06 (reset_status (result_ok (reset slots registry n)) answer)) level
+reply_alike one other slots registry apid ctid (Ok (Inject service body)) answer level mode =
+    ap (λ (b : Bool). bare service (inject_status
+    (if b then option_and_then (λ app. option_map (λ context. (app, context)) (context_of app ctid)) (app_of registry 0 apid) else None) answer)) mode
+reply_alike one other slots registry apid ctid (Err (Short service)) answer level mode = refl
+reply_alike one other slots registry apid ctid (Err (Excess service)) answer level mode = refl
+reply_alike one other slots registry apid ctid _ answer level mode = refl
+
+pub served_alike : (one other : Setting) (slots : ℕ → Slot) (registry : Registry) (request : Result Request RequestFault) (answer : Done)
+    → one.level ≡ other.level → served one slots registry request answer ≡ served other slots registry request answer
+served_alike one other slots registry (Ok Reset) answer level =
+    ap (λ (n : ℕ). where_done answer (unwrap_or (result_ok (reset slots registry n)) registry) registry) level
+served_alike one other slots registry _ answer level = refl
+
+-- ---- replies with a body, and without
+
+-- a reply without a body, whatever came of what was wanted
+pub bare_body : (setting : Setting) (slots : ℕ → Slot) (registry : Registry) (apid ctid : List ℕ) (request : Result Request RequestFault) (answer : Done)
+    → has_body request ≡ false → (reply_to setting slots registry apid ctid request answer).body ≡ []
+bare_body setting slots registry apid ctid (Ok (GetLogInfo options app context)) answer is = absurd (cc is)
+bare_body setting slots registry apid ctid (Ok GetDefault) answer is = absurd (cc is)
+bare_body setting slots registry apid ctid (Ok Version) answer is = absurd (cc is)
+bare_body setting slots registry apid ctid (Err (Short service)) answer is = refl
+bare_body setting slots registry apid ctid (Err (Excess service)) answer is = refl
+bare_body setting slots registry apid ctid _ answer is = refl
+
+-- one with a body wants nothing, and changes nothing
+pub body_wants_nothing : (setting : Setting) (slots : ℕ → Slot) (registry : Registry) (apid ctid : List ℕ) (request : Result Request RequestFault)
+    → has_body request ≡ true → want.Nothing ≡ wanted setting slots registry apid ctid request
+body_wants_nothing setting slots registry apid ctid (Ok Store) is = absurd (cc is)
+body_wants_nothing setting slots registry apid ctid (Ok Reset) is = absurd (cc is)
+body_wants_nothing setting slots registry apid ctid (Ok (Inject service body)) is = absurd (cc is)
+body_wants_nothing setting slots registry apid ctid _ is = refl
+
+pub body_changes_nothing : (setting : Setting) (slots : ℕ → Slot) (registry : Registry) (request : Result Request RequestFault) (answer : Done)
+    → has_body request ≡ true → served setting slots registry request answer ≡ registry
+body_changes_nothing setting slots registry (Ok (SetLogLevel apid ctid level)) answer is = absurd (cc is)
+body_changes_nothing setting slots registry (Ok (SetDefault level)) answer is = absurd (cc is)
+body_changes_nothing setting slots registry (Ok Store) answer is = absurd (cc is)
+body_changes_nothing setting slots registry (Ok Reset) answer is = absurd (cc is)
+body_changes_nothing setting slots registry _ answer is = refl
+
+-- nor does its reply depend on what came of it
+pub body_same : (setting : Setting) (slots : ℕ → Slot) (registry : Registry) (apid ctid : List ℕ) (request : Result Request RequestFault) (one other : Done)
+    → has_body request ≡ true → reply_to setting slots registry apid ctid request one ≡ reply_to setting slots registry apid ctid request other
+body_same setting slots registry apid ctid (Ok (GetLogInfo options app context)) one other is = refl
+body_same setting slots registry apid ctid (Ok GetDefault) one other is = refl
+body_same setting slots registry apid ctid (Ok Version) one other is = refl
+body_same setting slots registry apid ctid (Ok Store) one other is = absurd (cc is)
+body_same setting slots registry apid ctid (Ok Reset) one other is = absurd (cc is)
+body_same setting slots registry apid ctid (Ok (Inject service body)) one other is = absurd (cc is)
+body_same setting slots registry apid ctid (Ok (SetLogLevel app context level)) one other is = absurd (cc is)
+body_same setting slots registry apid ctid (Ok (SetDefault level)) one other is = absurd (cc is)
+body_same setting slots registry apid ctid (Ok (Other service)) one other is = absurd (cc is)
+body_same setting slots registry apid ctid (Err fault) one other is = absurd (cc is)
+
+-- ---- how many Level events it owes
+
+-- at most one for each slot
+one_longer : (o : Option LevelChange) (changes : List LevelChange) → length (cons_option o changes) ≤ 1 + length changes
+one_longer None changes = omega arith
+one_longer (Some x) changes = omega arith
+
+filtered_most : (owes : ℕ → Option LevelChange) (at : List ℕ) → length (filter_map owes at) ≤ length at
+filtered_most owes [] = omega arith
+filtered_most owes (slot ∷ more) = omega (arith, one_longer (owes slot) (filter_map owes more), filtered_most owes more)
+
+waiting_most : (kept : Kept) → waiting kept ≤ 1024
+unfolding waiting
+waiting_most kept =
+    let most = filtered_most (change_at (slots kept) kept.registry) all_slots in
+    let size : length all_slots ≡ 1024 = length-range_with_len 0 1024 in
+    omega (arith, most, size)
+
+-- where none is owed, none waits
+none_first : (s : ℕ → Slot) (registry : Registry) (at : List ℕ) → first_change s registry at ≡ None → length (filter_map (change_at s registry) at) ≡ 0
+none_first s registry [] none = refl
+none_first s registry (slot ∷ more) none = by (change_at s registry slot) none (none_first s registry more) where
+  by : (o : Option LevelChange) → option_or o (first_change s registry more) ≡ None
+      → (first_change s registry more ≡ None → length (filter_map (change_at s registry) more) ≡ 0)
+      → length (cons_option o (filter_map (change_at s registry) more)) ≡ 0
+  by None none rest = rest none
+  by (Some change) none rest = absurd (cc none)
+
+none_waits : (kept : Kept) → owed_change kept ≡ None → waiting kept ≡ 0
+unfolding owed_change waiting
+none_waits kept none = none_first (slots kept) kept.registry all_slots none
+
+-- what is stored makes no difference to it
+stored_same : (s : ℕ → Slot) (registry : Registry) (at : List ℕ) → length (filter_map (change_at s (now_stored registry)) at) ≡ length (filter_map (change_at s registry) at)
+stored_same s registry at = refl
+
+stored_waits : (kept : Kept) → waiting (with_registry kept (now_stored kept.registry)) ≡ waiting kept
+unfolding waiting
+stored_waits kept = stored_same (slots kept) kept.registry all_slots
+
+none_more : (kept : Kept) → owed_change kept ≡ None → waiting kept ≤ 0
+none_more kept none = omega (arith, none_waits kept none)
+
+pub owes_most : (setting : Setting) (kept : Kept) (request : Result Request RequestFault) (answer : Done) → owed_change kept ≡ None
+    → waiting (with_registry kept (served setting (slots kept) kept.registry request answer)) ≤ changes_of request
+owes_most setting kept (Ok (SetLogLevel apid ctid level)) answer none =
+    waiting_most (with_registry kept (served setting (slots kept) kept.registry (Ok (SetLogLevel apid ctid level)) answer))
+owes_most setting kept (Ok (SetDefault level)) answer none =
+    waiting_most (with_registry kept (served setting (slots kept) kept.registry (Ok (SetDefault level)) answer))
+owes_most setting kept (Ok Reset) answer none = waiting_most (with_registry kept (served setting (slots kept) kept.registry (Ok Reset) answer))
+owes_most setting kept (Ok Store) done.Yes none = omega (arith, stored_waits kept, none_waits kept none)
+owes_most setting kept (Ok Store) done.Failed none = none_more kept none
+owes_most setting kept (Ok Store) done.NoMemory none = none_more kept none
+owes_most setting kept _ answer none = none_more kept none
+
+-- ---- the ids of a request's message
+
+id_long : (ecu : Option (List ℕ)) → IfSome ecu (λ id. length id ≡ 4) → length (optional (λ (id : List ℕ). id) ecu) ≡ cond (is_some ecu) 4 0
+id_long None four = refl
+id_long (Some id) four = four
+
+number_long : (n : Option ℕ) → length (optional (big_bytes 4) n) ≡ cond (is_some n) 4 0
+number_long None = refl
+number_long (Some n) = refl
+
+header_long : (htyp mcnt len : ℕ) (ecu session ticks : List ℕ)
+    → length ((htyp ∷ mcnt ∷ []) ++ big_bytes 2 len ++ ecu ++ session ++ ticks) ≡ 4 + length ecu + length session + length ticks
+header_long htyp mcnt len ecu session ticks = omega (arith, length-append ecu session, length-append (ecu ++ session) ticks)
+
+standard_long : (s : Standard) → IsStandard s → length (standard_header s) ≡ standard_len s.htyp
+standard_long s is =
+    let ecu = optional (λ (id : List ℕ). id) s.ecu in
+    let session = optional (big_bytes 4) s.session in
+    let ticks = optional (big_bytes 4) s.ticks in
+    let long = header_long s.htyp s.mcnt s.len ecu session ticks in
+    rw (← s.ecu_as_told, ← s.session_as_told, ← s.ticks_as_told)
+    (omega (arith, long, id_long s.ecu is.ecu, number_long s.session, number_long s.ticks))
+
+apid_at : (msin noar : ℕ) (apid ctid payload : List ℕ) → length apid ≡ 4 → take 4 (drop 2 (((msin ∷ noar ∷ []) ++ apid ++ ctid) ++ payload)) ≡ apid
+apid_at msin noar apid ctid payload four = ap (take 4) (append_assoc apid ctid payload) ∙ take_at apid (ctid ++ payload) 4 four
+
+ctid_at : (msin noar : ℕ) (apid ctid payload : List ℕ) → length apid ≡ 4 → length ctid ≡ 4 → take 4 (drop 6 (((msin ∷ noar ∷ []) ++ apid ++ ctid) ++ payload)) ≡ ctid
+ctid_at msin noar apid ctid payload four four' =
+    ap (λ x. take 4 (drop 4 x)) (append_assoc apid ctid payload) ∙ ap (take 4) (drop_at apid (ctid ++ payload) 4 four) ∙ take_at ctid payload 4 four'
+
+-- what stands some bytes behind a part
+drop_behind : (front rest : List ℕ) (size more : ℕ) → length front ≡ size → drop (size + more) (front ++ rest) ≡ drop more rest
+drop_behind front rest size more long = subst (λ (n : ℕ). drop (n + more) (front ++ rest) ≡ drop more rest) long (skipped front) where
+  skipped : (front : List ℕ) → drop (length front + more) (front ++ rest) ≡ drop more rest
+  skipped [] =
+      let shift : length {A = ℕ} [] + more ≡ more = omega arith in
+      ap (λ (n : ℕ). drop n rest) shift
+  skipped (x ∷ front) =
+      let shift : length (x ∷ front) + more ≡ suc (length front + more) = omega arith in
+      ap (λ (n : ℕ). drop n (x ∷ front ++ rest)) shift ∙ skipped front
+
+pub ids_read : (m : Message) (bytes : List ℕ) (head : Extended) → IsMessage m bytes → m.extended ≡ Some head
+    → ◌≡◌ {A = List ℕ × List ℕ} (head.apid, head.ctid) (apid_of bytes, ctid_of bytes)
+ids_read m bytes head is there =
+    let s = m.standard in
+    let fits : IsExtended head = subst (λ (e : Option Extended). IfSome e IsExtended) there is.extended in
+    let split : bytes ≡ standard_header s ++ (extended_header head ++ m.payload) =
+    is.spelled ∙ append_assoc (standard_header s) (optional extended_header m.extended) m.payload
+    ∙ ap (λ (e : Option Extended). standard_header s ++ (optional extended_header e ++ m.payload)) there in
+    let htyp : htyp_of bytes ≡ s.htyp = ap htyp_of split in
+    let at : (more : ℕ) → drop (standard_len (htyp_of bytes) + more) bytes ≡ drop more (extended_header head ++ m.payload) = (λ more.
+    ap (λ (h : ℕ). drop (standard_len h + more) bytes) htyp ∙ ap (drop (standard_len s.htyp + more)) split
+    ∙ drop_behind (standard_header s) (extended_header head ++ m.payload) (standard_len s.htyp) more (standard_long s is.standard)) in
+    let apid : apid_of bytes ≡ head.apid = ap (take 4) (at 2) ∙ apid_at head.msin head.noar head.apid head.ctid m.payload fits.apid in
+    let ctid : ctid_of bytes ≡ head.ctid = ap (take 4) (at 6) ∙ ctid_at head.msin head.noar head.apid head.ctid m.payload fits.apid fits.ctid in
+    λ i. (sym apid i, sym ctid i)
+
+-- ---- from every configuration to that which the core sees
+
+pub replies_seen : (core : Core) (injection : Bool) (level : ℕ) (kept : Kept) (target : List ℕ × List ℕ) (request : Result Request RequestFault) {E : Type 0} (answer : Done) (result : Result Reply E)
+    → core.injection ≡ injection → core.level ≡ level → core.registry ≡ kept
+    → IfOk result (Replies injection level kept target request answer)
+    → IfOk result (λ reply. reply ≡ reply_to (seen core) (slots core.registry) core.registry.registry target.0 target.1 request answer)
+replies_seen core injection level kept target request answer (Ok reply) mode at is replies =
+    let here : Replies injection level core.registry target request answer reply =
+    subst (λ (k : Kept). Replies injection level k target request answer reply) (sym is) replies in
+    here (seen core) (record { mode_is = mode; level_is = at })
+replies_seen core injection level kept target request answer (Err fault) mode at is replies = tt {0}
+
+pub body_seen : (core : Core) (injection : Bool) (level : ℕ) (kept : Kept) (target : List ℕ × List ℕ) (request : Result Request RequestFault) {E : Type 0} (answer : Done) (result : Result Reply E)
+    → core.injection ≡ injection → core.level ≡ level → core.registry ≡ kept
+    → OnErr result (HasBody injection level kept target request answer)
+    → OnErr result (0 < length (reply_to (seen core) (slots core.registry) core.registry.registry target.0 target.1 request answer).body)
+body_seen core injection level kept target request answer (Ok reply) mode at is has = tt {0}
+body_seen core injection level kept target request answer (Err fault) mode at is has =
+    let here : HasBody injection level core.registry target request answer =
+    subst (λ (k : Kept). HasBody injection level k target request answer) (sym is) has in
+    here (seen core) (record { mode_is = mode; level_is = at })
+
+-- ---- the reply's frame
+
+reply_long : (ecu : List ℕ) (reply : Reply) → length ecu ≡ 4 → length (control_reply ecu reply) ≡ 23 + length reply.body
+reply_long (a ∷ b ∷ c ∷ d ∷ []) reply four = omega arith
+reply_long [] reply four = absurd (omega (arith, four))
+reply_long (a ∷ []) reply four = absurd (omega (arith, four))
+reply_long (a ∷ b ∷ []) reply four = absurd (omega (arith, four))
+reply_long (a ∷ b ∷ c ∷ []) reply four = absurd (omega (arith, four))
+reply_long (a ∷ b ∷ c ∷ d ∷ e ∷ more) reply four = absurd (omega (arith, four))
+
+-- of what is asked for these ids, that of the message
+pub reply_asked : (core : Core) (frame : List ℕ) (request : Result Request RequestFault) (target : List ℕ × List ℕ) (answer : Done)
+    → request ≡ asked frame → target ≡ (apid_of frame, ctid_of frame)
+    → reply_to (seen core) (slots core.registry) core.registry.registry target.0 target.1 request answer
+    ≡ reply_to (seen core) (slots core.registry) core.registry.registry (apid_of frame) (ctid_of frame) (asked frame) answer
+reply_asked core frame request target answer asks ids =
+    ap (λ (r : Result Request RequestFault). reply_to (seen core) (slots core.registry) core.registry.registry target.0 target.1 r answer) asks
+    ∙ ap (λ (ids : List ℕ × List ℕ). reply_to (seen core) (slots core.registry) core.registry.registry ids.0 ids.1 (asked frame) answer) ids
+
+pub needs_seen : {E : Type 0} (core : Core) (frame : List ℕ) (request : Result Request RequestFault) (target : List ℕ × List ℕ) (result : Result ℕ E)
+    → length core.ecu ≡ 4 → request ≡ asked frame → target ≡ (apid_of frame, ctid_of frame)
+    → IfOk result (λ need. (answer : Done) → need ≡ 23 + length (reply_to (seen core) (slots core.registry) core.registry.registry target.0 target.1 request answer).body)
+    → IfOk result (λ need. (answer : Done) → need ≡ length (reply_now core frame answer))
+needs_seen core frame request target (Ok need) four asks ids is = λ answer.
+    is answer
+    ∙ ap (λ (r : Reply). 23 + length r.body) (reply_asked core frame request target answer asks ids)
+    ∙ sym (reply_long core.ecu (reply_to (seen core) (slots core.registry) core.registry.registry (apid_of frame) (ctid_of frame) (asked frame) answer) four)
+needs_seen core frame request target (Err fault) four asks ids is = tt {0}
+
+-- the same frame, from the same hub
+pub adds_reply : (client : ℕ) (frame whole : List ℕ) (old before new : Hub) → frame ≡ whole → before ≡ old → hub.Adds (traffic.Reply client frame) before new
+    → hub.Adds (traffic.Reply client whole) old new
+adds_reply client frame whole old before new same from adds =
+    subst (λ (h : Hub). hub.Adds (traffic.Reply client whole) h new) from (subst (λ (f : List ℕ). hub.Adds (traffic.Reply client f) before new) same adds)

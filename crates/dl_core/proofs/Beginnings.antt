@@ -1,0 +1,49 @@
+-- The core before its first event.
+use Rattle.std.proofs.Common.{◌≡◌, ℕ, List, [], Option, Some, None, refl, sym, ap, subst, ◌∙◌, arith}
+use Rattle.std.specs.Prelude.{IfSome}
+use Rattle.dl_bytes.specs.declared.conf.Conf.{Conf}
+use Rattle.dl_bytes.specs.declared.conf.Stored.{Stored}
+use Rattle.dl_model.specs.Setting.{Setting}
+use Rattle.dl_registry.specs.Kept as registry
+use Rattle.dl_registry.proofs.Following.{made_follows}
+use Rattle.dl_hub.specs.Follows as hub
+use Rattle.dl_hub.specs.State.{fresh}
+use Rattle.dl_trace.specs.State as traces
+use Rattle.dl_trace.specs.State.{Trace}
+use Rattle.dl_trace.specs.Made.{IsMade}
+use Rattle.dl_core.specs.Settings.{setting_of, begun, IsSetTo}
+use Rattle.dl_core.specs.Follows.{Run, IsTraceAfter, IsAfter}
+
+trace_begins : (run : Run) (conf : Conf) (stored : Stored) (first : ℕ) (kept : Trace) → run.setting ≡ setting_of conf stored first
+    → IsMade conf kept → traces.IsAfter run.stood [] kept → IsTraceAfter run [] kept
+trace_begins run conf stored first kept set made stood = record {
+  directory = made.directory ∙ sym (ap (λ (s : Setting). s.directory) set);
+  file_size = made.file_size ∙ sym (ap (λ (s : Setting). s.file_size) set);
+  max_size = made.max_size ∙ sym (ap (λ (s : Setting). s.max_size) set);
+  stored = [];
+  later = [];
+  all = refl;
+  files = stood;
+  whole = λ none. refl;
+  unspent = λ none some. absurd (omega (arith, some));
+  spent = λ at. absurd (cc (made.goes_on, at));
+}
+
+pub begins : (run : Run) (conf : Conf) (stored : Stored) (first : ℕ) (kept : Option Trace) → run.setting ≡ setting_of conf stored first
+    → hub.IsAfter [] (λ (number : ℕ). []) (fresh conf.ecu conf.buffer) → IfSome kept (IsMade conf) → IfSome kept (traces.IsAfter run.stood [])
+    → IsAfter run [] (λ (number : ℕ). []) (begun conf stored first kept)
+begins run conf stored first kept set hubs made stood = record {
+  set_to = record {
+    ecu = sym (ap (λ (s : Setting). s.ecu) set);
+    unit = sym (ap (λ (s : Setting). s.ecu) set);
+    buffer = sym (ap (λ (s : Setting). s.buffer) set);
+    level = sym (ap (λ (s : Setting). s.level) set);
+    injection = sym (ap (λ (s : Setting). s.injection) set);
+  };
+  registry = subst (λ (s : Setting). registry.IsAfter s [] (registry.made conf.level stored first)) (sym set) (made_follows (setting_of conf stored first));
+  hub = hubs;
+  trace = traced kept made stood;
+} where
+  traced : (o : Option Trace) → IfSome o (IsMade conf) → IfSome o (traces.IsAfter run.stood []) → IfSome o (IsTraceAfter run [])
+  traced None made stood = tt {0}
+  traced (Some t) made stood = trace_begins run conf stored first t set made stood

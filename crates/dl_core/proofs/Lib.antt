@@ -1,0 +1,14 @@
+pub mod Parts
+pub mod Tracing
+pub mod Journals
+pub mod Admitted
+pub mod Gathered
+pub mod Noted
+pub mod Beginnings
+pub mod Leveled
+pub mod Messaged
+pub mod Sizes
+pub mod Answered
+pub mod Asked
+pub mod Requested
+pub mod Prepared

@@ -1,0 +1,124 @@
+-- Requests: what is got ready for one, and what it leaves.
+use Rattle.std.specs.Prelude.{◌≡◌, ◌≤◌, ℕ, Bool, true, false, List, [], ◌∷◌, length, codes, Option, Some, None, is_some, IfSome, Result, Ok, Err, if◌then◌else◌}
+use Rattle.dl_bytes.specs.Limits.{client_limit}
+use Rattle.dl_bytes.specs.declared.item.Injection.{Injection}
+use Rattle.dl_bytes.specs.declared.outcome.Done.{Done}
+use Rattle.dl_bytes.specs.declared.outcome.Done.TheVariants as done
+use Rattle.dl_control.specs.declared.request.Request.{Request}
+use Rattle.dl_control.specs.declared.request.Request.TheVariants.{SetLogLevel, GetLogInfo, GetDefault, Reset, SetDefault, Version}
+use Rattle.dl_control.specs.declared.request.RequestFault.{RequestFault}
+use Rattle.dl_message.specs.Cut.{IsWholeMessage}
+use Rattle.dl_message.specs.Requests.{asks}
+use Rattle.dl_events.specs.Journal as journal
+use Rattle.dl_events.specs.declared.event.Event.{Event}
+use Rattle.dl_events.specs.declared.event.Event.TheVariants as event
+use Rattle.dl_model.specs.Reply.{apid_of, asked, ctid_of, reply_frame_to, served}
+use Rattle.dl_outside.specs.Folder.{Files, HasCause, Puts, Removes}
+use Rattle.dl_outside.specs.Outside.{one_more}
+use Rattle.dl_outside.specs.declared.folder.FolderFault.{FolderFault}
+use Rattle.dl_outside.specs.declared.folder.FolderFault.TheVariants as fault
+use Rattle.dl_registry.specs.Kept.{Kept, slots, with_registry}
+use Rattle.dl_services.specs.Wish.{wanted}
+use Rattle.dl_services.specs.declared.wish.Want.{Want}
+use Rattle.dl_services.specs.declared.wish.Want.TheVariants as want
+use Rattle.dl_hub.specs.State.{changed, with_reply}
+use Rattle.dl_core.specs.State.{Core}
+use Rattle.dl_core.specs.Follows.{Adds}
+use Rattle.dl_core.specs.Settings.{seen}
+
+-- a message that asks for something: a whole one within the limit of clients, with a request's MSIN
+pub record IsRequest (frame : List ℕ) : Type 0 where
+  pub whole : IsWholeMessage client_limit frame
+  pub request : asks frame ≡ true
+
+-- the name of the file that has the stored configuration
+abbrev pub stored_name : List ℕ
+stored_name = codes "dlt_stored.cfg"
+
+-- ---- a request that comes now
+
+-- the frame of its reply, by what the folder or the application's queue answers
+abbrev pub reply_now : Core → List ℕ → Done → List ℕ
+reply_now core frame answer = reply_frame_to (seen core) (slots core.registry) core.registry.registry frame answer
+
+-- the registry that it leaves
+abbrev pub served_now : Core → List ℕ → Done → Kept
+served_now core frame answer =
+    with_registry core.registry (served (seen core) (slots core.registry) core.registry.registry (asked frame) answer)
+
+-- what it wants of the folder, or of an application's queue
+abbrev pub wanted_now : Core → List ℕ → Want
+wanted_now core frame = wanted (seen core) (slots core.registry) core.registry.registry (apid_of frame) (ctid_of frame) (asked frame)
+
+-- ---- by its kind
+
+-- its reply has a body: that of GetLogInfo, GetDefaultLogLevel or GetSoftwareVersion, which change nothing
+abbrev pub has_body : Result Request RequestFault → Bool
+has_body (Ok (GetLogInfo options apid ctid)) = true
+has_body (Ok GetDefault) = true
+has_body (Ok Version) = true
+has_body request = false
+
+-- how many Level events it can owe at most: one for each of 1024 slots, where it sets levels
+abbrev pub changes_of : Result Request RequestFault → ℕ
+changes_of (Ok (SetLogLevel apid ctid level)) = 1024
+changes_of (Ok (SetDefault level)) = 1024
+changes_of (Ok Reset) = 1024
+changes_of request = 0
+
+-- ---- what is got ready
+
+-- The client, the whole message of its request, what it wants of the folder or of an application's queue, and the reply's frame
+-- where that has a body.
+pub record Ready : Type 0 where
+  pub client : ℕ
+  pub frame : List ℕ
+  pub want : Want
+  pub reply : Option (List ℕ)
+
+-- it was got ready for a core like this one
+pub record IsReady (core : Core) (ready : Ready) : Type 0 where
+  pub request : IsRequest ready.frame
+  pub want : ready.want ≡ wanted_now core ready.frame
+  pub reply : IfSome ready.reply (λ bytes. (answer : Done) → (bytes ≡ reply_now core ready.frame answer) × (length bytes ≤ 65535))
+  pub kind : is_some ready.reply ≡ has_body (asked ready.frame)
+
+-- the injection that is to go to the application with this number
+abbrev pub injection_in : Want → Option (ℕ × Injection)
+injection_in (want.Inject app injection) = Some (app, injection)
+injection_in other = None
+
+-- ---- what a request leaves
+
+-- a request is done where the folder did what it wanted
+abbrev pub done_by : Result (Unit {0}) FolderFault → Done
+done_by (Ok made) = done.Yes
+done_by (Err fault.Failed) = done.Failed
+done_by (Err fault.OutOfMemory) = done.NoMemory
+
+-- The folder was asked for what the request wants, and the answer is the folder's; an injection is done where the queue took it.
+-- Nothing else changed in the folder.
+abbrev pub Answers : Want → Bool → Done → Option Files → Option Files → ℕ → ℕ → Type 0
+Answers want.Nothing pushed answer told told_now faults faults_now = (answer ≡ done.Yes) × (told_now ≡ told) × (faults_now ≡ faults)
+Answers (want.Put text stored) pushed answer told told_now faults faults_now =
+    (result : Result (Unit {0}) FolderFault) × (answer ≡ done_by result) × Puts told told_now result stored_name text × HasCause faults faults_now result
+Answers want.Remove pushed answer told told_now faults faults_now =
+    (result : Result (Unit {0}) FolderFault) × (answer ≡ done_by result) × Removes told told_now result stored_name × HasCause faults faults_now result
+Answers (want.Inject app injection) pushed answer told told_now faults faults_now =
+    (answer ≡ (if pushed then done.Yes else done.Failed)) × (told_now ≡ told) × (faults_now ≡ faults)
+
+-- the folder was asked once to change a file, where the request wants that
+abbrev pub Asks : Want → ℕ → ℕ → Type 0
+Asks (want.Put text stored) changes changes_now = changes_now ≡ one_more changes
+Asks want.Remove changes changes_now = changes_now ≡ one_more changes
+Asks other changes changes_now = changes_now ≡ changes
+
+-- The request was served: the folder did what it wanted, or not; the Request event with that answer is noted; the registry is what
+-- the request makes of it, the reply is at the end of the client's outbox, and the core stands for the journal with the event.
+pub record Serves (ready : Ready) (pushed : Bool) (old new : Core) (told told_now : Option Files) (faults faults_now : ℕ) (events events_now : Option (List Event)) : Type 0 where
+  pub answer : Done
+  pub acts : Answers ready.want pushed answer told told_now faults faults_now
+  pub notes : journal.Adds events events_now (event.Request ready.client ready.frame answer)
+  pub registry : new.registry ≡ served_now old ready.frame answer
+  pub reply : new.hub ≡ changed ready.client (with_reply (reply_now old ready.frame answer)) old.hub
+  pub after : Adds (event.Request ready.client ready.frame answer ∷ []) (λ run. Unit {0}) old new told told_now

@@ -1,0 +1,56 @@
+-- Which configuration a core has.
+use Rattle.std.specs.Prelude.{◌≡◌, ℕ, List, [], None, Option, IfSome}
+use Rattle.dl_bytes.specs.declared.conf.Conf.{Conf}
+use Rattle.dl_bytes.specs.declared.conf.Stored.{Stored}
+use Rattle.dl_model.specs.Setting.{Setting}
+use Rattle.dl_hub.specs.State.{fresh}
+use Rattle.dl_registry.specs.Kept.{made}
+use Rattle.dl_trace.specs.State.{Trace}
+use Rattle.dl_core.specs.State.{Core}
+
+-- what does not change in a run: of this configuration, after this stored configuration, with this first version
+abbrev pub setting_of : Conf → Stored → ℕ → Setting
+setting_of conf stored first = record {
+  ecu = conf.ecu;
+  level = conf.level;
+  buffer = conf.buffer;
+  directory = conf.directory;
+  file_size = conf.file_size;
+  max_size = conf.max_size;
+  injection = conf.injection;
+  stored = stored;
+  first = first;
+}
+
+-- a core before its first event
+abbrev pub begun : Conf → Stored → ℕ → Option Trace → Core
+begun conf stored first trace = record {
+  ecu = conf.ecu;
+  level = conf.level;
+  injection = conf.injection;
+  registry = made conf.level stored first;
+  hub = fresh conf.ecu conf.buffer;
+  trace = trace;
+}
+
+-- the core has the setting of a run
+pub record IsSetTo (setting : Setting) (core : Core) : Type 0 where
+  pub ecu : core.ecu ≡ setting.ecu
+  pub unit : core.hub.ecu ≡ setting.ecu
+  pub buffer : core.hub.buffer ≡ setting.buffer
+  pub level : core.level ≡ setting.level
+  pub injection : core.injection ≡ setting.injection
+
+-- the configuration as far as a request sees it
+abbrev pub seen : Core → Setting
+seen core = record {
+  ecu = core.ecu;
+  level = core.level;
+  buffer = core.hub.buffer;
+  directory = [];
+  file_size = 0;
+  max_size = 0;
+  injection = core.injection;
+  stored = record { level = None; own = [] };
+  first = core.registry.first;
+}

@@ -1,0 +1,141 @@
+//! Frames as they are admitted: each goes to the clients or into the backlog, and into the trace.
+
+ghost use Rattle.std.specs.Prelude.{◌≡◌, ◌≤◌, ◌<◌, ◌+◌, ◌++◌, ◌^◌, ◌-◌, ◌∷◌, [], ℕ, List, IfSome, length, map, option_map};
+ghost use Rattle.dl_events.specs.Journal.{one_more};
+ghost use Rattle.dl_message.specs.Frames.{log_message};
+ghost use Rattle.dl_model.specs.Backlog.{size_of};
+ghost use Rattle.dl_model.specs.Frames.{stored};
+ghost use Rattle.dl_model.specs.Traffic.{Admit};
+ghost use Rattle.dl_hub.specs.State.{EachHasRoom, IsSameHub};
+ghost use Rattle.dl_hub.specs.Follows.{Adds};
+ghost use Rattle.dl_core.specs.Admission.{log_event, lost_frames, more_noted, Admits, AddsEach};
+ghost use Rattle.dl_core.specs.Storing.{StoresEach, StoresIn, ChangesTraceAlone};
+
+use crate::storing::{TraceWriter, add_to_batch, store};
+use dl_bytes::{Frame, Id, Item, Moment};
+use dl_events::{Event, Journal};
+use dl_hub::Hub;
+use dl_message::{log_frame, overflow_frame};
+use dl_outside::Folder;
+
+/// The most that one overflow record counts.
+pub const COUNTER_LIMIT: u64 = u32::MAX as u64;
+
+/// The id that names nothing.
+const NO_ID: [u8; 4] = [0; 4];
+
+/// How many bytes the frame of a log call has beside its three ids and its payload.
+const LOG_FIELDS: usize = 14;
+
+/// How many bytes an overflow record has beside the id of the control unit.
+const OVERFLOW_FIELDS: usize = 24;
+
+/// How many bytes the frame of a log call has.
+pub fn log_len(ecu: Id, item: &Item) -> u64
+    ensures value { result ≡ length (log_message ecu item.now) }
+    ensures limit { result ≤ 1416 }
+{
+    let ids = ecu.bytes().len() + item.apid.bytes().len() + item.ctid.bytes().len();
+    (LOG_FIELDS + ids + item.payload.bytes().len()) as u64
+}
+
+/// How many bytes the records have that report so many lost calls, whatever the application.
+pub fn lost_len(ecu: Id, count: u64) -> u64
+    ensures { (apid : List ℕ) → length apid ≡ 4 → result ≡ size_of (lost_frames ecu apid count) }
+{
+    let record = OVERFLOW_FIELDS + ecu.bytes().len();
+    count.div_ceil(COUNTER_LIMIT) * record as u64
+}
+
+/// The event of a log call.
+pub fn logged(item: &Item, moment: Moment) -> Event
+    ensures { result ≡ log_event moment item.now }
+{
+    Event::Log {
+        app: item.app,
+        writer: item.writer,
+        call: item.call,
+        moment,
+    }
+}
+
+/// Admits a frame.
+pub fn admit<F: Folder>(
+    hub: &mut Hub,
+    writer: &mut Option<TraceWriter>,
+    ecu: Id,
+    moment: Moment,
+    frame: &Frame,
+    folder: &mut F,
+)
+    requires some { 0 < length frame.now }
+    requires room { EachHasRoom (length frame.now) hub.old }
+    requires few { hub.old.admitted < 2 ^ 40 }
+    ensures adds { Adds (Admit frame.now) hub.old hub.new }
+    ensures rooms { (more : ℕ) → EachHasRoom (length frame.now + more) hub.old → EachHasRoom more hub.new }
+    ensures same { IsSameHub hub.old hub.new }
+    ensures admitted { hub.new.admitted ≡ hub.old.admitted + 1 }
+    ensures stored { StoresIn (stored ecu moment frame.now ∷ []) (option_map (λ w. w.trace) writer.old) (option_map (λ w. w.trace) writer.new) (F.files folder.old) (F.files folder.new) (F.faults folder.old) (F.faults folder.new) }
+    ensures others { ChangesTraceAlone (option_map (λ w. w.trace) writer.old) (F.files folder.old) (F.files folder.new) }
+{
+    hub.admit(frame);
+    store(writer, ecu, moment, frame, folder);
+}
+
+/// Admits the records that report so many lost messages of an application, one after the other.
+pub fn report<F: Folder>(
+    hub: &mut Hub,
+    writer: &mut Option<TraceWriter>,
+    ecu: Id,
+    apid: Id,
+    count: u64,
+    moment: Moment,
+    folder: &mut F,
+)
+    requires room { EachHasRoom (size_of (lost_frames ecu apid count)) hub.old }
+    requires few { hub.old.admitted + length (lost_frames ecu apid count) ≤ 2 ^ 40 }
+    ensures adds { Admits (lost_frames ecu apid count) hub.old hub.new }
+    ensures same { IsSameHub hub.old hub.new }
+    ensures admitted { hub.new.admitted ≡ hub.old.admitted + length (lost_frames ecu apid count) }
+    ensures stored { StoresEach (map (stored ecu moment) (lost_frames ecu apid count)) (option_map (λ w. w.trace) writer.old) (option_map (λ w. w.trace) writer.new) (F.files folder.old) (F.files folder.new) (F.faults folder.old) (F.faults folder.new) }
+    ensures others { ChangesTraceAlone (option_map (λ w. w.trace) writer.old) (F.files folder.old) (F.files folder.new) }
+{
+    let mut left = count;
+    while left > 0 {
+        let counter = left.min(COUNTER_LIMIT);
+        let frame = overflow_frame(ecu, apid, Id::from_bytes(NO_ID), counter as u32);
+        admit(hub, writer, ecu, moment, &frame, folder);
+        left -= counter;
+    }
+}
+
+/// Admits and notes log calls, and gathers their frames for the trace.
+pub fn admit_each<J: Journal>(
+    hub: &mut Hub,
+    writer: &mut Option<TraceWriter>,
+    ecu: Id,
+    moment: Moment,
+    items: &[Item],
+    journal: &mut J,
+)
+    requires few_items { length items.now ≤ 64 }
+    requires spare { length items.now ≤ J.spare journal.old }
+    requires room { EachHasRoom (size_of (map (log_message ecu) items.now)) hub.old }
+    requires few { hub.old.admitted + length items.now ≤ 2 ^ 40 }
+    requires empty { IfSome writer.old (λ w. w.batch ≡ []) }
+    ensures adds { Admits (map (log_message ecu) items.now) hub.old hub.new }
+    ensures same { IsSameHub hub.old hub.new }
+    ensures admitted { hub.new.admitted ≡ hub.old.admitted + length items.now }
+    ensures trace { option_map (λ w. w.trace) writer.new ≡ option_map (λ w. w.trace) writer.old }
+    ensures batch { IfSome writer.new (λ w. w.batch ≡ map (λ item. stored ecu moment (log_message ecu item)) items.now) }
+    ensures events { AddsEach (J.events journal.old) (J.events journal.new) (map (log_event moment) items.now) }
+    ensures noted { J.noted journal.new ≡ more_noted (length items.now) (J.noted journal.old) }
+    ensures spare { J.spare journal.new + length items.now ≡ J.spare journal.old }
+{
+    for item in items {
+        let frame = log_frame(ecu, item);
+        hub.admit(&frame);
+        add_to_batch(writer, ecu, moment, &frame);
+        journal.note(logged(item, moment));
+    }
+}

@@ -1,0 +1,117 @@
+//! The core as a whole: its parts, and what is read of it.
+
+ghost use Rattle.std.specs.Prelude.{◌≡◌, ◌≤◌, [], IfOk, IfSome, option_map};
+ghost use Rattle.dl_model.specs.History.{last_version};
+ghost use Rattle.dl_outside.specs.Folder.{Files};
+ghost use Rattle.dl_trace.specs.Made.{IsMade};
+ghost use Rattle.dl_trace.specs.State as traces;
+ghost use Rattle.dl_core.specs.Follows.{Run, IsAfter};
+ghost use Rattle.dl_core.specs.Settings.{begun, setting_of};
+
+use crate::storing::TraceWriter;
+use dl_bytes::{Conf, Id, Level, OutOfMemory, Stored, TraceState};
+use dl_hub::Hub;
+use dl_registry::Registry;
+use dl_trace::Trace;
+use std::alloc::Global;
+use std::marker::Model;
+
+/// The daemon without its outside: who is registered at which levels, the clients, the backlog, and the trace files.
+#[derive(Drop)]
+pub struct Core {
+    pub(crate) alloc: Global,
+    pub(crate) ecu: Id,
+    pub(crate) level: Level,
+    pub(crate) injection: bool,
+    pub(crate) registry: Registry,
+    pub(crate) hub: Hub,
+    pub(crate) trace: Option<TraceWriter>,
+}
+
+impl Model for Core {
+    ghost use Rattle.std.specs.Prelude.{option_map};
+    ghost use Rattle.dl_core.specs.State as state;
+
+    ghost Value = { state.Core };
+
+    ghost view = { λ c. record {
+      ecu = c.ecu;
+      level = c.level;
+      injection = c.injection;
+      registry = c.registry;
+      hub = c.hub;
+      trace = option_map (λ w. w.trace) c.trace;
+    } };
+}
+
+impl Core {
+    /// The core of a configuration and of what was stored, before its first event. A trace that is handed in was made with
+    /// the same configuration, and has stored nothing yet. Every slot begins at version `first`.
+    pub fn make(
+        alloc: Global,
+        conf: &Conf,
+        stored: Stored,
+        trace: Option<Trace>,
+        first: u64,
+    ) -> Result<Core, OutOfMemory>
+        requires first { first ≤ last_version }
+        requires trace { IfSome trace (IsMade conf.now) }
+        ensures value { IfOk result (λ core. core ≡ begun conf.now stored first trace) }
+        ensures after { IfOk result (λ core. (run : Run) → run.setting ≡ setting_of conf.now stored first → IfSome trace (traces.IsAfter run.stood []) → IsAfter run [] (λ _. []) core) }
+    {
+        Ok(Core {
+            alloc,
+            ecu: conf.ecu,
+            level: conf.level,
+            injection: conf.injection,
+            registry: Registry::make(alloc, conf.level, stored, first)?,
+            hub: Hub::make(alloc, conf.ecu, conf.buffer)?,
+            trace: writer_of(alloc, trace)?,
+        })
+    }
+
+    /// The clients and the backlog.
+    pub fn hub(&self) -> &Hub
+        ensures { result.now ≡ self.now.hub }
+    {
+        &self.hub
+    }
+
+    /// Who is registered, and at which levels.
+    pub fn registry(&self) -> &Registry
+        ensures { result.now ≡ self.now.registry }
+    {
+        &self.registry
+    }
+
+    /// The trace files that stand, and why nothing more is stored, where that is so. Nothing where no trace was handed in.
+    pub fn trace_state(&self) -> Option<&TraceState>
+        ensures { option_map (λ r. r.now) result ≡ option_map (λ trace. trace.state) self.now.trace }
+    {
+        match &self.trace {
+            Some(writer) => Some(writer.trace.state()),
+            None => None,
+        }
+    }
+
+    /// The same by value.
+    pub fn into_trace_state(self) -> Option<TraceState>
+        ensures { result ≡ option_map (λ trace. trace.state) self.trace }
+    {
+        let Core { trace, .. } = self;
+        match trace {
+            Some(writer) => Some(writer.into_state()),
+            None => None,
+        }
+    }
+}
+
+/// What stores frames in a trace, where there is one.
+fn writer_of(alloc: Global, trace: Option<Trace>) -> Result<Option<TraceWriter>, OutOfMemory>
+    ensures { IfOk result (λ writer. option_map (λ w. w.trace) writer ≡ trace) }
+{
+    match trace {
+        Some(trace) => Ok(Some(TraceWriter::over(alloc, trace)?)),
+        None => Ok(None),
+    }
+}

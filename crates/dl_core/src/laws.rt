@@ -1,0 +1,64 @@
+//! Laws of the core, over whole journals.
+
+ghost use Rattle.std.specs.Prelude.{◌≡◌, ◌≤◌, ◌+◌, ◌/◌, ◌%◌, ◌++◌, ◌∷◌, ℕ, List, [], count_by, map, min, None, Option, Some, IsSomeAnd, length};
+ghost use Rattle.dl_events.specs.declared.event.Event.{Event};
+ghost use Rattle.dl_model.specs.Journal.{is_request_of, owed};
+ghost use Rattle.dl_outside.specs.Folder.{Files};
+ghost use Rattle.dl_registry.specs.Kept.{owed_change};
+ghost use Rattle.dl_hub.specs.Follows.{took_more};
+ghost use Rattle.dl_hub.specs.State.{Client, bytes_before, changed, client_of, outbox_of, without};
+ghost use Rattle.dl_trace.specs.Stands.{HasFiles};
+ghost use Rattle.dl_trace.specs.State.{Trace, listed};
+ghost use Rattle.dl_bytes.specs.declared.item.Item.{Item};
+ghost use Rattle.dl_bytes.specs.declared.moment.Moment.{Moment};
+ghost use Rattle.dl_core.specs.Admission.{log_event, lost_frames, GivesFrame, GivesFrames};
+ghost use Rattle.dl_core.specs.Follows.{Run, Adds, HoldsTrace, IsAfter, files_with, stored_by};
+ghost use Rattle.dl_core.specs.State.{Core};
+
+/// While no event came, the folder holds the trace files that stood before.
+pub fn the_beginning_holds_what_stood()
+    ensures { (run : Run) (core : Core) (told : Option Files) → IsSomeAnd told (λ files. HasFiles run.setting.directory files run.stood) → HoldsTrace run [] core told }
+{}
+
+/// No Level event waits exactly where the journal owes none.
+pub fn waiting_is_owed()
+    ensures { (run : Run) (events : List Event) (taken : ℕ → List ℕ) (core : Core) → IsAfter run events taken core → owed_change core.registry ≡ owed run.setting events }
+{}
+
+/// Where a link takes bytes from the front of its client's outbox, the core stands for the same journal as before, with those
+/// bytes behind what the link had taken.
+pub fn what_links_take()
+    ensures { (run : Run) (events : List Event) (taken : ℕ → List ℕ) (core : Core) (count client : ℕ) → IsAfter run events taken core
+        → IsSomeAnd (outbox_of core.hub client) (λ outbox. count ≤ length outbox.bytes)
+        → IsAfter run events (took_more taken client (bytes_before count (outbox_of core.hub client))) (record core { hub = changed client (without count) core.hub }) }
+{
+    dl_hub::laws::what_links_take();
+}
+
+/// A batch of log calls is its calls one after the other: what makes the events of some calls, and then that of one more, makes those of
+/// all of them together, as `log_batch` does.
+pub fn a_batch_is_its_calls()
+    ensures { (moment : Moment) (items : List Item) (item : Item) (old between new : Core) (told told_between told_now : Option Files) →
+        Adds (map (log_event moment) items) (GivesFrames items) old between told told_between
+        → Adds (log_event moment item ∷ []) (GivesFrame item) between new told_between told_now
+        → Adds (map (log_event moment) (items ++ item ∷ [])) (GivesFrames (items ++ item ∷ [])) old new told told_now }
+{}
+
+/// How many records report so many lost calls: one for each 4,294,967,295 of them, and one for the rest.
+pub fn how_many_records()
+    ensures { (ecu apid : List ℕ) (count : ℕ) → length (lost_frames ecu apid count) ≡ count / 4294967295 + min 1 (count % 4294967295) }
+{}
+
+/// What a trace tells: the trace files, with their names and sizes, of the frames that the events store. Once it has ended, of some first
+/// ones of them.
+pub fn what_a_trace_tells()
+    ensures { (run : Run) (events : List Event) (taken : ℕ → List ℕ) (core : Core) (kept : Trace) → IsAfter run events taken core → core.trace ≡ Some kept
+        → (stored later : List (List ℕ)) × (stored_by run events ≡ stored ++ later) × (kept.state.end ≡ None → later ≡ [])
+        × (kept.state.files ≡ map (listed run.setting.directory) (files_with run stored)) }
+{}
+
+/// How many replies a client was put: one for each of its requests in the journal.
+pub fn replies_are_requests()
+    ensures { (run : Run) (events : List Event) (taken : ℕ → List ℕ) (core : Core) (number : ℕ) (client : Client) → IsAfter run events taken core
+        → client_of core.hub number ≡ Some client → client.replies ≡ count_by (is_request_of number) events }
+{}

@@ -1,0 +1,243 @@
+//! User messages: applications that come, tell themselves, and go, and messages of programs outside this process.
+
+ghost use Rattle.std.specs.Prelude.{◌≡◌, ◌≢◌, ◌≤◌, ◌<◌, ◌+◌, ◌^◌, ◌∷◌, [], ℕ, true, false, Ok, Err, Some, None, length, map, IfOk, OnOk, OnErr, IsOk};
+ghost use Rattle.std.specs.Result.{result_err};
+ghost use Rattle.dl_bytes.specs.UserMessage.{IsFit};
+ghost use Rattle.dl_events.specs.Journal as notes;
+ghost use Rattle.dl_events.specs.Journal.{one_more};
+ghost use Rattle.dl_events.specs.declared.event.Event.TheVariants as event;
+ghost use Rattle.dl_model.specs.declared.registry.RegistryFault.TheVariants as fault;
+ghost use Rattle.dl_model.specs.Backlog.{size_of};
+ghost use Rattle.dl_model.specs.Frames.{stored, user_frames};
+ghost use Rattle.dl_model.specs.Registry.{applied};
+ghost use Rattle.dl_registry.specs.Kept.{Applies, owed_change, slots};
+ghost use Rattle.dl_hub.specs.State.{EachHasRoom, IsSameHub};
+ghost use Rattle.dl_core.specs.Admission.{Admits, has_frames, lost_frames};
+ghost use Rattle.dl_core.specs.Follows.{Adds};
+ghost use Rattle.dl_core.specs.Storing.{StoresEach, StoresIn, ChangesTraceAlone};
+ghost use Rattle.dl_core.specs.Waiting.{changes_by, waiting};
+
+use crate::admitting::{admit, report};
+use crate::daemon::Core;
+use dl_bytes::{Frame, Id, Moment, OutOfMemory, UserMsg};
+use dl_events::{Event, Journal};
+use dl_outside::Folder;
+use dl_registry::RegistryFault;
+
+impl Core {
+    /// Notes a user message, which is fit, and admits the frames of a log message or of a report of lost ones. Any other message
+    /// goes to the registry, which may refuse it; it is noted all the same. Where memory was wanting nothing is noted.
+    pub fn user<F: Folder, J: Journal>(
+        &mut self,
+        channel: u16,
+        msg: UserMsg,
+        moment: Moment,
+        folder: &mut F,
+        journal: &mut J,
+    ) -> Result<Option<RegistryFault>, OutOfMemory>
+        requires fit { IsFit msg }
+        requires spare { 1 ≤ J.spare journal.old }
+        requires settled { owed_change self.old.registry ≡ None }
+        requires room { EachHasRoom (size_of (user_frames self.old.ecu msg)) self.old.hub }
+        requires few { self.old.hub.admitted + length (user_frames self.old.ecu msg) ≤ 2 ^ 40 }
+        ensures refusal { IfOk result (λ refusal. refusal ≡ result_err (applied (slots self.old.registry) self.old.registry.registry channel msg)) }
+        ensures no_memory { result ≢ Ok (Some fault.OutOfMemory) }
+        ensures memory { OnErr result (has_frames msg ≡ false) }
+        ensures unnoted { OnErr result ((self.new ≡ self.old) × (folder.new ≡ folder.old)) }
+        ensures unwritten { OnErr result ((J.events journal.new ≡ J.events journal.old) × (J.noted journal.new ≡ J.noted journal.old)) }
+        ensures after { OnOk result (Adds (event.User channel msg moment ∷ []) (λ run. Unit {0}) self.old self.new (F.files folder.old) (F.files folder.new)) }
+        ensures event { OnOk result (notes.Adds (J.events journal.old) (J.events journal.new) (event.User channel msg moment)) }
+        ensures noted { OnOk result (J.noted journal.new ≡ one_more (J.noted journal.old)) }
+        ensures spare { OnOk result (has_frames msg ≡ true → J.spare journal.new + 1 ≡ J.spare journal.old) }
+        ensures reserved { OnOk result (has_frames msg ≡ false → J.spare journal.old + waiting self.new.registry ≤ J.spare journal.new) }
+        ensures later { OnErr result (J.spare journal.old ≤ J.spare journal.new) }
+        ensures stored { OnOk result (StoresEach (map (stored self.old.ecu moment) (user_frames self.old.ecu msg)) self.old.trace self.new.trace (F.files folder.old) (F.files folder.new) (F.faults folder.old) (F.faults folder.new)) }
+        ensures others { ChangesTraceAlone self.old.trace (F.files folder.old) (F.files folder.new) }
+        ensures registry { OnOk result (has_frames msg ≡ true → self.new.registry ≡ self.old.registry) }
+        ensures rest { self.new ≡ record self.old { registry = self.new.registry; hub = self.new.hub; trace = self.new.trace } }
+        ensures admitted { OnOk result (self.new.hub.admitted ≡ self.old.hub.admitted + length (user_frames self.old.ecu msg)) }
+    {
+        let refusal = self.take_in(channel, &msg, moment, folder, journal)?;
+        journal.note(Event::User {
+            channel,
+            msg,
+            moment,
+        });
+        Ok(refusal)
+    }
+
+    /// Does what a message asks for, before it is noted: its frames are admitted, or it goes to the registry.
+    fn take_in<F: Folder, J: Journal>(
+        &mut self,
+        channel: u16,
+        msg: &UserMsg,
+        moment: Moment,
+        folder: &mut F,
+        journal: &mut J,
+    ) -> Result<Option<RegistryFault>, OutOfMemory>
+        requires fit { IsFit msg.now }
+        requires settled { owed_change self.old.registry ≡ None }
+        requires room { EachHasRoom (size_of (user_frames self.old.ecu msg.now)) self.old.hub }
+        requires few { self.old.hub.admitted + length (user_frames self.old.ecu msg.now) ≤ 2 ^ 40 }
+        ensures refusal { IfOk result (λ refusal. refusal ≡ result_err (applied (slots self.old.registry) self.old.registry.registry channel msg.now)) }
+        ensures no_memory { result ≢ Ok (Some fault.OutOfMemory) }
+        ensures memory { OnErr result (has_frames msg.now ≡ false) }
+        ensures unchanged { OnErr result ((self.new ≡ self.old) × (folder.new ≡ folder.old)) }
+        ensures registry { OnOk result (Applies (applied (slots self.old.registry) self.old.registry.registry channel msg.now) self.old.registry (applied (slots self.old.registry) self.old.registry.registry channel msg.now) self.new.registry) }
+        ensures untouched { has_frames msg.now ≡ true → self.new.registry ≡ self.old.registry }
+        ensures hub { Admits (user_frames self.old.ecu msg.now) self.old.hub self.new.hub }
+        ensures same { IsSameHub self.old.hub self.new.hub }
+        ensures admitted { self.new.hub.admitted ≡ self.old.hub.admitted + length (user_frames self.old.ecu msg.now) }
+        ensures stored { StoresEach (map (stored self.old.ecu moment) (user_frames self.old.ecu msg.now)) self.old.trace self.new.trace (F.files folder.old) (F.files folder.new) (F.faults folder.old) (F.faults folder.new) }
+        ensures others { ChangesTraceAlone self.old.trace (F.files folder.old) (F.files folder.new) }
+        ensures events { J.events journal.new ≡ J.events journal.old }
+        ensures noted { J.noted journal.new ≡ J.noted journal.old }
+        ensures spare { has_frames msg.now ≡ true → J.spare journal.new ≡ J.spare journal.old }
+        ensures reserved { OnOk result (has_frames msg.now ≡ false → J.spare journal.old + 1 + waiting self.new.registry ≤ J.spare journal.new) }
+        ensures later { J.spare journal.old ≤ J.spare journal.new }
+        ensures rest { self.new ≡ record self.old { registry = self.new.registry; hub = self.new.hub; trace = self.new.trace } }
+    {
+        if has_frames_in(msg) {
+            self.admit_message(msg, moment, folder);
+            Ok(None)
+        } else {
+            self.register(channel, msg, journal)
+        }
+    }
+
+    /// How many bytes a user message puts.
+    pub fn user_need(&self, msg: &UserMsg) -> u64
+        ensures { result ≡ size_of (user_frames self.now.ecu msg.now) }
+    {
+        match msg {
+            UserMsg::Log(message) => message.all().len() as u64,
+            UserMsg::Overflow { counter, apid } => self.report_need(*counter, *apid),
+            UserMsg::RegisterApp { .. } => 0,
+            UserMsg::UnregisterApp { .. } => 0,
+            UserMsg::RegisterContext { .. } => 0,
+            UserMsg::UnregisterContext { .. } => 0,
+            UserMsg::LogLevel { .. } => 0,
+            UserMsg::Injection { .. } => 0,
+        }
+    }
+
+    /// How many bytes a report of lost messages puts. It is the same for all applications, since each id has four bytes.
+    fn report_need(&self, counter: u32, apid: Id) -> u64
+        ensures { result ≡ size_of (lost_frames self.now.ecu apid counter) }
+    {
+        let _apid = apid.bytes();
+        self.lost_need(counter as u64)
+    }
+
+    /// Admits the frames of a log message, or of a report of lost ones.
+    fn admit_message<F: Folder>(&mut self, msg: &UserMsg, moment: Moment, folder: &mut F)
+        requires fit { IsFit msg.now }
+        requires room { EachHasRoom (size_of (user_frames self.old.ecu msg.now)) self.old.hub }
+        requires few { self.old.hub.admitted + length (user_frames self.old.ecu msg.now) ≤ 2 ^ 40 }
+        ensures hub { Admits (user_frames self.old.ecu msg.now) self.old.hub self.new.hub }
+        ensures same { IsSameHub self.old.hub self.new.hub }
+        ensures admitted { self.new.hub.admitted ≡ self.old.hub.admitted + length (user_frames self.old.ecu msg.now) }
+        ensures stored { StoresEach (map (stored self.old.ecu moment) (user_frames self.old.ecu msg.now)) self.old.trace self.new.trace (F.files folder.old) (F.files folder.new) (F.faults folder.old) (F.faults folder.new) }
+        ensures others { ChangesTraceAlone self.old.trace (F.files folder.old) (F.files folder.new) }
+        ensures rest { self.new ≡ record self.old { hub = self.new.hub; trace = self.new.trace } }
+    {
+        match msg {
+            UserMsg::Log(message) => self.admit_bytes(message.all(), moment, folder),
+            UserMsg::Overflow { counter, apid } => {
+                report(
+                    &mut self.hub,
+                    &mut self.trace,
+                    self.ecu,
+                    *apid,
+                    *counter as u64,
+                    moment,
+                    folder,
+                )
+            }
+            UserMsg::RegisterApp { .. }
+            | UserMsg::UnregisterApp { .. }
+            | UserMsg::RegisterContext { .. }
+            | UserMsg::UnregisterContext { .. }
+            | UserMsg::LogLevel { .. }
+            | UserMsg::Injection { .. } => {}
+        }
+    }
+
+    /// Admits a message as it is, at most 1984 bytes.
+    fn admit_bytes<F: Folder>(&mut self, message: &[u8], moment: Moment, folder: &mut F)
+        requires some { 0 < length message.now }
+        requires size { length message.now ≤ 1984 }
+        requires room { EachHasRoom (length message.now) self.old.hub }
+        requires few { self.old.hub.admitted < 2 ^ 40 }
+        ensures hub { Admits (message.now ∷ []) self.old.hub self.new.hub }
+        ensures same { IsSameHub self.old.hub self.new.hub }
+        ensures admitted { self.new.hub.admitted ≡ self.old.hub.admitted + 1 }
+        ensures stored { StoresIn (stored self.old.ecu moment message.now ∷ []) self.old.trace self.new.trace (F.files folder.old) (F.files folder.new) (F.faults folder.old) (F.faults folder.new) }
+        ensures others { ChangesTraceAlone self.old.trace (F.files folder.old) (F.files folder.new) }
+        ensures rest { self.new ≡ record self.old { hub = self.new.hub; trace = self.new.trace } }
+    {
+        let mut frame = Frame::new();
+        frame.extend_from_slice(message);
+        admit(
+            &mut self.hub,
+            &mut self.trace,
+            self.ecu,
+            moment,
+            &frame,
+            folder,
+        );
+    }
+
+    /// Hands a message to the registry, with room in the journal for its event and the Level events that it may owe.
+    fn register<J: Journal>(
+        &mut self,
+        channel: u16,
+        msg: &UserMsg,
+        journal: &mut J,
+    ) -> Result<Option<RegistryFault>, OutOfMemory>
+        requires settled { owed_change self.old.registry ≡ None }
+        ensures applies { IfOk result (λ refusal. refusal ≡ result_err (applied (slots self.old.registry) self.old.registry.registry channel msg.now)) }
+        ensures no_memory { result ≢ Ok (Some fault.OutOfMemory) }
+        ensures registry { OnOk result (Applies (applied (slots self.old.registry) self.old.registry.registry channel msg.now) self.old.registry (applied (slots self.old.registry) self.old.registry.registry channel msg.now) self.new.registry) }
+        ensures unchanged { OnErr result (self.new ≡ self.old) }
+        ensures reserved { OnOk result (J.spare journal.old + 1 + waiting self.new.registry ≤ J.spare journal.new) }
+        ensures later { J.spare journal.old ≤ J.spare journal.new }
+        ensures events { J.events journal.new ≡ J.events journal.old }
+        ensures noted { J.noted journal.new ≡ J.noted journal.old }
+        ensures rest { self.new ≡ record self.old { registry = self.new.registry } }
+    {
+        self.registry.slots_are_apart();
+        let Some(spare) = journal.spare().checked_add(1 + changes_of(msg)) else {
+            return Err(OutOfMemory);
+        };
+        journal.reserve(spare)?;
+        match self.registry.apply(channel, msg) {
+            Ok(()) => Ok(None),
+            Err(RegistryFault::OutOfMemory) => Err(OutOfMemory),
+            Err(fault) => Ok(Some(fault)),
+        }
+    }
+}
+
+/// A message that admits frames, and concerns no registry.
+fn has_frames_in(msg: &UserMsg) -> bool
+    ensures { result ≡ has_frames msg.now }
+{
+    matches!(msg, UserMsg::Log(_) | UserMsg::Overflow { .. })
+}
+
+/// How many Level events a message can owe at most: a context that comes has a slot of its own.
+fn changes_of(msg: &UserMsg) -> u64
+    ensures { result ≡ changes_by msg.now }
+{
+    match msg {
+        UserMsg::RegisterContext { .. } => 1,
+        UserMsg::Log(_)
+        | UserMsg::RegisterApp { .. }
+        | UserMsg::UnregisterApp { .. }
+        | UserMsg::UnregisterContext { .. }
+        | UserMsg::LogLevel { .. }
+        | UserMsg::Injection { .. }
+        | UserMsg::Overflow { .. } => 0,
+    }
+}
