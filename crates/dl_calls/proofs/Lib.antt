@@ -1,0 +1,9 @@
+pub mod WriterMarks
+pub mod AppMarks
+pub mod Places
+pub mod Following
+pub mod Acts
+pub mod Declaring
+pub mod Changing
+pub mod Loading
+pub mod InjectionCounts

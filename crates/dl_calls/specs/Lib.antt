@@ -1,0 +1,5 @@
+pub mod Queue
+pub mod Stages
+pub mod State
+pub mod Follows
+pub mod Injections
