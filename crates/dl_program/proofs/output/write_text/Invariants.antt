@@ -1,0 +1,14 @@
+use Rattle.std.proofs.Common.{◌≡◌, ◌-◌, ◌≤◌, ◌++◌, length, take, Some}
+use Rattle.std.specs.Prelude.{IfSome}
+use Rattle.dl_program.proofs.output.write_text.Given as goal
+
+-- the front of the text is written
+abbrev pub invariant-loop-done : goal.invariant-loop-done
+invariant-loop-done g l = record {
+  within : l.done ≤ length l.text;
+  held : IfSome (g.O.Sink.held l.initial.out) (λ bytes. g.O.Sink.held l.out ≡ Some (bytes ++ take l.done l.text));
+  well : g.O.Sink.faults l.out ≡ g.O.Sink.faults l.initial.out;
+}
+
+abbrev pub decreases-loop-done : goal.decreases-loop-done
+decreases-loop-done g l = length l.text - l.done
