@@ -1,0 +1,15 @@
+use Rattle.std.proofs.Common.{subst}
+use Rattle.dl_desk.specs.DeskInside.{desk_state}
+use Rattle.dl_desk.specs.Made.{IsLater}
+use Rattle.dl_desk.specs.State.{DeskState}
+use Rattle.dl_desk.proofs.Desks.{took}
+use Rattle.dl_desk.proofs.desk.Desk.take.Goals as goal
+
+pub invariant_of-self : goal.invariant_of-self
+invariant_of-self g c = (took (desk_state c.self.inside) c.self.invariant c.args.app c.take.result c.take.new.self c.take.ensures.taken c.take.ensures.none).0
+
+pub returns-clause-later : goal.returns-clause-later
+returns-clause-later g c =
+    let old = desk_state c.self.inside in
+    subst (λ (s : DeskState). IsLater s (record old { ends = c.take.new.self })) c.self.view_is
+    (took old c.self.invariant c.args.app c.take.result c.take.new.self c.take.ensures.taken c.take.ensures.none).1

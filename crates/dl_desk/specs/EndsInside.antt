@@ -1,0 +1,19 @@
+-- The fields of the daemon's ends, and what is true of them.
+use Rattle.std.specs.Prelude.{◌≡◌, ℕ, ◌*◌, ◌≤◌, max, length}
+use Rattle.dl_losses.specs.Losses.{reported_of}
+use Rattle.dl_desk.specs.declared.ends.DaemonEnds.TheInside as ends
+use Rattle.dl_desk.specs.Ends.{EndsState}
+
+abbrev pub ends_state : ends.Inside → EndsState
+ends_state e = record { apps = e.apps.items; levels = e.levels; losses = e.losses }
+
+-- the words are made for at least one application
+abbrev pub words_for : ℕ → ℕ
+words_for apps = max 1 apps
+
+-- there are words for all applications, and no losses of other ones are reported
+pub record IsEnds (s : EndsState) : Type 0 where
+  pub few : length s.apps ≤ 16
+  pub slots : s.levels.slots ≡ 64 * words_for (length s.apps)
+  pub words : s.losses.apps ≡ words_for (length s.apps)
+  pub reports : (app : ℕ) → length s.apps ≤ app → reported_of app s.losses.reported ≡ 0

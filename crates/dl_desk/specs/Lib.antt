@@ -1,0 +1,11 @@
+pub mod Lists
+pub mod Apps
+pub mod AppInside
+pub mod Ends
+pub mod EndsInside
+pub mod State
+pub mod Lending
+pub mod Posting
+pub mod Made
+pub mod Assembly
+pub mod DeskInside

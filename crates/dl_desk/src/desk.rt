@@ -1,0 +1,206 @@
+//! The daemon's side while the writers log.
+
+ghost use Rattle.std.specs.Prelude.{◌≡◌, ◌+◌, ◌-◌, ◌*◌, ◌^◌, ◌<◌, ◌≤◌, ◌↔◌, ℕ, List, [], length, IfOk, IfErr, IfSome, IfNone, IsErr, OnOk, OnErr, OnSome};
+ghost use Rattle.std.specs.Result.{result_err};
+ghost use Rattle.dl_bytes.specs.declared.item.Item.{Item as item_type};
+ghost use Rattle.dl_levels.specs.History.{last_version};
+ghost use Rattle.dl_desk.specs.Lists.{At};
+ghost use Rattle.dl_desk.specs.Apps.{declared_apps};
+ghost use Rattle.dl_desk.specs.Ends.{RingHolds, with_empty_take, with_injected, with_item, with_level, with_refusal, with_report};
+ghost use Rattle.dl_desk.specs.Made.{AreFit, IsLater, IsMadeWith, IsNew, IsUnused, MakesWriter, writer_fault};
+
+use crate::app::AppList;
+use crate::app_ends::FirstEnds;
+use crate::ends::DaemonEnds;
+use crate::fault::WriterFault;
+use crate::parts::Parts;
+use arrayvec::ArrayVec;
+use dl_bytes::{AppSpec, Injection, Item, Level, OutOfMemory, Sequence};
+use dl_levels::{LevelReader, Worn};
+use dl_losses::LossWriter;
+use dl_writer::{Writer, WriterEnds};
+use std::alloc::Global;
+use std::marker::Model;
+use std::sync::Wait;
+
+/// The most writers of a desk.
+pub const WRITER_LIMIT: usize = 32;
+
+/// A desk taken apart, for whoever gathers the writers.
+#[derive(Drop)]
+pub struct DeskParts {
+    /// The applications that the desk was made of.
+    pub apps: Sequence<AppSpec>,
+    /// The daemon's ends of all that it shares with the writers.
+    pub ends: DaemonEnds,
+    /// The ends from which those of the writers were split.
+    pub firsts: Vec<FirstEnds>,
+    /// The reader of the levels from which those of the writers were split.
+    pub readers: LevelReader,
+    /// The counter of the losses from which those of the writers were split.
+    pub counters: LossWriter,
+    /// The application of each writer that was made, by the writers' numbers from 1.
+    pub owners: ArrayVec<u8, 32>,
+}
+
+/// The daemon's side of the library: it takes the calls and the losses of each application, sets levels and injects.
+#[derive(Drop)]
+pub struct Desk {
+    pub(crate) apps: Sequence<AppSpec>,
+    pub(crate) ends: DaemonEnds,
+    pub(crate) firsts: Vec<FirstEnds>,
+    pub(crate) readers: LevelReader,
+    pub(crate) counters: LossWriter,
+    // the application of each writer that was made
+    pub(crate) owners: ArrayVec<u8, 32>,
+}
+
+impl Model for Desk {
+    ghost use Rattle.dl_desk.specs.State.{DeskState};
+    ghost use Rattle.dl_desk.specs.DeskInside.{desk_state, IsDesk};
+
+    ghost Value = { DeskState };
+
+    ghost view = { desk_state };
+
+    ghost invariant = { λ d. IsDesk (desk_state d) };
+}
+
+impl Desk {
+    /// A desk for these applications, at most 16, and the applications themselves. It takes the memory of all that they
+    /// share with the daemon. Each slot begins at version 0 with level 0.
+    pub fn make(alloc: Global, specs: &[AppSpec]) -> Result<(Desk, AppList), OutOfMemory>
+        requires { AreFit specs.now }
+        ensures desk { IfOk result (λ made. IsNew made.0 specs.now) }
+        ensures apps { IfOk result (λ made. made.1 ≡ declared_apps 0 specs.now) }
+    {
+        let mut parts = Parts::none(alloc);
+        for spec in specs {
+            parts.add(alloc, spec)?;
+        }
+        parts.into_desk(alloc)
+    }
+
+    /// The oldest call in the ring of an application. None comes only where the ring was empty at that step.
+    pub fn take<R: Wait>(&mut self, rt: &R, app: u8) -> Option<Item>
+        requires { app < length self.old.apps }
+        ensures taken { IfSome result (λ item. self.new ≡ record self.old { ends = with_item self.old.ends app item }) }
+        ensures rest { OnSome result ((contents : List item_type) × RingHolds self.new.ends app contents) }
+        ensures none { IfNone result (self.new ≡ record self.old { ends = with_empty_take self.old.ends app }) }
+        ensures empty { IfNone result (RingHolds self.new.ends app []) }
+        ensures later { IsLater self.old self.new }
+    {
+        self.ends.take(rt, app)
+    }
+
+    /// How many calls of an application were lost since the last call of this kind: one swap of its loss word.
+    pub fn losses(&mut self, app: u8) -> u64
+        requires { app < length self.old.apps }
+        ensures reported { self.new ≡ record self.old { ends = with_report self.old.ends app result } }
+        ensures later { IsLater self.old self.new }
+    {
+        self.ends.losses(app)
+    }
+
+    /// Sets the level of a slot, 64 times the application's number and the context's place, at the slot's next version.
+    /// `Worn` at version 2^56 - 1.
+    pub fn set(&mut self, slot: u16, level: Level) -> Result<(), Worn>
+        requires { slot < 64 * length self.old.apps }
+        ensures worn { IsErr result ↔ (last_version self.old.ends.levels.first slot self.old.ends.levels.sets ≡ 2 ^ 56 - 1) }
+        ensures set { OnOk result (self.new ≡ record self.old { ends = with_level self.old.ends slot level }) }
+        ensures kept { OnErr result (self.new ≡ self.old) }
+        ensures later { IsLater self.old self.new }
+    {
+        self.ends.set(slot, level)
+    }
+
+    /// Puts an injection into the queue of an application, or gives it back. It comes back only where the queue held 16 at
+    /// that step, so at least 16 were put before.
+    pub fn inject<R: Wait>(&mut self, rt: &R, app: u8, item: Injection) -> Result<(), Injection>
+        requires { app < length self.old.apps }
+        ensures pushed { OnOk result (self.new ≡ record self.old { ends = with_injected self.old.ends app item }) }
+        ensures refused { OnErr result (self.new ≡ record self.old { ends = with_refusal self.old.ends app }) }
+        ensures back { IfErr result (λ back. back ≡ item) }
+        ensures full { OnErr result (At self.old.ends.apps app (λ e. 16 ≤ length e.queue.pushed)) }
+        ensures later { IsLater self.old self.new }
+    {
+        self.ends.inject(rt, app, item)
+    }
+
+    /// The applications that the desk was made of.
+    pub fn apps(&self) -> &[AppSpec]
+        ensures { result.now ≡ self.now.apps }
+    {
+        self.apps.all()
+    }
+
+    /// How many writers were made.
+    pub fn writers(&self) -> u8
+        ensures value { result ≡ length self.now.owners }
+        ensures range { result ≤ 32 }
+    {
+        self.owners.len() as u8
+    }
+
+    /// Its parts.
+    pub fn into_parts(self) -> DeskParts
+        ensures apps { result.apps ≡ self.apps }
+        ensures ends { result.ends ≡ self.ends }
+        ensures firsts { result.firsts.items ≡ self.firsts }
+        ensures readers { result.readers ≡ self.readers }
+        ensures counters { result.counters ≡ self.counters }
+        ensures owners { result.owners.items ≡ self.owners }
+    {
+        let Desk {
+            apps,
+            ends,
+            firsts,
+            readers,
+            counters,
+            owners,
+        } = self;
+        DeskParts {
+            apps,
+            ends,
+            firsts,
+            readers,
+            counters,
+            owners,
+        }
+    }
+}
+
+impl Desk {
+    // Each application has its ends.
+    pub(crate) fn have_ends(&self)
+        ensures { length self.now.ends.apps ≡ length self.now.apps }
+    {
+        let _ = &self.apps;
+    }
+
+    // The next writer, of this application.
+    pub(crate) fn make_writer(&mut self, app: u8) -> Result<Writer, WriterFault>
+        requires { app < length self.old.apps }
+        ensures fault { result_err result ≡ writer_fault self.old }
+        ensures refused { OnErr result (self.new ≡ self.old) }
+        ensures number { IfOk result (λ w. w.push.number ≡ length self.old.owners + 1) }
+        ensures app { IfOk result (λ w. w.app ≡ app) }
+        ensures unused { IfOk result IsUnused }
+        ensures made { IfOk result (λ w. IsMadeWith self.new w) }
+        ensures desk { IfOk result (λ _. MakesWriter app self.old self.new) }
+    {
+        if self.owners.len() == WRITER_LIMIT {
+            return Err(WriterFault::WritersFull);
+        }
+        let number = self.owners.len() as u8 + 1;
+        let first = &mut self.firsts[usize::from(app)];
+        let ends = WriterEnds {
+            push: first.push.split(number),
+            reader: self.readers.split(),
+            losses: self.counters.split(),
+            injections: first.injections.split(),
+        };
+        self.owners.push(app);
+        Ok(Writer::of(app, number, ends))
+    }
+}

@@ -1,0 +1,36 @@
+//! Why a context or a writer was not made.
+
+use dl_bytes::OutOfMemory;
+
+/// Why an application got no context more. Nothing changed.
+#[derive(Clone, Copy, Debug, PartialEq, Eq)]
+pub enum AppFault {
+    /// It has 64 contexts.
+    ContextsFull,
+    /// It has a context of this id.
+    Twice,
+    /// The description has more than 255 bytes.
+    TooLong,
+    /// There is no memory.
+    OutOfMemory,
+}
+
+/// Why no writer was made. Nothing changed.
+#[derive(Clone, Copy, Debug, PartialEq, Eq)]
+pub enum WriterFault {
+    /// 32 writers were made with the desk.
+    WritersFull,
+    /// There is no memory. The memory of all writers is taken with the desk, so this does not come.
+    OutOfMemory,
+}
+
+impl From<OutOfMemory> for AppFault {
+    ghost use Rattle.std.specs.Prelude.{◌≡◌};
+    ghost use Rattle.dl_desk.specs.declared.fault.AppFault.TheVariants as fault;
+
+    ghost from_gives = { λ _ error. error ≡ fault.OutOfMemory };
+
+    fn from(_: OutOfMemory) -> AppFault {
+        AppFault::OutOfMemory
+    }
+}
