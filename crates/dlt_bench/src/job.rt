@@ -1,7 +1,8 @@
 //! The jobs that are measured, and what each leaves behind.
 
-use crate::{cutting, registering, sending};
+use crate::{cutting, logging, registering, sending};
 use std::alloc::Global;
+use std::sync::Wait;
 
 /// A job that is measured.
 #[derive(Clone, Copy, Debug, PartialEq, Eq)]
@@ -24,6 +25,10 @@ pub enum Job {
     Apply,
     /// A context is found in that registry.
     Find,
+    /// A message is logged that its level filters.
+    Filtered,
+    /// A message is logged that its ring takes.
+    Queued,
 }
 
 /// What came of a job.
@@ -68,12 +73,14 @@ impl Job {
             "hub" => Some(Job::Hub),
             "apply" => Some(Job::Apply),
             "find" => Some(Job::Find),
+            "filtered" => Some(Job::Filtered),
+            "queued" => Some(Job::Queued),
             _ => None,
         }
     }
 
     /// Does the job at least so often; nothing where there was no memory, or something was read that isn't there.
-    pub fn run(self, alloc: Global, count: u32) -> Option<Tally> {
+    pub fn run<R: Wait>(self, rt: &R, alloc: Global, count: u32) -> Option<Tally> {
         match self {
             Job::Cut | Job::Heads | Job::Borrowed | Job::Owned => cutting::run(alloc, self, count),
             Job::Users => cutting::run_users(alloc, count),
@@ -81,6 +88,8 @@ impl Job {
             Job::Hub => sending::run_hub(alloc, count),
             Job::Apply => registering::run_apply(alloc, count),
             Job::Find => registering::run_find(alloc, count),
+            Job::Filtered => logging::run_filtered(rt, alloc, count),
+            Job::Queued => logging::run_queued(rt, alloc, count),
         }
     }
 }

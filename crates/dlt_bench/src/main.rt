@@ -4,6 +4,7 @@
 
 mod cutting;
 mod job;
+mod logging;
 mod making;
 mod registering;
 mod sending;
@@ -13,7 +14,8 @@ use std::env;
 use std::process::ExitCode;
 
 /// What is said where the words are no job and count.
-const USAGE: &str = "usage: dlt_bench cut|heads|borrowed|owned|users|frames|hub|apply|find COUNT";
+const USAGE: &str =
+    "usage: dlt_bench cut|heads|borrowed|owned|users|frames|hub|apply|find|filtered|queued COUNT";
 
 /// The status where the words are no job and count.
 const WRONG_WORDS: u8 = 2;
@@ -41,7 +43,7 @@ fn main(rt: HostRuntime) -> ExitCode {
         let _ = rt.eprintln(USAGE);
         return ExitCode::from(WRONG_WORDS);
     };
-    let Some(Tally { times, bytes, sum }) = job.run(rt.alloc(), count) else {
+    let Some(Tally { times, bytes, sum }) = job.run(&rt, rt.alloc(), count) else {
         let _ = rt.eprintln("dlt_bench: not done");
         return ExitCode::from(NOT_DONE);
     };
