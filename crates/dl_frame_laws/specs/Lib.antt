@@ -1,0 +1,3 @@
+pub mod CallFrame
+pub mod FrameLengths
+pub mod FramesPut
