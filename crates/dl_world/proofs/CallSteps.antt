@@ -1,0 +1,201 @@
+-- The steps of log calls up to their rings and counts: marks that the daemon, the clients and the clock don't see.
+use Rattle.std.proofs.Common.{◌≡◌, ℕ, Bool, true, false, cond, eqb, List, [], ◌∷◌, ◌++◌, Option, Some, None, refl, sym, ap, subst, ◌∙◌, append_assoc, arith}
+use Rattle.std.specs.Prelude.{if◌then◌else◌, reverse}
+use Rattle.std.specs.List.{filter_map, flat_map, AllByRecursion}
+use Rattle.std.specs.Option.{option_and_then}
+use Rattle.std.proofs.lemmas.List.{append-nil}
+use Rattle.std.proofs.lemmas.Bool.Decides.{nat_tests}
+use Rattle.dl_bytes.specs.Level.{passes}
+use Rattle.dl_steps.specs.declared.line.CallLine.{CallLine}
+use Rattle.dl_model.specs.Along.{last_that}
+use Rattle.dl_model.specs.Setting.{Setting}
+use Rattle.dl_model.specs.Marks.{Call, Mark, Filtered, Passed, Queued, Refused, Counted, event_of, app_of, clocked, waits_of, fed_of, heard_of, journal, is_step_of, passed, refused, to_push, to_count, is_full}
+use Rattle.dl_model.specs.Steps.{Act, just, for_some, loaded, load, push, count, finish, begin_call}
+use Rattle.dl_laws.proofs.Lists.{last_that-one, find-passes}
+use Rattle.dl_laws.proofs.Founded.{passed_is, refused_is, last_step}
+use Rattle.dl_calls.specs.Follows as calls
+use Rattle.dl_calls.specs.Injections.{AreAfter, is_no_injection}
+use Rattle.dl_calls.specs.State.{Calls}
+use Rattle.dl_calls.proofs.InjectionCounts.{no-injection-stays}
+use Rattle.dl_core.specs.Follows.{Run, HoldsTrace}
+use Rattle.dl_world.specs.Follows.{IsAfter, Doing, Loads, answer_of}
+use Rattle.dl_world.specs.declared.world.World.{World}
+use Rattle.dl_world.proofs.Doings.{ComesTo, doing_by}
+use Rattle.dl_world.proofs.Quiet.{journal_same, apps_same, fed_same, heard_same, moment_same, later_same, goes_on}
+
+-- ---- one mark, and many
+
+pub record IsStep (mark : Mark) : Type 0 where
+  pub no_event : event_of mark ≡ None
+  pub no_app : app_of mark ≡ None
+  pub no_clock : clocked mark ≡ None
+  pub no_wait : waits_of mark ≡ None
+  pub no_answer : answer_of mark ≡ None
+  pub unfed : (number : ℕ) → fed_of number mark ≡ []
+  pub unheard : (channel : ℕ) → heard_of channel mark ≡ []
+  pub no_injection : is_no_injection mark ≡ true
+
+abbrev pub AreSteps : List Mark → Type 0
+AreSteps more = AllByRecursion IsStep more
+
+none_given : {B : Type 0} (f : Mark → Option B) → ((mark : Mark) → IsStep mark → f mark ≡ None) → (more : List Mark) → AreSteps more → filter_map f more ≡ []
+none_given f none [] steps = refl
+none_given f none (mark ∷ more) steps = rw (none mark steps.0) (none_given f none more steps.1)
+
+none_put : (f : Mark → List ℕ) → ((mark : Mark) → IsStep mark → f mark ≡ []) → (more : List Mark) → AreSteps more → flat_map f more ≡ []
+none_put f none [] steps = refl
+none_put f none (mark ∷ more) steps = rw (none mark steps.0) (none_put f none more steps.1)
+
+injections_stay : (done more : List Mark) (waiting : List ℕ) → AreSteps more → AreAfter done waiting → AreAfter (done ++ more) waiting
+injections_stay done [] waiting steps is = subst (λ (ms : List Mark). AreAfter ms waiting) (sym (append-nil done)) is
+injections_stay done (mark ∷ more) waiting steps is =
+    subst (λ (ms : List Mark). AreAfter ms waiting) (append_assoc done (mark ∷ []) more)
+    (injections_stay (done ++ mark ∷ []) more waiting steps.1 (no-injection-stays done mark waiting steps.0.no_injection is))
+
+both_steps : (xs ys : List Mark) → AreSteps xs → AreSteps ys → AreSteps (xs ++ ys)
+both_steps [] ys first second = second
+both_steps (x ∷ xs) ys first second = (first.0, both_steps xs ys first.1 second)
+
+-- ---- acts
+
+asked : {A : Type 0} (o : Option A) (act : A → Act) (done : List Mark) → ((x : A) → AreSteps (act x done)) → AreSteps (for_some o act done)
+asked None act done steps = tt
+asked (Some x) act done steps = steps x
+
+of_filtered : (c : Call) → IsStep (Filtered c)
+of_filtered c = record { no_event = refl; no_app = refl; no_clock = refl; no_wait = refl; no_answer = refl; unfed = λ number. refl; unheard = λ channel. refl; no_injection = refl }
+
+of_passed : (c : Call) → IsStep (Passed c)
+of_passed c = record { no_event = refl; no_app = refl; no_clock = refl; no_wait = refl; no_answer = refl; unfed = λ number. refl; unheard = λ channel. refl; no_injection = refl }
+
+of_queued : (c : Call) → IsStep (Queued c)
+of_queued c = record { no_event = refl; no_app = refl; no_clock = refl; no_wait = refl; no_answer = refl; unfed = λ number. refl; unheard = λ channel. refl; no_injection = refl }
+
+of_refused : (c : Call) → IsStep (Refused c)
+of_refused c = record { no_event = refl; no_app = refl; no_clock = refl; no_wait = refl; no_answer = refl; unfed = λ number. refl; unheard = λ channel. refl; no_injection = refl }
+
+of_counted : (c : Call) → IsStep (Counted c)
+of_counted c = record { no_event = refl; no_app = refl; no_clock = refl; no_wait = refl; no_answer = refl; unfed = λ number. refl; unheard = λ channel. refl; no_injection = refl }
+
+pub push_steps : (writer : ℕ) (done : List Mark) → AreSteps (push writer done)
+push_steps writer done = asked (to_push writer done) (λ c. just (if is_full c.item.app done then Refused c else Queued c)) done (λ c. (by_room c (is_full c.item.app done), tt)) where
+  by_room : (c : Call) (b : Bool) → IsStep (cond b (Refused c) (Queued c))
+  by_room c true = of_refused c
+  by_room c false = of_queued c
+
+pub count_steps : (writer : ℕ) (done : List Mark) → AreSteps (count writer done)
+count_steps writer done = asked (to_count writer done) (λ c. just (Counted c)) done (λ c. (of_counted c, tt))
+
+pub finish_steps : (writer : ℕ) (done : List Mark) → AreSteps (finish writer done)
+finish_steps writer done =
+    let later = done ++ push writer done in
+    both_steps (push writer done) (count writer later ++ []) (push_steps writer done) (both_steps (count writer later) [] (count_steps writer later) tt)
+
+pub load_steps : (setting : Setting) (call : CallLine) (done : List Mark) → AreSteps (load setting call done)
+load_steps setting call done =
+    asked (loaded setting call done) (λ c. just (if passes c.item.severity c.held then Passed c else Filtered c)) done (λ c. (by_level c (passes c.item.severity c.held), tt)) where
+      by_level : (c : Call) (b : Bool) → IsStep (cond b (Passed c) (Filtered c))
+      by_level c true = of_passed c
+      by_level c false = of_filtered c
+
+-- ---- a world after such marks
+
+module _ (run : Run) (done more : List Mark) (old : World) (now : Calls) (steps : AreSteps more) (calls_now : calls.IsAfter (done ++ more) now) (after : IsAfter run done old) where
+  pub steps_after : IsAfter run (done ++ more) (record old { calls = now })
+  steps_after =
+      goes_on run done more old (record old { calls = now }) after (none_given event_of (λ mark is. is.no_event) more steps) (record {
+        calls_held = calls_now;
+        few_held = rw (apps_same done more (none_given app_of (λ mark is. is.no_app) more steps)) after.so_far.few_so;
+        injections_held = injections_stay done more old.injections steps after.so_far.injections_so;
+        fed_held = λ number. rw (fed_same number done more (none_put (fed_of number) (λ mark is. is.unfed number) more steps)) (after.so_far.fed_so number);
+        unfed_held = λ number nobody. fed_same number done more (none_put (fed_of number) (λ mark is. is.unfed number) more steps) ∙ after.so_far.unfed_so number nobody;
+        heard_held = λ channel. rw (heard_same channel done more (none_put (heard_of channel) (λ mark is. is.unheard channel) more steps)) (after.so_far.heard_so channel);
+        moment_held = after.so_far.moment_so ∙ sym (moment_same done more (none_given clocked (λ mark is. is.no_clock) more steps));
+        later_held = after.so_far.later_so ∙ sym (later_same done more (none_given waits_of (λ mark is. is.no_wait) more steps));
+      }) refl refl refl
+
+  pub steps_come : ComesTo run done more old (record old { calls = now })
+  steps_come = record {
+    after = steps_after;
+    holds = λ told (held : HoldsTrace run (journal done) old.core told). rw (journal_same done more (none_given event_of (λ mark is. is.no_event) more steps)) held;
+    unasked = none_given answer_of (λ mark is. is.no_answer) more steps;
+  }
+
+-- a call of the log calls alone
+pub steps_doing : (act : Act) (old : World) (now : Calls) → ((done : List Mark) → AreSteps (act done)) → calls.Does act old.calls now → Doing (λ setting. act) old (record old { calls = now })
+steps_doing act old now steps does =
+    doing_by (λ setting. act) old (record old { calls = now }) refl
+    (λ run done after is_run. steps_come run done (act done) old now (steps done) (does done after.so_far.calls_so) after)
+
+-- ---- a writer's call is finished before its next one
+
+same_by : (a b : ℕ) → eqb a b ≡ true → a ≡ b
+same_by a b e = grind (arith, nat_tests)
+
+own_step : (writer : ℕ) (c : Call) → c.item.writer ≡ writer → eqb c.item.writer writer ≡ true
+own_step writer c e = grind (arith, nat_tests, e)
+
+pushes_own : (writer : ℕ) (done : List Mark) (c : Call) → to_push writer done ≡ Some c → c.item.writer ≡ writer
+pushes_own writer done c e =
+    let last = last_step passed (last_that (is_step_of writer) done) c e in
+    let is = find-passes (is_step_of writer) (reverse done) last.0 last.1 in
+    same_by c.item.writer writer (subst (λ m. is_step_of writer m ≡ true) (passed_is last.0 c last.2) is)
+
+counts_own : (writer : ℕ) (done : List Mark) (c : Call) → to_count writer done ≡ Some c → c.item.writer ≡ writer
+counts_own writer done c e =
+    let last = last_step refused (last_that (is_step_of writer) done) c e in
+    let is = find-passes (is_step_of writer) (reverse done) last.0 last.1 in
+    same_by c.item.writer writer (subst (λ m. is_step_of writer m ≡ true) (refused_is last.0 c last.2) is)
+
+step_one : (writer : ℕ) (done : List Mark) (mark : Mark) → is_step_of writer mark ≡ true → last_that (is_step_of writer) (done ++ mark ∷ []) ≡ Some mark
+step_one writer done mark is = last_that-one (is_step_of writer) done mark ∙ ap (λ b. cond b (Some mark) (last_that (is_step_of writer) done)) is
+
+pushed : (writer : ℕ) (done : List Mark) → to_push writer (done ++ push writer done) ≡ None
+pushed writer done = by_call (to_push writer done) refl where
+  by_full : (c : Call) (b : Bool) → to_push writer done ≡ Some c → to_push writer (done ++ cond b (Refused c) (Queued c) ∷ []) ≡ None
+  by_full c true e = ap (option_and_then passed) (step_one writer done (Refused c) (own_step writer c (pushes_own writer done c e)))
+  by_full c false e = ap (option_and_then passed) (step_one writer done (Queued c) (own_step writer c (pushes_own writer done c e)))
+
+  by_call : (o : Option Call) → to_push writer done ≡ o → to_push writer (done ++ for_some o (λ c. just (cond (is_full c.item.app done) (Refused c) (Queued c))) done) ≡ None
+  by_call None e = ap (to_push writer) (append-nil done) ∙ e
+  by_call (Some c) e = by_full c (is_full c.item.app done) e
+
+counted : (writer : ℕ) (done : List Mark) → to_push writer done ≡ None → (to_push writer (done ++ count writer done) ≡ None) × (to_count writer (done ++ count writer done) ≡ None)
+counted writer done no_push = by_call (to_count writer done) refl where
+  by_call : (o : Option Call) → to_count writer done ≡ o →
+      (to_push writer (done ++ for_some o (λ c. just (Counted c)) done) ≡ None) × (to_count writer (done ++ for_some o (λ c. just (Counted c)) done) ≡ None)
+  by_call None e = (ap (to_push writer) (append-nil done) ∙ no_push, ap (to_count writer) (append-nil done) ∙ e)
+  by_call (Some c) e =
+      let last = step_one writer done (Counted c) (own_step writer c (counts_own writer done c e)) in
+      (ap (option_and_then passed) last, ap (option_and_then refused) last)
+
+finished : (writer : ℕ) (done : List Mark) → (to_push writer (done ++ finish writer done) ≡ None) × (to_count writer (done ++ finish writer done) ≡ None)
+finished writer done =
+    let now = done ++ push writer done in
+    let all : done ++ finish writer done ≡ now ++ count writer now =
+    ap (λ ms. done ++ (push writer done ++ ms)) (append-nil (count writer now)) ∙ sym (append_assoc done (push writer done) (count writer now)) in
+    let is = counted writer now (pushed writer done) in
+    (ap (to_push writer) all ∙ is.0, ap (to_count writer) all ∙ is.1)
+
+-- ---- a new call
+
+-- the load behind what the open call still needs
+pub begins_call : (call : CallLine) (old : World) (mid : Calls) (new : World) → calls.Does (finish call.writer) old.calls mid → new.core ≡ old.core
+    → Loads call (record old { calls = mid }) new → Doing (λ setting. begin_call setting call) old new
+begins_call call old mid new finishes core_same loads =
+    doing_by (λ setting. begin_call setting call) old new (ap (λ k. k.trace) core_same)
+    (λ run done after is_run.
+    let first = finish call.writer done in
+    let here = done ++ first in
+    let second = load run.setting call here in
+    let no_open = finished call.writer done in
+    let mid_after = steps_after run done first old mid (finish_steps call.writer done) (finishes done after.so_far.calls_so) after in
+    let last : IsAfter run (here ++ second) new = loads run here mid_after no_open.0 no_open.1 in
+    let all : begin_call run.setting call done ≡ first ++ second = ap (λ (ms : List Mark). first ++ ms) (append-nil second) in
+    let steps : AreSteps (first ++ second) = both_steps first second (finish_steps call.writer done) (load_steps run.setting call here) in
+    let none : filter_map event_of (first ++ second) ≡ [] = none_given event_of (λ mark is. is.no_event) (first ++ second) steps in
+    subst (λ (more : List Mark). ComesTo run done more old new) (sym all) (record {
+      after = subst (λ (ms : List Mark). IsAfter run ms new) (append_assoc done first second) last;
+      holds = λ told (held : HoldsTrace run (journal done) old.core told). rw (journal_same done (first ++ second) none, core_same) held;
+      unasked = none_given answer_of (λ mark is. is.no_answer) (first ++ second) steps;
+    }))

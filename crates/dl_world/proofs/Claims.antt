@@ -1,0 +1,99 @@
+-- What a line may name, and how many there may be of it, where it may follow those before it.
+use Rattle.std.proofs.Common.{◌≡◌, ℕ, suc, ◌+◌, ◌<◌, Bool, true, false, not, cond, get_or, List, [], ◌∷◌, length, Option, Some, None, refl, sym, ap, subst, ◌∙◌, arith}
+use Rattle.std.specs.Prelude.{◌||◌, map, nat_le, is_some, count_by, slice_get, IsSome, IsSomeAnd}
+use Rattle.std.specs.List.{filter, filter_map, list_any, position, prefix_len}
+use Rattle.std.specs.Option.{option_and_then}
+use Rattle.std.specs.Str.{bytes_eq}
+use Rattle.std.proofs.lemmas.Bool.{lt-ltb}
+use Rattle.std.proofs.lemmas.List.{length-map}
+use Rattle.std.proofs.lemmas.List.Sums.{length-filter}
+use Rattle.dl_steps.specs.declared.line.AppLine.{AppLine}
+use Rattle.dl_steps.specs.declared.line.ContextLine.{ContextLine}
+use Rattle.dl_fields.specs.declared.kind.ScriptKind.{ScriptKind}
+use Rattle.dl_fields.specs.declared.kind.ScriptKind.TheVariants.{Order, Unknown, Twice, Limit}
+use Rattle.dl_script.specs.Earlier.{Declared, first_of, refusal, is_app, is_context, is_of}
+use Rattle.dl_script.specs.declared.claim.Claim.TheVariants as claim
+use Rattle.dl_script.specs.declared.claim.ContextName.{ContextName}
+use Rattle.dl_model.specs.Marks.{Mark, apps, number_of, context_of, contexts_of}
+use Rattle.dl_calls.specs.Follows as calls
+use Rattle.dl_calls.specs.Follows.{no_app, is_named, contexts_in}
+use Rattle.dl_calls.specs.State.{App, Calls, numbered, app_named}
+use Rattle.dl_calls.proofs.Declaring.{number_is}
+use Rattle.dl_calls.proofs.Places.{position_to_len, position-map, there}
+use Rattle.dl_world.specs.Known.{IsKnown, name_of}
+
+-- ---- causes that don't hold
+
+none_of : (b : Bool) (kind : ScriptKind) (rest : List (Bool × ScriptKind)) → first_of ((b, kind) ∷ rest) ≡ None → (b ≡ false) × (first_of rest ≡ None)
+none_of true kind rest e = absurd cc
+none_of false kind rest e = (refl, e)
+
+is_not : (b : Bool) → not b ≡ false → b ≡ true
+is_not true e = refl
+is_not false e = absurd cc
+
+-- ---- the place of one that is there
+
+any_within : {A : Type 0} (p : A → Bool) (xs : List A) → list_any p xs ≡ true → prefix_len (λ x. not (p x)) xs < length xs
+any_within p [] e = absurd cc
+any_within {A = A} p (x ∷ xs) e = by_test (p x) e (any_within p xs) where
+  by_test : (b : Bool) → (b || list_any p xs) ≡ true → (list_any p xs ≡ true → prefix_len (λ y. not (p y)) xs < length xs) → cond (not b) (1 + prefix_len (λ y. not (p y)) xs) 0 < length (x ∷ xs)
+  by_test true any later = omega arith
+  by_test false any later = omega (arith, later any)
+
+any_place : {A : Type 0} (p : A → Bool) (xs : List A) → list_any p xs ≡ true → (n : ℕ) × (position p xs ≡ Some n)
+any_place p xs e =
+    let n = prefix_len (λ x. not (p x)) xs in
+    (n, ap (λ (b : Bool). cond b (Some n) None) (lt-ltb n (length xs) (any_within p xs e)))
+
+-- the number of an application that is declared
+numbered_so : (known : Declared) (done : List Mark) (now : Calls) (apid : List ℕ) → IsKnown known done → calls.IsAfter done now → is_app known apid ≡ true
+    → (n : ℕ) × (numbered now apid ≡ Some n)
+numbered_so known done now apid is after declared =
+    let place = any_place (λ id. bytes_eq id apid) known.apps declared in
+    let lines : position (λ id. bytes_eq id apid) known.apps ≡ number_of apid done =
+    ap (position (λ id. bytes_eq id apid)) is.apps_are ∙ position-map (λ (app : AppLine). app.apid) (λ id. bytes_eq id apid) (apps done) in
+    (place.0, number_is done now apid after.apps_are ∙ sym lines ∙ place.1)
+
+-- ---- a writer
+
+pub owner_is_known : (known : Declared) (done : List Mark) (now : Calls) (apid : List ℕ) → IsKnown known done → calls.IsAfter done now → refusal known (claim.Writer apid) ≡ None
+    → IsSome (numbered now apid)
+owner_is_known known done now apid is after admitted =
+    let declared = is_not (is_app known apid) (none_of (not (is_app known apid)) Unknown ((nat_le 32 (length known.writers), Limit) ∷ []) admitted).0 in
+    ap is_some (numbered_so known done now apid is after declared).1
+
+-- ---- a context
+
+same_count : {A B : Type 0} (f : A → B) (p : B → Bool) (xs : List A) → length (filter p (map f xs)) ≡ length (filter (λ x. p (f x)) xs)
+same_count f p [] = refl
+same_count {A = A} f p (x ∷ xs) = by_test (p (f x)) (same_count f p xs) where
+  by_test : (b : Bool) → length (filter p (map f xs)) ≡ length (filter (λ y. p (f y)) xs) → length (cond b (f x ∷ filter p (map f xs)) (filter p (map f xs))) ≡ length (cond b (x ∷ filter (λ y. p (f y)) xs) (filter (λ y. p (f y)) xs))
+  by_test true later = ap suc later
+  by_test false later = later
+
+counted : (known : Declared) (done : List Mark) (apid : List ℕ) → IsKnown known done → count_by (is_of apid) known.contexts ≡ length (contexts_of apid done)
+counted known done apid is =
+    sym (length-filter (is_of apid) known.contexts) ∙ ap (λ (cs : List ContextName). length (filter (is_of apid) cs)) is.contexts_are
+    ∙ same_count name_of (is_of apid) (filter_map context_of done)
+
+fewer : (n : ℕ) → nat_le 64 n ≡ false → n < 64
+fewer n e = grind (arith, e)
+
+pub contexts_are_few : (known : Declared) (done : List Mark) (now : Calls) (apid ctid : List ℕ) → IsKnown known done → calls.IsAfter done now → refusal known (claim.Context apid ctid) ≡ None
+    → IsSomeAnd (app_named now apid) (λ app. length app.contexts < 64)
+contexts_are_few known done now apid ctid is after admitted =
+    let limit = (nat_le 64 (count_by (is_of apid) known.contexts), Limit) ∷ [] in
+    let unheard = none_of known.user Order ((not (is_app known apid), Unknown) ∷ (is_context known apid ctid, Twice) ∷ limit) admitted in
+    let owned = none_of (not (is_app known apid)) Unknown ((is_context known apid ctid, Twice) ∷ limit) unheard.1 in
+    let fresh = none_of (is_context known apid ctid) Twice limit owned.1 in
+    let few = none_of (nat_le 64 (count_by (is_of apid) known.contexts)) Limit [] fresh.1 in
+    let place = numbered_so known done now apid is after (is_not (is_app known apid) owned.0) in
+    let n = place.0 in
+    let at = position_to_len (is_named apid) now.apps n place.1 in
+    let found : app_named now apid ≡ Some (get_or now.apps n no_app) = ap (option_and_then (λ (number : ℕ). slice_get now.apps number)) place.1 ∙ there now.apps n no_app at.1 in
+    let those : (get_or now.apps n no_app).contexts ≡ map (λ (context : ContextLine). context.ctid) (contexts_of apid done) =
+    ap (λ (k : ℕ). (get_or now.apps k no_app).contexts) (sym at.0) ∙ after.contexts_are apid in
+    let many : length (get_or now.apps n no_app).contexts ≡ length (contexts_of apid done) = ap length those ∙ length-map (contexts_of apid done) (λ (context : ContextLine). context.ctid) in
+    let below = fewer (count_by (is_of apid) known.contexts) few.0 in
+    subst (λ (o : Option App). IsSomeAnd o (λ app. length app.contexts < 64)) (sym found) (omega (arith, below, counted known done apid is, many))

@@ -1,0 +1,106 @@
+-- What storing frames leaves of the trace and of the folder's count of faults.
+use Rattle.std.proofs.Common.{◌≡◌, ℕ, ◌+◌, ◌-◌, ◌^◌, ◌≤◌, min, List, [], ◌∷◌, Option, Some, None, refl, sym, ap, subst, ◌∙◌, arith}
+use Rattle.std.specs.Prelude.{option_map}
+use Rattle.std.specs.Option.{option_map_or}
+use Rattle.dl_bytes.specs.declared.outcome.TraceEnd.{TraceEnd}
+use Rattle.dl_bytes.specs.declared.outcome.TraceEnd.TheVariants.{Failed, Spent, NoMemory}
+use Rattle.dl_outside.specs.Folder.{Files}
+use Rattle.dl_trace.specs.State.{Trace}
+use Rattle.dl_core.specs.Storing.{StoresTill, StoresIn, StoresEach, ChangesTraceAlone}
+use Rattle.dl_core.specs.State.{Core}
+use Rattle.dl_world.specs.Folders.{Told, Leaves}
+use Rattle.dl_world.specs.Played.{ChangesOwnFiles, trace_failures}
+
+abbrev pub failed_in : Option Trace → ℕ
+failed_in trace = option_map_or (λ (t : Trace). trace_failures t.state.end) trace 0
+
+abbrev pub stands_in : Option Trace → Option (List ℕ)
+stands_in trace = option_map (λ (t : Trace). t.directory) trace
+
+-- the trace failed so often meanwhile, and the count of faults rose by as many at least; the trace stays where it is
+pub record Fails (old new : Option Trace) (faults faults_now : ℕ) : Type 0 where
+  pub trace_failed : ℕ
+  pub failures : failed_in new ≡ failed_in old + trace_failed
+  pub rose : min (faults + trace_failed) (2 ^ 64 - 1) ≤ faults_now
+  pub later : faults ≤ faults_now
+  pub same : stands_in new ≡ stands_in old
+
+pub fails_none : (trace : Option Trace) (faults : ℕ) → Fails trace trace faults faults
+fails_none trace faults = record { trace_failed = 0; failures = omega arith; rose = omega arith; later = omega arith; same = refl }
+
+pub fails_both : (a b c : Option Trace) (x y z : ℕ) → Fails a b x y → Fails b c y z → Fails a c x z
+fails_both a b c x y z one two = record {
+  trace_failed = one.trace_failed + two.trace_failed;
+  failures = omega (arith, one.failures, two.failures);
+  rose = omega (arith, one.rose, two.rose);
+  later = omega (arith, one.later, two.later);
+  same = two.same ∙ one.same;
+}
+
+-- a call that stores frames
+by_end : (frames : List (List ℕ)) (old new : Trace) (told told_now : Option Files) (faults faults_now : ℕ) (end end_now : Option TraceEnd) → old.state.end ≡ end → new.state.end ≡ end_now
+    → StoresTill end end_now frames old new told told_now faults faults_now → Fails (Some old) (Some new) faults faults_now
+by_end frames old new told told_now faults faults_now (Some ended) end_now was is stores = record {
+  trace_failed = 0;
+  failures = ap (λ (t : Trace). trace_failures t.state.end) stores.0 ∙ omega arith;
+  rose = omega (arith, stores.2);
+  later = omega (arith, stores.2);
+  same = ap (λ (t : Trace). Some t.directory) stores.0;
+}
+by_end frames old new told told_now faults faults_now None None was is stores = record {
+  trace_failed = 0;
+  failures = omega (arith, ap trace_failures was, ap trace_failures is);
+  rose = omega (arith, stores.1);
+  later = omega (arith, stores.1);
+  same = ap Some stores.0.same.directory;
+}
+by_end frames old new told told_now faults faults_now None (Some Failed) was is stores = record {
+  trace_failed = 1;
+  failures = omega (arith, ap trace_failures was, ap trace_failures is);
+  rose = stores.1.1;
+  later = stores.1.0;
+  same = ap Some stores.0.same.directory;
+}
+by_end frames old new told told_now faults faults_now None (Some Spent) was is stores = record {
+  trace_failed = 0;
+  failures = omega (arith, ap trace_failures was, ap trace_failures is);
+  rose = omega (arith, stores.1);
+  later = omega (arith, stores.1);
+  same = ap Some stores.0.same.directory;
+}
+by_end frames old new told told_now faults faults_now None (Some NoMemory) was is stores = record {
+  trace_failed = 0;
+  failures = omega (arith, ap trace_failures was, ap trace_failures is);
+  rose = omega (arith, stores.1);
+  later = omega (arith, stores.1);
+  same = ap Some stores.0.same.directory;
+}
+
+pub stores_in : (frames : List (List ℕ)) (old new : Option Trace) (told told_now : Option Files) (faults faults_now : ℕ) → StoresIn frames old new told told_now faults faults_now → Fails old new faults faults_now
+stores_in frames None new told told_now faults faults_now stores =
+    subst (λ (trace : Option Trace). Fails None trace faults faults_now) (sym stores.0) (subst (λ (n : ℕ). Fails None None faults n) (sym stores.2) (fails_none None faults))
+stores_in frames (Some old) None told told_now faults faults_now stores = absurd stores
+stores_in frames (Some old) (Some new) told told_now faults faults_now stores = by_end frames old new told told_now faults faults_now old.state.end new.state.end refl refl stores
+
+pub stores_each : (frames : List (List ℕ)) (old new : Option Trace) (told told_now : Option Files) (faults faults_now : ℕ) → StoresEach frames old new told told_now faults faults_now → Fails old new faults faults_now
+stores_each [] old new told told_now faults faults_now stores =
+    subst (λ (trace : Option Trace). Fails old trace faults faults_now) (sym stores.0) (subst (λ (n : ℕ). Fails old old faults n) (sym stores.2) (fails_none old faults))
+stores_each (frame ∷ frames) old new told told_now faults faults_now stores =
+    fails_both old stores.0 new faults stores.2 faults_now
+    (stores_in (frame ∷ []) old stores.0 told stores.1 faults stores.2 stores.3)
+    (stores_each frames stores.0 new stores.1 told_now stores.2 faults_now stores.4)
+
+-- no file of others changes
+own_files : (trace : Option Trace) (told told_now : Option Files) → ChangesTraceAlone trace told told_now → ChangesOwnFiles trace told told_now
+own_files None None told_now changes = tt
+own_files None (Some folder) told_now changes = (folder, changes, λ name other. refl)
+own_files (Some trace) None told_now changes = tt
+own_files (Some trace) (Some folder) told_now changes = (changes.0, changes.1, λ name not_trace other. changes.2 name not_trace)
+
+pub leaves_where : (old new : Core) (stored : Option Trace) (told told_now : Told) → ChangesTraceAlone old.trace told.files told_now.files → Fails old.trace stored told.faults told_now.faults → new.trace ≡ stored
+    → Leaves old new told told_now
+leaves_where old new stored told told_now changes fails still = record {
+  others = own_files old.trace told.files told_now.files changes;
+  same = ap stands_in still ∙ fails.same;
+  later = fails.later;
+}

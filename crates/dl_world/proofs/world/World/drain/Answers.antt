@@ -1,0 +1,47 @@
+use Rattle.std.proofs.Common.{◌≡◌, List, refl, ◌∙◌, arith}
+use Rattle.dl_model.specs.Marks.{Mark, held_by}
+use Rattle.dl_model.specs.Steps.{take_losses}
+use Rattle.dl_calls.specs.Follows as calls
+use Rattle.dl_calls.proofs.Acts.{on_ok}
+use Rattle.dl_world.specs.Folders.{tells}
+use Rattle.dl_world.specs.Follows.{Does}
+use Rattle.dl_world.proofs.LeftFiles.{leaves_alone, leaves_both}
+use Rattle.dl_world.proofs.Turning.{does_first, does_next}
+use Rattle.dl_world.proofs.Drains.{takes, drains, drains_nobody}
+use Rattle.dl_world.proofs.world.World.drain.Goals as goal
+
+pub returns-then-apps-app-clause-does : goal.returns-then-apps-app-clause-does
+returns-then-apps-app-clause-does g c = drains_nobody c.args.self.now _ c.args.app (omega (arith, c.apps.ensures, c.if-apps-app.true))
+
+pub returns-then-apps-app-clause-leaves : goal.returns-then-apps-app-clause-leaves
+returns-then-apps-app-clause-leaves g c = leaves_alone _ _ _ refl
+
+pub loop-call-init : goal.loop-call-init
+loop-call-init g c = record {
+  so_far = does_first 0 (takes c.args.app) c.args.self.now _;
+  leaves = leaves_alone _ _ _ refl;
+}
+
+pub returns-in_err-take_log-clause-leaves : goal.returns-in_err-take_log-clause-leaves
+returns-in_err-take_log-clause-leaves g c = leaves_both _ _ _ _ _ _ c.loop-call.invariant.leaves c.take_log.ensures.leaves
+
+pub loop-call-preserved : goal.loop-call-preserved
+loop-call-preserved g c = record {
+  so_far = does_next 0 c.loop-call._call c.loop-call._call (takes c.args.app) c.args.self.now c.loop-call.self c.take_log.new.self _ _ _
+      (omega arith) c.loop-call.invariant.so_far c.in_ok-take_log.ensures.does;
+  leaves = leaves_both _ _ _ _ _ _ c.loop-call.invariant.leaves c.take_log.ensures.leaves;
+}
+
+pub returns-clause-does : goal.returns-clause-does
+returns-clause-does g c =
+    let old = c.args.self.now in
+    let k = c.loop-call._call in
+    let all : k ≡ c.held-call-end.result = omega arith in
+    let held : (done : List Mark) → calls.IsAfter done old.calls → k ≡ held_by c.args.app done = λ done is. all ∙ c.held-call-end.ensures done is in
+    let made = λ (losses : Does (λ setting answers. take_losses setting c.args.app) c.loop-call.self c.take_losses.new.self
+    (tells (g.F.Folder.files c.loop-call.folder) (g.F.Folder.faults c.loop-call.folder)) (tells (g.F.Folder.files c.take_losses.new.folder) (g.F.Folder.faults c.take_losses.new.folder))).
+    drains old c.loop-call.self c.take_losses.new.self _ _ _ c.args.app k held c.loop-call.invariant.so_far losses in
+    on_ok c.take_losses.result _ _ made c.take_losses.ensures.does
+
+pub returns-clause-leaves : goal.returns-clause-leaves
+returns-clause-leaves g c = leaves_both _ _ _ _ _ _ c.loop-call.invariant.leaves c.take_losses.ensures.leaves

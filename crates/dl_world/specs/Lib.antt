@@ -1,0 +1,7 @@
+pub mod Played
+pub mod State
+pub mod Fed
+pub mod Folders
+pub mod Follows
+pub mod Known
+pub mod Left

@@ -1,0 +1,98 @@
+-- What a run of steps leaves: its records and its journal, what each client was sent, the backlog, and the trace files.
+use Rattle.std.specs.Prelude.{◌≡◌, ◌≢◌, ℕ, ◌+◌, ◌-◌, ◌^◌, ◌<◌, ◌≤◌, min, Bool, true, false, List, [], ◌++◌, length, map, count_by, Option, Some, None, IfSome, IsSomeAnd}
+use Rattle.std.specs.FinMap as files
+use Rattle.dl_bytes.specs.declared.outcome.Done.{Done}
+use Rattle.dl_bytes.specs.declared.outcome.Done.TheVariants as did
+use Rattle.dl_bytes.specs.declared.outcome.TraceEnd.{TraceEnd}
+use Rattle.dl_bytes.specs.declared.outcome.TraceEnd.TheVariants.{Failed, Spent}
+use Rattle.dl_bytes.specs.declared.outcome.TraceState.{TraceState}
+use Rattle.dl_steps.specs.declared.step.Step.{Step}
+use Rattle.dl_model.specs.Setting.{Setting}
+use Rattle.dl_model.specs.Marks.{Mark, Answered, journal, records}
+use Rattle.dl_model.specs.Frames.{stored_frames}
+use Rattle.dl_model.specs.ClientStream.{traffic}
+use Rattle.dl_model.specs.Backlog.{left}
+use Rattle.dl_model.specs.TraceFiles.{StoredFile, trace_files, is_spent}
+use Rattle.dl_model.specs.Replay.{source_of, stream_of, clients, specs_of, ends_of}
+use Rattle.dl_model.specs.Steps.{run}
+use Rattle.dl_outside.specs.Folder.{Files}
+use Rattle.dl_trace.specs.State.{Trace, listed}
+use Rattle.dl_trace.specs.Stands.{HasFiles, IsTraceName}
+use Rattle.dl_core.specs.Serving.{stored_name}
+use Rattle.dl_world.specs.declared.played.Played.{Played}
+
+-- ---- trace files
+
+-- the frames that a run stores, in order
+abbrev pub frames_in : Setting → List Mark → List (List ℕ)
+frames_in setting done = stored_frames (source_of setting done) (journal done)
+
+-- the trace files after these stored frames, where the old ones stood before
+abbrev pub files_with : Setting → List StoredFile → List (List ℕ) → List StoredFile
+files_with setting stood frames = trace_files setting.file_size setting.max_size stood frames
+
+-- What a trace tells at the end of a run: the trace files, with their names and sizes, of all frames that the run stores; or, where it
+-- ended before, of some first ones of them. It ended as spent only where a frame needed a number that no file can have.
+pub record IsTraced (setting : Setting) (stood : List StoredFile) (done : List Mark) (state : TraceState) : Type 0 where
+  pub stored : List (List ℕ)
+  pub later : List (List ℕ)
+  pub all : frames_in setting done ≡ stored ++ later
+  pub files_are : state.files ≡ map (listed setting.directory) (files_with setting stood stored)
+  pub whole : state.end ≡ None → later ≡ []
+  pub unspent : state.end ≡ None → 0 < length (frames_in setting done) → is_spent setting.file_size stood (frames_in setting done) ≡ false
+  pub spent : state.end ≡ Some Spent → is_spent setting.file_size stood (frames_in setting done) ≡ true
+
+-- where no trace was handed in, no file is told of
+abbrev pub TellsOf : Setting → List StoredFile → List Mark → Option Trace → TraceState → Type 0
+TellsOf setting stood done None state = state ≡ record { files = []; end = None }
+TellsOf setting stood done (Some trace) state = IsTraced setting stood done state
+
+-- while the trace goes on, the folder holds the trace files of the run, if it held those that stood before
+abbrev pub Holds : Setting → List StoredFile → List Mark → Option Trace → TraceState → Option Files → Option Files → Type 0
+Holds setting stood done None state told told_now = Unit {0}
+Holds setting stood done (Some trace) state told told_now =
+    state.end ≡ None → IsSomeAnd told (λ folder. HasFiles setting.directory folder stood)
+    → IsSomeAnd told_now (λ folder. HasFiles setting.directory folder (files_with setting stood (frames_in setting done)))
+
+-- ---- the folder
+
+-- no file changes but the trace files, where a trace is kept, and the stored configuration
+abbrev pub ChangesOwnFiles : Option Trace → Option Files → Option Files → Type 0
+ChangesOwnFiles None told told_now =
+    IfSome told (λ folder. (now : Files) × (told_now ≡ Some now)
+    × ((name : List ℕ) → name ≢ stored_name → files.get now name ≡ files.get folder name))
+ChangesOwnFiles (Some trace) told told_now =
+    IfSome told (λ folder. (now : Files) × (told_now ≡ Some now)
+    × ((name : List ℕ) → ¬ (IsTraceName trace.directory name) → name ≢ stored_name → files.get now name ≡ files.get folder name))
+
+-- a request to store or to reset that the folder failed at
+abbrev pub is_failed : Mark → Bool
+is_failed (Answered did.Failed) = true
+is_failed _ = false
+
+-- how often the trace ended by a failure: once or never
+abbrev pub trace_failures : Option TraceEnd → ℕ
+trace_failures (Some Failed) = 1
+trace_failures _ = 0
+
+-- how often the folder failed: at a request, or at the trace, which ends by it
+abbrev pub failures : List Mark → TraceState → ℕ
+failures done state = count_by is_failed done + trace_failures state.end
+
+-- ---- the whole
+
+-- A run was played: for some answers of the folder to the requests that asked it, records, journal, streams, backlog and trace files
+-- are those of the run of the steps. The folder's count of faults rose by as many as it failed, at least.
+pub record IsPlayed (setting : Setting) (stood : List StoredFile) (steps : List Step) (trace : Option Trace) (played : Played) (told told_now : Option Files) (faults faults_now : ℕ) : Type 0 where
+  pub answers : List Done
+  pub done : List Mark
+  pub run_is : done ≡ run setting answers steps
+  pub records_are : played.records ≡ records done
+  pub events_are : played.events.events ≡ journal done
+  pub streams_are : played.streams ≡ map (stream_of setting done) (clients done)
+  pub specs_are : played.specs ≡ specs_of done
+  pub ends_are : played.ends ≡ ends_of setting done played.ends.trace
+  pub backlog_is : played.backlog ≡ left setting.buffer (traffic (source_of setting done) (journal done))
+  pub trace_is : TellsOf setting stood done trace played.ends.trace
+  pub holds : Holds setting stood done trace played.ends.trace told told_now
+  pub faults_rose : min (faults + failures done played.ends.trace) (2 ^ 64 - 1) ≤ faults_now
