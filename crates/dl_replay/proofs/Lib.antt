@@ -1,3 +1,5 @@
-pub mod Counting
-pub mod Printing
-pub mod Streams
+pub mod Begins
+pub mod Folders
+pub mod Endings
+pub mod Playings
+pub mod Runs

@@ -1,10 +1,8 @@
-pub mod Events
-pub mod Frames
-pub mod ClientStream
-pub mod Steps
-pub mod Report
-pub mod Script
-pub mod Kept
-pub mod Program
-pub mod Reading
+pub mod Task
 pub mod Status
+pub mod Told
+pub mod Run
+pub mod Begin
+pub mod Finish
+pub mod Playing
+pub mod Program

@@ -1,96 +1,104 @@
--- What the program promises of each status.
-use Rattle.std.specs.Prelude.{◌≡◌, ◌≢◌, ◌↔◌, ℕ, ◌+◌, ◌≤◌, ◌⊎◌, Bool, false, List, [], ◌∷◌, ◌++◌, length, take, drop, codes, Option, Some, None, IfSome, option_map}
-use Rattle.std.specs.Str.{bytes_eq}
+-- What the program promises.
+use Rattle.std.specs.Prelude.{◌≡◌, ◌≢◌, ◌↔◌, ℕ, ◌<◌, ◌⊎◌, List, length, Option, Some, None, IfSome, IsSomeAnd, IsOk, IsOkAnd}
+use Rattle.std.specs.FinMap as map
+use Rattle.dl_outside.specs.Folder.{Files}
 use Rattle.dl_outside.specs.Outside.{HasRisen}
+use Rattle.dl_program.specs.Input.{GaveAtMost}
+use Rattle.dl_program.specs.Setup.{conf_in, stored_name}
+use Rattle.dl_script.specs.Script.{steps_of}
+use Rattle.dl_trace.specs.Stands.{IsTraceName}
+use Rattle.dl_replay.specs.declared.begin.Start.{Start}
 use Rattle.dl_replay.specs.declared.status.Status.{Status}
-use Rattle.dl_replay.specs.declared.status.Status.TheVariants.{Ok, WordsRefused, ScriptRefused, WriteFault, OutOfMemory, ReadFault}
-use Rattle.dl_replay.specs.Report.{report}
-use Rattle.dl_replay.specs.Script.{run_of, script_limit}
+use Rattle.dl_replay.specs.declared.status.Status.TheVariants.{Ok, WordsRefused, OutOfMemory, NamesSpent}
+use Rattle.dl_replay.specs.declared.task.Task.{Task}
+use Rattle.dl_replay.specs.declared.task.Task.TheVariants.{Steps, Generate}
+use Rattle.dl_replay.specs.Begin.{AreSetUp, IsReadUp, IsSaid, Refuses, conf_name}
+use Rattle.dl_replay.specs.Finish.{Ends}
+use Rattle.dl_replay.specs.Run.{Run, text_of}
 use Rattle.dl_replay.specs.Status.{line_of}
+use Rattle.dl_replay.specs.Task.{task_of}
+use Rattle.dl_replay.specs.Told.{IsUnchanged, SinkTold, Told, Wrote, WroteNothing}
 
--- the words after the program's name are `steps` alone
-abbrev pub asks_for_steps : List (List ℕ) → Bool
-asks_for_steps [] = false
-asks_for_steps (name ∷ []) = false
-asks_for_steps (name ∷ word ∷ []) = bytes_eq word (codes "steps")
-asks_for_steps (name ∷ word ∷ more ∷ words) = false
+-- ---- the two halves of a run
 
--- the control unit that the messages name: ECU1
-abbrev pub default_ecu : List ℕ
-default_ecu = codes "ECU1"
+-- What a run began with: what folder and input say; the input was read to its end.
+pub record Started (task : Task) (old new : Told) : Type 0 where
+  pub start : Start
+  pub said : IsSaid task old.input.left old.folder.files start
+  pub read : IsReadUp task old.input new.input
 
--- what the program prints for a script, or nothing where it refuses the script
-unfoldable pub printed : List ℕ → Option (List ℕ)
-printed script = option_map (report default_ecu) (run_of script)
+-- a task ended with this status: the run did not begin, or it began and ended so
+abbrev pub Outcome : Task → Told → Told → Status → Type 0
+Outcome task old new status =
+    (Refuses task old.input new.input old.folder new.folder status × WroteNothing old.out new.out)
+    ⊎ ((it : Started task old new) × Ends task it.start old.folder new.folder old.out new.out status)
 
--- ---- what an object of the outside holds, where it tells it
+-- Without a task all is left as it was.
+abbrev pub Asked : Option Task → Told → Told → Status → Type 0
+Asked None old new status = (status ≡ WordsRefused) × (new ≡ old)
+Asked (Some task) old new status = Outcome task old new status
 
--- a sink took this text, all of it
-abbrev pub TookAll : Option (List ℕ) → Option (List ℕ) → List ℕ → Type 0
-TookAll old new text = IfSome old (λ bytes. new ≡ Some (bytes ++ text))
+-- ---- what is written
 
--- a sink took the front of this text, and no more
-abbrev pub TookFront : Option (List ℕ) → Option (List ℕ) → List ℕ → Type 0
-TookFront old new text = IfSome old (λ bytes. (n : ℕ) × (n ≤ length text) × (new ≡ Some (bytes ++ take n text)))
+-- nothing was written and no file was to change
+pub record IsUntouched (old new : Told) : Type 0 where
+  pub out : WroteNothing old.out new.out
+  pub folder : IsUnchanged old.folder new.folder
 
--- a source gave no more than a script may have, and one byte
-abbrev pub GaveAtMost : Option (List ℕ) → Option (List ℕ) → Type 0
-GaveAtMost old new = IfSome old (λ bytes. (n : ℕ) × (n ≤ script_limit + 1) × (new ≡ Some (drop n bytes)))
+-- a run's report was written, whole or its front
+pub record HasReported (task : Task) (old new : Told) : Type 0 where
+  pub it : Started task old new
+  pub run : Run it.start old.folder new.folder
+  pub wrote : Wrote old.out new.out (text_of task run)
 
--- a source's script is one that the program refuses
-abbrev pub IsRefused : Option (List ℕ) → Type 0
-IsRefused left = IfSome left (λ script. printed script ≡ None)
+-- ---- the folder
 
--- ---- what a run leaves
+-- the name of a trace file: of the configuration that the files say, where that names a directory
+abbrev pub IsTraceFile : Files → List ℕ → Type 0
+IsTraceFile files name = IsOkAnd (conf_in conf_name files) (λ values. (0 < length values.directory) × IsTraceName values.directory name)
 
--- what input and output tell: what is left and what is held, and how often each has failed
-pub record Told : Type 0 where
-  pub left : Option (List ℕ)
-  pub reads_failed : ℕ
-  pub held : Option (List ℕ)
-  pub writes_failed : ℕ
+-- every file is as it was, but the trace files and the stored configuration
+abbrev pub ChangesOwnFiles : Option Files → Option Files → Type 0
+ChangesOwnFiles old new =
+    IfSome old (λ files. (now : Files) × (new ≡ Some now)
+    × ((name : List ℕ) → name ≢ stored_name → ¬ (IsTraceFile files name) → map.get now name ≡ map.get files name))
 
--- the script was read to its end, and what it prints was written whole
-abbrev pub IsDone : Told → Told → Type 0
-IsDone old new =
-    IfSome old.left (λ script. (text : List ℕ) × (printed script ≡ Some text) × (new.left ≡ Some []) × TookAll old.held new.held text)
+-- ---- completeness
 
--- the script was read to its end, and a front of what it prints was written
-abbrev pub IsCutShort : Told → Told → Type 0
-IsCutShort old new =
-    IfSome old.left (λ script. (text : List ℕ) × (printed script ≡ Some text) × (new.left ≡ Some []) × TookFront old.held new.held text)
+-- the steps of a task are there
+abbrev pub HasSteps : Task → Option (List ℕ) → Type 0
+HasSteps Steps left = IsSomeAnd left (λ script. IsOk (steps_of script))
+HasSteps (Generate number calls) left = Unit {0}
 
--- nothing failed so far
-abbrev pub ReadsWell : Told → Told → Type 0
-ReadsWell old new = new.reads_failed ≡ old.reads_failed
+-- what folder and input have is of the form, and nothing failed
+pub record IsLawful (task : Task) (old new : Told) : Type 0 where
+  pub confs : IsSomeAnd old.folder.files AreSetUp
+  pub steps : HasSteps task old.input.left
+  pub reads : ¬ (HasRisen old.input.failed new.input.failed)
+  pub keeps : ¬ (HasRisen old.folder.failed new.folder.failed)
+  pub writes : ¬ (HasRisen old.out.failed new.out.failed)
 
-abbrev pub WritesWell : Told → Told → Type 0
-WritesWell old new = new.writes_failed ≡ old.writes_failed
+-- ---- the whole
 
--- the output was left alone
-abbrev pub IsUnwritten : Told → Told → Type 0
-IsUnwritten old new = (new.held ≡ old.held) × WritesWell old new
-
--- What each status says. A script that prints is printed and one that is refused is refused, where nothing fails:
--- every other status has its cause, but want of memory.
-abbrev pub Outcome : Told → Told → Status → Type 0
-Outcome old new Ok = ReadsWell old new × WritesWell old new × IsDone old new
-Outcome old new WordsRefused = ReadsWell old new × (new.left ≡ old.left) × IsUnwritten old new
-Outcome old new ScriptRefused = ReadsWell old new × IsRefused old.left × IsUnwritten old new
-Outcome old new WriteFault = ReadsWell old new × HasRisen old.writes_failed new.writes_failed × IsCutShort old new
-Outcome old new OutOfMemory = ReadsWell old new × IsUnwritten old new
-Outcome old new ReadFault = HasRisen old.reads_failed new.reads_failed × IsUnwritten old new
-
--- What a run of the program comes to: the words, what input and output told before and after, what standard error
--- holds and how often it failed, and the status.
-pub record IsRun (words : List (List ℕ)) (old new : Told) (said_old said_new : Option (List ℕ)) (failed_old failed_new : ℕ) (status : Status) : Type 0 where
+-- What a run of the program comes to: the words, what input, folder and output told before and after, what standard error told before
+-- and after, and the status.
+pub record IsRun (words : List (List ℕ)) (old new : Told) (said said_now : SinkTold) (status : Status) : Type 0 where
   -- the words decide first
-  pub words_decide : (status ≡ WordsRefused) ↔ (asks_for_steps words ≡ false)
+  pub words_decide : (status ≡ WordsRefused) ↔ (task_of words ≡ None)
   -- what the status says
-  pub outcome : Outcome old new status
+  pub outcome : Asked (task_of words) old new status
+  -- what is written is the report of a run of the task, or its front; or nothing is written
+  pub written : WroteNothing old.out new.out ⊎ ((task : Task) × (task_of words ≡ Some task) × HasReported task old new)
+  -- the input was read to its end, or nothing was written and no file was to change
+  pub read_up : IsUntouched old new ⊎ ((task : Task) × (task_of words ≡ Some task) × IsReadUp task old.input new.input)
   -- no more is read than a script may have, and one byte
-  pub at_most : GaveAtMost old.left new.left
+  pub at_most : GaveAtMost old.input.left new.input.left
+  -- no other file changes
+  pub others : ChangesOwnFiles old.folder.files new.folder.files
+  -- where all is of the form and nothing fails, the report was written whole, or a frame had no name for its file, or memory was wanted
+  pub complete : (task : Task) → task_of words ≡ Some task → IsLawful task old new
+      → (status ≡ Ok) ⊎ (status ≡ NamesSpent) ⊎ (status ≡ OutOfMemory)
   -- nothing is said where all went well
-  pub silent : status ≡ Ok → (said_new ≡ said_old) × (failed_new ≡ failed_old)
-  -- else the status's line, whole; or a front of it, where standard error failed
-  pub said : status ≢ Ok → (TookAll said_old said_new (line_of status) × (failed_new ≡ failed_old)) ⊎ (TookFront said_old said_new (line_of status) × HasRisen failed_old failed_new)
+  pub silent : status ≡ Ok → WroteNothing said said_now
+  -- else the status's line, whole; or its front, where standard error failed
+  pub told : status ≢ Ok → Wrote said said_now (line_of status)

@@ -1,15 +1,12 @@
-//! The replay: a script of steps in, and what each client of the daemon was sent out.
+//! The replay: a script of steps, or one that a number makes, is played through the daemon, and what came of it is printed.
 #![tactic(auto)]
 
-mod event;
-mod machine;
-mod outside;
+mod begin;
+mod finish;
 mod program;
-mod report;
-mod script;
 mod status;
-mod stream;
+mod task;
 
 pub use program::replay;
-pub use script::SCRIPT_LIMIT;
 pub use status::Status;
+pub use task::Task;

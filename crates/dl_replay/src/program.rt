@@ -1,102 +1,186 @@
-//! The program: a script from standard input, its report to standard output, and a status.
+//! The program: what the words ask for is played, the report is written, and the status answered.
 
-ghost use Rattle.std.specs.Prelude.{◌≡◌, ◌≢◌, IfOk, map, option_map, string_bytes};
-ghost use Rattle.dl_replay.specs.declared.status.Status.{Status};
-ghost use Rattle.dl_replay.specs.Program.{asks_for_steps, printed, GaveAtMost, IsRun, Outcome};
+ghost use Rattle.std.specs.Prelude.{◌≡◌, map, string_bytes};
+ghost use Rattle.dl_program.specs.Input.{GaveAtMost};
+ghost use Rattle.dl_replay.specs.Finish.{Ends};
+ghost use Rattle.dl_replay.specs.Playing.{OwnFiles, Plays};
+ghost use Rattle.dl_replay.specs.Program.{Asked, ChangesOwnFiles, IsRun, Outcome};
 ghost use Rattle.dl_replay.specs.Status.{number};
+ghost use Rattle.dl_replay.specs.Task.{IsWithin, task_of};
+ghost use Rattle.dl_replay.specs.Told.{FolderTold, SinkTold, SourceTold, Told};
+ghost use Rattle.dl_replay.specs.declared.status.Status.{Status};
+ghost use Rattle.dl_script_laws.specs.Playable.{IsPlayable};
 
-use crate::outside::{ReadError, read_script, write_text};
-use crate::report::print;
-use crate::script;
+use crate::begin::{Start, begin};
+use crate::finish::finish;
 use crate::status::Status;
-use dl_bytes::Id;
-use dl_outside::{Sink, Source};
-use std::alloc::{AllocError, Global};
+use crate::task::{Task, task_of};
+use dl_outside::{Folder, Sink, Source};
+use dl_program::trace_over;
+use dl_trace::TraceFault;
+use dl_world::{Played, play};
+use std::alloc::Global;
 
-/// Whether the words after the program's name are `steps` alone.
-fn is_steps(words: &[String]) -> bool
-    ensures { result ≡ asks_for_steps (map string_bytes words.now) }
+/// Plays what a run begins with: first its trace is made over the files that stand. The answer is what was played, or why
+/// nothing was.
+fn play_start<F: Folder>(alloc: Global, start: Start, folder: &mut F) -> Result<Played, Status>
+    requires { IsPlayable start.steps }
+    ensures plays { Plays start
+        (record { files = F.files folder.old; failed = F.faults folder.old; changes = F.changes folder.old })
+        (record { files = F.files folder.new; failed = F.faults folder.new; changes = F.changes folder.new }) result }
+    ensures others { OwnFiles start (F.files folder.old) (F.files folder.new) }
 {
-    match words {
-        [_, word] => word.as_str() == "steps",
-        _ => false,
+    let Start {
+        conf,
+        stored,
+        steps,
+    } = start;
+    let trace = match trace_over(alloc, folder, &conf) {
+        Ok(trace) => trace,
+        Err(TraceFault::Failed) => return Err(Status::FolderFault),
+        Err(TraceFault::OutOfMemory) => return Err(Status::OutOfMemory),
+    };
+    match play(alloc, &conf, stored, trace, &steps, folder) {
+        Ok(played) => Ok(played),
+        Err(_) => Err(Status::OutOfMemory),
     }
 }
 
-/// What a script prints, or nothing where it is refused.
-#[tactic(auto, unfolding(crate::specs::Program::printed))]
-fn report_of(alloc: Global, script: &[u8]) -> Result<Option<Vec<u8>>, AllocError>
-    ensures { IfOk result (λ text. option_map (λ v. v.items) text ≡ printed script.now) }
+/// Plays what a run begins with, and writes its report.
+fn perform<F: Folder, O: Sink>(
+    alloc: Global,
+    task: Task,
+    start: Start,
+    folder: &mut F,
+    out: &mut O,
+) -> Status
+    requires { IsPlayable start.steps }
+    ensures ends { Ends task start
+        (record { files = F.files folder.old; failed = F.faults folder.old; changes = F.changes folder.old })
+        (record { files = F.files folder.new; failed = F.faults folder.new; changes = F.changes folder.new })
+        (record { held = O.held out.old; failed = O.faults out.old })
+        (record { held = O.held out.new; failed = O.faults out.new }) result }
+    ensures others { OwnFiles start (F.files folder.old) (F.files folder.new) }
 {
-    match script::run(alloc, script)? {
-        Some(events) => Ok(Some(print(alloc, Id::from_bytes(*b"ECU1"), &events)?)),
-        None => Ok(None),
-    }
+    let before = folder.faults();
+    let played = match play_start(alloc, start, folder) {
+        Ok(played) => played,
+        Err(status) => return status,
+    };
+    let failed = folder.faults() > before;
+    finish(alloc, task, &played, failed, out)
 }
 
-/// Plays the script of the input, and writes what it prints.
-fn play<I: Source, O: Sink>(alloc: Global, input: &mut I, out: &mut O) -> Status
-    ensures words { result ≢ Status.WordsRefused }
-    ensures outcome { Outcome (record { left = I.left input.old; reads_failed = I.faults input.old; held = O.held out.old; writes_failed = O.faults out.old })
-        (record { left = I.left input.new; reads_failed = I.faults input.new; held = O.held out.new; writes_failed = O.faults out.new }) result }
+/// Does what a task asks for.
+fn serve<F: Folder, I: Source, O: Sink>(
+    alloc: Global,
+    task: Task,
+    input: &mut I,
+    folder: &mut F,
+    out: &mut O,
+) -> Status
+    requires { IsWithin task }
+    ensures outcome { Outcome task
+        (record {
+          input = record { left = I.left input.old; failed = I.faults input.old };
+          folder = record { files = F.files folder.old; failed = F.faults folder.old; changes = F.changes folder.old };
+          out = record { held = O.held out.old; failed = O.faults out.old };
+        })
+        (record {
+          input = record { left = I.left input.new; failed = I.faults input.new };
+          folder = record { files = F.files folder.new; failed = F.faults folder.new; changes = F.changes folder.new };
+          out = record { held = O.held out.new; failed = O.faults out.new };
+        }) result }
     ensures at_most { GaveAtMost (I.left input.old) (I.left input.new) }
+    ensures others { ChangesOwnFiles (F.files folder.old) (F.files folder.new) }
 {
-    let script = match read_script(alloc, input) {
-        Ok(script) => script,
-        Err(ReadError::Long) => return Status::ScriptRefused,
-        Err(ReadError::Fault) => return Status::ReadFault,
-        Err(ReadError::Memory) => return Status::OutOfMemory,
-    };
-    let text = match report_of(alloc, &script) {
-        Ok(Some(text)) => text,
-        Ok(None) => return Status::ScriptRefused,
-        Err(_) => return Status::OutOfMemory,
-    };
-    match write_text(out, &text) {
-        Ok(()) => Status::Ok,
-        Err(_) => Status::WriteFault,
+    match begin(alloc, task, input, folder) {
+        Ok(start) => perform(alloc, task, start, folder, out),
+        Err(status) => status,
+    }
+}
+
+/// Does what the words ask for.
+fn ask<F: Folder, I: Source, O: Sink>(
+    alloc: Global,
+    words: &[String],
+    input: &mut I,
+    folder: &mut F,
+    out: &mut O,
+) -> Status
+    ensures asked { Asked (task_of (map string_bytes words.now))
+        (record {
+          input = record { left = I.left input.old; failed = I.faults input.old };
+          folder = record { files = F.files folder.old; failed = F.faults folder.old; changes = F.changes folder.old };
+          out = record { held = O.held out.old; failed = O.faults out.old };
+        })
+        (record {
+          input = record { left = I.left input.new; failed = I.faults input.new };
+          folder = record { files = F.files folder.new; failed = F.faults folder.new; changes = F.changes folder.new };
+          out = record { held = O.held out.new; failed = O.faults out.new };
+        }) result }
+    ensures at_most { GaveAtMost (I.left input.old) (I.left input.new) }
+    ensures others { ChangesOwnFiles (F.files folder.old) (F.files folder.new) }
+{
+    match task_of(words) {
+        Some(task) => serve(alloc, task, input, folder, out),
+        None => Status::WordsRefused,
     }
 }
 
 /// What `replay` does, with the status by its name.
-fn ended<I: Source, O: Sink, E: Sink>(
+fn run<F: Folder, I: Source, O: Sink, E: Sink>(
     alloc: Global,
     words: &[String],
     input: &mut I,
+    folder: &mut F,
     out: &mut O,
     err: &mut E,
 ) -> Status
     ensures { IsRun (map string_bytes words.now)
-        (record { left = I.left input.old; reads_failed = I.faults input.old; held = O.held out.old; writes_failed = O.faults out.old })
-        (record { left = I.left input.new; reads_failed = I.faults input.new; held = O.held out.new; writes_failed = O.faults out.new })
-        (E.held err.old) (E.held err.new) (E.faults err.old) (E.faults err.new) result }
+        (record {
+          input = record { left = I.left input.old; failed = I.faults input.old };
+          folder = record { files = F.files folder.old; failed = F.faults folder.old; changes = F.changes folder.old };
+          out = record { held = O.held out.old; failed = O.faults out.old };
+        })
+        (record {
+          input = record { left = I.left input.new; failed = I.faults input.new };
+          folder = record { files = F.files folder.new; failed = F.faults folder.new; changes = F.changes folder.new };
+          out = record { held = O.held out.new; failed = O.faults out.new };
+        })
+        (record { held = E.held err.old; failed = E.faults err.old })
+        (record { held = E.held err.new; failed = E.faults err.new }) result }
 {
-    let status = if is_steps(words) {
-        play(alloc, input, out)
-    } else {
-        Status::WordsRefused
-    };
-    if status != Status::Ok {
-        let _ = write_text(err, status.line());
-    }
+    let status = ask(alloc, words, input, folder, out);
+    status.say(err);
     status
 }
 
-/// Plays a script: reads it from `input`, and writes to `out` what each client of the daemon was sent. The words are
-/// those of the command line, the program's name first. The answer is the exit status, the number of a `Status`. Each
-/// status but `Ok` is said on `err` in one line, and a fault of `err` changes nothing. Each script has its status,
-/// unless memory runs out.
-pub fn replay<I: Source, O: Sink, E: Sink>(
+/// Plays a script: that of the input with the word `steps`, one that a number makes with `generate NUMBER CALLS`; the words
+/// are those of the command line, the program's name first. The configuration, the stored one and the trace files are those
+/// of the folder. What came of it is written to `out`. The answer is the exit status, the number of a `Status`. Each
+/// status but `Ok` is said on `err` in one line, and a fault of `err` changes nothing.
+pub fn replay<F: Folder, I: Source, O: Sink, E: Sink>(
     alloc: Global,
     words: &[String],
     input: &mut I,
+    folder: &mut F,
     out: &mut O,
     err: &mut E,
 ) -> u8
     ensures { (status : Status) × (result ≡ number status) × IsRun (map string_bytes words.now)
-        (record { left = I.left input.old; reads_failed = I.faults input.old; held = O.held out.old; writes_failed = O.faults out.old })
-        (record { left = I.left input.new; reads_failed = I.faults input.new; held = O.held out.new; writes_failed = O.faults out.new })
-        (E.held err.old) (E.held err.new) (E.faults err.old) (E.faults err.new) status }
+        (record {
+          input = record { left = I.left input.old; failed = I.faults input.old };
+          folder = record { files = F.files folder.old; failed = F.faults folder.old; changes = F.changes folder.old };
+          out = record { held = O.held out.old; failed = O.faults out.old };
+        })
+        (record {
+          input = record { left = I.left input.new; failed = I.faults input.new };
+          folder = record { files = F.files folder.new; failed = F.faults folder.new; changes = F.changes folder.new };
+          out = record { held = O.held out.new; failed = O.faults out.new };
+        })
+        (record { held = E.held err.old; failed = E.faults err.old })
+        (record { held = E.held err.new; failed = E.faults err.new }) status }
 {
-    ended(alloc, words, input, out, err).number()
+    run(alloc, words, input, folder, out, err).number()
 }

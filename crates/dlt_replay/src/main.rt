@@ -1,7 +1,8 @@
-//! `dlt_replay steps`: plays a script from standard input, and prints what each client of the daemon was sent.
+//! `dlt_replay steps` plays the script of standard input, and `dlt_replay generate NUMBER CALLS` one that a number makes. It
+//! prints what came of it. The configuration and the trace files are those of the current folder.
 #![tactic(auto)]
 
-use dl_real::{Reading, Writing};
+use dl_real::{Directory, Reading, Writing};
 use dl_replay::{Status, replay};
 use std::env;
 use std::io::ErrorKind;
@@ -23,7 +24,15 @@ fn main(rt: HostRuntime) -> ExitCode {
         return ExitCode::from(Status::OutOfMemory.number());
     };
     let mut input = Reading::over(rt.stdin());
+    let mut folder = Directory::over(rt);
     let mut out = Writing::over(rt.stdout());
     let mut err = Writing::over(rt.stderr());
-    ExitCode::from(replay(rt.alloc(), &words, &mut input, &mut out, &mut err))
+    ExitCode::from(replay(
+        rt.alloc(),
+        &words,
+        &mut input,
+        &mut folder,
+        &mut out,
+        &mut err,
+    ))
 }

@@ -180,6 +180,7 @@ const EXAMPLE_OUT: &str = "client 1 left 5 228 complete
 3D 02 00 47 45 43 55 31 00 00 00 01 00 00 00 03 41 03 4C 4F 47 31 54 45 53 54 00 82 00 00 09 00 73 61 79 20 22 68 69 22 00 00 8A 00 00 06 00 06 00 70 6C 61 63 65 00 63 61 62 69 6E 00 00 82 00 00 04 00 78 78 78 00
 3D 03 00 2E 45 43 55 31 00 00 00 01 00 00 00 04 41 01 4C 4F 47 31 54 45 53 54 45 00 00 00 FF FF FF FF FF FF FF FF FF FF FF FF FF FF FF FF
 3D 04 00 1A 45 43 55 31 00 00 00 01 00 00 00 05 41 00 4C 4F 47 31 54 45 53 54
+app LOG1 calls 5 queued 5 filtered 0 lost 0 reported 0
 ";
 
 /// The declarations, and a call of these arguments.
@@ -195,7 +196,7 @@ fn printed(alloc: Global, args: u8, payload: &str) -> Result<String, AllocError>
     let bytes = 26 + (payload.len() as u64 + 1) / 3;
     let blank = if payload.is_empty() { "" } else { " " };
     format!(in alloc;
-        "client 1 stopped 1 {bytes} complete\n3D 00 00 {bytes:02X} 45 43 55 31 00 00 00 01 00 00 00 01 41 {args:02X} 4C 4F 47 31 54 45 53 54{blank}{payload}\n"
+        "client 1 stopped 1 {bytes} complete\n3D 00 00 {bytes:02X} 45 43 55 31 00 00 00 01 00 00 00 01 41 {args:02X} 4C 4F 47 31 54 45 53 54{blank}{payload}\napp LOG1 calls 1 queued 1 filtered 0 lost 0 reported 0\n"
     )
 }
 

@@ -1,5 +1,4 @@
-//! Worked examples as tables: whole scripts through the replay, rows of the hub and of the trace files, with objects in
-//! memory on all sides.
+//! Worked examples as tables: whole scripts through the replay, with objects in memory on all sides.
 #![tactic(auto)]
 
 #[cfg(test)]
@@ -7,10 +6,8 @@ mod arguments;
 #[cfg(test)]
 mod faults;
 #[cfg(test)]
-mod hub;
+mod folders;
 #[cfg(test)]
 mod played;
 #[cfg(test)]
-mod scripts;
-#[cfg(test)]
-mod trace;
+mod rows;

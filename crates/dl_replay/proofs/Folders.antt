@@ -1,0 +1,67 @@
+-- What a folder tells, over calls in a row; and which of its files changed.
+use Rattle.std.proofs.Common.{◌≡◌, ◌≢◌, ℕ, ◌<◌, List, length, Option, Some, None, refl, sym, subst, ◌∙◌}
+use Rattle.std.specs.Prelude.{IfSome, IsOkAnd, Result, Ok}
+use Rattle.dl_conf.specs.Outcome.{values_of}
+use Rattle.dl_outside.specs.Folder.{Files}
+use Rattle.dl_outside.specs.Outside.{Stays}
+use Rattle.dl_program.specs.Setup.{conf_in, stored_name}
+use Rattle.dl_replay.specs.declared.begin.Start.{Start}
+use Rattle.dl_replay.specs.Begin.{IsQuiet, IsSaid, conf_name}
+use Rattle.dl_replay.specs.Playing.{OwnFiles}
+use Rattle.dl_replay.specs.Program.{ChangesOwnFiles}
+use Rattle.dl_replay.specs.Told.{FolderTold, IsUnchanged}
+use Rattle.dl_replay.specs.declared.task.Task.{Task}
+use Rattle.dl_trace.specs.Stands.{IsTraceName}
+
+-- ---- what is told
+
+pub if_some_of : {A : Type 0} → (o : Option A) (x : A) (P : A → Type 0) → o ≡ Some x → IfSome o P → P x
+if_some_of o x P e h = subst (λ v. IfSome v P) e h
+
+pub if_some_as : {A : Type 0} → (o : Option A) (x : A) (P : A → Type 0) → o ≡ Some x → P x → IfSome o P
+if_some_as o x P e h = subst (λ v. IfSome v P) (sym e) h
+
+pub both : {A : Type 0} → (o : Option A) (P Q : A → Type 0) → IfSome o P → IfSome o Q → IfSome o (λ x. P x × Q x)
+both None P Q p q = tt
+both (Some x) P Q p q = (p, q)
+
+pub each : {A : Type 0} → (o : Option A) (P Q : A → Type 0) → ((x : A) → P x → Q x) → IfSome o P → IfSome o Q
+each None P Q f h = tt
+each (Some x) P Q f h = f x h
+
+-- it stays over two calls
+pub stays_on : {A : Type 0} → (old mid new : Option A) → Stays old mid → Stays mid new → Stays old new
+stays_on None mid new a b = tt
+stays_on (Some x) mid new a b = if_some_of mid x (λ told. new ≡ Some told) a b
+
+-- what is known of what was told later is known of what was told before
+pub known_before : {A : Type 0} → (old mid : Option A) (P : A → Type 0) → Stays old mid → IfSome mid P → IfSome old P
+known_before None mid P a h = tt
+known_before (Some x) mid P a h = if_some_of mid x P a h
+
+pub unchanged_on : (old mid new : FolderTold) → IsUnchanged old mid → IsUnchanged mid new → IsUnchanged old new
+unchanged_on old mid new a b = record { files = stays_on old.files mid.files new.files a.files b.files; changes = b.changes ∙ a.changes }
+
+pub quiet_on : (old mid new : FolderTold) → IsQuiet old mid → IsQuiet mid new → IsQuiet old new
+quiet_on old mid new a b = record { unchanged = unchanged_on old mid new a.unchanged b.unchanged; well = b.well ∙ a.well }
+
+-- ---- files that change
+
+-- nothing changed
+pub nothing_changes : (old new : Option Files) → Stays old new → ChangesOwnFiles old new
+nothing_changes None new same = tt
+nothing_changes (Some files) new same = (files, same, λ name apart other. refl)
+
+pub all_stay : (old : Option Files) → ChangesOwnFiles old old
+all_stay None = tt
+all_stay (Some files) = (files, refl, λ name apart other. refl)
+
+as_ok : {A E : Type 0} → (r : Result A E) (x : A) (P : A → Type 0) → r ≡ Ok x → P x → IsOkAnd r P
+as_ok r x P e h = subst (λ v. IsOkAnd v P) (sym e) h
+
+-- where the files say the configuration of the start, its own files are those of the files
+pub own_files : (task : Task) (left : Option (List ℕ)) (old mid new : Option Files) (start : Start) → IsSaid task left old start → Stays old mid → OwnFiles start mid new → ChangesOwnFiles old new
+own_files task left None mid new start said same own = tt
+own_files task left (Some files) mid new start said same own =
+    let here : (now : Files) × (new ≡ Some now) × ((name : List ℕ) → name ≢ stored_name → ¬ ((0 < length start.conf.directory) × IsTraceName start.conf.directory name) → _) = if_some_of mid files _ same own in
+    (here.0, here.1, λ name apart other. here.2 name apart (λ traced. other (as_ok (conf_in conf_name files) (values_of start.conf) (λ values. (0 < length values.directory) × IsTraceName values.directory name) said.confs.conf traced)))

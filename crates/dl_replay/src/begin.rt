@@ -1,0 +1,138 @@
+//! What a run begins with: the configurations of the folder, and the steps of the task.
+
+ghost use Rattle.std.specs.Prelude.{◌≡◌, ◌≤◌, IfOk};
+ghost use Rattle.dl_program.specs.Input.{GaveAtMost};
+ghost use Rattle.dl_replay.specs.Begin.{Begins, MakesSteps, SetsUp, TakesSteps};
+ghost use Rattle.dl_replay.specs.Task.{IsWithin};
+ghost use Rattle.dl_replay.specs.Told.{FolderTold, SourceTold};
+ghost use Rattle.dl_script_laws.specs.Playable.{IsPlayable};
+
+use crate::status::Status;
+use crate::task::Task;
+use dl_bytes::{Conf, Stored};
+use dl_outside::{Folder, Source};
+use dl_program::{CONF_NAME, ReadError, SetupError, conf_in, read_text, stored_in};
+use dl_script::{ScriptError, ScriptKind, generate, read_steps};
+use dl_script_laws::playing::{what_is_generated_can_be_played, what_is_read_can_be_played};
+use dl_steps::StepList;
+use std::alloc::Global;
+
+/// The configuration and the stored one.
+#[derive(Drop)]
+pub struct Setup {
+    pub conf: Conf,
+    pub stored: Stored,
+}
+
+/// What a run begins with.
+#[derive(Drop)]
+pub struct Start {
+    /// The configuration.
+    pub conf: Conf,
+    /// The stored configuration.
+    pub stored: Stored,
+    /// The steps that are played.
+    pub steps: StepList,
+}
+
+/// The configuration and the stored one, or why they aren't there.
+fn set_up<F: Folder>(alloc: Global, folder: &mut F) -> Result<Setup, Status>
+    ensures { SetsUp (record { files = F.files folder.old; failed = F.faults folder.old; changes = F.changes folder.old })
+        (record { files = F.files folder.new; failed = F.faults folder.new; changes = F.changes folder.new }) result }
+{
+    let conf = match conf_in(alloc, folder, CONF_NAME) {
+        Ok(conf) => conf,
+        Err(SetupError::Fault { line, kind }) => return Err(Status::ConfRefused { line, kind }),
+        Err(SetupError::Folder) => return Err(Status::FolderFault),
+        Err(SetupError::OutOfMemory) => return Err(Status::OutOfMemory),
+    };
+    match stored_in(alloc, folder) {
+        Ok(stored) => Ok(Setup { conf, stored }),
+        Err(SetupError::Fault { line, kind }) => Err(Status::StoredRefused { line, kind }),
+        Err(SetupError::Folder) => Err(Status::FolderFault),
+        Err(SetupError::OutOfMemory) => Err(Status::OutOfMemory),
+    }
+}
+
+/// The steps of the script that the input has, or why they aren't there.
+fn read_script<I: Source>(alloc: Global, input: &mut I) -> Result<StepList, Status>
+    ensures steps { TakesSteps Task.Steps (record { left = I.left input.old; failed = I.faults input.old })
+        (record { left = I.left input.new; failed = I.faults input.new }) result }
+    ensures at_most { GaveAtMost (I.left input.old) (I.left input.new) }
+    ensures playable { IfOk result IsPlayable }
+{
+    let text = match read_text(alloc, input) {
+        Ok(text) => text,
+        Err(ReadError::Long) => {
+            return Err(Status::ScriptRefused {
+                line: 0,
+                kind: ScriptKind::Size,
+            });
+        }
+        Err(ReadError::Fault) => return Err(Status::ReadFault),
+        Err(ReadError::OutOfMemory) => return Err(Status::OutOfMemory),
+    };
+    what_is_read_can_be_played();
+    match read_steps(alloc, &text) {
+        Ok(steps) => Ok(steps),
+        Err(ScriptError::Fault { line, kind }) => Err(Status::ScriptRefused { line, kind }),
+        Err(ScriptError::OutOfMemory) => Err(Status::OutOfMemory),
+    }
+}
+
+/// The steps that a number makes.
+fn make_script(alloc: Global, number: u64, calls: u32) -> Result<StepList, Status>
+    requires { calls ≤ 1000000 }
+    ensures steps { MakesSteps number calls result }
+    ensures playable { IfOk result IsPlayable }
+{
+    what_is_generated_can_be_played();
+    match generate(alloc, number, calls) {
+        Ok(steps) => Ok(steps),
+        Err(_) => Err(Status::OutOfMemory),
+    }
+}
+
+/// The steps of the task, or why they aren't there.
+fn steps_for<I: Source>(alloc: Global, task: Task, input: &mut I) -> Result<StepList, Status>
+    requires { IsWithin task }
+    ensures steps { TakesSteps task (record { left = I.left input.old; failed = I.faults input.old })
+        (record { left = I.left input.new; failed = I.faults input.new }) result }
+    ensures at_most { GaveAtMost (I.left input.old) (I.left input.new) }
+    ensures playable { IfOk result IsPlayable }
+{
+    match task {
+        Task::Steps => read_script(alloc, input),
+        Task::Generate { number, calls } => make_script(alloc, number, calls),
+    }
+}
+
+/// What a run of the task begins with: first the configuration is read, then the stored one, then the script.
+pub fn begin<F: Folder, I: Source>(
+    alloc: Global,
+    task: Task,
+    input: &mut I,
+    folder: &mut F,
+) -> Result<Start, Status>
+    requires { IsWithin task }
+    ensures begins { Begins task
+        (record { left = I.left input.old; failed = I.faults input.old })
+        (record { left = I.left input.new; failed = I.faults input.new })
+        (record { files = F.files folder.old; failed = F.faults folder.old; changes = F.changes folder.old })
+        (record { files = F.files folder.new; failed = F.faults folder.new; changes = F.changes folder.new }) result }
+    ensures at_most { GaveAtMost (I.left input.old) (I.left input.new) }
+    ensures playable { IfOk result (λ start. IsPlayable start.steps) }
+{
+    let setup = match set_up(alloc, folder) {
+        Ok(setup) => setup,
+        Err(status) => return Err(status),
+    };
+    match steps_for(alloc, task, input) {
+        Ok(steps) => Ok(Start {
+            conf: setup.conf,
+            stored: setup.stored,
+            steps,
+        }),
+        Err(status) => Err(status),
+    }
+}
