@@ -1,13 +1,14 @@
 //! The ends of one application's ring and of its queue of injections.
 
+use crate::counted_take::CountedTake;
 use dl_injections::InjectTake;
-use dl_ring::{InjectPush, RingPush, RingTake};
+use dl_ring::{InjectPush, RingPush};
 
 /// The daemon's: it takes from the ring, and puts injections into the queue.
 #[derive(Drop)]
 pub struct AppEnds {
     /// The pass that takes the application's calls.
-    pub ring: RingTake,
+    pub ring: CountedTake,
     /// The pass that pushes its injections.
     pub queue: InjectPush,
 }

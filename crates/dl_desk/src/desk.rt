@@ -6,6 +6,7 @@ ghost use Rattle.dl_bytes.specs.declared.item.Item.{Item as item_type};
 ghost use Rattle.dl_levels.specs.History.{last_version};
 ghost use Rattle.dl_desk.specs.Lists.{At};
 ghost use Rattle.dl_desk.specs.Apps.{declared_apps};
+ghost use Rattle.dl_desk.specs.DeskInside.{IsDesk};
 ghost use Rattle.dl_desk.specs.Ends.{RingHolds, with_empty_take, with_injected, with_item, with_level, with_refusal, with_report};
 ghost use Rattle.dl_desk.specs.Made.{AreFit, IsLater, IsMadeWith, IsNew, IsUnused, MakesWriter, writer_fault};
 
@@ -142,8 +143,9 @@ impl Desk {
         self.owners.len() as u8
     }
 
-    /// Its parts.
+    /// Its parts, with all that is true of them together.
     pub fn into_parts(self) -> DeskParts
+        ensures kept { IsDesk self }
         ensures apps { result.apps ≡ self.apps }
         ensures ends { result.ends ≡ self.ends }
         ensures firsts { result.firsts.items ≡ self.firsts }

@@ -1,6 +1,6 @@
 //! The daemon's ends of all that it shares with the writers.
 
-ghost use Rattle.std.specs.Prelude.{◌≡◌, ◌+◌, ◌-◌, ◌*◌, ◌^◌, ◌<◌, ◌≤◌, ◌↔◌, List, ℕ, [], ◌∷◌, ◌++◌, length, All, IfOk, IfErr, IfSome, IfNone, IsErr, OnOk, OnErr, OnSome};
+ghost use Rattle.std.specs.Prelude.{◌≡◌, ◌+◌, ◌-◌, ◌*◌, ◌%◌, ◌^◌, ◌<◌, ◌≤◌, ◌↔◌, List, ℕ, [], ◌∷◌, ◌++◌, length, All, IfOk, IfErr, IfSome, IfNone, IsErr, OnOk, OnErr, OnSome};
 ghost use Rattle.dl_bytes.specs.declared.item.Item.{Item as item_type};
 ghost use Rattle.dl_levels.specs.History.{last_version, IsEntry};
 ghost use Rattle.dl_levels.specs.declared.history.Read.{Read};
@@ -113,6 +113,14 @@ impl DaemonEnds {
         let ends = &mut self.apps[usize::from(app)];
         ends.ring.look();
         ends.queue.look();
+    }
+
+    /// How many calls were taken from the ring of an application, modulo 2^64.
+    pub fn taken(&self, app: u8) -> u64
+        requires { app < length self.now.apps }
+        ensures { At self.now.apps app (λ e. result ≡ length e.ring.taken % 2 ^ 64) }
+    {
+        self.apps[usize::from(app)].ring.taken()
     }
 
     /// How many losses of an application wait to be taken: a look at its word.

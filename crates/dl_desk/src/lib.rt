@@ -22,6 +22,7 @@
 
 mod app;
 mod app_ends;
+mod counted_take;
 mod desk;
 mod ends;
 mod fault;
@@ -31,6 +32,7 @@ mod post;
 
 pub use app::{App, AppList};
 pub use app_ends::{AppEnds, FirstEnds};
+pub use counted_take::CountedTake;
 pub use desk::{Desk, DeskParts};
 pub use dl_bytes::{AppSpec, Ctx};
 pub use dl_events::{Answer, Record};

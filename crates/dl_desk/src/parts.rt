@@ -9,6 +9,7 @@ ghost use Rattle.dl_desk.specs.Made.{IsNew};
 
 use crate::app::{App, AppList, copied};
 use crate::app_ends::{AppEnds, FirstEnds};
+use crate::counted_take::CountedTake;
 use crate::desk::Desk;
 use crate::ends::DaemonEnds;
 use arrayvec::ArrayVec;
@@ -52,7 +53,8 @@ impl Parts {
     {
         let number = self.list.len() as u8;
         let app = App::declared(alloc, number, spec)?;
-        let (push, ring) = make_ring(alloc, spec.capacity)?;
+        let (push, pass) = make_ring(alloc, spec.capacity)?;
+        let ring = CountedTake::over(pass);
         let (queue, injections) = make_injections(alloc)?;
         self.apps.push(AppSpec {
             apid: spec.apid,

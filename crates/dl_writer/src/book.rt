@@ -1,6 +1,6 @@
 //! A writer together with the records of its calls.
 
-ghost use Rattle.std.specs.Prelude.{◌≡◌, ◌+◌, ◌<◌, ◌≤◌, ◌∷◌, ◌++◌, ℕ, [], IfErr, IfOk, IfSome, IfNone, OnErr, OnSome, length};
+ghost use Rattle.std.specs.Prelude.{◌≡◌, ◌+◌, ◌^◌, ◌<◌, ◌≤◌, ◌∷◌, ◌++◌, ℕ, [], IfErr, IfOk, IfSome, IfNone, OnErr, OnSome, length};
 ghost use Rattle.std.specs.Result.{result_err};
 ghost use Rattle.dl_injections.specs.Order.{Rises, MetEmpty};
 ghost use Rattle.dl_writer.specs.Calls.{asked, record_fault, with_empty, with_injection, Keeps};
@@ -100,6 +100,14 @@ impl Book {
         ensures range { result < 16 }
     {
         self.writer.app()
+    }
+
+    /// How many calls the ring took of its writer, those before the book was made too.
+    pub fn queued(&self) -> u64
+        ensures value { result ≡ length self.now.writer.push.pushed }
+        ensures range { result ≤ 2 ^ 40 }
+    {
+        self.writer.queued()
     }
 
     /// How many injections its writer was given, those before the book was made too.
