@@ -1,0 +1,133 @@
+-- The account of all that was logged.
+use Rattle.std.proofs.Common.{◌≡◌, ℕ, ◌+◌, ◌-◌, ◌<◌, ◌==◌, Bool, true, false, cond, eqb, List, [], ◌∷◌, ◌++◌, length, map, get_or, slice_get, append-nil, refl, sym, ap, ◌∙◌, subst, eq-eqb, length-append, arith}
+use Rattle.std.specs.Prelude.{All}
+use Rattle.std.specs.List.{filter, flat_map}
+use Rattle.std.proofs.lemmas.Bool.{eqb-true}
+use Rattle.std.proofs.lemmas.List.{nil_from_length}
+use Rattle.std.proofs.lemmas.List.Concat.{flat_map-cons}
+use Rattle.std.proofs.lemmas.List.Elements.{All-head, All-tail, All-weaker, filter-append}
+use Rattle.std.proofs.lemmas.List.Sums.{sum_by-cons}
+use Rattle.dl_bytes.specs.declared.item.Item.{Item}
+use Rattle.dl_bytes.specs.declared.outcome.Ends.{Ends}
+use Rattle.dl_events.specs.declared.event.Event.{Event}
+use Rattle.dl_events.specs.declared.record.Answer.TheVariants as answer
+use Rattle.dl_events.specs.declared.record.Record.{Record}
+use Rattle.dl_levels.specs.declared.history.Read.{Read}
+use Rattle.dl_levels.specs.History as levels
+use Rattle.dl_losses.specs.Losses.{counted_of}
+use Rattle.dl_model.specs.Accounts.{order, of_writer, name_of, with_answer}
+use Rattle.dl_model.specs.Report.{is_answer}
+use Rattle.dl_ring.specs.Order.{of}
+use Rattle.dl_writer.specs.Records.{IsHeld, IsOf, TellAll}
+use Rattle.dl_writer.specs.State.{BookState, IsWhole, WriterState}
+use Rattle.dl_writer.proofs.Accounting.{account, losses}
+use Rattle.dl_lib.specs.Books.{books_of, lost_of, queued_of, records_of}
+use Rattle.dl_lib.specs.ClosingInside.{HaveBooks, HaveEnds}
+use Rattle.dl_lib.specs.Known.{IsAllOf, IsDrained, taken_of}
+use Rattle.dl_lib.specs.Settled.{IsAccountOf, IsJournalOf, IsSettled, TellsLosses, TellsQueued, account_of}
+use Rattle.dl_lib.specs.State.{AccountState, ClosingState}
+use Rattle.dl_lib.proofs.Knowing.{queue_of, ring_of}
+use Rattle.dl_lib.proofs.Lists.{all_passing, filter-map}
+
+-- ---- what is settled
+
+-- an empty ring holds nothing
+all_taken : (app : ℕ) (books : List BookState) (taken contents : List Item) → IsAllOf app books (taken ++ contents) → length taken ≡ queued_of app books → IsAllOf app books taken
+all_taken app books taken contents all empty =
+    let c = all.count in
+    let none : contents ≡ [] = nil_from_length contents (omega (arith, empty, c, length-append taken contents)) in
+    subst (IsAllOf app books) (ap (λ (l : List Item). taken ++ l) none ∙ append-nil taken) all
+
+pub settled : (s : ClosingState) (events : List Event) (outcome : Ends) → HaveBooks (length s.apps) s.books → HaveEnds s → IsDrained s → IsSettled (account_of s events outcome)
+settled s events outcome books ends drained = record {
+  numbered = books.numbered;
+  owned = books.owned;
+  taken = λ app within. (let held = ring_of s ends app within in all_taken app s.books (taken_of s.ends app) held.0 held.1 (drained app within).0);
+  reported = λ app within. (drained app within).1;
+  held = ends.levels;
+  given = queue_of s ends;
+  told = books.told;
+}
+
+-- ---- losses
+
+abbrev one_if : Bool → ℕ
+one_if b = cond b 1 0
+
+-- the records of another application's writer have no loss of this one
+none_lost : (app : ℕ) (w : WriterState) (rs : List Record) → eqb w.app app ≡ false → All (IsOf w) rs → counted_of app (map (λ (r : Record). r.item.app) (with_answer answer.Lost rs)) ≡ 0
+none_lost app w [] other own = refl
+none_lost app w (r ∷ rs) other own = by_test (none_lost app w rs other (All-tail (IsOf w) r rs own)) (is_answer answer.Lost r.answer) where
+  by_test : counted_of app (map (λ (r : Record). r.item.app) (with_answer answer.Lost rs)) ≡ 0 → (b : Bool) → counted_of app (map (λ (r : Record). r.item.app) (cond b (r ∷ with_answer answer.Lost rs) (with_answer answer.Lost rs))) ≡ 0
+  by_test rest false = rest
+  by_test rest true =
+      let this : one_if (eqb r.item.app app) ≡ 0 = ap (λ (n : ℕ). one_if (eqb n app)) (All-head (IsOf w) r rs own).0 ∙ ap one_if other in
+      sum_by-cons (λ (a : ℕ). one_if (eqb a app)) r.item.app (map (λ (r : Record). r.item.app) (with_answer answer.Lost rs)) ∙ omega (arith, this, rest)
+
+with_answer-append : (xs ys : List Record) → length (with_answer answer.Lost (xs ++ ys)) ≡ length (with_answer answer.Lost xs) + length (with_answer answer.Lost ys)
+with_answer-append xs ys = ap length (filter-append (λ (r : Record). is_answer answer.Lost r.answer) xs ys) ∙ length-append (with_answer answer.Lost xs) (with_answer answer.Lost ys)
+
+-- what the writers counted of an application are the lost calls of its writers
+lost_calls : (app : ℕ) (books : List BookState) → All (λ (b : BookState). TellAll b.writer b.records) books → lost_of app books ≡ length (with_answer answer.Lost (records_of app books))
+lost_calls app [] told = refl
+lost_calls app (b ∷ books) told = by_test (lost_calls app books (All-tail (λ (b : BookState). TellAll b.writer b.records) b books told)) (b.writer.app == app) refl where
+  mine : TellAll b.writer b.records
+  mine = All-head (λ (b : BookState). TellAll b.writer b.records) b books told
+
+  by_test : lost_of app books ≡ length (with_answer answer.Lost (records_of app books)) → (t : Bool) → (b.writer.app == app) ≡ t
+      → counted_of app b.writer.losses.counted + lost_of app books ≡ length (with_answer answer.Lost (flat_map (λ (b : BookState). b.records) (cond t (b ∷ books_of app books) (books_of app books))))
+  by_test rest true is =
+      let same : b.writer.app ≡ app = eqb-true b.writer.app app is in
+      let these : counted_of app b.writer.losses.counted ≡ length (with_answer answer.Lost b.records) = ap (λ (n : ℕ). counted_of n b.writer.losses.counted) (sym same) ∙ losses b.writer b.records mine in
+      let parts = with_answer-append b.records (records_of app books) in
+      let together : length (with_answer answer.Lost (flat_map (λ (b : BookState). b.records) (b ∷ books_of app books))) ≡ length (with_answer answer.Lost (b.records ++ records_of app books)) = ap (λ (rs : List Record). length (with_answer answer.Lost rs)) (flat_map-cons (λ (b : BookState). b.records) b (books_of app books)) in
+      omega (arith, these, rest, parts, together)
+  by_test rest false is =
+      let none : counted_of app b.writer.losses.counted ≡ 0 = ap (counted_of app) mine.lost ∙ none_lost app b.writer b.records is mine.own in
+      omega (arith, none, rest)
+
+-- where all books are whole, their records tell all
+all_tell : (books : List BookState) → All IsWhole books → All (λ (b : BookState). IsWhole b → TellAll b.writer b.records) books → All (λ (b : BookState). TellAll b.writer b.records) books
+all_tell books whole told = λ k d lt. told k d lt (whole k d lt)
+
+module _ (s : AccountState) (is : IsSettled s) (whole : All IsWhole s.books) where
+  told : All (λ (b : BookState). TellAll b.writer b.records) s.books
+  told = all_tell s.books whole is.told
+
+  pub losses_told : (app : ℕ) → app < length s.apps → TellsLosses s app
+  losses_told app within = is.reported app within ∙ lost_calls app s.books told
+
+  -- what was taken of a writer is what it pushed
+  taken_pushed : All (λ (b : BookState). of b.writer.push.number (taken_of s.ends b.writer.app) ≡ b.writer.push.pushed) s.books
+  taken_pushed = λ k d lt.
+      (let b : BookState = get_or s.books k d in
+      let app : ℕ = b.writer.app in
+      let taken : List Item = taken_of s.ends app in
+      let theirs = all_passing (λ (b : BookState). of b.writer.push.number taken ≡ b.writer.push.pushed) (λ (b : BookState). b.writer.app == app) s.books (is.taken app (is.owned k d lt)).each in
+      theirs k d lt (eq-eqb app app refl))
+
+  pub queued_told : All (TellsQueued s) s.books
+  queued_told = λ k d lt. taken_pushed k d lt ∙ (told k d lt).queued
+
+  -- ---- with a journal
+
+  module _ (events : List Event) (j : IsJournalOf events s) where
+    -- what was admitted of a writer is what was taken of it
+    admitted : (app writer : ℕ) → app < length s.apps → filter (of_writer writer) (order app events) ≡ map name_of (of writer (taken_of s.ends app))
+    admitted app writer within = ap (filter (of_writer writer)) (j.admitted app within) ∙ filter-map (of_writer writer) name_of (taken_of s.ends app)
+
+    held : All (λ (b : BookState). All (IsHeld s.ends.levels.first events) b.writer.reader.reads) s.books
+    held = λ k d lt.
+        (let b : BookState = get_or s.books k d in
+        All-weaker (levels.IsEntry s.ends.levels.first s.ends.levels.sets) (IsHeld s.ends.levels.first events)
+        (λ (q : Read) entry. (entry.0, ap (λ (l : List ℕ). slice_get l (q.version - s.ends.levels.first)) (j.set q.slot) ∙ entry.1)) b.writer.reader.reads (is.held k d lt))
+
+    pub is_account : IsAccountOf events s
+    is_account = record {
+      each = λ k d lt.
+          (let b : BookState = get_or s.books k d in
+          account s.ends.levels.first events b.writer b.records (told k d lt) (held k d lt)
+          (admitted b.writer.app b.writer.push.number (is.owned k d lt) ∙ ap (map name_of) (taken_pushed k d lt)));
+      no_others = λ app writer within none. admitted app writer within ∙ ap (map name_of) ((is.taken app within).no_others writer none);
+      told = λ app within. (let a = j.losses app within in let l = losses_told app within in omega (arith, a, l));
+    }

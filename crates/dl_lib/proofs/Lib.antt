@@ -1,0 +1,11 @@
+pub mod Lists
+pub mod Counting
+pub mod InOrder
+pub mod Joined
+pub mod Knowing
+pub mod Accounting
+pub mod Resting
+pub mod Stepping
+pub mod Gathering
+pub mod Loops
+pub mod Upto

@@ -1,0 +1,36 @@
+-- What holds of each entry of a list, of its parts and of its images.
+use Rattle.std.proofs.Common.{◌≡◌, ℕ, ◌+◌, Bool, true, false, true≢false, cond, List, [], ◌∷◌, ◌++◌, map, refl, sym, ap, ◌∙◌}
+use Rattle.std.specs.Prelude.{All}
+use Rattle.std.specs.List.{filter}
+use Rattle.std.proofs.lemmas.List.Elements.{All-nil, All-cons, All-head, All-tail}
+use Rattle.dl_views.specs.Views.{total}
+
+module _ {X : Type 0} (P : X → Type 0) where
+  pub all_last : (xs : List X) (y : X) → All P (xs ++ y ∷ []) → P y
+  all_last [] y h = All-head P y [] h
+  all_last (x ∷ xs) y h = all_last xs y (All-tail P x (xs ++ y ∷ []) h)
+
+  pub all_mapped : {Y : Type 0} (f : Y → X) (ys : List Y) → All P (map f ys) → All (λ y. P (f y)) ys
+  all_mapped f [] h = All-nil (λ y. P (f y))
+  all_mapped f (y ∷ ys) h = All-cons (λ y. P (f y)) y ys (All-head P (f y) (map f ys) h) (all_mapped f ys (All-tail P (f y) (map f ys) h))
+
+  -- of those that pass a test
+  pub all_passing : (p : X → Bool) (xs : List X) → All P (filter p xs) → All (λ x. p x ≡ true → P x) xs
+  all_passing p [] h = All-nil (λ x. p x ≡ true → P x)
+  all_passing p (x ∷ xs) h = by_test (all_passing p xs) (p x) refl h where
+    by_test : (All P (filter p xs) → All (λ x. p x ≡ true → P x) xs) → (b : Bool) → p x ≡ b → All P (cond b (x ∷ filter p xs) (filter p xs)) → All (λ x. p x ≡ true → P x) (x ∷ xs)
+    by_test rest true is h = All-cons (λ x. p x ≡ true → P x) x xs (λ _. All-head P x (filter p xs) h) (rest (All-tail P x (filter p xs) h))
+    by_test rest false is h = All-cons (λ x. p x ≡ true → P x) x xs (λ so. absurd (true≢false (sym so ∙ is))) (rest h)
+
+-- a total over the images
+pub total-map : {A V : Type 0} (f : V → ℕ) (g : A → V) (xs : List A) → total f (map g xs) ≡ total (λ x. f (g x)) xs
+total-map f g [] = refl
+total-map f g (x ∷ xs) = ap (λ n. f (g x) + n) (total-map f g xs)
+
+-- those images that pass a test are the images of those that do
+pub filter-map : {A B : Type 0} (p : B → Bool) (f : A → B) (xs : List A) → filter p (map f xs) ≡ map f (filter (λ x. p (f x)) xs)
+filter-map p f [] = refl
+filter-map p f (x ∷ xs) = by_test (filter-map p f xs) (p (f x)) where
+  by_test : filter p (map f xs) ≡ map f (filter (λ x. p (f x)) xs) → (b : Bool) → cond b (f x ∷ filter p (map f xs)) (filter p (map f xs)) ≡ map f (cond b (x ∷ filter (λ x. p (f x)) xs) (filter (λ x. p (f x)) xs))
+  by_test rest true = ap (λ ys. f x ∷ ys) rest
+  by_test rest false = rest

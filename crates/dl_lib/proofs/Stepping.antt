@@ -1,0 +1,313 @@
+-- What a step of the daemon's side leaves true of it.
+use Rattle.std.proofs.Common.{◌≡◌, ◌≢◌, ℕ, zero, suc, ◌+◌, ◌-◌, ◌^◌, ◌<◌, ◌≤◌, ◌==◌, Bool, true, false, List, [], ◌∷◌, ◌++◌, length, get_or, set, Some, slice_get, Result, Ok, Err, refl, sym, ap, ◌∙◌, subst, length-append, append-nil, ◌⊎◌, inl, inr, arith}
+use Rattle.std.specs.Prelude.{OnOk, OnErr, slice_index}
+use Rattle.std.proofs.lemmas.Bool.{eqb-true, eqb-false}
+use Rattle.std.proofs.lemmas.List.{get_or-set_same, get_or-set_other}
+use Rattle.dl_bytes.specs.declared.item.Item.{Item}
+use Rattle.dl_bytes.specs.declared.item.Injection.{Injection}
+use Rattle.dl_events.specs.declared.record.Record.{Record}
+use Rattle.dl_injections.specs.Order as queue
+use Rattle.dl_levels.specs.History.{change}
+use Rattle.dl_levels.proofs.Histories.{entries_stay}
+use Rattle.dl_losses.specs.Losses.{all_shares, counted_of, reported_of}
+use Rattle.dl_losses.proofs.Sums.{reported_else}
+use Rattle.dl_ring.specs.Order.{Holds}
+use Rattle.dl_writer.specs.State.{BookState}
+use Rattle.dl_desk.specs.declared.app_ends.AppEnds.{AppEnds}
+use Rattle.dl_desk.specs.Ends.{EndsState, QueueHolds, RingHolds, with_empty_take, with_injected, with_item, with_level, with_refusal, with_report}
+use Rattle.dl_desk.specs.Lists.{At, changed_at}
+use Rattle.dl_desk.proofs.Places.{changed_else, changed_here, changed_keeps, length-changed_at}
+use Rattle.dl_lib.specs.Books.{books_of, lost_of, queued_of}
+use Rattle.dl_lib.specs.ClosingInside.{HaveEnds, IsClosing}
+use Rattle.dl_lib.specs.Joining.{AreBack}
+use Rattle.dl_lib.specs.Known.{IsDrained, IsEmpty, IsTold}
+use Rattle.dl_lib.specs.State.{ClosingState}
+use Rattle.dl_lib.proofs.Knowing.{here, ring_known, taken_here}
+
+-- two numbers are the same or aren't
+by_places : {G : Type 0} (n m : ℕ) → (n ≡ m → G) → (n ≢ m → G) → G
+by_places {G} n m yes_same no_same = by_test (n == m) refl where
+  by_test : (b : Bool) → (n == m) ≡ b → G
+  by_test true is = yes_same (eqb-true n m is)
+  by_test false is = no_same (λ same. eqb-false n m is same)
+
+-- what holds of each place, where one is changed and it holds there
+at_all : {A : Type 0} (P : ℕ → A → Type 0) (place : ℕ) (f : A → A) (xs : List A) → At (changed_at place f xs) place (P place) → ((n : ℕ) → n ≢ place → At xs n (P n)) → (n : ℕ) → At (changed_at place f xs) n (P n)
+at_all P place f xs there others n = by_places n place
+    (λ same. subst (λ (k : ℕ). At (changed_at place f xs) k (P k)) (sym same) there)
+    (λ apart. changed_else (P n) place n f xs apart (others n apart))
+
+changed_there : {A : Type 0} (xs : List A) (n : ℕ) (f : A → A) (x : A) → slice_get xs n ≡ Some x → slice_get (changed_at n f xs) n ≡ Some (f x)
+changed_there [] n f x e = absurd cc
+changed_there (y ∷ xs) zero f x e = let same : y ≡ x = cc in ap (λ z. Some (f z)) same
+changed_there (y ∷ xs) (suc n) f x e = changed_there xs n f x e
+
+-- an entry of a table of numbers that isn't 0 is there
+long_enough : (xs : List ℕ) (n : ℕ) → 1 ≤ get_or xs n 0 → n < length xs
+long_enough [] n h = absurd (omega (arith, h))
+long_enough (x ∷ xs) zero h = omega arith
+long_enough (x ∷ xs) (suc n) h = let rest = long_enough xs n h in omega (arith, rest)
+
+set_zero : (xs : List ℕ) (n : ℕ) → get_or (set xs n 0) n 0 ≡ 0
+set_zero [] n = refl
+set_zero (x ∷ xs) zero = refl
+set_zero (x ∷ xs) (suc n) = set_zero xs n
+
+-- ---- a change of one application's ends
+
+-- the passes that are back are the same where these parts are
+same_back : (books : List BookState) (old new : AppEnds) → new.ring.joined ≡ old.ring.joined → new.ring.first ≡ old.ring.first → new.ring.given ≡ old.ring.given
+    → new.queue.joined ≡ old.queue.joined → new.queue.first ≡ old.queue.first → new.queue.splits ≡ old.queue.splits → AreBack books old → AreBack books new
+same_back books old new joined first given queue_joined queue_first splits b = record {
+  ring = joined ∙ b.ring;
+  ring_first = first ∙ b.ring_first;
+  given = ap length given ∙ b.given;
+  queue = queue_joined ∙ b.queue;
+  queue_first = queue_first ∙ b.queue_first;
+  splits = splits ∙ b.splits;
+}
+
+module _ (s : ClosingState) (app : ℕ) (f : AppEnds → AppEnds) where
+  abbrev changed : List AppEnds
+  changed = changed_at app f s.ends.apps
+
+  -- it keeps what the passes that are back had done
+  have_ends : HaveEnds s → ((books : List BookState) (e : AppEnds) → AreBack books e → AreBack books (f e))
+      → At changed app (λ e. (contents : List Item) × Holds e.ring contents) → At changed app (λ e. (left : ℕ) × queue.Holds e.queue left)
+      → At changed app (λ e. length e.queue.pushed < 2 ^ 64) → HaveEnds (record s { ends = record s.ends { apps = changed } })
+  have_ends h back rings queues range = record {
+    few = h.few;
+    ends = length-changed_at app f s.ends.apps ∙ h.ends;
+    back = λ n. changed_keeps (AreBack (books_of n s.books)) app n f s.ends.apps (back (books_of n s.books)) (h.back n);
+    rings = at_all (λ _ (e : AppEnds). (contents : List Item) × Holds e.ring contents) app f s.ends.apps rings (λ n _. h.rings n);
+    queues = at_all (λ _ (e : AppEnds). (left : ℕ) × queue.Holds e.queue left) app f s.ends.apps queues (λ n _. h.queues n);
+    range = at_all (λ _ (e : AppEnds). length e.queue.pushed < 2 ^ 64) app f s.ends.apps range (λ n _. h.range n);
+    levels = h.levels;
+    shares = h.shares;
+    counted = h.counted;
+  }
+
+-- ---- levels
+
+module _ (s : ClosingState) (calls losses injected : List ℕ) (records : List (List Record)) (c : IsClosing s calls losses injected records) where
+  pub levelled : (slot level : ℕ) → IsClosing (record s { ends = with_level s.ends slot level }) calls losses injected records
+  levelled slot level = record {
+    books = c.books;
+    ends = record {
+      few = c.ends.few;
+      ends = c.ends.ends;
+      back = c.ends.back;
+      rings = c.ends.rings;
+      queues = c.ends.queues;
+      range = c.ends.range;
+      levels = λ k d lt. entries_stay s.ends.levels.first s.ends.levels.sets (change slot level ∷ []) (get_or s.books k d).writer.reader.reads (c.ends.levels k d lt);
+      shares = c.ends.shares;
+      counted = c.ends.counted;
+    };
+    counts = record { waiting = c.counts.waiting; untold = c.counts.untold; given = c.counts.given };
+    kept = c.kept;
+  }
+
+  pub sets : {T E : Type 0} (r : Result T E) (slot level : ℕ) (new : EndsState) → OnOk r (new ≡ with_level s.ends slot level) → OnErr r (new ≡ s.ends)
+      → IsClosing (record s { ends = new }) calls losses injected records
+  sets (Ok x) slot level new is _ = subst (λ (e : EndsState). IsClosing (record s { ends = e }) calls losses injected records) (sym is) (levelled slot level)
+  sets (Err x) slot level new _ is = subst (λ (e : EndsState). IsClosing (record s { ends = e }) calls losses injected records) (sym is) c
+
+module _ (s : ClosingState) (calls losses injected : List ℕ) (records : List (List Record)) (c : IsClosing s calls losses injected records) (app : ℕ) where
+  -- ---- takes
+
+  abbrev taking : Item → AppEnds → AppEnds
+  taking item e = record e { ring = record e.ring { taken = e.ring.taken ++ item ∷ [] } }
+
+  abbrev finding_none : AppEnds → AppEnds
+  finding_none e = record e { ring = record e.ring { empties = e.ring.empties + 1 } }
+
+  pub none : IsClosing (record s { ends = with_empty_take s.ends app }) calls losses injected records
+  none = record {
+    books = c.books;
+    ends = have_ends s app finding_none c.ends (λ books e b. same_back books e (finding_none e) refl refl refl refl refl refl b)
+        (changed_keeps (λ (e : AppEnds). (contents : List Item) × Holds e.ring contents) app app finding_none s.ends.apps (λ e h. h) (c.ends.rings app))
+        (changed_keeps (λ (e : AppEnds). (left : ℕ) × queue.Holds e.queue left) app app finding_none s.ends.apps (λ e h. h) (c.ends.queues app))
+        (changed_keeps (λ (e : AppEnds). length e.queue.pushed < 2 ^ 64) app app finding_none s.ends.apps (λ e h. h) (c.ends.range app));
+    counts = record {
+      waiting = λ n. changed_keeps (λ (e : AppEnds). length e.ring.taken + slice_index calls n ≡ queued_of n s.books) app n finding_none s.ends.apps (λ e h. h) (c.counts.waiting n);
+      untold = c.counts.untold;
+      given = c.counts.given;
+    };
+    kept = c.kept;
+  }
+
+  module _ (within : app < length s.apps) where
+    abbrev found : (e : AppEnds) × (slice_get s.ends.apps app ≡ Some e)
+    found = here s c.ends app within
+
+    -- a take that found none met an empty ring
+    pub none_empty : RingHolds (with_empty_take s.ends app) app [] → IsEmpty s app
+    none_empty holds =
+        let e : AppEnds = found.0 in
+        let all = ring_known app s.books e (c.ends.back app e found.1) [] (holds (finding_none e) (changed_there s.ends.apps app finding_none e found.1)) in
+        let count = all.count in
+        ap length (sym (taken_here s c.ends app within)) ∙ ap length (sym (append-nil e.ring.taken)) ∙ count
+
+    module _ (item : Item) (contents : List Item) (holds : RingHolds (with_item s.ends app item) app contents) where
+      -- as many waited before as are left, and this one
+      waits : slice_index calls app ≡ length contents + 1
+      waits =
+          let e : AppEnds = found.0 in
+          let all = ring_known app s.books (taking item e) (same_back (books_of app s.books) e (taking item e) refl refl refl refl refl refl (c.ends.back app e found.1)) contents
+          (holds (taking item e) (changed_there s.ends.apps app (taking item) e found.1)) in
+          let count = all.count in
+          let before = c.counts.waiting app e found.1 in
+          omega (arith, count, before, length-append (e.ring.taken ++ item ∷ []) contents, length-append e.ring.taken (item ∷ []))
+
+      pub some_waits : 1 ≤ get_or calls app 0
+      some_waits = let w = waits in omega (arith, w)
+
+      pub some_not_empty : IsEmpty s app → ⊥
+      some_not_empty empty =
+          let w = waits in
+          let before = c.counts.waiting app found.0 found.1 in
+          let same = ap length (taken_here s c.ends app within) in
+          absurd (omega (arith, w, before, same, empty))
+
+      abbrev fewer : List ℕ
+      fewer = set calls app (get_or calls app 0 - 1)
+
+      pub some : IsClosing (record s { ends = with_item s.ends app item }) fewer losses injected records
+      some = record {
+        books = c.books;
+        ends = have_ends s app (taking item) c.ends (λ books e b. same_back books e (taking item e) refl refl refl refl refl refl b)
+            (λ e is. (contents, holds e is))
+            (changed_keeps (λ (e : AppEnds). (left : ℕ) × queue.Holds e.queue left) app app (taking item) s.ends.apps (λ e h. h) (c.ends.queues app))
+            (changed_keeps (λ (e : AppEnds). length e.queue.pushed < 2 ^ 64) app app (taking item) s.ends.apps (λ e h. h) (c.ends.range app));
+        counts = record {
+          waiting = at_all (λ n (e : AppEnds). length e.ring.taken + slice_index fewer n ≡ queued_of n s.books) app (taking item) s.ends.apps
+              (changed_here (λ (e : AppEnds). length e.ring.taken + slice_index fewer app ≡ queued_of app s.books) app (taking item) s.ends.apps
+              (λ e is.
+              (let before = c.counts.waiting app e is in
+              let one = some_waits in
+              let left = get_or-set_same calls app (get_or calls app 0 - 1) 0 (long_enough calls app one) in
+              omega (arith, before, one, left, length-append e.ring.taken (item ∷ [])))))
+              (λ n apart e is. (let before = c.counts.waiting n e is in let same = get_or-set_other calls app n (get_or calls app 0 - 1) 0 apart in omega (arith, before, same)));
+          untold = c.counts.untold;
+          given = c.counts.given;
+        };
+        kept = c.kept;
+      }
+
+  -- ---- the answers of a take
+
+  module _ (within : app < length s.apps) (new : EndsState) where
+    pub took : (at : ℕ) (item : Item) → at ≡ app → new ≡ with_item s.ends app item → ((contents : List Item) × RingHolds new app contents)
+        → (1 ≤ get_or calls at 0) × IsClosing (record s { ends = new }) (set calls at (get_or calls at 0 - 1)) losses injected records × (IsEmpty s app → ⊥)
+    took at item same is rest =
+        let holds : (contents : List Item) × RingHolds (with_item s.ends app item) app contents = subst (λ (e : EndsState). (contents : List Item) × RingHolds e app contents) is rest in (
+          subst (λ (k : ℕ). 1 ≤ get_or calls k 0) (sym same) (some_waits within item holds.0 holds.1),
+          subst (λ (e : EndsState). IsClosing (record s { ends = e }) (set calls at (get_or calls at 0 - 1)) losses injected records) (sym is)
+              (subst (λ (k : ℕ). IsClosing (record s { ends = with_item s.ends app item }) (set calls k (get_or calls k 0 - 1)) losses injected records) (sym same) (some within item holds.0 holds.1)),
+          some_not_empty within item holds.0 holds.1,
+        )
+
+    pub took_none : new ≡ with_empty_take s.ends app → RingHolds new app [] → IsClosing (record s { ends = new }) calls losses injected records × IsEmpty s app
+    took_none is rest = (
+      subst (λ (e : EndsState). IsClosing (record s { ends = e }) calls losses injected records) (sym is) none,
+      none_empty within (subst (λ (e : EndsState). RingHolds e app []) is rest),
+    )
+
+  -- ---- losses
+
+  reported : (count : ℕ) → reported_of app (with_report s.ends app count).losses.reported ≡ lost_of app s.books → IsClosing (record s { ends = with_report s.ends app count }) calls (set losses app 0) injected records
+  reported count all = record {
+    books = c.books;
+    ends = record {
+      few = c.ends.few;
+      ends = c.ends.ends;
+      back = c.ends.back;
+      rings = c.ends.rings;
+      queues = c.ends.queues;
+      range = c.ends.range;
+      levels = c.ends.levels;
+      shares = c.ends.shares;
+      counted = c.ends.counted;
+    };
+    counts = record {
+      waiting = c.counts.waiting;
+      untold = λ n within. by_places n app
+          (λ is. subst (λ (k : ℕ). reported_of k (with_report s.ends app count).losses.reported + slice_index (set losses app 0) k ≡ lost_of k s.books) (sym is) (let z = set_zero losses app in omega (arith, z, all)))
+          (λ apart.
+          (let before = c.counts.untold n within in
+          let more = reported_else n app count s.ends.losses.reported (λ is. apart (sym is)) in
+          let rest = get_or-set_other losses app n 0 0 apart in
+          omega (arith, before, more, rest)));
+      given = c.counts.given;
+    };
+    kept = c.kept;
+  }
+
+  pub reports : (at count : ℕ) (new : EndsState) → at ≡ app → new ≡ with_report s.ends app count → (s.ends.losses.shares ≡ all_shares → reported_of app new.losses.reported ≡ counted_of app s.ends.losses.counted)
+      → IsClosing (record s { ends = new }) calls (set losses at 0) injected records
+  reports at count new same is all =
+      let told : reported_of app (with_report s.ends app count).losses.reported ≡ lost_of app s.books = sym (ap (λ (e : EndsState). reported_of app e.losses.reported) is) ∙ all c.ends.shares ∙ c.ends.counted app in
+      subst (λ (e : EndsState). IsClosing (record s { ends = e }) calls (set losses at 0) injected records) (sym is)
+      (subst (λ (k : ℕ). IsClosing (record s { ends = with_report s.ends app count }) calls (set losses k 0) injected records) (sym same) (reported count told))
+
+  -- ---- injections
+
+  -- what the queue took, or how many it refused, is another
+  queued : (f : AppEnds → AppEnds) → ((e : AppEnds) → (f e).ring ≡ e.ring) → ((e : AppEnds) → (f e).queue.joined ≡ e.queue.joined) → ((e : AppEnds) → (f e).queue.first ≡ e.queue.first) → ((e : AppEnds) → (f e).queue.splits ≡ e.queue.splits)
+      → ((left : ℕ) × At (changed_at app f s.ends.apps) app (λ e. queue.Holds e.queue left)) → At (changed_at app f s.ends.apps) app (λ e. length e.queue.pushed < 2 ^ 64)
+      → IsClosing (record s { ends = record s.ends { apps = changed_at app f s.ends.apps } }) calls losses injected records
+  queued f ring joined first splits holds range = record {
+    books = c.books;
+    ends = have_ends s app f c.ends
+        (λ books e b. same_back books e (f e) (ap (λ r. r.joined) (ring e)) (ap (λ r. r.first) (ring e)) (ap (λ r. r.given) (ring e)) (joined e) (first e) (splits e) b)
+        (changed_keeps (λ (e : AppEnds). (contents : List Item) × Holds e.ring contents) app app f s.ends.apps (λ e h. (h.0, subst (λ r. Holds r h.0) (sym (ring e)) h.1)) (c.ends.rings app))
+        (λ e is. (holds.0, holds.1 e is)) range;
+    counts = record {
+      waiting = λ n. changed_keeps (λ (e : AppEnds). length e.ring.taken + slice_index calls n ≡ queued_of n s.books) app n f s.ends.apps
+          (λ e h. subst (λ r. length r.taken + slice_index calls n ≡ queued_of n s.books) (sym (ring e)) h) (c.counts.waiting n);
+      untold = c.counts.untold;
+      given = c.counts.given;
+    };
+    kept = c.kept;
+  }
+
+  pub injects : {T E : Type 0} (r : Result T E) (item : Injection) (new : EndsState) → OnOk r (new ≡ with_injected s.ends app item) → OnErr r (new ≡ with_refusal s.ends app)
+      → ((left : ℕ) × QueueHolds new app left) → At new.apps app (λ e. length e.queue.pushed < 2 ^ 64) → IsClosing (record s { ends = new }) calls losses injected records
+  injects (Ok x) item new is _ holds range =
+      subst (λ (e : EndsState). IsClosing (record s { ends = e }) calls losses injected records) (sym is)
+      (queued (λ e. record e { queue = record e.queue { pushed = e.queue.pushed ++ item ∷ [] } }) (λ e. refl) (λ e. refl) (λ e. refl) (λ e. refl)
+      (subst (λ (e : EndsState). (left : ℕ) × QueueHolds e app left) is holds) (subst (λ (e : EndsState). At e.apps app (λ e. length e.queue.pushed < 2 ^ 64)) is range))
+  injects (Err x) item new _ is holds range =
+      subst (λ (e : EndsState). IsClosing (record s { ends = e }) calls losses injected records) (sym is)
+      (queued (λ e. record e { queue = record e.queue { refusals = e.queue.refusals + 1 } }) (λ e. refl) (λ e. refl) (λ e. refl) (λ e. refl)
+      (subst (λ (e : EndsState). (left : ℕ) × QueueHolds e app left) is holds) (subst (λ (e : EndsState). At e.apps app (λ e. length e.queue.pushed < 2 ^ 64)) is range))
+
+  -- its application is there still
+  pub within_after : app < length s.apps → {T E : Type 0} (r : Result T E) (item : Injection) (new : EndsState) → OnOk r (new ≡ with_injected s.ends app item) → OnErr r (new ≡ with_refusal s.ends app) → app < length new.apps
+  within_after within (Ok x) item new is _ =
+      let same = ap (λ (e : EndsState). length e.apps) is ∙ length-changed_at app (λ e. record e { queue = record e.queue { pushed = e.queue.pushed ++ item ∷ [] } }) s.ends.apps ∙ c.ends.ends in omega (arith, same, within)
+  within_after within (Err x) item new _ is =
+      let same = ap (λ (e : EndsState). length e.apps) is ∙ length-changed_at app (λ e. record e { queue = record e.queue { refusals = e.queue.refusals + 1 } }) s.ends.apps ∙ c.ends.ends in omega (arith, same, within)
+
+  -- ---- what the counters say
+
+  module _ (within : app < length s.apps) where
+    waits_none : (get_or calls app 0 ≡ 0 → IsEmpty s app) × (IsEmpty s app → get_or calls app 0 ≡ 0)
+    waits_none =
+        let there = here s c.ends app within in
+        let counts = c.counts.waiting app there.0 there.1 in
+        let same = ap length (taken_here s c.ends app within) in
+        (λ zero_left. omega (arith, counts, same, zero_left), λ empty. omega (arith, counts, same, empty))
+
+    untold_none : (get_or losses app 0 ≡ 0 → IsTold s app) × (IsTold s app → get_or losses app 0 ≡ 0)
+    untold_none = let counts = c.counts.untold app within in (λ zero_left. omega (arith, counts, zero_left), λ told. omega (arith, counts, told))
+
+    pub not_drained : (get_or calls app 0 ≢ 0) ⊎ (get_or losses app 0 ≢ 0) → IsDrained s → ⊥
+    not_drained (inl waiting) d = waiting (waits_none.1 (d app within).0)
+    not_drained (inr untold) d = untold (untold_none.1 (d app within).1)
+
+    pub one_drained : get_or calls app 0 ≡ 0 → get_or losses app 0 ≡ 0 → ((n : ℕ) → n < app → IsEmpty s n × IsTold s n) → (n : ℕ) → n < app + 1 → IsEmpty s n × IsTold s n
+    one_drained no_calls no_losses before n up_to = by_places n app
+        (λ same. subst (λ (k : ℕ). IsEmpty s k × IsTold s k) (sym same) (waits_none.0 no_calls, untold_none.0 no_losses))
+        (λ apart. before n (omega (arith, up_to, apart)))

@@ -1,0 +1,86 @@
+use Rattle.std.proofs.Common.{◌≡◌, length, ap, ◌∙◌, arith}
+use Rattle.dl_desk.specs.Ends.{EndsState}
+use Rattle.dl_lib.proofs.Gathering.{all_shared, books_fit, closes, firsts_fit, keeps, long_settled, words_fit}
+use Rattle.dl_lib.proofs.Joined.{AreReady}
+use Rattle.dl_lib.proofs.closing.gather.Goals as goal
+
+pub join_books-records-requires-clause-fit : goal.join_books-records-requires-clause-fit
+join_books-records-requires-clause-fit c =
+    let p = c.into_parts-apps.result in
+    let parts = c.into_parts-apps.ensures in
+    let ready : AreReady c.args.desk c.args.books = record { kept = parts.kept; made = c.requires.made; numbered = c.requires.numbered; all = c.requires.all } in
+    books_fit c.args.desk c.args.books ready p.ends p.ends p.ends p.ends p.ends p.ends p.ends p.firsts.items p.readers p.counters parts.ends parts.firsts parts.readers parts.counters
+
+pub join_firsts-requires-clause-fit : goal.join_firsts-requires-clause-fit
+join_firsts-requires-clause-fit c =
+    let p = c.into_parts-apps.result in
+    let parts = c.into_parts-apps.ensures in
+    let ready : AreReady c.args.desk c.args.books = record { kept = parts.kept; made = c.requires.made; numbered = c.requires.numbered; all = c.requires.all } in
+    firsts_fit c.args.desk c.args.books ready p.ends c.join_books-records.new.ends c.join_books-records.new.ends c.join_books-records.new.ends c.join_books-records.new.ends c.join_books-records.new.ends c.join_books-records.new.ends p.firsts.items p.readers p.counters parts.ends parts.firsts parts.readers parts.counters c.join_books-records.ensures.ends
+
+pub join_words-requires-clause-levels : goal.join_words-requires-clause-levels
+join_words-requires-clause-levels c =
+    let p = c.into_parts-apps.result in
+    let parts = c.into_parts-apps.ensures in
+    let ready : AreReady c.args.desk c.args.books = record { kept = parts.kept; made = c.requires.made; numbered = c.requires.numbered; all = c.requires.all } in
+    (words_fit c.args.desk c.args.books ready p.ends c.join_books-records.new.ends c.join_firsts.new.ends c.join_firsts.new.ends c.join_firsts.new.ends c.join_firsts.new.ends c.join_firsts.new.ends p.firsts.items p.readers p.counters parts.ends parts.firsts parts.readers parts.counters c.join_books-records.ensures.ends c.join_firsts.ensures).0
+
+pub join_words-requires-clause-losses : goal.join_words-requires-clause-losses
+join_words-requires-clause-losses c =
+    let p = c.into_parts-apps.result in
+    let parts = c.into_parts-apps.ensures in
+    let ready : AreReady c.args.desk c.args.books = record { kept = parts.kept; made = c.requires.made; numbered = c.requires.numbered; all = c.requires.all } in
+    (words_fit c.args.desk c.args.books ready p.ends c.join_books-records.new.ends c.join_firsts.new.ends c.join_firsts.new.ends c.join_firsts.new.ends c.join_firsts.new.ends c.join_firsts.new.ends p.firsts.items p.readers p.counters parts.ends parts.firsts parts.readers parts.counters c.join_books-records.ensures.ends c.join_firsts.ensures).1
+
+pub look_at_ends-requires : goal.look_at_ends-requires
+look_at_ends-requires c =
+    let p = c.into_parts-apps.result in
+    let parts = c.into_parts-apps.ensures in
+    let ready : AreReady c.args.desk c.args.books = record { kept = parts.kept; made = c.requires.made; numbered = c.requires.numbered; all = c.requires.all } in
+    let r = c.settle.ensures.reads in
+    let counts : c.len-count.result ≡ length c.args.desk.apps = c.len-count.ensures ∙ p.firsts.ok.0 ∙ ap length parts.firsts ∙ parts.kept.firsts in
+    let long = long_settled c.args.desk c.args.books ready p.ends c.join_books-records.new.ends c.join_firsts.new.ends c.join_words.new.self c.settle.new.self c.settle.new.self c.settle.new.self p.firsts.items p.readers p.counters parts.ends parts.firsts parts.readers parts.counters c.join_books-records.ensures.ends c.join_firsts.ensures c.join_words.ensures r.0 r.1 c.len-count.result counts in
+    let few = parts.kept.few in
+    (omega (arith, counts, few), omega (arith, long))
+
+pub losses_waiting-losses-requires-clause-there : goal.losses_waiting-losses-requires-clause-there
+losses_waiting-losses-requires-clause-there c =
+    let p = c.into_parts-apps.result in
+    let parts = c.into_parts-apps.ensures in
+    let ready : AreReady c.args.desk c.args.books = record { kept = parts.kept; made = c.requires.made; numbered = c.requires.numbered; all = c.requires.all } in
+    let r = c.settle.ensures.reads in
+    let counts : c.len-count.result ≡ length c.args.desk.apps = c.len-count.ensures ∙ p.firsts.ok.0 ∙ ap length parts.firsts ∙ parts.kept.firsts in
+    let long = long_settled c.args.desk c.args.books ready p.ends c.join_books-records.new.ends c.join_firsts.new.ends c.join_words.new.self c.settle.new.self c.look_at_ends.new.ends c.look_at_ends.new.ends p.firsts.items p.readers p.counters parts.ends parts.firsts parts.readers parts.counters c.join_books-records.ensures.ends c.join_firsts.ensures c.join_words.ensures r.0 r.1 c.len-count.result counts in
+    let few = parts.kept.few in
+    let same = ap (λ (e : EndsState). length e.apps) c.look_at_ends.ensures.same in
+    (omega (arith, counts, few), omega (arith, long, same))
+
+pub losses_waiting-losses-requires-clause-shares : goal.losses_waiting-losses-requires-clause-shares
+losses_waiting-losses-requires-clause-shares c =
+    let p = c.into_parts-apps.result in
+    let parts = c.into_parts-apps.ensures in
+    let ready : AreReady c.args.desk c.args.books = record { kept = parts.kept; made = c.requires.made; numbered = c.requires.numbered; all = c.requires.all } in
+    let r = c.settle.ensures.reads in
+    let counts : c.len-count.result ≡ length c.args.desk.apps = c.len-count.ensures ∙ p.firsts.ok.0 ∙ ap length parts.firsts ∙ parts.kept.firsts in
+    ap (λ (e : EndsState). e.losses.shares) c.look_at_ends.ensures.same ∙ all_shared c.args.desk c.args.books ready p.ends c.join_books-records.new.ends c.join_firsts.new.ends c.join_words.new.self c.settle.new.self c.look_at_ends.new.ends c.look_at_ends.new.ends p.firsts.items p.readers p.counters parts.ends parts.firsts parts.readers parts.counters c.join_books-records.ensures.ends c.join_firsts.ensures c.join_words.ensures r.0 r.1 c.len-count.result counts
+
+pub invariant_of-result : goal.invariant_of-result
+invariant_of-result c =
+    let p = c.into_parts-apps.result in
+    let parts = c.into_parts-apps.ensures in
+    let ready : AreReady c.args.desk c.args.books = record { kept = parts.kept; made = c.requires.made; numbered = c.requires.numbered; all = c.requires.all } in
+    let r = c.settle.ensures.reads in
+    let counts : c.len-count.result ≡ length c.args.desk.apps = c.len-count.ensures ∙ p.firsts.ok.0 ∙ ap length parts.firsts ∙ parts.kept.firsts in
+    closes c.args.desk c.args.books ready p.ends c.join_books-records.new.ends c.join_firsts.new.ends c.join_words.new.self c.settle.new.self c.look_at_ends.new.ends c.losses_waiting-losses.new.ends p.firsts.items p.readers p.counters parts.ends parts.firsts parts.readers parts.counters c.join_books-records.ensures.ends c.join_firsts.ensures c.join_words.ensures r.0 r.1 c.len-count.result counts c.look_at_ends.ensures.same c.losses_waiting-losses.ensures.same p.apps c.of-seen.result.value parts.apps c.of-seen.ensures
+    c.calls_waiting-calls.result c.losses_waiting-losses.result c.injections_given-injected.result.items c.join_books-records.result
+    c.calls_waiting-calls.ensures c.losses_waiting-losses.ensures.each c.injections_given-injected.ensures c.join_books-records.ensures.records c.join_books-records.ensures.told
+    c.settle.ensures.entries c.look_at_ends.ensures.rings c.look_at_ends.ensures.queues c.look_at_ends.ensures.range
+
+pub returns-clause-kept : goal.returns-clause-kept
+returns-clause-kept c =
+    let p = c.into_parts-apps.result in
+    let parts = c.into_parts-apps.ensures in
+    let ready : AreReady c.args.desk c.args.books = record { kept = parts.kept; made = c.requires.made; numbered = c.requires.numbered; all = c.requires.all } in
+    let r = c.settle.ensures.reads in
+    let counts : c.len-count.result ≡ length c.args.desk.apps = c.len-count.ensures ∙ p.firsts.ok.0 ∙ ap length parts.firsts ∙ parts.kept.firsts in
+    keeps c.args.desk c.args.books ready p.ends c.join_books-records.new.ends c.join_firsts.new.ends c.join_words.new.self c.settle.new.self c.look_at_ends.new.ends c.losses_waiting-losses.new.ends p.firsts.items p.readers p.counters parts.ends parts.firsts parts.readers parts.counters c.join_books-records.ensures.ends c.join_firsts.ensures c.join_words.ensures r.0 r.1 c.len-count.result counts c.look_at_ends.ensures.same c.losses_waiting-losses.ensures.same p.apps c.of-seen.result.value parts.apps c.of-seen.ensures

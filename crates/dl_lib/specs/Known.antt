@@ -1,0 +1,62 @@
+-- What is known of rings, queues, levels and losses once all writers are taken back.
+use Rattle.std.specs.Prelude.{◌≡◌, ℕ, ◌+◌, ◌<◌, ◌≤◌, nat_lt, List, [], ◌++◌, length, map, All, slice_get, unwrap_or}
+use Rattle.std.specs.List.{range_with_len}
+use Rattle.std.specs.Option.{option_map}
+use Rattle.dl_bytes.specs.declared.item.Item.{Item}
+use Rattle.dl_bytes.specs.declared.item.Injection.{Injection}
+use Rattle.dl_injections.specs.Order.{IsPart, times_in}
+use Rattle.dl_levels.specs.History.{IsEntry}
+use Rattle.dl_losses.specs.Losses.{reported_of}
+use Rattle.dl_ring.specs.Order.{of}
+use Rattle.dl_views.specs.Views.{bit, times}
+use Rattle.dl_desk.specs.Ends.{EndsState}
+use Rattle.dl_desk.specs.Posting.{pushed_of}
+use Rattle.dl_writer.specs.Records.{TellAll}
+use Rattle.dl_writer.specs.State.{BookState, IsWhole, numbers}
+use Rattle.dl_lib.specs.Books.{books_of, queued_of, lost_of, injected_of}
+use Rattle.dl_lib.specs.State.{ClosingState}
+
+-- what was taken of an application's ring, in order
+abbrev pub taken_of : EndsState → ℕ → List Item
+taken_of s app = unwrap_or (option_map (λ e. e.ring.taken) (slice_get s.apps app)) []
+
+-- What was taken of an application's ring, followed by what it holds, is what its writers pushed: of each its calls in
+-- their order, and of no one else any.
+pub record IsAllOf (app : ℕ) (books : List BookState) (items : List Item) : Type 0 where
+  pub each : All (λ b. of b.writer.push.number items ≡ b.writer.push.pushed) (books_of app books)
+  pub no_others : (number : ℕ) → times number (numbers (books_of app books)) ≡ 0 → of number items ≡ []
+  pub count : length items ≡ queued_of app books
+
+-- Each of an application's writers was given a part of what was pushed into its queue, in order. Each injection was given
+-- to one of them, once, or is one of the last, which are left.
+pub record AreGivenOnce (app : ℕ) (books : List BookState) (pushed : List Injection) (left : ℕ) : Type 0 where
+  pub parts : All (λ b. IsPart pushed b.writer.injections.taken) (books_of app books)
+  pub once : (number : ℕ) → times_in number (map (λ b. b.writer.injections.taken) (books_of app books)) ≡ bit (nat_lt (number + left) (length pushed))
+  pub count : injected_of app books + left ≡ length pushed
+  pub room : left ≤ 16
+
+-- All that is known once the writers are taken back: they are numbered from 1, each of an application that is there; what
+-- the rings and the queues handed on is theirs; each level that they read was set in its slot at its version; no losses
+-- are reported that they didn't count; and the records of each whole book tell all that its writer did.
+pub record AreGathered (s : ClosingState) : Type 0 where
+  pub numbered : numbers s.books ≡ range_with_len 1 (length s.books)
+  pub owned : All (λ b. b.writer.app < length s.apps) s.books
+  pub rings : (app : ℕ) → app < length s.apps → (contents : List Item) × IsAllOf app s.books (taken_of s.ends app ++ contents)
+  pub queues : (app : ℕ) → app < length s.apps → (left : ℕ) × AreGivenOnce app s.books (pushed_of s.ends app) left
+  pub levels : All (λ b. All (IsEntry s.ends.levels.first s.ends.levels.sets) b.writer.reader.reads) s.books
+  pub losses : (app : ℕ) → app < length s.apps → reported_of app s.ends.losses.reported ≤ lost_of app s.books
+  pub told : All (λ b. IsWhole b → TellAll b.writer b.records) s.books
+
+-- ---- whether all was taken
+
+-- the ring of an application is empty: as many calls were taken as its writers pushed
+abbrev pub IsEmpty : ClosingState → ℕ → Type 0
+IsEmpty s app = length (taken_of s.ends app) ≡ queued_of app s.books
+
+-- its loss word is 0: as many losses were reported as its writers counted
+abbrev pub IsTold : ClosingState → ℕ → Type 0
+IsTold s app = reported_of app s.ends.losses.reported ≡ lost_of app s.books
+
+-- every ring is empty, and every loss word 0
+abbrev pub IsDrained : ClosingState → Type 0
+IsDrained s = (app : ℕ) → app < length s.apps → IsEmpty s app × IsTold s app

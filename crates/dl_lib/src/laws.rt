@@ -1,0 +1,41 @@
+//! Laws on an account.
+
+ghost use Rattle.std.specs.Prelude.{◌≡◌, ℕ, List, All};
+ghost use Rattle.dl_bytes.specs.declared.item.Injection.{Injection};
+ghost use Rattle.dl_events.specs.declared.event.Event.{Event};
+ghost use Rattle.dl_events.specs.declared.record.Record.{Record};
+ghost use Rattle.dl_levels.specs.declared.history.Read.{Read};
+ghost use Rattle.dl_desk.specs.Made.{IsLater, IsMadeWith, MakesWriter};
+ghost use Rattle.dl_desk.specs.Posting.{rest_of};
+ghost use Rattle.dl_desk.specs.State.{DeskState};
+ghost use Rattle.dl_writer.specs.Calls.{after, with_empty, with_injection, with_read};
+ghost use Rattle.dl_writer.specs.State.{BookState, IsWhole, WriterState};
+ghost use Rattle.dl_lib.specs.Known.{IsDrained};
+ghost use Rattle.dl_lib.specs.Making.{AreInOrder};
+ghost use Rattle.dl_lib.specs.Settled.{IsAccountOf, IsJournalOf, IsSettled};
+ghost use Rattle.dl_lib.specs.State.{AccountState, ClosingState};
+
+/// Where all books are whole, the records of an account and a journal that says what the daemon did are the account of all
+/// writers.
+pub fn records_are_an_account()
+    ensures { (events : List Event) (s : AccountState) → IsSettled s → All IsWhole s.books → IsJournalOf events s → IsAccountOf events s }
+{}
+
+/// The books in the order of their numbers are whole where all books are.
+pub fn whole_in_order()
+    ensures { (books ordered : List BookState) → AreInOrder books ordered → All IsWhole books → All IsWhole ordered }
+{}
+
+/// A writer that was made with a desk stays one that was, whatever it calls or looks up and whatever other writers are made.
+pub fn made_stays()
+    ensures logged { (desk : DeskState) (w : WriterState) (r : Record) → IsMadeWith desk w → IsMadeWith desk (after w r) }
+    ensures looked { (desk : DeskState) (w : WriterState) (r : Read) → IsMadeWith desk w → IsMadeWith desk (record w { reader = with_read w.reader r }) }
+    ensures given { (desk : DeskState) (w : WriterState) (number : ℕ) (injection : Injection) → IsMadeWith desk w → IsMadeWith desk (with_injection w number injection) }
+    ensures none { (desk : DeskState) (w : WriterState) → IsMadeWith desk w → IsMadeWith desk (with_empty w) }
+    ensures another { (app : ℕ) (old new : DeskState) → MakesWriter app old new → IsLater old new }
+{}
+
+/// A call that sets a level or injects leaves what was drained drained.
+pub fn drained_stays()
+    ensures { (old new : ClosingState) → (record new { ends = rest_of new.ends }) ≡ (record old { ends = rest_of old.ends }) → IsDrained old → IsDrained new }
+{}

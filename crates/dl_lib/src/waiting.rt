@@ -1,0 +1,67 @@
+//! What waits in the rings, in the queues and in the loss words once all writers are back.
+
+ghost use Rattle.std.specs.Prelude.{◌≡◌, ◌+◌, ◌<◌, ◌≤◌, ◌^◌, ℕ, List, length, slice_index, vec_len};
+ghost use Rattle.dl_bytes.specs.declared.item.Item.{Item as item_type};
+ghost use Rattle.dl_losses.specs.Losses.{all_shares, counted_of, reported_of};
+ghost use Rattle.dl_desk.specs.Ends.{QueueHolds, RingHolds};
+ghost use Rattle.dl_desk.specs.Lists.{At};
+ghost use Rattle.dl_lib.specs.Books.{queued_of};
+
+use dl_desk::DaemonEnds;
+use dl_writer::BookList;
+
+/// How many calls wait in the ring of each application: of those that its writers pushed, all that were not taken.
+pub fn calls_waiting(ends: &DaemonEnds, books: &BookList, apps: u8) -> [u64; 16]
+    requires there { (apps ≤ 16) × (apps ≤ length ends.now.apps) }
+    requires few { length books.now ≤ 32 }
+    ensures { (app : ℕ) → app < apps → At ends.now.apps app (λ e. length e.ring.taken ≤ queued_of app books.now → length e.ring.taken + slice_index result app ≡ queued_of app books.now) }
+{
+    let mut calls = [0; 16];
+    for app in 0..apps {
+        calls[usize::from(app)] = queued_by(books, app).wrapping_sub(ends.taken(app));
+    }
+    calls
+}
+
+/// How many calls the ring of an application took of its writers.
+fn queued_by(books: &BookList, app: u8) -> u64
+    requires { length books.now ≤ 32 }
+    ensures value { result ≡ queued_of app books.now }
+    ensures range { result ≤ 2 ^ 45 }
+{
+    let mut queued = 0u64;
+    for place in 0..books.len() {
+        let book = books.of(place);
+        if book.app() == app {
+            queued += book.queued();
+        }
+    }
+    queued
+}
+
+/// How many losses wait in the word of each application.
+pub fn losses_waiting(ends: &mut DaemonEnds, apps: u8) -> [u64; 16]
+    requires there { (apps ≤ 16) × (apps ≤ length ends.old.apps) }
+    requires shares { ends.old.losses.shares ≡ all_shares }
+    ensures same { ends.new ≡ ends.old }
+    ensures each { (app : ℕ) → app < apps → reported_of app ends.new.losses.reported + slice_index result app ≡ counted_of app ends.new.losses.counted }
+{
+    let mut losses = [0; 16];
+    for app in 0..apps {
+        losses[usize::from(app)] = ends.pending(app);
+    }
+    losses
+}
+
+/// Looks at the ring and the queue of each application.
+pub fn look_at_ends(ends: &mut DaemonEnds, apps: u8)
+    requires { (apps ≤ 16) × (apps ≤ length ends.old.apps) }
+    ensures same { ends.new ≡ ends.old }
+    ensures rings { (app : ℕ) → app < apps → (contents : List item_type) × RingHolds ends.new app contents }
+    ensures queues { (app : ℕ) → app < apps → (left : ℕ) × QueueHolds ends.new app left }
+    ensures range { (app : ℕ) → app < apps → At ends.new.apps app (λ e. length e.queue.pushed < 2 ^ 64) }
+{
+    for app in 0..apps {
+        ends.look(app);
+    }
+}

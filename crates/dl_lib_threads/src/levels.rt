@@ -1,0 +1,105 @@
+//! Two threads log through one application while a third sets the level of their context.
+
+ghost use Rattle.std.specs.Prelude.{◌<◌, length};
+
+use crate::programs::{Program, one_app};
+use dl_bytes::{Level, OutOfMemory, Payload, Severity};
+use dl_lib::{Book, Ctx, Desk, Record};
+use std::alloc::Global;
+use std::sync::Wait;
+use std::test::Fail;
+use std::thread;
+use std::thread::Threads;
+
+/// How many calls each thread makes.
+const CALLS: u32 = 2000;
+
+/// How often the level is set.
+const SETS: u32 = 2000;
+
+/// The level of this version: none at version 0, info at version 1, and then the severities in turn.
+fn level_of(version: u64) -> Option<Level> {
+    match version {
+        0 => Level::of(0),
+        1 => Some(Level::from(Severity::Info)),
+        later => Level::of((later % 7) as u8),
+    }
+}
+
+/// Makes a thread's calls, and gives its book back.
+fn log_all<R: Wait>(rt: &R, book: Book, ctx: Ctx) -> Book {
+    let mut book = book;
+    let text = Payload::new();
+    for at in 0..CALLS {
+        let _answer = book.log(rt, &ctx, Severity::Warn, at, &text);
+    }
+    book
+}
+
+/// Sets the level of the context again and again.
+fn set_often(desk: &mut Desk)
+    requires { 0 < length desk.old.apps }
+{
+    for count in 0..SETS {
+        if let Some(level) = level_of(u64::from(count) + 2) {
+            let _worn = desk.set(0, level);
+        }
+    }
+}
+
+/// Both books at once, each in a thread of its own, while the levels are set: the books.
+fn crowd<R: Threads + Wait + Sync>(
+    rt: &R,
+    alloc: Global,
+    desk: Desk,
+    books: Vec<Book>,
+    ctx: Ctx,
+) -> Result<Vec<Book>, OutOfMemory>
+    requires { 0 < length desk.apps }
+{
+    thread::scope(
+        thread::scope_env(),
+        rt,
+        move |scope| -> Result<Vec<Book>, OutOfMemory>
+            requires { 0 < length desk.apps }
+        {
+            let mut desk = desk;
+            let mut children = Vec::new(alloc);
+            for book in books {
+                children.push(scope.spawn(move || log_all(rt, book, ctx))?)?;
+            }
+            set_often(&mut desk);
+            let mut back = Vec::new(alloc);
+            for child in children {
+                back.push(child.join(rt))?;
+            }
+            Ok(back)
+        },
+    )
+}
+
+/// Whether each record has the level that its context held at its version, and no version falls.
+fn are_held(records: &[Record]) -> bool {
+    let mut last = 0;
+    for record in records {
+        if level_of(record.version) != Some(record.held) || record.version < last {
+            return false;
+        }
+        last = record.version;
+    }
+    true
+}
+
+/// Whatever the schedule: each level that a call met is one that its context held, and no version falls.
+#[test]
+fn levels_are_held(rt: HostRuntime) -> Result<(), Fail> {
+    let alloc = rt.alloc();
+    let Program { desk, ctx, books } = one_app(alloc, 16, 2, CALLS)?;
+    let mut calls = 0usize;
+    for book in crowd(&rt, alloc, desk, books, ctx)? {
+        assert!(rt; are_held(book.records()));
+        calls = calls.saturating_add(book.records().len());
+    }
+    assert_eq!(rt; calls, 2 * CALLS as usize);
+    Ok(())
+}
