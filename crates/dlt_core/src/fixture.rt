@@ -1,0 +1,278 @@
+//! A core with the folder and the journal that it is run against.
+
+ghost use Rattle.std.specs.Prelude.{◌≡◌, ◌≤◌, ◌<◌, IfSome, true, length};
+ghost use Rattle.std.specs.List.{list_all};
+ghost use Rattle.dl_bytes.specs.Conf.{is_printable};
+
+use crate::calls::{self, Served};
+use dl_bytes::{
+    Bytes, Conf, Id, Item, Level, Moment, OwnLevel, Sequence, Severity, Stored, UserMsg,
+};
+use dl_core::Core;
+use dl_events::{Event, Journal, Kept};
+use dl_memory::{Failing, Manner, MemoryFolder, MemoryLink};
+use dl_registry::LAST_VERSION;
+use dl_trace::Trace;
+use std::alloc::Global;
+
+/// What is sent to the core and what it sends for it, in hexadecimal.
+pub type Row = (&'static str, &'static str);
+
+/// When everything happens.
+pub const NOW: Moment = Moment {
+    secs: 3,
+    micros: 5,
+    ticks: 7,
+};
+
+/// The application of most examples.
+pub const APP: [u8; 4] = *b"LOG1";
+
+/// How many events a journal has room for.
+const EVENTS: u64 = 200;
+
+/// A core, and what it is run against.
+#[derive(Drop)]
+pub struct Fixture {
+    alloc: Global,
+    pub core: Core,
+    pub folder: Failing<MemoryFolder>,
+    pub journal: Kept,
+}
+
+/// A configuration with trace files of 2000 bytes in this directory, where one is named. Injections are allowed.
+fn conf(directory: Bytes) -> Conf
+    requires size { length directory ≤ 200 }
+    requires letters { list_all is_printable directory ≡ true }
+    ensures { result.directory ≡ directory }
+{
+    Conf {
+        ecu: Id::from_bytes(*b"ECU1"),
+        level: Level::from(Severity::Info),
+        buffer: 10_000,
+        directory,
+        file_size: 2000,
+        max_size: 4000,
+        injection: true,
+    }
+}
+
+/// A configuration without a trace.
+pub fn plain_conf(alloc: Global) -> Conf {
+    conf(Bytes::over(Vec::new(alloc)))
+}
+
+/// A configuration with a trace.
+fn traced_conf(alloc: Global) -> Option<Conf>
+    ensures { IfSome result (λ conf. 0 < length conf.directory) }
+{
+    Some(conf(Bytes::over(Vec::from_slice(alloc, b"trace").ok()?)))
+}
+
+/// No stored configuration.
+pub fn nothing_stored(alloc: Global) -> Stored {
+    Stored {
+        level: None,
+        own: Sequence::over(Vec::new(alloc)),
+    }
+}
+
+/// An empty folder, of which these calls fail.
+pub fn folder(alloc: Global, fails: &[u64]) -> Option<Failing<MemoryFolder>> {
+    let inner = MemoryFolder::make(alloc, 8, 8000).ok()?;
+    let chosen = Vec::from_slice(alloc, fails).ok()?;
+    Some(Failing::make(inner, chosen))
+}
+
+/// A journal with room.
+fn journal(alloc: Global) -> Option<Kept> {
+    let mut journal = Kept::make(alloc);
+    journal.reserve(EVENTS).ok()?;
+    Some(journal)
+}
+
+/// A core without a trace, whose slots begin at this version, over a folder of which these calls fail.
+pub fn plain(alloc: Global, first: u64, fails: &[u64]) -> Option<Fixture> {
+    if first > LAST_VERSION {
+        return None;
+    }
+    let (conf, stored) = (plain_conf(alloc), nothing_stored(alloc));
+    Some(Fixture {
+        alloc,
+        core: Core::make(alloc, &conf, stored, None, first).ok()?,
+        folder: folder(alloc, fails)?,
+        journal: journal(alloc)?,
+    })
+}
+
+/// A core with a trace, and a client.
+pub fn traced(alloc: Global) -> Option<Fixture> {
+    let (conf, stored) = (traced_conf(alloc)?, nothing_stored(alloc));
+    let mut folder = folder(alloc, &[])?;
+    let trace = Trace::make(alloc, &mut folder, &conf).ok()?;
+    let mut fixture = Fixture {
+        alloc,
+        core: Core::make(alloc, &conf, stored, Some(trace), 0).ok()?,
+        folder,
+        journal: journal(alloc)?,
+    };
+    fixture.connect()?;
+    Some(fixture)
+}
+
+/// A core with the application, its contexts `TEST` at the default level and `FULL` at level 6, and a client.
+pub fn filled(alloc: Global, fails: &[u64]) -> Option<Fixture> {
+    let mut fixture = plain(alloc, 0, fails)?;
+    let is_filled = fixture.app() && fixture.context(*b"TEST", -1) && fixture.context(*b"FULL", 6);
+    fixture.connect()?;
+    if is_filled { Some(fixture) } else { None }
+}
+
+impl Fixture {
+    /// The application registers.
+    pub fn app(&mut self) -> bool {
+        let msg = UserMsg::RegisterApp {
+            apid: Id::from_bytes(APP),
+            pid: 1,
+            text: Bytes::over(Vec::new(self.alloc)),
+        };
+        self.user(0, msg)
+    }
+
+    /// A context of it registers at this level.
+    pub fn context(&mut self, ctid: [u8; 4], level: i8) -> bool {
+        let Some(level) = OwnLevel::of(level) else {
+            return false;
+        };
+        let msg = UserMsg::RegisterContext {
+            apid: Id::from_bytes(APP),
+            ctid: Id::from_bytes(ctid),
+            position: 0,
+            level,
+            trace: -1,
+            pid: 1,
+            text: Bytes::over(Vec::new(self.alloc)),
+        };
+        self.user(0, msg)
+    }
+
+    /// A user message comes, and the Level events that it owes are noted.
+    pub fn user(&mut self, channel: u16, msg: UserMsg) -> bool {
+        let is_accepted = calls::user(
+            &mut self.core,
+            channel,
+            msg,
+            NOW,
+            &mut self.folder,
+            &mut self.journal,
+        );
+        is_accepted && calls::settle(&mut self.core, &mut self.journal)
+    }
+
+    /// A client connects.
+    pub fn connect(&mut self) -> Option<u32> {
+        calls::connect(&mut self.core, &mut self.journal)
+    }
+
+    /// A client leaves.
+    pub fn leave(&mut self, client: u32) -> bool {
+        calls::leave(&mut self.core, client, &mut self.journal)
+    }
+
+    /// Calls of the application are lost.
+    pub fn lost(&mut self, count: u64) -> bool {
+        let (app, apid) = (0, Id::from_bytes(APP));
+        calls::lost(
+            &mut self.core,
+            app,
+            apid,
+            count,
+            NOW,
+            &mut self.folder,
+            &mut self.journal,
+        )
+    }
+
+    /// A log call comes.
+    pub fn log(&mut self, item: &Item) -> bool {
+        calls::log(
+            &mut self.core,
+            item,
+            NOW,
+            &mut self.folder,
+            &mut self.journal,
+        )
+    }
+
+    /// Log calls come together.
+    pub fn log_batch(&mut self, items: &[Item]) -> bool {
+        calls::log_batch(
+            &mut self.core,
+            items,
+            NOW,
+            &mut self.folder,
+            &mut self.journal,
+        )
+    }
+
+    /// Client 1 sends a request, given in hexadecimal, and the Level events that it owes are noted. `pushed` says whether the
+    /// application's queue takes an injection.
+    pub fn request(&mut self, request: &str, pushed: bool) -> Option<Served> {
+        let stream = hex::decode(self.alloc, request).ok()?;
+        let served = calls::request(
+            &mut self.core,
+            self.alloc,
+            1,
+            &stream,
+            pushed,
+            &mut self.folder,
+            &mut self.journal,
+        );
+        if !calls::settle(&mut self.core, &mut self.journal) {
+            return None;
+        }
+        served
+    }
+
+    /// The reply to such a request, in hexadecimal.
+    pub fn asked(&mut self, request: &str, pushed: bool) -> Option<String> {
+        let _served = self.request(request, pushed)?;
+        self.taken(1)
+    }
+
+    /// Which of these requests has another reply, from 0.
+    pub fn other_reply(&mut self, rows: &[Row]) -> Option<usize> {
+        for (place, (request, reply)) in rows.iter().enumerate() {
+            match self.asked(request, true) {
+                Some(replied) if replied.as_str() == *reply => {}
+                _ => return Some(place),
+            }
+        }
+        None
+    }
+
+    /// What a client was sent and has not taken, in hexadecimal. It takes all.
+    pub fn taken(&mut self, client: u32) -> Option<String> {
+        let alloc = self.alloc;
+        let mut link = MemoryLink::make(
+            alloc,
+            Vec::new(alloc),
+            None,
+            200_000,
+            Manner::plain(alloc),
+        ).ok()?;
+        calls::pump(&mut self.core, client, &mut link)?;
+        hex::encode(alloc, link.taken()).ok()
+    }
+
+    /// The Level events so far: slots with their levels.
+    pub fn levels(&self) -> Option<Vec<(u16, u8)>> {
+        let mut levels = Vec::new(self.alloc);
+        for event in self.journal.events() {
+            if let Event::Level { slot, level } = event {
+                levels.push((*slot, level.number())).ok()?;
+            }
+        }
+        Some(levels)
+    }
+}

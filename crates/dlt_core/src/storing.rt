@@ -1,0 +1,67 @@
+//! Store and Reset, which write and remove the file of the stored configuration.
+
+use crate::fixture::{Fixture, Row, filled};
+use dl_outside::Folder;
+use std::test::Fail;
+
+/// Store, where it is done and where the folder fails.
+const STORED: Row = (
+    "21000012160141505000434f4e0005000000",
+    "2500001745435531260144413100444331000500000000",
+);
+
+const NOT_STORED: Row = (
+    "21000012160141505000434f4e0005000000",
+    "2500001745435531260144413100444331000500000002",
+);
+
+/// Reset, where it is done and where the folder fails.
+const RESET: Row = (
+    "21000012160141505000434f4e0006000000",
+    "2500001745435531260144413100444331000600000000",
+);
+
+const NOT_RESET: Row = (
+    "21000012160141505000434f4e0006000000",
+    "2500001745435531260144413100444331000600000002",
+);
+
+/// Whether the stored configuration is there, and is this.
+fn holds(fixture: &mut Fixture, text: &[u8]) -> bool {
+    match fixture.folder.inner.read("dlt_stored.cfg") {
+        Ok(Some(stored)) => stored.all() == text,
+        Ok(None) | Err(_) => false,
+    }
+}
+
+#[test]
+fn stored_and_reset(rt: HostRuntime) -> Result<(), Fail> {
+    let mut fixture = filled(rt.alloc(), &[]).ok_or("a core")?;
+    assert_eq!(rt; fixture.other_reply(&[STORED]), None);
+    assert!(rt; holds(&mut fixture, b"::4\nLOG1:FULL:6\n"));
+    assert_eq!(rt; fixture.other_reply(&[RESET]), None);
+    assert_eq!(rt;
+        fixture
+            .folder
+            .inner
+            .read("dlt_stored.cfg")
+            .ok()
+            .ok_or("no fault")?
+            .is_none(),
+        true
+    );
+    let levels = fixture.levels().ok_or("levels")?;
+    assert_eq!(rt; levels.as_slice(), [(0, 4), (1, 6), (1, 4)].as_slice());
+    Ok(())
+}
+
+/// The folder's first call fails, which is to write the file, and its third, which is to remove it.
+#[test]
+fn the_folder_fails(rt: HostRuntime) -> Result<(), Fail> {
+    let mut fixture = filled(rt.alloc(), &[1, 3]).ok_or("a core")?;
+    assert_eq!(rt; fixture.other_reply(&[NOT_STORED, STORED, NOT_RESET]), None);
+    assert!(rt; holds(&mut fixture, b"::4\nLOG1:FULL:6\n"));
+    let levels = fixture.levels().ok_or("levels")?;
+    assert_eq!(rt; levels.as_slice(), [(0, 4), (1, 6)].as_slice());
+    Ok(())
+}
