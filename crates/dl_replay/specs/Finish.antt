@@ -16,7 +16,8 @@ use Rattle.dl_replay.specs.Told.{FolderTold, FolderWell, IsUnchanged, SinkTold, 
 -- ---- the table of statuses of a run that began
 
 -- What each status says of a run that began: the report was written, or nothing, and what failed. A folder fault comes before the
--- names, the names before a write fault, and that before want of memory: so each says that those before it did not come.
+-- names, the names before a write fault, and that before want of memory: so each says that those before it did not come. Where there
+-- was no memory for the report itself, nothing was written, and nothing more is said.
 abbrev pub Ends : Task → Start → FolderTold → FolderTold → SinkTold → SinkTold → Status → Type 0
 Ends task start folder folder_now out out_now Ok =
     (run : Run start folder folder_now) × WroteAll out out_now (text_of task run) × FolderWell folder folder_now × IsWhole run × IsServed run
