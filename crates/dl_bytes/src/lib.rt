@@ -1,7 +1,6 @@
 //! The plain types that every other crate names: ids, levels, payloads, frames, and bytes.
 #![tactic(auto)]
 
-mod boxed;
 mod buffer;
 mod conf;
 mod context;
@@ -18,7 +17,6 @@ mod outcome;
 mod payload;
 mod user;
 
-pub use boxed::Boxed;
 pub use buffer::Buffer;
 pub use conf::{AppSpec, Conf, DIRECTORY_LIMIT, Stored, StoredLevel};
 pub use context::Ctx;

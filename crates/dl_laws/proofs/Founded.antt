@@ -213,7 +213,7 @@ step_one writer done mark is = last_that-one (is_step_of writer) done mark ∙ a
 own_step : (writer : ℕ) (c : Call) → c.item.writer ≡ writer → eqb c.item.writer writer ≡ true
 own_step writer c e = grind (arith, nat_tests, e)
 
-pushed : (writer : ℕ) (done : List Mark) → to_push writer (done ++ push writer done) ≡ None
+pub pushed : (writer : ℕ) (done : List Mark) → to_push writer (done ++ push writer done) ≡ None
 pushed writer done = by_call (to_push writer done) refl where
   by_full : (c : Call) (b : Bool) → to_push writer done ≡ Some c → to_push writer (done ++ cond b (Refused c) (Queued c) ∷ []) ≡ None
   by_full c true e = ap (option_and_then passed) (step_one writer done (Refused c) (own_step writer c (pushes_own writer done c e)))
@@ -223,7 +223,7 @@ pushed writer done = by_call (to_push writer done) refl where
   by_call None e = ap (to_push writer) (append-nil done) ∙ e
   by_call (Some c) e = by_full c (is_full c.item.app done) e
 
-counted : (writer : ℕ) (done : List Mark) → to_push writer done ≡ None → (to_push writer (done ++ count writer done) ≡ None) × (to_count writer (done ++ count writer done) ≡ None)
+pub counted : (writer : ℕ) (done : List Mark) → to_push writer done ≡ None → (to_push writer (done ++ count writer done) ≡ None) × (to_count writer (done ++ count writer done) ≡ None)
 counted writer done no_push = by_call (to_count writer done) refl where
   by_call : (o : Option Call) → to_count writer done ≡ o →
       (to_push writer (done ++ for_some o (λ c. just (Counted c)) done) ≡ None) × (to_count writer (done ++ for_some o (λ c. just (Counted c)) done) ≡ None)
@@ -232,7 +232,7 @@ counted writer done no_push = by_call (to_count writer done) refl where
       let last = step_one writer done (Counted c) (own_step writer c (counts_own writer done c e)) in
       (ap (option_and_then passed) last, ap (option_and_then refused) last)
 
-finished : (writer : ℕ) (done : List Mark) → (to_push writer (done ++ finish writer done) ≡ None) × (to_count writer (done ++ finish writer done) ≡ None)
+pub finished : (writer : ℕ) (done : List Mark) → (to_push writer (done ++ finish writer done) ≡ None) × (to_count writer (done ++ finish writer done) ≡ None)
 finished writer done =
     let now = done ++ push writer done in
     let all : done ++ finish writer done ≡ now ++ count writer now =

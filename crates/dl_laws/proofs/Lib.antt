@@ -6,3 +6,4 @@ pub mod Founded
 pub mod RunLaws
 pub mod Calls
 pub mod Owed
+pub mod SlotChanges

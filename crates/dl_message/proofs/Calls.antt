@@ -47,13 +47,13 @@ so_far limit calls new r =
 
 -- ---- the messages are those of the one cut
 
-record Pieces (limit : ℕ) (bytes : List ℕ) (all : List (List ℕ)) (rest : List ℕ) : Type 0 where
-  cut : List (List ℕ)
-  parts : bytes ≡ concat cut ++ rest
-  each : AllByRecursion (IsPiece limit) cut
-  same : all ≡ map without_serial cut
+pub record Pieces (limit : ℕ) (bytes : List ℕ) (all : List (List ℕ)) (rest : List ℕ) : Type 0 where
+  pub cut : List (List ℕ)
+  pub parts : bytes ≡ concat cut ++ rest
+  pub each : AllByRecursion (IsPiece limit) cut
+  pub same : all ≡ map without_serial cut
 
-pieces_of : (limit : ℕ) (bytes : List ℕ) (all : List (List ℕ)) (rest : List ℕ) → AreCut (Begins limit) bytes all rest → Pieces limit bytes all rest
+pub pieces_of : (limit : ℕ) (bytes : List ℕ) (all : List (List ℕ)) (rest : List ℕ) → AreCut (Begins limit) bytes all rest → Pieces limit bytes all rest
 pieces_of limit bytes [] rest a = record { cut = []; parts = a; each = tt; same = refl }
 pieces_of limit bytes (message ∷ others) rest a =
     let piece = a.1.0 in

@@ -5,7 +5,5 @@
 mod registry;
 pub mod registry_examples;
 pub mod registry_laws;
-mod step;
 
 pub use registry::{Context, LevelChange, RegistryFault, SetFault, Slot};
-pub use step::{ContextSpec, Step};

@@ -1,4 +1,6 @@
 pub mod Outside
+pub mod Told
+pub mod Written
 pub mod Folder
 pub mod Link
 pub mod Links

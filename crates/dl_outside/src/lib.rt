@@ -14,6 +14,7 @@ mod name;
 mod net;
 mod sink;
 mod source;
+mod writing;
 
 pub use client::ClientScript;
 pub use clock::Clock;
@@ -26,3 +27,4 @@ pub use name::{Name, NameList};
 pub use net::{Accepted, Net, NetFault};
 pub use sink::{Sink, Took};
 pub use source::{Got, Source};
+pub use writing::{WriteError, write_text};

@@ -8,6 +8,6 @@ mod refusal;
 mod setup;
 
 pub use input::{ReadError, read_text};
-pub use output::{WriteError, write_pieces, write_text};
+pub use output::write_pieces;
 pub use refusal::{conf_word, say_refusal, script_word, stored_word};
 pub use setup::{CONF_NAME, STORED_NAME, SetupError, conf_in, stored_in, trace_over};

@@ -2,13 +2,13 @@
 
 ghost use Rattle.std.specs.Prelude.{◌≡◌, OnErr, OnOk};
 ghost use Rattle.dl_outside.specs.Outside.{HasRisen};
-ghost use Rattle.dl_program.specs.Output.{TookAll, TookFront};
+ghost use Rattle.dl_outside.specs.Written.{TookAll, TookFront};
 ghost use Rattle.dl_program.specs.Refusal.{conf_word, numbered_line, refusal_line, script_word, stored_word};
 
-use crate::output::{WriteError, write_pieces};
+use crate::output::write_pieces;
 use dl_conf::{ConfKind, StoredKind};
 use dl_fields::ScriptKind;
-use dl_outside::Sink;
+use dl_outside::{Sink, WriteError};
 use itoa::Buffer;
 
 /// What stands between the parts of a refusal, and at its end.

@@ -1,4 +1,4 @@
-pub mod Sinks
+pub mod Sources
 pub mod Fields
 pub mod Counters
 pub mod StreamCuts

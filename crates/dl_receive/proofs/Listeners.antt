@@ -9,9 +9,12 @@ use Rattle.dl_receive.specs.declared.status.Status.TheVariants.{Ok, WordsRefused
 use Rattle.dl_receive.specs.Listening.{Sides, Listened, IsListening}
 use Rattle.dl_receive.specs.Program.{IsGood, Told, SourceTold, Gives, Outcome}
 use Rattle.dl_receive.specs.Receiving.{IsAt, Heard}
-use Rattle.dl_receive.specs.Streams.{Gave, SinkTold, TookAll, TookFront}
+use Rattle.dl_outside.specs.Told.{SinkTold}
+use Rattle.dl_outside.specs.Written.{TookAll, TookFront}
+use Rattle.dl_receive.specs.Streams.{Gave}
 use Rattle.dl_receive.specs.Text.{received}
-use Rattle.dl_receive.proofs.Sinks.{given_more, took_both, took_front, whole_is_front}
+use Rattle.dl_outside.proofs.Sinks.{took_both, took_front, whole_is_front}
+use Rattle.dl_receive.proofs.Sources.{given_more}
 use Rattle.dl_receive.proofs.StreamCuts.{good_now}
 
 abbrev output : Sides → SinkTold

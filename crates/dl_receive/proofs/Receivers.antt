@@ -16,8 +16,8 @@ use Rattle.dl_receive.specs.declared.receiver.Receiver.{Receiver}
 use Rattle.dl_receive.specs.MessageKind.{kind_of}
 use Rattle.dl_receive.specs.Program.{stream_rest, IsBad, IsWhole, IsTruncated}
 use Rattle.dl_receive.specs.Receiving.{Keeps, IsAfter, IsReady, IsAt, Took}
-use Rattle.dl_receive.specs.Streams.{TookAll}
-use Rattle.dl_receive.proofs.Sinks.{took_nothing}
+use Rattle.dl_outside.specs.Written.{TookAll}
+use Rattle.dl_outside.proofs.Sinks.{took_nothing}
 use Rattle.dl_receive.specs.Text.{lines_of, text_of, len_limit, received}
 use Rattle.dl_receive.proofs.Counters.{text-one}
 use Rattle.dl_receive.proofs.StreamCuts.{cut_fed, cut_one, bad_stream, shown_is, rest_now, good_now}

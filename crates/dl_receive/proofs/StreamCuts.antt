@@ -9,6 +9,7 @@ use Rattle.std.proofs.lemmas.Bool.Decides.{nat_tests}
 use Rattle.dl_headers.proofs.Fronts.{good_front}
 use Rattle.dl_message.specs.Cut.{IsWholeMessage, IsPiece, IsCut, NoPiece, IsOpen, without_serial, pieces, messages, rest_of, rest_fault}
 use Rattle.dl_message.specs.Cutting.{Begins}
+use Rattle.dl_message.proofs.Calls.{pieces_of}
 use Rattle.dl_message.proofs.Cuts.{one_cut, its_cut, pieces-append}
 use Rattle.dl_message.proofs.Pieces.{bad_no_piece, bad_stays}
 use Rattle.dl_model.specs.Along.{along_from}
@@ -34,24 +35,6 @@ pub cut_one : (limit : ℕ) (stream rest after message : List ℕ) (given : List
 cut_one limit stream rest after message given a b = cut_on (Begins limit) stream rest after given (message ∷ []) a (after, b, refl)
 
 -- ---- a cut whose rest no piece begins is the one cut
-
-record Pieces (limit : ℕ) (bytes : List ℕ) (all : List (List ℕ)) (rest : List ℕ) : Type 0 where
-  cut : List (List ℕ)
-  parts : bytes ≡ concat cut ++ rest
-  each : AllByRecursion (IsPiece limit) cut
-  same : all ≡ map without_serial cut
-
-pieces_of : (limit : ℕ) (bytes : List ℕ) (all : List (List ℕ)) (rest : List ℕ) → AreCut (Begins limit) bytes all rest → Pieces limit bytes all rest
-pieces_of limit bytes [] rest a = record { cut = []; parts = a; each = tt; same = refl }
-pieces_of limit bytes (message ∷ others) rest a =
-    let piece = a.1.0 in
-    let p = pieces_of limit a.0 others rest a.2 in
-    record {
-      cut = piece ∷ p.cut;
-      parts = a.1.2 ∙ ap (λ (x : List ℕ). piece ++ x) p.parts ∙ sym (append_assoc piece (concat p.cut) rest);
-      each = (a.1.1, p.each);
-      same = ap (λ (m : List ℕ). m ∷ others) a.1.3 ∙ ap (λ (ms : List (List ℕ)). without_serial piece ∷ ms) p.same;
-    }
 
 pub cut_is : (limit : ℕ) (stream rest : List ℕ) (given : List (List ℕ)) → AreCut (Begins limit) stream given rest → NoPiece limit rest
     → (given ≡ messages limit stream) × (rest ≡ rest_of limit stream)

@@ -6,7 +6,8 @@ use Rattle.dl_receive.specs.declared.status.Status.{Status}
 use Rattle.dl_receive.specs.declared.status.Status.TheVariants.{Ok, WordsRefused, BadMessage, Truncated, WriteFault, NetFault, OutOfMemory, ReadFault, Limit}
 use Rattle.dl_receive.specs.Program.{IsBad, IsGood, IsTruncated, IsWhole}
 use Rattle.dl_receive.specs.Receiving.{IsAt}
-use Rattle.dl_receive.specs.Streams.{Gave, TookAll, TookFront}
+use Rattle.dl_outside.specs.Written.{TookAll, TookFront}
+use Rattle.dl_receive.specs.Streams.{Gave}
 use Rattle.dl_receive.specs.Text.{received}
 
 -- what a source and an output tell: what is left and what is held, and how often each has failed

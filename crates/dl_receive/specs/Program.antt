@@ -5,7 +5,9 @@ use Rattle.dl_message.specs.Cut.{rest_of, rest_fault}
 use Rattle.dl_receive.specs.declared.status.Status.{Status}
 use Rattle.dl_receive.specs.declared.status.Status.TheVariants.{Ok, WordsRefused, BadMessage, Truncated, WriteFault, NetFault, OutOfMemory, ReadFault, Limit}
 use Rattle.dl_receive.specs.Status.{line_of}
-use Rattle.dl_receive.specs.Streams.{Gave, SinkTold, TookAll, TookFront}
+use Rattle.dl_outside.specs.Told.{SinkTold}
+use Rattle.dl_outside.specs.Written.{TookAll, TookFront}
+use Rattle.dl_receive.specs.Streams.{Gave}
 use Rattle.dl_receive.specs.Text.{len_limit, received}
 use Rattle.dl_receive.specs.Words.{asked_port}
 

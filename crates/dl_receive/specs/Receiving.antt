@@ -12,7 +12,8 @@ use Rattle.dl_receive.specs.declared.status.Status.{Status}
 use Rattle.dl_receive.specs.declared.status.Status.TheVariants.{BadMessage, WriteFault, OutOfMemory}
 use Rattle.dl_receive.specs.MessageKind.{kind_of}
 use Rattle.dl_receive.specs.Program.{IsBad}
-use Rattle.dl_receive.specs.Streams.{SinkTold, TookAll, TookFront}
+use Rattle.dl_outside.specs.Told.{SinkTold}
+use Rattle.dl_outside.specs.Written.{TookAll, TookFront}
 use Rattle.dl_receive.specs.Text.{last_counter, text_of, len_limit, received}
 
 -- the counter that a printer keeps of a session

@@ -4,7 +4,6 @@
 mod kind;
 pub mod laws;
 mod listen;
-mod output;
 mod printer;
 mod program;
 mod receiver;

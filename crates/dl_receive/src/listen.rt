@@ -5,10 +5,9 @@ ghost use Rattle.dl_receive.specs.Listening.{Listened};
 ghost use Rattle.dl_receive.specs.Receiving.{Heard, IsAt, IsReady};
 ghost use Rattle.dl_receive.specs.Text.{received};
 
-use crate::output::write_text;
 use crate::receiver::Receiver;
 use crate::status::Status;
-use dl_outside::{Got, Sink, Source};
+use dl_outside::{Got, Sink, Source, write_text};
 use std::alloc::Global;
 
 /// How many bytes are asked for at once.

@@ -7,10 +7,9 @@ ghost use Rattle.dl_receive.specs.Words.{asked_port};
 ghost use Rattle.dl_receive.specs.Status.{number};
 
 use crate::listen::listen;
-use crate::output::write_text;
 use crate::status::Status;
 use crate::words::asked_port;
-use dl_outside::{Dial, DialFault, Sink, Source};
+use dl_outside::{Dial, DialFault, Sink, Source, write_text};
 use std::alloc::Global;
 
 /// How a run of the program ended.

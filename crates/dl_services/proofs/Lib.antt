@@ -1,3 +1,3 @@
-mod Requests
+pub mod Requests
 mod Serving
 mod Targets

@@ -21,11 +21,11 @@ use Rattle.dl_services.specs.Wish.{wanted, needed, removes, sends}
 use Rattle.dl_services.specs.declared.wish.Want.TheVariants as want
 
 -- what a Reset and an injection want is what they need
-reset_needs : (o : Option Registry) → (if is_some o then Folder else Nothing) ≡ needed (removes o)
+pub reset_needs : (o : Option Registry) → (if is_some o then Folder else Nothing) ≡ needed (removes o)
 reset_needs None = refl
 reset_needs (Some new) = refl
 
-inject_needs : (service : ℕ) (body : Arguments) (o : Option (App × Context)) → option_map_or (λ (target : App × Context). Queue target.0.number) o Nothing ≡ needed (sends service body o)
+pub inject_needs : (service : ℕ) (body : Arguments) (o : Option (App × Context)) → option_map_or (λ (target : App × Context). Queue target.0.number) o Nothing ≡ needed (sends service body o)
 inject_needs service body None = refl
 inject_needs service body (Some target) = refl
 

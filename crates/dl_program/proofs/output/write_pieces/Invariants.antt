@@ -1,5 +1,6 @@
 use Rattle.std.proofs.Common.{◌≡◌, ℕ, List, ◌++◌, drop}
-use Rattle.dl_program.specs.Output.{TookAll, joined}
+use Rattle.dl_outside.specs.Written.{TookAll}
+use Rattle.dl_program.specs.Output.{joined}
 use Rattle.dl_program.proofs.output.write_pieces.Given as goal
 
 -- the pieces so far are written, and the others are left

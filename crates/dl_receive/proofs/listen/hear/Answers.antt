@@ -2,7 +2,7 @@ use Rattle.std.proofs.Common.{List, ℕ, Bool, ◌++◌, refl, sym, subst}
 use Rattle.dl_receive.proofs.Receivers.{took_text}
 use Rattle.dl_receive.proofs.StreamCuts.{received-more}
 use Rattle.dl_receive.specs.Receiving.{Took}
-use Rattle.dl_receive.specs.Streams.{TookAll, TookFront}
+use Rattle.dl_outside.specs.Written.{TookAll, TookFront}
 use Rattle.dl_receive.specs.Text.{received}
 use Rattle.dl_receive.proofs.listen.hear.Goals as goal
 

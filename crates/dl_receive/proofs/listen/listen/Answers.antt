@@ -1,7 +1,7 @@
 use Rattle.std.proofs.Common.{ℕ, [], refl, subst, arith, ◌∙◌}
 use Rattle.dl_outside.specs.Outside.{HasRisen}
 use Rattle.dl_receive.specs.Listening.{Sides}
-use Rattle.dl_receive.proofs.Sinks.{nothing_given, given_stays, read_up}
+use Rattle.dl_receive.proofs.Sources.{nothing_given, given_stays, read_up}
 use Rattle.dl_receive.proofs.Listeners.{is_good, goes_on, ends}
 use Rattle.dl_receive.proofs.Receivers.{takes_start}
 use Rattle.dl_receive.proofs.listen.listen.Goals as goal

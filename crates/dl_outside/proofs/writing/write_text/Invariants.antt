@@ -1,6 +1,6 @@
 use Rattle.std.proofs.Common.{◌≡◌, ◌-◌, ◌≤◌, ◌++◌, length, take, Some}
 use Rattle.std.specs.Prelude.{IfSome}
-use Rattle.dl_program.proofs.output.write_text.Given as goal
+use Rattle.dl_outside.proofs.writing.write_text.Given as goal
 
 -- the front of the text is written
 abbrev pub invariant-loop-done : goal.invariant-loop-done

@@ -1,10 +1,10 @@
-//! Text to its sink.
+//! A whole text to its sink.
 
 ghost use Rattle.std.specs.Prelude.{◌≡◌, OnOk, OnErr};
 ghost use Rattle.dl_outside.specs.Outside.{HasRisen};
-ghost use Rattle.dl_receive.specs.Streams.{TookAll, TookFront};
+ghost use Rattle.dl_outside.specs.Written.{TookAll, TookFront};
 
-use dl_outside::{Sink, Took};
+use crate::sink::{Sink, Took};
 
 /// The sink failed.
 #[derive(Clone, Copy, Debug)]

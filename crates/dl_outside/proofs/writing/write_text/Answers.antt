@@ -2,8 +2,8 @@ use Rattle.std.proofs.Common.{arith, ◌∙◌, ◌≡◌, ◌-◌, length, drop
 use Rattle.std.proofs.lemmas.List.{take_all}
 use Rattle.dl_outside.specs.Outside.{Takes}
 use Rattle.dl_outside.specs.declared.sink.Took.TheVariants.{Bytes}
-use Rattle.dl_program.proofs.Sinks.{wrote}
-use Rattle.dl_program.proofs.output.write_text.Goals as goal
+use Rattle.dl_outside.proofs.Sinks.{wrote}
+use Rattle.dl_outside.proofs.writing.write_text.Goals as goal
 
 pub loop-done-preserved : goal.loop-done-preserved
 loop-done-preserved g c =

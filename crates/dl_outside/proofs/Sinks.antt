@@ -1,39 +1,14 @@
--- What sources gave and sinks took, piece by piece.
+-- A sink that takes a text, piece by piece.
 use Rattle.std.proofs.Common.{◌≡◌, ℕ, ◌+◌, ◌≤◌, List, [], ◌++◌, length, take, drop, Option, Some, None, refl, sym, ap, subst, ◌∙◌, append_assoc, arith, length-append}
 use Rattle.std.specs.Prelude.{IfSome}
-use Rattle.std.proofs.lemmas.List.{append-nil, take-append-drop, take_at, drop_at}
+use Rattle.std.proofs.lemmas.List.{append-nil, take_at, drop_at, take-append-le}
 use Rattle.std.proofs.Math.Seq.{take-add}
-use Rattle.dl_outside.specs.declared.source.Got.TheVariants as got
 use Rattle.dl_outside.specs.declared.sink.Took.TheVariants as took
-use Rattle.dl_outside.specs.Outside.{Reads, Stays, Takes}
-use Rattle.dl_receive.specs.Streams.{Gave, TookAll, TookFront}
+use Rattle.dl_outside.specs.Outside.{Takes}
+use Rattle.dl_outside.specs.Written.{TookAll, TookFront}
 
-some_is : (o : Option (List ℕ)) (x : List ℕ) (P : List ℕ → Type 0) → o ≡ Some x → IfSome o P → P x
+pub some_is : (o : Option (List ℕ)) (x : List ℕ) (P : List ℕ → Type 0) → o ≡ Some x → IfSome o P → P x
 some_is o x P e h = let family : Option (List ℕ) → Type 0 = λ v. IfSome v P in subst family e h
-
--- ---- a source
-
-pub nothing_given : (had : Option (List ℕ)) → Gave had had []
-nothing_given None = tt
-nothing_given (Some all) = (all, refl, refl)
-
-pub given_stays : (had before new : Option (List ℕ)) (given : List ℕ) → Gave had before given → Stays before new → Gave had new given
-given_stays None before new given h e = tt
-given_stays (Some all) before new given h e = (h.0, some_is before h.0 (λ bytes. new ≡ Some bytes) h.1 e, h.2)
-
-pub given_more : (had before new : Option (List ℕ)) (given into : List ℕ) (n : ℕ) → Gave had before given → Reads before new (got.Bytes n) into → Gave had new (given ++ take n into)
-given_more None before new given into n h r = tt
-given_more (Some all) before new given into n h r =
-    let step = some_is before h.0 (λ bytes. (n ≤ length bytes) × (take n into ≡ take n bytes) × (new ≡ Some (drop n bytes))) h.1 r.2 in
-    (drop n h.0, step.2, ap (λ t. (given ++ t) ++ drop n h.0) step.1 ∙ append_assoc given (take n h.0) (drop n h.0) ∙ ap (λ t. given ++ t) (take-append-drop n h.0) ∙ h.2)
-
-pub read_up : (had before new : Option (List ℕ)) (given : List ℕ) → Gave had before given → Stays before new → IfSome before (λ bytes. bytes ≡ []) → IfSome had (λ all. new ≡ Some [])
-read_up None before new given h e nothing = tt
-read_up (Some all) before new given h e nothing =
-    let none : h.0 ≡ [] = some_is before h.0 (λ bytes. bytes ≡ []) h.1 nothing in
-    some_is before h.0 (λ bytes. new ≡ Some bytes) h.1 e ∙ ap Some none
-
--- ---- a sink
 
 pub wrote : (old before new : Option (List ℕ)) (text : List ℕ) (i n : ℕ) → IfSome old (λ bytes. before ≡ Some (bytes ++ take i text)) → Takes before new (took.Bytes n) (drop i text)
     → IfSome old (λ bytes. new ≡ Some (bytes ++ take (i + n) text))
@@ -63,6 +38,12 @@ took_front (Some bytes) before new first second all e a b =
       take_past : (xs ys : List ℕ) (n : ℕ) → take (length xs + n) (xs ++ ys) ≡ xs ++ take n ys
       take_past xs ys n =
           take-add (length xs) n (xs ++ ys) ∙ ap (λ t. take (length xs) (xs ++ ys) ++ take n t) (drop_at xs ys (length xs) refl) ∙ ap (λ t. t ++ take n ys) (take_at xs ys (length xs) refl)
+
+-- a front of a text is a front of a longer one
+pub front_of_more : (old new : Option (List ℕ)) (first second : List ℕ) → TookFront old new first → TookFront old new (first ++ second)
+front_of_more None new first second a = tt
+front_of_more (Some bytes) new first second a =
+    (a.0, omega (arith, a.1, length-append first second), a.2 ∙ ap (λ t. Some (bytes ++ t)) (sym (take-append-le a.0 first second a.1)))
 
 -- a text that was taken whole is a front of a longer one
 pub whole_is_front : (old new : Option (List ℕ)) (first second all : List ℕ) → all ≡ first ++ second → TookAll old new first → TookFront old new all
