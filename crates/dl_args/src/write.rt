@@ -122,7 +122,7 @@ pub fn add_named_raw(payload: &mut Payload, name: &str, bytes: &[u8]) -> Result<
     )
 }
 
-/// Adds a number, of which its width has the lowest bytes.
+/// Adds a number, of which its width has the lowest bytes. One of 64 bits or fewer has them in a word.
 fn append_number(
     payload: &mut Payload,
     kind: u32,
@@ -132,9 +132,12 @@ fn append_number(
     requires { kind < 2 ^ 12 }
     ensures { Adds (argument (kind + tyle_of width) (number width value ∷ [])) result payload.old payload.new }
 {
-    let bytes = value.to_le_bytes();
     let info = kind + width.tyle();
-    append(payload, info, &[&bytes[..width.byte_count()]])
+    let len = width.byte_count();
+    match u64::try_from(value) {
+        Ok(low) if len <= 8 => append(payload, info, &[&low.to_le_bytes()[..len]]),
+        _ => append(payload, info, &[&value.to_le_bytes()[..len]]),
+    }
 }
 
 /// The same with a name and a unit.

@@ -44,9 +44,9 @@ read test P make digits (Err e) to from h =
       ]
     ]
 
-pub unsigned_read : {E : Type 0} (field : List ℕ) (r : Result ℕ E) → ParsesUnsigned 128 10 field r → get_or field 0 0 ≢ 43 → result_ok r ≡ unsigned_field 128 field
-unsigned_read field r h no_plus =
-    read (λ n. ltb n (2 ^ 128)) (λ n. n < 2 ^ 128) (λ n. n) field r (λ n. lt-ltb n (2 ^ 128)) (λ n. ltb-true n (2 ^ 128)) (parse_plain own 128 field r h no_plus)
+pub unsigned_read : (bits : ℕ) {E : Type 0} (field : List ℕ) (r : Result ℕ E) → ParsesUnsigned bits 10 field r → get_or field 0 0 ≢ 43 → result_ok r ≡ unsigned_field bits field
+unsigned_read bits field r h no_plus =
+    read (λ n. ltb n (2 ^ bits)) (λ n. n < 2 ^ bits) (λ n. n) field r (λ n. lt-ltb n (2 ^ bits)) (λ n. ltb-true n (2 ^ bits)) (parse_plain own bits field r h no_plus)
 
 pub signed_read : {E : Type 0} (field : List ℕ) (r : Result ℤ E) → ParsesSigned w128 10 field r → get_or field 0 0 ≢ 43 → result_ok r ≡ signed_field 128 field
 signed_read field r h no_plus = elim (cases_Bool (starts_with_minus field)) [

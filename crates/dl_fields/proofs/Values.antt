@@ -20,15 +20,12 @@ use Rattle.dl_fields.specs.Value.{unsigned_field, signed_field}
 use Rattle.dl_fields.specs.declared.argument.Kind.{Kind}
 use Rattle.dl_fields.specs.declared.argument.Kind.TheVariants as kind
 use Rattle.dl_fields.proofs.Numbers.{signed_fits, unsigned_fits}
+use Rattle.dl_fields.proofs.Refused.{bound}
 
 -- what is behind a value that was made
 mapped : {A B : Type 0} (f : A → B) (k : ScriptKind) (o : Option A) (b : B) → made f k o ≡ Ok b → (x : A) × (o ≡ Some x) × (f x ≡ b)
 mapped f k None b e = absurd cc
 mapped f k (Some x) b e = let is : f x ≡ b = cc in (x, refl, is)
-
-bound : {A B : Type 0} (r : Result A ScriptKind) (f : A → Result B ScriptKind) (b : B) → (r >>= f) ≡ Ok b → (x : A) × (r ≡ Ok x) × (f x ≡ Ok b)
-bound (Err k) f b e = absurd cc
-bound (Ok x) f b e = (x, refl, e)
 
 chosen : {A : Type 0} (t : Bool) (r : Result A ScriptKind) (k : ScriptKind) (a : A) → cond t r (Err k) ≡ Ok a → (t ≡ true) × (r ≡ Ok a)
 chosen true r k a e = (refl, e)

@@ -15,7 +15,8 @@ abbrev pub unnamed : Value → Arg
 unnamed (value.Bool truth) = arg.Bool None truth
 unnamed (value.Sint width number) = arg.Sint None None width number
 unnamed (value.Uint width number) = arg.Uint None None width number
-unnamed (value.Text text) = arg.Text None (string_bytes text) true
+unnamed (value.Text text) = arg.Text None text.now true
+unnamed (value.Made text) = arg.Text None (string_bytes text) true
 unnamed (value.Raw bytes) = arg.Raw None bytes.items
 
 -- the payload with the bytes of one more argument

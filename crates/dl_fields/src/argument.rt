@@ -1,9 +1,9 @@
 //! An argument of a log line, from its field to the payload.
 
-ghost use Rattle.std.specs.Prelude.{◌≡◌, IfOk, option_map, is_some, string_bytes};
+ghost use Rattle.std.specs.Prelude.{◌≡◌, Some, IfOk, IfSome, option_map, is_some, string_bytes};
 ghost use Rattle.std.specs.Option.{ok_or};
-ghost use Rattle.dl_args.specs.Argument.{written, Adds, HasRoom, IsValue};
-ghost use Rattle.dl_fields.specs.Argument.{is_escapable, unescaped, width_of_bits, number_kind, kind_of, truth_of, fill_of, raw_of, value_by_kind, parted, behind_quote, quoted_value, word_value, value_of, is_label, is_number, takes_unit, may_name, with_name, named_of, behind_named, argument_of, is_argument};
+ghost use Rattle.dl_args.specs.Argument.{written, Adds, IsValue};
+ghost use Rattle.dl_fields.specs.Argument.{is_escapable, unescaped, width_of_bits, number_kind, kind_of, truth_of, fill_of, raw_of, value_by_kind, parted, behind_quote, quoted_value, word_value, value_of, is_label, takes_unit, may_name, with_name, named_of, behind_named, argument_of, is_argument};
 ghost use Rattle.dl_fields.specs.Added.{AddsArgument, unnamed, added};
 ghost use Rattle.dl_fields.specs.Kind.{Says, is_of_form};
 ghost use Rattle.dl_fields.specs.declared.kind.ScriptKind.TheVariants as wrong;
@@ -36,11 +36,14 @@ pub enum Kind {
 
 /// What an argument says, apart from its name and its unit.
 #[derive(Drop)]
-pub enum Value {
+pub enum Value<'a> {
     Bool(bool),
     Sint(Width, i128),
     Uint(Width, u128),
-    Text(String),
+    /// A text as its field has it.
+    Text(&'a str),
+    /// A text that was made: one without its escapes, or one of so many letters.
+    Made(String),
     Raw(Vec<u8>),
 }
 
@@ -55,17 +58,30 @@ fn is_escapable(c: char) -> bool
 pub fn is_closed(quoted: &str) -> bool
     ensures { result ≡ is_some (unescaped quoted.now) }
 {
-    match closing_quote(quoted.as_bytes()) {
+    match closing_quote(quoted) {
         Some(len) => len == quoted.len(),
         None => false,
     }
+}
+
+/// A text in quotes, from behind its first quote on, where it has no escape.
+#[inline(always)]
+fn plain(quoted: &str) -> Option<&str>
+    ensures { IfSome result (λ text. unescaped quoted.now ≡ Some text.now) }
+{
+    let text = quoted.strip_suffix('"')?;
+    let bytes = text.as_bytes();
+    if bytes.contains(&b'"') || bytes.contains(&b'\\') {
+        return None;
+    }
+    Some(text)
 }
 
 /// A text in quotes, from behind its first quote on.
 pub fn unescape(alloc: Global, quoted: &str) -> Result<String, LineError>
     ensures { Says string_bytes result (ok_or (unescaped quoted.now) wrong.Fields) }
 {
-    let mut text = String::new(alloc);
+    let mut text = String::with_capacity(alloc, quoted.len())?;
     let mut chars = quoted.chars();
     while let Some(c) = chars.next() {
         if c == '"' {
@@ -143,7 +159,7 @@ fn fill(alloc: Global, text: &str) -> Result<String, LineError>
     ensures { Says string_bytes result (ok_or (fill_of text.now) wrong.Number) }
 {
     let count = number_within(text, 0, PAYLOAD_LIMIT as u32).ok_or(ScriptKind::Number)?;
-    let mut letters = String::new(alloc);
+    let mut letters = String::with_capacity(alloc, count as usize)?;
     for _ in 0..count {
         letters.push('x')?;
     }
@@ -165,13 +181,14 @@ pub fn raw(alloc: Global, digits: &str) -> Result<Vec<u8>, LineError>
 }
 
 /// The value of an argument of this kind.
-fn value_of_kind(alloc: Global, kind: Kind, text: &str) -> Result<Value, LineError>
+#[inline(always)]
+fn value_of_kind(alloc: Global, kind: Kind, text: &str) -> Result<Value<'static>, LineError>
     ensures said { Says unnamed result (value_by_kind kind text.now) }
     ensures fits { IfOk result (λ v. IsValue (unnamed v)) }
 {
     match kind {
         Kind::Bool => Ok(Value::Bool(truth(text).ok_or(ScriptKind::Fields)?)),
-        Kind::Fill => Ok(Value::Text(fill(alloc, text)?)),
+        Kind::Fill => Ok(Value::Made(fill(alloc, text)?)),
         Kind::Raw => Ok(Value::Raw(raw(alloc, text)?)),
         Kind::Sint(width) => {
             let value = signed(width, text).ok_or(ScriptKind::Number)?;
@@ -206,15 +223,20 @@ fn behind_named(field: &str) -> Option<&str>
 }
 
 /// The value of a text in quotes, from behind its first quote on.
-fn quoted_value(alloc: Global, quoted: &str) -> Result<Value, LineError>
+#[inline(always)]
+fn quoted_value(alloc: Global, quoted: &str) -> Result<Value<'_>, LineError>
     ensures said { Says unnamed result (quoted_value quoted.now) }
     ensures fits { IfOk result (λ v. IsValue (unnamed v)) }
 {
-    Ok(Value::Text(unescape(alloc, quoted)?))
+    match plain(quoted) {
+        Some(text) => Ok(Value::Text(text)),
+        None => Ok(Value::Made(unescape(alloc, quoted)?)),
+    }
 }
 
 /// The value behind the word of its kind.
-fn word_value(alloc: Global, text: &str) -> Result<Value, LineError>
+#[inline(always)]
+fn word_value(alloc: Global, text: &str) -> Result<Value<'_>, LineError>
     ensures said { Says unnamed result (word_value text.now) }
     ensures fits { IfOk result (λ v. IsValue (unnamed v)) }
 {
@@ -228,7 +250,8 @@ fn word_value(alloc: Global, text: &str) -> Result<Value, LineError>
 }
 
 /// The value of an argument without a name.
-fn value_of(alloc: Global, text: &str) -> Result<Value, LineError>
+#[inline(always)]
+fn value_of(alloc: Global, text: &str) -> Result<Value<'_>, LineError>
     ensures said { Says unnamed result (value_of text.now) }
     ensures fits { IfOk result (λ v. IsValue (unnamed v)) }
 {
@@ -319,7 +342,7 @@ pub fn has_form(field: &str) -> bool
     }
 }
 
-impl Value {
+impl Value<'_> {
     /// Adds it to a payload.
     fn add(&self, payload: &mut Payload) -> Result<(), PayloadFull>
         requires { IsValue (unnamed self.now) }
@@ -329,7 +352,8 @@ impl Value {
             Value::Bool(value) => add_bool(payload, *value),
             Value::Sint(width, value) => add_sint(payload, *width, *value),
             Value::Uint(width, value) => add_uint(payload, *width, *value),
-            Value::Text(text) => add_text(payload, text.as_str()),
+            Value::Text(text) => add_text(payload, text),
+            Value::Made(text) => add_text(payload, text.as_str()),
             Value::Raw(bytes) => add_raw(payload, bytes),
         }
     }
@@ -343,7 +367,8 @@ impl Value {
             Value::Bool(value) => add_named_bool(payload, name, *value),
             Value::Sint(width, value) => add_named_sint(payload, name, unit, *width, *value),
             Value::Uint(width, value) => add_named_uint(payload, name, unit, *width, *value),
-            Value::Text(text) => add_named_text(payload, name, text.as_str()),
+            Value::Text(text) => add_named_text(payload, name, text),
+            Value::Made(text) => add_named_text(payload, name, text.as_str()),
             Value::Raw(bytes) => add_named_raw(payload, name, bytes),
         }
     }

@@ -1,11 +1,13 @@
 //! A line of a script, cut into fields.
 
-ghost use Rattle.std.specs.Prelude.{◌≡◌, false, not, ◌≤◌, ◌<◌, ◌+◌, IfSome, IfOk, option_map, length, drop};
+ghost use Rattle.std.specs.Prelude.{◌≡◌, true, false, not, ◌≤◌, ◌<◌, ◌+◌, IfSome, IfOk, Some, None, option_map, length, drop, if◌then◌else◌};
 ghost use Rattle.std.specs.List.{position};
+ghost use Rattle.std.specs.Option.{option_and_then};
 ghost use Rattle.std.specs.Str.{IsCharBoundary};
 ghost use Rattle.dl_text.specs.Lines.{is_blank, without_blanks_before};
 ghost use Rattle.dl_fields.specs.Fields.{worded, quoted_len, is_end, field_len, fields_of, texts};
 
+use crate::argument::behind_quote;
 use dl_bytes::OutOfMemory;
 use dl_text::is_blank;
 use std::alloc::Global;
@@ -47,8 +49,8 @@ pub fn worded(line: &str) -> (&str, &str)
     text.split_at(end)
 }
 
-/// The length of a quoted text behind its first quote, its closing quote included.
-pub fn closing_quote(text: &[u8]) -> Option<usize>
+/// The length of a quoted text behind its first quote, its closing quote included, byte by byte.
+fn escaped_len(text: &[u8]) -> Option<usize>
     ensures value { result ≡ quoted_len false text.now }
     ensures within { IfSome result (λ n. (0 < n) × (n ≤ length text.now)) }
 {
@@ -68,6 +70,18 @@ pub fn closing_quote(text: &[u8]) -> Option<usize>
     None
 }
 
+/// The length of a quoted text behind its first quote, its closing quote included.
+pub fn closing_quote(quoted: &str) -> Option<usize>
+    ensures value { result ≡ quoted_len false quoted.now }
+    ensures within { IfSome result (λ n. (0 < n) × (n ≤ length quoted.now)) }
+{
+    let (text, _) = quoted.split_once('"')?;
+    if text.as_bytes().contains(&b'\\') {
+        return escaped_len(quoted.as_bytes());
+    }
+    Some(text.len() + 1)
+}
+
 /// Whether a field ends where this text begins.
 fn ends_field(text: &[u8]) -> bool
     ensures { result ≡ is_end text.now }
@@ -78,6 +92,21 @@ fn ends_field(text: &[u8]) -> bool
     }
 }
 
+/// The length of a quoted field behind its first quote.
+fn quoted_field(quoted: &str) -> Option<usize>
+    ensures value { result ≡ option_and_then (λ n. if is_end (drop n quoted.now) then Some n else None) (quoted_len false quoted.now) }
+    ensures within { IfSome result (λ n. n ≤ length quoted.now) }
+    ensures ends { IfSome result (λ n. is_end (drop n quoted.now) ≡ true) }
+{
+    let n = closing_quote(quoted)?;
+    let rest = quoted.as_bytes();
+    if ends_field(&rest[n..]) {
+        Some(n)
+    } else {
+        None
+    }
+}
+
 /// The length of the field at the front of a text.
 #[tactic(auto, unfolding(crate::specs::Fields::field_len))]
 fn front_field(text: &str) -> Option<usize>
@@ -85,17 +114,33 @@ fn front_field(text: &str) -> Option<usize>
     ensures within { IfSome result (λ n. (0 < n) × (n ≤ length text.now)) }
     ensures boundary { IfSome result (IsCharBoundary text.now) }
 {
+    if let Some(quoted) = behind_quote(text) {
+        return Some(quoted_field(quoted)? + 1);
+    }
     match text.as_bytes() {
         [] => None,
-        [b'"', rest @ ..] => {
-            let n = closing_quote(rest)?;
-            if ends_field(&rest[n..]) {
-                Some(n + 1)
-            } else {
-                None
-            }
-        }
         [_, rest @ ..] => Some(first_blank(rest).unwrap_or(rest.len()) + 1),
+    }
+}
+
+/// Puts the fields of a line, each as it stands there, into a list in place of what it held. The answer is false where a
+/// quoted one is broken; then the list holds those before it. One list serves many lines, so that memory is taken once.
+pub fn cut_into<'a>(fields: &mut Vec<&'a str>, line: &'a str) -> Result<bool, OutOfMemory>
+    ensures { IfOk result (λ whole. (if whole then Some (texts fields.new.items) else None) ≡ fields_of line.now) }
+{
+    fields.clear();
+    let mut text = line;
+    loop {
+        let rest = skip_blanks(text);
+        if rest.is_empty() {
+            return Ok(true);
+        }
+        let Some(len) = front_field(rest) else {
+            return Ok(false);
+        };
+        let (field, after) = rest.split_at(len);
+        fields.push(field)?;
+        text = after;
     }
 }
 
@@ -104,17 +149,9 @@ pub fn fields(alloc: Global, line: &str) -> Result<Option<Vec<&str>>, OutOfMemor
     ensures { IfOk result (λ found. option_map (λ v. texts v.items) found ≡ fields_of line.now) }
 {
     let mut fields = Vec::new(alloc);
-    let mut text = line;
-    loop {
-        let rest = skip_blanks(text);
-        if rest.is_empty() {
-            return Ok(Some(fields));
-        }
-        let Some(len) = front_field(rest) else {
-            return Ok(None);
-        };
-        let (field, after) = rest.split_at(len);
-        fields.push(field)?;
-        text = after;
+    if cut_into(&mut fields, line)? {
+        Ok(Some(fields))
+    } else {
+        Ok(None)
     }
 }

@@ -10,7 +10,7 @@ mod line;
 mod tests;
 mod value;
 
-pub use cut::{fields, worded};
+pub use cut::{cut_into, fields, worded};
 pub use kind::{LineError, ScriptKind};
 pub use line::{
     Call, app, app_id, bare, client_bytes, client_number, clock, context, leave, levels, log_call,

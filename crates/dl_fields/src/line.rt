@@ -1,10 +1,10 @@
 //! What the fields of a line say, for each form of line.
 
-ghost use Rattle.std.specs.Prelude.{◌≡◌};
+ghost use Rattle.std.specs.Prelude.{◌≡◌, true, IfOk};
 ghost use Rattle.std.specs.List.{list_all};
 ghost use Rattle.dl_fields.specs.Argument.{is_argument};
 ghost use Rattle.dl_fields.specs.Fields.{texts};
-ghost use Rattle.dl_fields.specs.Kind.{Says, is_of_form};
+ghost use Rattle.dl_fields.specs.Kind.{Says, is_of_form, formed};
 ghost use Rattle.dl_fields.specs.Line.{text_field, text_fields, hex_field, payload_fields, app_line, context_line, id_line, call_line, clock_line, writer_line, levels_of, levels_line, bare_line, client_line, bytes_line, user_line, leave_line, line_in};
 
 use crate::argument::{add, behind_quote, has_form, is_closed, raw, unescape};
@@ -169,6 +169,29 @@ fn payload(alloc: Global, fields: &[&str]) -> Result<Option<CallArguments>, Line
     Ok(Some(CallArguments::of(alloc, &payload)?))
 }
 
+/// The payload of a log call, or what is wrong with it, where each argument is of a known form. So a call whose
+/// arguments are all right is looked at once.
+#[tactic(auto, using(crate::proofs::Refused::payload_read))]
+fn formed_payload(
+    alloc: Global,
+    fields: &[&str],
+) -> Result<Result<Option<CallArguments>, ScriptKind>, LineError>
+    ensures form { Says (λ _. true) result (formed (list_all is_argument (texts fields.now))) }
+    ensures value { IfOk result (λ read. read ≡ payload_fields (texts fields.now)) }
+{
+    match payload(alloc, fields) {
+        Ok(payload) => Ok(Ok(payload)),
+        Err(LineError::OutOfMemory) => Err(LineError::OutOfMemory),
+        Err(LineError::Fault(kind)) => {
+            if are_arguments(fields) {
+                Ok(Err(kind))
+            } else {
+                Err(LineError::Fault(ScriptKind::Fields))
+            }
+        }
+    }
+}
+
 /// `W CTID SEV NUMBER ARG..`, with a number in this range.
 #[tactic(auto, unfolding(crate::specs::Line::call_line))]
 pub fn log_call(alloc: Global, fields: &[&str], low: u32, high: u32) -> Result<Call, LineError>
@@ -184,14 +207,12 @@ pub fn log_call(alloc: Global, fields: &[&str], low: u32, high: u32) -> Result<C
     else {
         return Err(LineError::Fault(ScriptKind::Fields));
     };
-    if !are_arguments(arguments) {
-        return Err(LineError::Fault(ScriptKind::Fields));
-    }
+    let payload = formed_payload(alloc, arguments)?;
     let writer = writer(writer_number)?;
     let ctid = id(ctid)?;
     let severity = severity(severity_word)?;
     let number = number(call_number, low, high)?;
-    let payload = payload(alloc, arguments)?;
+    let payload = payload?;
     Ok(Call {
         writer,
         ctid,

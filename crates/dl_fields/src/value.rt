@@ -20,8 +20,28 @@ pub fn id(field: &str) -> Result<Id, ScriptKind>
     Id::of(field).ok().ok_or(ScriptKind::Id)
 }
 
+/// A number of at most 32 bits, with no sign.
+fn digits_32(field: &str) -> Option<u32>
+    ensures { result ≡ unsigned_field 32 field.now }
+{
+    if field.starts_with('+') {
+        return None;
+    }
+    field.parse().ok()
+}
+
+/// A number of at most 64 bits, with no sign.
+fn digits_64(field: &str) -> Option<u64>
+    ensures { result ≡ unsigned_field 64 field.now }
+{
+    if field.starts_with('+') {
+        return None;
+    }
+    field.parse().ok()
+}
+
 /// A number of at most 128 bits, with no sign.
-fn digits(field: &str) -> Option<u128>
+fn digits_128(field: &str) -> Option<u128>
     ensures { result ≡ unsigned_field 128 field.now }
 {
     if field.starts_with('+') {
@@ -40,16 +60,28 @@ fn integer(field: &str) -> Option<i128>
     field.parse().ok()
 }
 
+/// An unsigned number of this width, of at most 64 bits.
+fn unsigned_64(width: Width, field: &str) -> Option<u128>
+    requires { byte_count width ≤ 8 }
+    ensures value { result ≡ unsigned_field (8 * byte_count width) field.now }
+    ensures fits { IfSome result (λ n. n < 256 ^ byte_count width) }
+{
+    let value = u128::from(digits_64(field)?);
+    if uint_fits(width, value) {
+        Some(value)
+    } else {
+        None
+    }
+}
+
 /// An unsigned number of this width.
 pub fn unsigned(width: Width, field: &str) -> Option<u128>
     ensures value { result ≡ unsigned_field (8 * byte_count width) field.now }
     ensures fits { IfSome result (λ n. n < 256 ^ byte_count width) }
 {
-    let value = digits(field)?;
-    if uint_fits(width, value) {
-        Some(value)
-    } else {
-        None
+    match width {
+        Width::W8 | Width::W16 | Width::W32 | Width::W64 => unsigned_64(width, field),
+        Width::W128 => digits_128(field),
     }
 }
 
@@ -70,7 +102,7 @@ pub fn signed(width: Width, field: &str) -> Option<i128>
 pub fn number_within(field: &str, low: u32, high: u32) -> Option<u32>
     ensures { result ≡ number_within low high field.now }
 {
-    let n = u32::try_from(digits(field)?).ok()?;
+    let n = digits_32(field)?;
     if low <= n && n <= high { Some(n) } else { None }
 }
 
@@ -86,8 +118,8 @@ pub fn number(field: &str, low: u32, high: u32) -> Result<u32, ScriptKind>
 pub fn count(field: &str) -> Result<u64, ScriptKind>
     ensures { result ≡ count_field field.now }
 {
-    match digits(field) {
-        Some(n) if n < 1 << 63 => Ok(n as u64),
+    match digits_64(field) {
+        Some(n) if n < 1 << 63 => Ok(n),
         _ => Err(ScriptKind::Number),
     }
 }
@@ -114,7 +146,7 @@ pub fn writer(field: &str) -> Result<u8, ScriptKind>
     if !are_digits(field) {
         return Err(ScriptKind::Number);
     }
-    match digits(field) {
+    match digits_32(field) {
         Some(n) if n < 256 => Ok(n as u8),
         _ => Ok(0),
     }
@@ -127,10 +159,7 @@ pub fn client(field: &str) -> Result<u32, ScriptKind>
     if !are_digits(field) {
         return Err(ScriptKind::Number);
     }
-    match digits(field) {
-        Some(n) if n < 1 << 32 => Ok(n as u32),
-        _ => Ok(0),
-    }
+    Ok(digits_32(field).unwrap_or(0))
 }
 
 /// A severity by its word.

@@ -13,7 +13,7 @@ use crate::read::{Read, all_calls, one_call, says};
 use crate::word::{ScenarioWord, StepWord, scenario_word, step_word};
 use dl_fields::{
     Call, LineError, ScriptKind, app, app_id, bare, client_bytes, client_number, clock, context,
-    fields, leave, levels, log_call, user, worded, writer_number,
+    cut_into, leave, levels, log_call, user, worded, writer_number,
 };
 use dl_steps::{ScenarioLine, Step};
 use std::alloc::Global;
@@ -295,49 +295,65 @@ fn scenario_by_word(
 }
 
 /// What a line of a step script says that is text.
-fn step_in(alloc: Global, line: &str) -> Result<Read<Step>, LineError>
+fn step_in<'a>(
+    alloc: Global,
+    fields: &mut Vec<&'a str>,
+    line: &'a str,
+) -> Result<Read<Step>, LineError>
     ensures { Says (λ x. x) result (line_of_text step_word step_by_word line.now) }
 {
     let (first, rest) = worded(line);
     let Some(word) = step_word(first) else {
         return Err(LineError::Fault(ScriptKind::Word));
     };
-    match fields(alloc, rest)? {
-        Some(fields) => step_by_word(alloc, word, &fields),
-        None => Err(LineError::Fault(ScriptKind::Fields)),
+    if !cut_into(fields, rest)? {
+        return Err(LineError::Fault(ScriptKind::Fields));
     }
+    step_by_word(alloc, word, fields)
 }
 
-/// What a line of a step script says, or what is wrong with it.
-pub fn step(alloc: Global, line: &[u8]) -> Result<Read<Step>, LineError>
+/// What a line of a step script says, or what is wrong with it. The list is for its fields.
+pub fn step<'a>(
+    alloc: Global,
+    fields: &mut Vec<&'a str>,
+    line: &'a [u8],
+) -> Result<Read<Step>, LineError>
     ensures { Says (λ x. x) result (step_of line.now) }
 {
     match from_utf8(line) {
-        Ok(text) => step_in(alloc, text),
+        Ok(text) => step_in(alloc, fields, text),
         Err(_) => Err(LineError::Fault(ScriptKind::NotUtf8)),
     }
 }
 
 /// What a line of a scenario says that is text.
-fn scenario_line_in(alloc: Global, line: &str) -> Result<Read<ScenarioLine>, LineError>
+fn scenario_line_in<'a>(
+    alloc: Global,
+    fields: &mut Vec<&'a str>,
+    line: &'a str,
+) -> Result<Read<ScenarioLine>, LineError>
     ensures { Says (λ x. x) result (line_of_text scenario_word scenario_by_word line.now) }
 {
     let (first, rest) = worded(line);
     let Some(word) = scenario_word(first) else {
         return Err(LineError::Fault(ScriptKind::Word));
     };
-    match fields(alloc, rest)? {
-        Some(fields) => scenario_by_word(alloc, word, &fields),
-        None => Err(LineError::Fault(ScriptKind::Fields)),
+    if !cut_into(fields, rest)? {
+        return Err(LineError::Fault(ScriptKind::Fields));
     }
+    scenario_by_word(alloc, word, fields)
 }
 
-/// What a line of a scenario says, or what is wrong with it.
-pub fn scenario_line(alloc: Global, line: &[u8]) -> Result<Read<ScenarioLine>, LineError>
+/// What a line of a scenario says, or what is wrong with it. The list is for its fields.
+pub fn scenario_line<'a>(
+    alloc: Global,
+    fields: &mut Vec<&'a str>,
+    line: &'a [u8],
+) -> Result<Read<ScenarioLine>, LineError>
     ensures { Says (λ x. x) result (scenario_line_of line.now) }
 {
     match from_utf8(line) {
-        Ok(text) => scenario_line_in(alloc, text),
+        Ok(text) => scenario_line_in(alloc, fields, text),
         Err(_) => Err(LineError::Fault(ScriptKind::NotUtf8)),
     }
 }

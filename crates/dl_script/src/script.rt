@@ -35,10 +35,15 @@ fn says_nothing(line: &[u8]) -> bool
 
 /// The step that a line says after the lines before it.
 #[tactic(auto, unfolding(crate::specs::Script::judged))]
-fn judged_step(alloc: Global, known: &mut Known, line: &[u8]) -> Result<Step, LineError>
+fn judged_step<'a>(
+    alloc: Global,
+    known: &mut Known,
+    fields: &mut Vec<&'a str>,
+    line: &'a [u8],
+) -> Result<Step, LineError>
     ensures { Judges step_of line.now result known.old known.new }
 {
-    let said = step(alloc, line)?;
+    let said = step(alloc, fields, line)?;
     known.admit(said.claim)?;
     match said.line {
         Some(step) => Ok(step),
@@ -48,10 +53,15 @@ fn judged_step(alloc: Global, known: &mut Known, line: &[u8]) -> Result<Step, Li
 
 /// The line of a scenario that a line says after the lines before it.
 #[tactic(auto, unfolding(crate::specs::Script::judged))]
-fn judged_line(alloc: Global, known: &mut Known, line: &[u8]) -> Result<ScenarioLine, LineError>
+fn judged_line<'a>(
+    alloc: Global,
+    known: &mut Known,
+    fields: &mut Vec<&'a str>,
+    line: &'a [u8],
+) -> Result<ScenarioLine, LineError>
     ensures { Judges scenario_line_of line.now result known.old known.new }
 {
-    let said = scenario_line(alloc, line)?;
+    let said = scenario_line(alloc, fields, line)?;
     known.admit(said.claim)?;
     match said.line {
         Some(line) => Ok(line),
@@ -67,13 +77,14 @@ fn steps(alloc: Global, text: &[u8]) -> Result<Vec<Step>, ScriptError>
 {
     let mut known = Known::new(alloc);
     let mut steps = Vec::new(alloc);
+    let mut fields = Vec::new(alloc);
     let mut number = 0;
     for line in lines(text) {
         number += 1;
         if says_nothing(line) {
             continue;
         }
-        match judged_step(alloc, &mut known, line) {
+        match judged_step(alloc, &mut known, &mut fields, line) {
             Ok(step) => steps.push(step)?,
             Err(error) => return Err(ScriptError::at(number, error)),
         }
@@ -89,13 +100,14 @@ fn scenario_lines(alloc: Global, text: &[u8]) -> Result<Vec<ScenarioLine>, Scrip
 {
     let mut known = Known::new(alloc);
     let mut scenario = Vec::new(alloc);
+    let mut fields = Vec::new(alloc);
     let mut place = 0;
     for line in lines(text) {
         place += 1;
         if says_nothing(line) {
             continue;
         }
-        match judged_line(alloc, &mut known, line) {
+        match judged_line(alloc, &mut known, &mut fields, line) {
             Ok(entry) => scenario.push(entry)?,
             Err(error) => return Err(ScriptError::at(place, error)),
         }

@@ -1,4 +1,4 @@
-use Rattle.std.proofs.Common.{◌≡◌, ℕ, List, length, eqb, false, Some, None, ap, sym, ◌∙◌, refl}
+use Rattle.std.proofs.Common.{◌≡◌, ℕ, List, length, eqb, false, Some, None, sym, ◌∙◌, refl}
 use Rattle.std.specs.Prelude.{is_some}
 use Rattle.dl_fields.specs.Argument.{unescaped}
 use Rattle.dl_fields.specs.Fields.{quoted_len}
@@ -13,7 +13,7 @@ never text e = rw (closed text, e) refl
 
 pub returns-in-Some : goal.returns-in-Some
 returns-in-Some c =
-    closes c.args.quoted.now c.in-Some.len (ap (quoted_len false) (sym c.as_bytes.ensures.value) ∙ sym c.closing_quote.ensures.value ∙ c.in-Some.is)
+    closes c.args.quoted.now c.in-Some.len (sym c.closing_quote.ensures.value ∙ c.in-Some.is)
 
 pub returns-in-None : goal.returns-in-None
-returns-in-None c = never c.args.quoted.now (ap (quoted_len false) (sym c.as_bytes.ensures.value) ∙ sym c.closing_quote.ensures.value ∙ c.in-None.is)
+returns-in-None c = never c.args.quoted.now (sym c.closing_quote.ensures.value ∙ c.in-None.is)

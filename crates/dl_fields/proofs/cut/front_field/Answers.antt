@@ -1,23 +1,12 @@
-use Rattle.std.proofs.Common.{◌≡◌, ◌-◌, true, List, ℕ, length, drop, take, sym, ◌∙◌, ap, arith, length-drop}
+use Rattle.std.proofs.Common.{◌≡◌, ◌-◌, List, ℕ, length, drop, take, ap, arith, length-drop}
 use Rattle.std.proofs.lemmas.List.{take_all}
 use Rattle.dl_text.specs.Lines.{is_blank}
-use Rattle.dl_fields.specs.Fields.{is_end}
 use Rattle.dl_fields.proofs.Boundaries.{first_within, at_end_of_rest, ends_at_blank}
 use Rattle.dl_fields.proofs.cut.front_field.Goals as goal
 
 -- the bytes behind the first, as the code takes them
 behind : (bytes text : List ℕ) → bytes ≡ text → take (length bytes - 1) (drop 1 bytes) ≡ drop 1 text
 behind bytes text e = rw e (take_all (length text - 1) (drop 1 text) (omega (arith, length-drop 1 text)))
-
--- what the code tests behind n of them
-tested : (rest : List ℕ) (n : ℕ) → true ≡ is_end (take (length rest - n) (drop n rest)) → is_end (drop n rest) ≡ true
-tested rest n e = ap is_end (sym (take_all (length rest - n) (drop n rest) (omega (arith, length-drop n rest)))) ∙ sym e
-
-pub returns-then-ends_field-clause-boundary : goal.returns-then-ends_field-clause-boundary
-returns-then-ends_field-clause-boundary c =
-    let rest : List ℕ = take (length c.as_bytes.result.now - 1) (drop 1 c.as_bytes.result.now) in
-    at_end_of_rest c.args.text.now rest c.in_ok-n-in-34.n (behind c.as_bytes.result.now c.args.text.now c.as_bytes.ensures.value)
-    (omega (arith, c.in-34.len_at_least, ap length c.as_bytes.ensures.value)) c.in_ok-n-in-34.ensures.within.1 (tested rest c.in_ok-n-in-34.n c.if-ends_field.ensures)
 
 pub returns-in-len1-up-clause-boundary : goal.returns-in-len1-up-clause-boundary
 returns-in-len1-up-clause-boundary c =

@@ -1,7 +1,7 @@
 use Rattle.std.proofs.Common.{◌≡◌, ◌+◌, drop, false}
 use Rattle.std.specs.Option.{option_map}
 use Rattle.dl_fields.specs.Fields.{quoted_len}
-use Rattle.dl_fields.proofs.cut.closing_quote.Given as goal
+use Rattle.dl_fields.proofs.cut.escaped_len.Given as goal
 
 -- what is left of the text ends where the whole does
 abbrev pub invariant-loop-i : goal.invariant-loop-i

@@ -3,7 +3,7 @@ use Rattle.std.proofs.lemmas.List.{map_push}
 use Rattle.std.proofs.lemmas.Str.{IsUtf8-drop}
 use Rattle.dl_fields.specs.Fields.{fields_of, texts}
 use Rattle.dl_fields.proofs.Cutting.{ends, breaks, goes_on}
-use Rattle.dl_fields.proofs.cut.fields.Goals as goal
+use Rattle.dl_fields.proofs.cut.cut_into.Goals as goal
 
 pub returns-then-is_empty : goal.returns-then-is_empty
 returns-then-is_empty c =

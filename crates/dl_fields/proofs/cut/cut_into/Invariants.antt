@@ -2,7 +2,7 @@ use Rattle.std.proofs.Common.{◌≡◌, ◌+◌, ◌-◌, ◌≤◌, length, ve
 use Rattle.std.specs.Str.{IsUtf8}
 use Rattle.dl_fields.specs.Fields.{fields_of, fields_upto, texts}
 use Rattle.dl_fields.proofs.Cutting.{with_front}
-use Rattle.dl_fields.proofs.cut.fields.Given as goal
+use Rattle.dl_fields.proofs.cut.cut_into.Given as goal
 
 -- what is left is text; each field took a byte at least; the fields so far, and those of what is left, are those of the line
 abbrev pub invariant-loop-rest : goal.invariant-loop-rest
