@@ -7,3 +7,4 @@ pub mod Declaring
 pub mod Changing
 pub mod Loading
 pub mod InjectionCounts
+pub mod OpenCalls

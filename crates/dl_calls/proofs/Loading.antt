@@ -170,7 +170,7 @@ module _ (done : List Mark) (calls : Calls) (is : IsAfter done calls) (line : Ca
 -- ---- the same as a call
 
 pub load-does : (apps : List App) (ws : List Writer) (now : Calls) → record { apps = apps; writers = ws } ≡ now → (line : CallLine) (context : Context) (seen : Slot) → named now line ≡ Some context
-    → (w y : Writer) (number mcnt : ℕ) (call : Call) → w ≡ get_or ws (line.writer - 1) w → number ≡ length w.records + 1 → mcnt ≡ w.passed → call ≡ made_call line context seen number mcnt → y ≡ begun w call
+    → (w y : Writer) (number mcnt : ℕ) (call : Call) → w ≡ get_or ws (line.writer - 1) w → number ≡ length w.records + 1 → mcnt ≡ w.passed → call ≡ made_call line context seen number mcnt → (w.to_push ≡ None → w.to_count ≡ None → y ≡ begun w call)
     → (setting : Setting) (done : List Mark) → IsAfter done now → slots_of setting (journal done) (slot_of context.app context.place) ≡ seen → to_push line.writer done ≡ None → to_count line.writer done ≡ None
     → IsAfter (done ++ load setting line done) (record { apps = apps; writers = set ws (line.writer - 1) y })
 load-does apps ws now view_is line context seen known w y number mcnt call w_is number_is mcnt_is call_is y_is setting done is slot_is no_push no_count =
@@ -203,7 +203,9 @@ load-does apps ws now view_is line context seen known w y number mcnt call w_is 
       call_is_so = call_is ∙ rw (count_is_so, counter_is_so, sym names.ctid_is, sym slot_is) refl
 
       made : y ≡ begun (get_or ws (line.writer - 1) no_writer) (call_made done (record { apps = apps; writers = ws }) is_here line context names setting)
-      made = y_is ∙ rw (call_is_so, writer_is) refl
+      made =
+          y_is (ap (λ (x : Writer). x.to_push) writer_is ∙ sym before.push_is ∙ no_push) (ap (λ (x : Writer). x.to_count) writer_is ∙ sym before.count_is ∙ no_count)
+          ∙ rw (call_is_so, writer_is) refl
 
 -- ---- a call that names nothing
 

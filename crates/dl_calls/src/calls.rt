@@ -1,26 +1,26 @@
 //! The log calls of a script: what each writer, each ring and each count is after the lines so far.
 
-ghost use Rattle.std.specs.Prelude.{◌≡◌, ℕ, List, ◌+◌, ◌++◌, ◌<◌, ◌≤◌, [], length, map, slice_get, get_or, Some, None, OnOk, IfOk, IfSome, IsSome, IsSomeAnd, option_map};
+ghost use Rattle.std.specs.Prelude.{◌≡◌, ℕ, List, ◌+◌, ◌++◌, ◌<◌, ◌≤◌, [], length, map, get_or, Some, None, OnOk, IfOk, IfSome, IsSome, IsSomeAnd, option_map};
 ghost use Rattle.std.specs.List.{position};
-ghost use Rattle.std.specs.Option.{option_and_then};
 ghost use Rattle.std.specs.Str.{bytes_eq};
 ghost use Rattle.dl_bytes.specs.declared.moment.Moment.{Moment};
 ghost use Rattle.dl_events.specs.declared.event.Event.TheVariants as event;
+ghost use Rattle.dl_events.specs.declared.record.Answer.TheVariants as answers;
 ghost use Rattle.dl_model.specs.Setting.{Setting};
 ghost use Rattle.dl_model.specs.Registry.{slot_of};
 ghost use Rattle.dl_model.specs.Journal.{slots_of};
 ghost use Rattle.dl_model.specs.Marks.{Mark, HasApp, HasContext, HasWriter, Noted, journal, to_push, to_count};
 ghost use Rattle.dl_model.specs.Marks as marks;
 ghost use Rattle.dl_model.specs.Steps.{just, load, push, count, finish};
-ghost use Rattle.dl_calls.specs.Stages.{as_call};
+ghost use Rattle.dl_calls.specs.Stages.{call_of, no_arguments, filled};
 ghost use Rattle.dl_calls.specs.State.{numbered, app_named, writer_of, named, next_item, made_call, context_in, pusher, counter};
 ghost use Rattle.dl_calls.specs.Follows.{no_app, IsAfter, Does};
 
 use crate::app::App;
 use crate::queue::RecordPlace;
-use crate::writer::{LoadedCall, Writer};
-use dl_bytes::{AppSpec, Bytes, Ctx, Id, Item, OutOfMemory, Sequence};
-use dl_events::RecordList;
+use crate::writer::Writer;
+use dl_bytes::{AppSpec, Bytes, Ctx, Id, Item, OutOfMemory, Payload, Sequence};
+use dl_events::{Answer, Record, RecordList};
 use dl_model::Slot;
 use dl_steps::{AppLine, CallLine, ContextLine};
 use std::alloc::Global;
@@ -157,7 +157,8 @@ impl Calls {
         }
         let place = self.writers[number].recorded();
         self.apps[app].queue(RecordPlace { writer, place })?;
-        self.writers[number].queue()
+        self.writers[number].queue();
+        Ok(())
     }
 
     /// The writer's call that the ring refused is counted as lost.
@@ -178,7 +179,8 @@ impl Calls {
         let number = writer as usize - 1;
         let place = self.writers[number].recorded();
         self.apps[app as usize].lose(RecordPlace { writer, place })?;
-        self.writers[number].count()
+        self.writers[number].count();
+        Ok(())
     }
 
     /// Declares an application.
@@ -248,7 +250,8 @@ impl Calls {
         let writer = &mut self.writers[call.writer as usize - 1];
         let number = writer.recorded() as u64 + 1;
         let mcnt = writer.mcnt();
-        writer.begin(loaded_call(call, context, seen, number, mcnt))
+        let record = loaded_call(call, context, seen, number, mcnt);
+        writer.begin(record, &call.payload)
     }
 
     /// The call that the daemon takes next out of an application's ring.
@@ -333,26 +336,29 @@ fn number_in(apps: &[App], apid: Id) -> Option<usize>
     apps.iter().position(|app| app.is_named(apid))
 }
 
-/// The call that a load makes of a line: its writer's call of this number and with this message counter.
-fn loaded_call(call: &CallLine, context: Ctx, seen: Slot, number: u64, mcnt: u8) -> LoadedCall
-    ensures { as_call result ≡ made_call call.now context seen number mcnt }
+/// The record of the call that a load makes of a line: its writer's call of this number and with this message counter. It has
+/// no argument yet, and its answer stands only where its level filters it.
+fn loaded_call(call: &CallLine, context: Ctx, seen: Slot, number: u64, mcnt: u8) -> Record
+    ensures call { call_of (filled result call.now.payload) ≡ made_call call.now context seen number mcnt }
+    ensures answer { result.answer ≡ answers.Filtered }
+    ensures empty { result.item.payload ≡ no_arguments }
 {
-    let item = Item {
-        app: context.app(),
-        writer: call.writer,
-        call: number,
-        apid: context.apid(),
-        ctid: call.ctid,
-        severity: call.severity,
-        at: call.at,
-        mcnt,
-        payload: call.payload.payload(),
-    };
-    LoadedCall {
-        item,
+    Record {
+        item: Item {
+            app: context.app(),
+            writer: call.writer,
+            call: number,
+            apid: context.apid(),
+            ctid: call.ctid,
+            severity: call.severity,
+            at: call.at,
+            mcnt,
+            payload: Payload::new(),
+        },
         slot: 64 * context.app() as u16 + context.place() as u16,
         version: seen.version,
         held: seen.level,
+        answer: Answer::Filtered,
     }
 }
 

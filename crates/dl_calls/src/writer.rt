@@ -1,56 +1,30 @@
 //! One writer: the call that it has begun, and the records of its calls before.
 
-ghost use Rattle.std.specs.Prelude.{◌≡◌, ◌<◌, ◌^◌, ◌+◌, ◌++◌, ◌∷◌, [], length, is_some, option_map, slice_get, OnOk};
+ghost use Rattle.std.specs.Prelude.{◌≡◌, ◌<◌, ◌≤◌, ◌^◌, ◌-◌, ◌++◌, ◌∷◌, [], None, length, take, is_some, option_map, slice_get, OnOk, IsSomeAnd};
+ghost use Rattle.dl_model.specs.Marks.{recorded};
 ghost use Rattle.dl_calls.specs.State.{new_writer, begun, answered, turned_away};
-ghost use Rattle.dl_calls.specs.Stages.{as_call, as_record};
+ghost use Rattle.dl_calls.specs.Stages.{call_of, no_arguments, filled};
 ghost use Rattle.dl_events.specs.declared.record.Answer.TheVariants as answers;
 
-use dl_bytes::{Id, Item, Level, OutOfMemory};
+use dl_bytes::{Id, OutOfMemory, Payload};
 use dl_events::{Answer, Record};
+use dl_steps::CallArguments;
 use std::alloc::Global;
 use std::marker::Model;
-use std::mem;
 
-/// A log call after its load.
-#[derive(Debug, Drop)]
-pub struct LoadedCall {
-    /// The call.
-    pub item: Item,
-    /// The slot of its context.
-    pub slot: u16,
-    /// The version of the level that its load gave.
-    pub version: u64,
-    /// That level.
-    pub held: Level,
-}
-
-impl LoadedCall {
-    /// Its record, once its answer stands.
-    fn into_record(self, answer: Answer) -> Record
-        ensures { result ≡ as_record self answer }
-    {
-        Record {
-            item: self.item,
-            slot: self.slot,
-            version: self.version,
-            held: self.held,
-            answer,
-        }
-    }
-}
-
-/// What a writer's call still needs.
-#[derive(Debug, Drop)]
+/// What a writer's last call still needs.
+#[derive(Clone, Copy, Debug, PartialEq, Eq)]
 pub enum Stage {
     /// Nothing: no call is open.
     Idle,
     /// Its push.
-    ToPush(LoadedCall),
+    ToPush,
     /// Its count, since the ring refused it.
-    ToCount(LoadedCall),
+    ToCount,
 }
 
-/// A writer of an application.
+/// A writer of an application. Its open call lies behind the records of the calls before, as a record whose answer does not
+/// stand yet.
 #[derive(Drop)]
 pub struct Writer {
     app: u8,
@@ -62,11 +36,14 @@ pub struct Writer {
 
 impl Model for Writer {
     ghost use Rattle.dl_calls.specs.State as state;
-    ghost use Rattle.dl_calls.specs.Stages.{push_of, count_of};
+    ghost use Rattle.std.specs.Prelude.{◌≤◌, length};
+    ghost use Rattle.dl_calls.specs.Stages.{open_in, answered_in, push_of, count_of};
 
     ghost Value = { state.Writer };
 
-    ghost view = { λ w. record { app = w.app; apid = w.apid; passed = w.passed; to_push = push_of w.stage; to_count = count_of w.stage; records = w.records.items } };
+    ghost view = { λ w. record { app = w.app; apid = w.apid; passed = w.passed; to_push = push_of w.stage w.records.items; to_count = count_of w.stage w.records.items; records = answered_in w.stage w.records.items } };
+
+    ghost invariant = { λ w. open_in w.stage ≤ length w.records.items };
 }
 
 impl Writer {
@@ -109,82 +86,125 @@ impl Writer {
         ensures value { result ≡ length self.now.records }
         ensures limit { result < 2 ^ 63 }
     {
-        self.records.len()
+        match self.stage {
+            Stage::Idle => self.records.len(),
+            _ => self.records.len() - 1,
+        }
     }
 
     /// The record at a place, from 0.
     pub fn record(&self, place: usize) -> Option<&Record>
         ensures { option_map (λ r. r.now) result ≡ slice_get self.now.records place }
     {
-        self.records.get(place)
+        self.records[..self.recorded()].get(place)
     }
 
     /// All its records.
     pub fn into_records(self) -> Vec<Record>
         ensures { result.items ≡ self.records }
     {
-        self.records
+        let recorded = self.recorded();
+        let mut records = self.records;
+        records.truncate(recorded);
+        records
     }
 
     /// Whether its call is to be pushed.
     pub fn is_to_push(&self) -> bool
         ensures { result ≡ is_some self.now.to_push }
     {
-        matches!(self.stage, Stage::ToPush(_))
+        matches!(self.stage, Stage::ToPush)
     }
 
     /// Whether its call is to be counted.
     pub fn is_to_count(&self) -> bool
         ensures { result ≡ is_some self.now.to_count }
     {
-        matches!(self.stage, Stage::ToCount(_))
+        matches!(self.stage, Stage::ToCount)
     }
 
-    /// Begins a call: its level lets it through, or filters it.
-    pub fn begin(&mut self, call: LoadedCall) -> Result<(), OutOfMemory>
-        ensures made { OnOk result (self.new ≡ begun self.old (as_call call)) }
+    /// Begins the call of this record with these arguments, where no other is open: its level lets it through, or filters it.
+    pub fn begin(&mut self, call: Record, arguments: &CallArguments) -> Result<(), OutOfMemory>
+        requires answer { call.answer ≡ answers.Filtered }
+        requires empty { call.item.payload ≡ no_arguments }
+        ensures made { OnOk result (self.old.to_push ≡ None → self.old.to_count ≡ None → self.new ≡ begun self.old (call_of (filled call arguments.now))) }
         ensures app { self.new.app ≡ self.old.app }
     {
-        if call.held.passes(call.item.severity) {
+        let passes = call.held.passes(call.item.severity);
+        push_filled(&mut self.records, call, arguments)?;
+        if passes {
             self.passed = self.passed.wrapping_add(1);
-            self.stage = Stage::ToPush(call);
-        } else {
-            self.records.push(call.into_record(Answer::Filtered))?;
+            self.stage = Stage::ToPush;
         }
         Ok(())
     }
 
     /// The ring took its call.
-    pub fn queue(&mut self) -> Result<(), OutOfMemory>
-        ensures made { OnOk result (self.new ≡ answered self.old answers.Queued self.old.to_push) }
+    pub fn queue(&mut self)
+        ensures made { self.new ≡ answered self.old answers.Queued self.old.to_push }
         ensures app { self.new.app ≡ self.old.app }
     {
-        match mem::replace(&mut self.stage, Stage::Idle) {
-            Stage::ToPush(call) => self.records.push(call.into_record(Answer::Queued))?,
-            other => self.stage = other,
+        if self.is_to_push() {
+            answer_last(&mut self.records, Answer::Queued);
+            self.stage = Stage::Idle;
         }
-        Ok(())
     }
 
     /// The ring refused its call.
     pub fn refuse(&mut self)
         ensures { self.new ≡ turned_away self.old self.old.to_push }
     {
-        match mem::replace(&mut self.stage, Stage::Idle) {
-            Stage::ToPush(call) => self.stage = Stage::ToCount(call),
-            other => self.stage = other,
+        if self.is_to_push() {
+            self.stage = Stage::ToCount;
         }
     }
 
     /// Its call is counted as lost.
-    pub fn count(&mut self) -> Result<(), OutOfMemory>
-        ensures made { OnOk result (self.new ≡ answered self.old answers.Lost self.old.to_count) }
+    pub fn count(&mut self)
+        ensures made { self.new ≡ answered self.old answers.Lost self.old.to_count }
         ensures app { self.new.app ≡ self.old.app }
     {
-        match mem::replace(&mut self.stage, Stage::Idle) {
-            Stage::ToCount(call) => self.records.push(call.into_record(Answer::Lost))?,
-            other => self.stage = other,
+        if self.is_to_count() {
+            answer_last(&mut self.records, Answer::Lost);
+            self.stage = Stage::Idle;
         }
-        Ok(())
     }
+}
+
+/// Adds a record with these arguments. They are filled in where it lies in the list: a payload that is made apart is moved
+/// there as a whole, with all that it has room for.
+fn push_filled(
+    records: &mut Vec<Record>,
+    call: Record,
+    arguments: &CallArguments,
+) -> Result<(), OutOfMemory>
+    requires { call.item.payload ≡ no_arguments }
+    ensures added { OnOk result (records.new.items ≡ records.old.items ++ filled call arguments.now ∷ []) }
+    ensures none_less { length records.old.items ≤ length records.new.items }
+{
+    let place = records.len();
+    records.push(call)?;
+    let last = &mut records[place];
+    fill(&mut last.item.payload, arguments);
+    Ok(())
+}
+
+/// Fills an empty payload with arguments.
+fn fill(payload: &mut Payload, arguments: &CallArguments)
+    requires { payload.old ≡ no_arguments }
+    ensures { payload.new ≡ arguments.now }
+{
+    payload.extend_from_slice(arguments.bytes());
+    for _argument in 0..arguments.args() {
+        payload.count_argument();
+    }
+}
+
+/// The answer of the last record stands.
+fn answer_last(records: &mut Vec<Record>, answer: Answer)
+    requires { 1 ≤ length records.old.items }
+    ensures { IsSomeAnd (slice_get records.old.items (length records.old.items - 1)) (λ last. records.new.items ≡ take (length records.old.items - 1) records.old.items ++ recorded (call_of last) answer ∷ []) }
+{
+    let last = records.len() - 1;
+    records[last].answer = answer;
 }

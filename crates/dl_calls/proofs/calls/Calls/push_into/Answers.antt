@@ -1,11 +1,10 @@
 use Rattle.std.proofs.Common.{◌≡◌, ◌-◌, sym, ap, ◌∙◌, get_or, arith}
-use Rattle.dl_events.specs.declared.record.Answer.TheVariants as answers
 use Rattle.std.specs.Prelude.{nat_le}
 use Rattle.dl_calls.specs.Queue.{waiting}
-use Rattle.dl_calls.specs.State.{App, Writer, answered}
+use Rattle.dl_calls.specs.State.{App, Writer}
 use Rattle.dl_calls.specs.Follows.{no_writer}
 use Rattle.dl_calls.proofs.Places.{any_default}
-use Rattle.dl_calls.proofs.Acts.{on_ok, is_pushed, app_there, push-full, push-room-as, fits-app, fits-writer}
+use Rattle.dl_calls.proofs.Acts.{is_pushed, app_there, push-full, push-room-as, fits-app, fits-writer}
 use Rattle.dl_calls.proofs.calls.Calls.push_into.Goals as goal
 
 pub returns-then-is_full : goal.returns-then-is_full
@@ -38,11 +37,9 @@ invariant_of-self-2 c =
 
 pub returns : goal.returns
 returns c =
-    let made = λ (is : c.queue-2.new.self ≡ answered c.index_mut-3.result.now answers.Queued c.index_mut-3.result.now.to_push).
     push-room-as c.self.inside.apps.items c.self.inside.writers.items c.args.self.now c.self.view_is c.self.invariant c.args.writer c.args.app c.requires
     c.index-2.result.now c.index_mut-3.result.now c.index_mut-2.result.now c.recorded-place.result c.queue.new.self c.queue-2.new.self
     c.index-2.ensures c.recorded-place.ensures.value c.index_mut-3.ensures.value c.index_mut-2.ensures.value
     (ap (λ (x : App). nat_le x.spec.capacity (waiting x.ring)) (c.index_mut-2.ensures.value ∙ any_default c.self.inside.apps.items c.args.app c.index_mut-2.result.now c.index.result.now
     (app_there c.self.inside.apps.items c.self.inside.writers.items c.args.self.now c.self.view_is c.self.invariant c.args.writer c.args.app c.requires) ∙ sym c.index.ensures)
-    ∙ sym c.is_full.ensures ∙ c.if-is_full.false) c.in_ok-queue.ensures is in
-    on_ok c.queue-2.result _ _ made c.queue-2.ensures.made
+    ∙ sym c.is_full.ensures ∙ c.if-is_full.false) c.in_ok-queue.ensures c.queue-2.ensures.made
