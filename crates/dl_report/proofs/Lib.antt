@@ -6,4 +6,3 @@ pub mod Closing
 pub mod AppLines
 pub mod Beginning
 pub mod Printing
-pub mod Pairs
