@@ -22,7 +22,7 @@ use Rattle.dl_model.specs.Reply.{apid_of, asked, ctid_of, reply_frame_to, reply_
 use Rattle.dl_model.specs.Setting.{Setting}
 use Rattle.dl_model.specs.TraceFiles.{six_digits, trace_name}
 use Rattle.dl_model.specs.Traffic as traffic
-use Rattle.dl_registry.specs.Kept.{Kept, slots, with_registry}
+use Rattle.dl_registry.specs.Kept.{Kept, slots}
 use Rattle.dl_registry.specs.Kept as registry
 use Rattle.dl_registry.proofs.Following.{after_event}
 use Rattle.dl_hub.specs.Follows as hub
@@ -59,10 +59,10 @@ not_tied x y other =
       | Greater ↦ λ _. refl
     ] refl
 
-put_other : (folder : Files) (name bytes other : List ℕ) → other ≢ name → map.get (map.insert folder name bytes) other ≡ map.get folder other
+pub put_other : (folder : Files) (name bytes other : List ℕ) → other ≢ name → map.get (map.insert folder name bytes) other ≡ map.get folder other
 put_other folder name bytes other apart = get-insert nat_list_cmp_total folder name bytes other ∙ ap (λ b. cond b (Some bytes) (map.get folder other)) (not_tied other name apart)
 
-gone_other : (folder : Files) (name other : List ℕ) → other ≢ name → map.get (map.remove folder name) other ≡ map.get folder other
+pub gone_other : (folder : Files) (name other : List ℕ) → other ≢ name → map.get (map.remove folder name) other ≡ map.get folder other
 gone_other folder name other apart = get-remove nat_list_cmp_total folder name other ∙ ap (λ b. cond b None (map.get folder other)) (not_tied other name apart)
 
 -- ---- so the trace files stay

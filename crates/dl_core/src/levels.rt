@@ -1,10 +1,11 @@
 //! Level events: the levels that contexts have from now on.
 
-ghost use Rattle.std.specs.Prelude.{◌≡◌, ◌≤◌, ◌<◌, ◌+◌, ◌∷◌, [], ℕ, IfSome, IfNone, OnSome};
+ghost use Rattle.std.specs.Prelude.{◌≡◌, ◌≤◌, ◌<◌, ◌+◌, ◌∷◌, [], IfSome, IfNone, OnSome};
 ghost use Rattle.dl_events.specs.Journal as notes;
 ghost use Rattle.dl_events.specs.Journal.{one_more};
 ghost use Rattle.dl_events.specs.declared.event.Event.TheVariants as event;
-ghost use Rattle.dl_registry.specs.Kept.{owed_change, with_change};
+ghost use Rattle.dl_model.specs.History.{last_version};
+ghost use Rattle.dl_registry.specs.Kept.{owed_change, slots, with_change};
 ghost use Rattle.dl_core.specs.Follows.{AddsAlone};
 ghost use Rattle.dl_core.specs.Waiting.{waiting};
 
@@ -18,6 +19,7 @@ impl Core {
     pub fn level<J: Journal>(&mut self, journal: &mut J) -> Option<LevelChange>
         requires spare { 0 < waiting self.old.registry → 1 ≤ J.spare journal.old }
         ensures change { result ≡ owed_change self.old.registry }
+        ensures version { IfSome result (λ change. (slots self.old.registry change.slot).version < last_version) }
         ensures none { IfNone result ((self.new ≡ self.old) × (journal.new ≡ journal.old)) }
         ensures after { IfSome result (λ change. AddsAlone (event.Level change.slot change.level ∷ []) self.old self.new) }
         ensures event { IfSome result (λ change. notes.Adds (J.events journal.old) (J.events journal.new) (event.Level change.slot change.level)) }

@@ -145,6 +145,17 @@ impl Hub {
         }
     }
 
+    /// How many bytes wait in a client's outbox.
+    pub fn waiting(&self, client: u32) -> u64
+        requires { IsSome (outbox_of self.now client) }
+        ensures { IsSomeAnd (outbox_of self.now client) (λ outbox. result ≡ length outbox.bytes) }
+    {
+        match self.outbox(client) {
+            Some(outbox) => outbox.len() as u64,
+            None => 0,
+        }
+    }
+
     /// How many frames were admitted.
     pub fn admitted(&self) -> u64
         ensures { result ≡ self.now.admitted }
