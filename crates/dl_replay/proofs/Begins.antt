@@ -17,7 +17,7 @@ use Rattle.dl_outside.specs.Folder.{Files}
 use Rattle.dl_program.specs.Setup.{conf_in, stored_in}
 use Rattle.dl_replay.specs.declared.begin.Setup.{Setup}
 use Rattle.dl_replay.specs.Begin.{IsQuiet, SayConfs, conf_name}
-use Rattle.dl_replay.specs.Told.{FolderTold}
+use Rattle.dl_outside.specs.Told.{FolderTold}
 use Rattle.dl_replay.proofs.Folders.{if_some_of, stays_on}
 
 -- a text that is too long is no script

@@ -22,9 +22,11 @@ use Rattle.dl_replay.specs.declared.task.Task.{Task}
 use Rattle.dl_replay.specs.Begin.{IsQuiet}
 use Rattle.dl_replay.specs.Finish.{Ends, Finishes, report_for, status_after}
 use Rattle.dl_replay.specs.Playing.{IsOf, Plays}
-use Rattle.dl_replay.specs.Run.{Run, HasNames, IsSpent, IsWhole, marks, no_trace, setting, text_of, unserved}
-use Rattle.dl_replay.specs.Told.{FolderTold, FolderWell, SinkTold, WroteAll, WroteFront}
-use Rattle.dl_replay.proofs.Folders.{known_before, unchanged_on}
+use Rattle.dl_replay.specs.Run.{Run, HasDecided, HasNames, HoldsItsStored, IsDecided, IsSpent, IsWhole, marks, no_trace, setting, text_of, unserved}
+use Rattle.dl_outside.specs.Told.{FolderTold, SinkTold}
+use Rattle.dl_replay.specs.Told.{FolderWell, WroteAll, WroteFront}
+use Rattle.dl_replay.proofs.Answering.{said_yes}
+use Rattle.dl_replay.proofs.Folders.{known_before, stored_before, unchanged_on}
 
 -- nothing was played
 pub unplayed : (task : Task) (start : Start) (old new : FolderTold) (out : SinkTold) (status : Status) → Plays start old new (Err status) → Ends task start old new out out status
@@ -111,6 +113,21 @@ risen {start = start} {old = old} {new = new} run ended later =
     subst (λ (e : Option TraceEnd). min (old.failed + (count + trace_failures e)) (2 ^ 64 - 1) ≤ new.failed) ended run.failed in
     (later, omega (arith, rises))
 
+-- the folder did not fail, and each Store and each Reset had memory
+decided : {start : Start} {old new : FolderTold} → (run : Run start old new) → FolderWell old new → unserved (journal (marks start run.answers)) ≡ false → IsDecided run
+decided {start = start} {old = old} {new = new} run well served = λ room.
+    let count = count_by is_failed (marks start run.answers) in
+    let more = trace_failures run.trace.end in
+    let rises : min (old.failed + (count + more)) (2 ^ 64 - 1) ≤ new.failed = run.failed in
+    said_yes (setting start) run.answers start.steps (omega (arith, rises, well, room)) served
+
+-- so the stored configuration is that of the run in which it said Yes each time
+has_decided : {start : Start} {old new : FolderTold} → (run : Run start old new) → FolderWell old new → unserved (journal (marks start run.answers)) ≡ false → HasDecided run
+has_decided {start = start} {old = old} {new = new} run well served = λ room.
+    let more = trace_failures run.trace.end in
+    let rises : min (old.failed + (count_by is_failed (marks start run.answers) + more)) (2 ^ 64 - 1) ≤ new.failed = run.failed in
+    subst (λ (done : List Mark). HoldsItsStored start old.files new.files done) (decided run well served room) (run.stored (omega (arith, rises, well, room)))
+
 written_whole : {start : Start} {old new : FolderTold} → (task : Task) (run : Run start old new) (out out_now : SinkTold) (failed : Bool) (cause : Option TraceEnd) (short : Bool) → Known run failed cause short
     → WroteAll out out_now (text_of task run) → Ends task start old new out out_now (status_after failed cause true short)
 written_whole task run out out_now true cause short known all = (known.rose refl, inr (run, inl all))
@@ -118,7 +135,7 @@ written_whole task run out out_now false (Some end.Failed) short known all = (ri
 written_whole task run out out_now false (Some end.Spent) short known all = (run, inl all, known.well refl, spent run known.cause_is)
 written_whole task run out out_now false (Some end.NoMemory) short known all = inr (run, all, known.well refl, has_names run (Some end.NoMemory) known.cause_is (λ e. cc), inr known.cause_is)
 written_whole task run out out_now false None true known all = inr (run, all, known.well refl, has_names run None known.cause_is (λ e. cc), inl known.short_is)
-written_whole task run out out_now false None false known all = (run, all, known.well refl, whole run known.cause_is, known.short_is)
+written_whole task run out out_now false None false known all = (run, all, known.well refl, whole run known.cause_is, known.short_is, decided run (known.well refl) known.short_is, has_decided run (known.well refl) known.short_is)
 
 written_front : {start : Start} {old new : FolderTold} → (task : Task) (run : Run start old new) (out out_now : SinkTold) (failed : Bool) (cause : Option TraceEnd) (short : Bool) → Known run failed cause short
     → WroteFront out out_now (text_of task run) → Ends task start old new out out_now (status_after failed cause false short)
@@ -168,12 +185,21 @@ earlier_run start old mid new quiet run = record {
   untraced = run.untraced;
   traced = run.traced;
   holds = λ named goes. known_before old.files mid.files (λ files. IsSomeAnd new.files (λ now. HasFiles start.conf.directory now (files_of (setting start) run.stood (marks start run.answers)))) quiet.unchanged.files (run.holds named goes);
+  stored = λ none. stored_before start old.files mid.files new.files (marks start run.answers) quiet.unchanged.files (run.stored none);
   failed = subst (λ (n : ℕ). min (n + failures (marks start run.answers) run.trace) (2 ^ 64 - 1) ≤ new.failed) quiet.well run.failed;
 }
 
 pub earlier : (task : Task) (start : Start) (old mid new : FolderTold) (out out_now : SinkTold) (status : Status) → IsQuiet old mid → Ends task start mid new out out_now status → Ends task start old new out out_now status
 unfolding earlier_run
-earlier task start old mid new out out_now Ok quiet h = (earlier_run start old mid new quiet h.0, h.1, h.2 ∙ quiet.well, h.3, h.4)
+earlier task start old mid new out out_now Ok quiet h = (
+  earlier_run start old mid new quiet h.0,
+  h.1,
+  h.2 ∙ quiet.well,
+  h.3,
+  h.4,
+  subst (λ (n : ℕ). n < 2 ^ 64 - 1 → marks start h.0.answers ≡ marks start []) quiet.well h.5,
+  λ room. stored_before start old.files mid.files new.files (marks start []) quiet.unchanged.files (h.6 (subst (λ (n : ℕ). n < 2 ^ 64 - 1) (sym quiet.well) room)),
+)
 earlier task start old mid new out out_now WriteFault quiet h = (earlier_run start old mid new quiet h.0, h.1, h.2 ∙ quiet.well, h.3)
 earlier task start old mid new out out_now FolderFault quiet h = (
   subst (λ (n : ℕ). HasRisen n new.failed) quiet.well h.0,

@@ -1,7 +1,9 @@
 -- What a folder tells, over calls in a row; and which of its files changed.
 use Rattle.std.proofs.Common.{◌≡◌, ◌≢◌, ℕ, ◌<◌, List, length, Option, Some, None, refl, sym, subst, ◌∙◌}
 use Rattle.std.specs.Prelude.{IfSome, IsOkAnd, Result, Ok}
+use Rattle.std.specs.FinMap as map
 use Rattle.dl_conf.specs.Outcome.{values_of}
+use Rattle.dl_model.specs.Marks.{Mark, journal}
 use Rattle.dl_outside.specs.Folder.{Files}
 use Rattle.dl_outside.specs.Outside.{Stays}
 use Rattle.dl_program.specs.Setup.{conf_in, stored_name}
@@ -9,9 +11,12 @@ use Rattle.dl_replay.specs.declared.begin.Start.{Start}
 use Rattle.dl_replay.specs.Begin.{IsQuiet, IsSaid, conf_name}
 use Rattle.dl_replay.specs.Playing.{OwnFiles}
 use Rattle.dl_replay.specs.Program.{ChangesOwnFiles}
-use Rattle.dl_replay.specs.Told.{FolderTold, IsUnchanged}
+use Rattle.dl_replay.specs.Run.{HoldsItsStored, setting}
+use Rattle.dl_outside.specs.Told.{FolderTold}
+use Rattle.dl_replay.specs.Told.{IsUnchanged}
 use Rattle.dl_replay.specs.declared.task.Task.{Task}
 use Rattle.dl_trace.specs.Stands.{IsTraceName}
+use Rattle.dl_world.specs.Stored.{HoldsStored}
 
 -- ---- what is told
 
@@ -44,6 +49,10 @@ unchanged_on old mid new a b = record { files = stays_on old.files mid.files new
 
 pub quiet_on : (old mid new : FolderTold) → IsQuiet old mid → IsQuiet mid new → IsQuiet old new
 quiet_on old mid new a b = record { unchanged = unchanged_on old mid new a.unchanged b.unchanged; well = b.well ∙ a.well }
+
+-- the stored configuration of a run over files that stayed before it
+pub stored_before : (start : Start) (old mid new : Option Files) (done : List Mark) → Stays old mid → HoldsItsStored start mid new done → HoldsItsStored start old new done
+stored_before start old mid new done = known_before old mid (λ files. HoldsStored (setting start) (map.get files stored_name) (journal done) new)
 
 -- ---- files that change
 

@@ -1,5 +1,6 @@
 pub mod Begins
 pub mod Folders
+pub mod Answering
 pub mod Endings
 pub mod Playings
 pub mod Runs

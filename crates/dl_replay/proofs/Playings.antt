@@ -29,17 +29,17 @@ use Rattle.dl_report.specs.Counts.{HasStreams}
 use Rattle.dl_trace.specs.Made.{IsMade}
 use Rattle.dl_trace.specs.Stands.{HasFiles, IsTraceName}
 use Rattle.dl_trace.specs.State.{Trace, IsAfter}
-use Rattle.dl_world.specs.Played.{ChangesOwnFiles, Holds, IsPlayed, IsTraced, failures, files_with, frames_in}
+use Rattle.dl_world.specs.Played.{ChangesOwnFiles, Holds, IsPlayed, IsTraced, failures, files_with, frames_in, is_failed}
 use Rattle.dl_world.specs.declared.played.Played.{Played}
 use Rattle.dl_replay.specs.declared.begin.Start.{Start}
 use Rattle.dl_replay.specs.declared.task.Task.{Task}
 use Rattle.dl_replay.specs.declared.task.Task.TheVariants.{Steps, Generate}
 use Rattle.dl_replay.specs.Finish.{frames_for, report_for}
 use Rattle.dl_replay.specs.Playing.{IsOf, OwnFiles}
-use Rattle.dl_replay.specs.Run.{Run, marks, setting}
+use Rattle.dl_replay.specs.Run.{Run, HoldsItsStored, marks, setting}
 use Rattle.dl_replay.specs.Task.{shows_frames}
-use Rattle.dl_replay.specs.Told.{FolderTold}
-use Rattle.dl_replay.proofs.Folders.{if_some_of}
+use Rattle.dl_outside.specs.Told.{FolderTold}
+use Rattle.dl_replay.proofs.Folders.{if_some_of, stored_before}
 
 -- ---- the report
 
@@ -107,10 +107,16 @@ named_files directory files named = sym (ap (λ b. if b then [] else files) (ne_
 is_empty : (directory : List ℕ) → directory ≡ [] → 0 < length directory → ⊥
 is_empty directory empty named = omega (arith, ap length empty, named)
 
+-- what the stored configuration holds, where the folder stood while the trace was begun
+stored_at_end : (start : Start) (old mid new : Option Files) (done other : List Mark) → Stays old mid → done ≡ other
+    → (count_by is_failed done ≡ 0 → HoldsItsStored start mid new done) → count_by is_failed other ≡ 0 → HoldsItsStored start old new other
+stored_at_end start old mid new done other told same stored none =
+    stored_before start old mid new other told (subst (λ (d : List Mark). count_by is_failed d ≡ 0 → HoldsItsStored start mid new d) same stored none)
+
 -- a run without a trace
-untraced_run : (start : Start) (old new : FolderTold) (mid : Option Files) (played : Played) → start.conf.directory ≡ []
+untraced_run : (start : Start) (old new : FolderTold) (mid : Option Files) (played : Played) → start.conf.directory ≡ [] → Stays old.files mid
     → IsPlayed (setting start) [] start.steps None played mid new.files old.failed new.failed → (run : Run start old new) × IsOf run played
-untraced_run start old new mid played unnamed p =
+untraced_run start old new mid played unnamed told p =
     let run : Run start old new = record {
       stood = [];
       answers = p.answers;
@@ -119,6 +125,7 @@ untraced_run start old new mid played unnamed p =
       untraced = λ _. p.trace_is;
       traced = λ named. absurd (is_empty start.conf.directory unnamed named);
       holds = λ named goes. absurd (is_empty start.conf.directory unnamed named);
+      stored = stored_at_end start old.files mid new.files p.done (marks start p.answers) told p.run_is p.stored;
       failed = subst (λ (d : List Mark). min (old.failed + failures d played.ends.trace) (2 ^ 64 - 1) ≤ new.failed) p.run_is p.faults_rose;
     } in
     (run, is_of start old new [] None played mid new.files old.failed new.failed p run refl refl)
@@ -147,6 +154,7 @@ traced_run start old new mid stood trace played named told had p =
       traced = λ _. subst (λ (d : List Mark). IsTraced (setting start) stood d played.ends.trace) p.run_is p.trace_is;
       holds = λ _ goes. holding start stood (marks start p.answers) trace played.ends.trace old.files mid new.files named told had
           (subst (λ (d : List Mark). Holds (setting start) stood d (Some trace) played.ends.trace mid new.files) p.run_is p.holds) goes;
+      stored = stored_at_end start old.files mid new.files p.done (marks start p.answers) told p.run_is p.stored;
       failed = subst (λ (d : List Mark). min (old.failed + failures d played.ends.trace) (2 ^ 64 - 1) ≤ new.failed) p.run_is p.faults_rose;
     } in
     (run, is_of start old new stood (Some trace) played mid new.files old.failed new.failed p run refl refl)
@@ -155,7 +163,7 @@ traced_run start old new mid stood trace played named told had p =
 pub is_run : (start : Start) (old new : FolderTold) (mid : Option Files) (faults : ℕ) (trace : Option Trace) (played : Played) → Stays old.files mid → faults ≡ old.failed → IsBegun start.conf old.files trace
     → ((stood : List StoredFile) → IfSome trace (IsAfter stood []) → IsPlayed (setting start) stood start.steps trace played mid new.files faults new.failed) → (run : Run start old new) × IsOf run played
 is_run start old new mid faults None played told well begun plays =
-    untraced_run start old new mid played begun (subst (λ (n : ℕ). IsPlayed (setting start) [] start.steps None played mid new.files n new.failed) well (plays [] tt))
+    untraced_run start old new mid played begun told (subst (λ (n : ℕ). IsPlayed (setting start) [] start.steps None played mid new.files n new.failed) well (plays [] tt))
 is_run start old new mid faults (Some trace) played told well begun plays =
     traced_run start old new mid begun.2.0 trace played begun.0 told begun.2.2
     (subst (λ (n : ℕ). IsPlayed (setting start) begun.2.0 start.steps (Some trace) played mid new.files n new.failed) well (plays begun.2.0 begun.2.1))

@@ -20,7 +20,8 @@ use Rattle.dl_replay.specs.Finish.{Ends}
 use Rattle.dl_replay.specs.Program.{Asked, ChangesOwnFiles, HasReported, HasSteps, IsLawful, IsRun, IsUntouched, Outcome, Started}
 use Rattle.dl_replay.specs.Status.{line_of}
 use Rattle.dl_replay.specs.Task.{task_of}
-use Rattle.dl_replay.specs.Told.{FolderTold, IsUnchanged, SinkTold, SourceTold, Told, Wrote}
+use Rattle.dl_outside.specs.Told.{FolderTold, SinkTold, SourceTold}
+use Rattle.dl_replay.specs.Told.{IsUnchanged, Told, Wrote}
 use Rattle.dl_replay.proofs.Folders.{nothing_changes}
 
 -- ---- refusals

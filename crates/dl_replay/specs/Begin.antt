@@ -14,7 +14,8 @@ use Rattle.dl_replay.specs.declared.status.Status.{Status}
 use Rattle.dl_replay.specs.declared.status.Status.TheVariants.{ConfRefused, StoredRefused, ScriptRefused, FolderFault, OutOfMemory, ReadFault}
 use Rattle.dl_replay.specs.declared.task.Task.{Task}
 use Rattle.dl_replay.specs.declared.task.Task.TheVariants.{Steps, Generate}
-use Rattle.dl_replay.specs.Told.{FolderTold, FolderWell, IsUnchanged, SourceTold}
+use Rattle.dl_outside.specs.Told.{FolderTold, SourceTold}
+use Rattle.dl_replay.specs.Told.{FolderWell, IsUnchanged}
 
 -- ---- configurations
 

@@ -10,17 +10,19 @@ use Rattle.dl_replay.specs.declared.status.Status.{Status}
 use Rattle.dl_replay.specs.declared.status.Status.TheVariants.{Ok, WriteFault, FolderFault, OutOfMemory, NamesSpent}
 use Rattle.dl_replay.specs.declared.task.Task.{Task}
 use Rattle.dl_replay.specs.declared.task.Task.TheVariants.{Steps, Generate}
-use Rattle.dl_replay.specs.Run.{Run, HasNames, IsServed, IsSpent, IsWhole, WantedMemory, text_of}
-use Rattle.dl_replay.specs.Told.{FolderTold, FolderWell, IsUnchanged, SinkTold, Wrote, WroteAll, WroteFront, WroteNothing}
+use Rattle.dl_replay.specs.Run.{Run, HasDecided, HasNames, IsDecided, IsServed, IsSpent, IsWhole, WantedMemory, text_of}
+use Rattle.dl_outside.specs.Told.{FolderTold, SinkTold}
+use Rattle.dl_replay.specs.Told.{FolderWell, IsUnchanged, Wrote, WroteAll, WroteFront, WroteNothing}
 
 -- ---- the table of statuses of a run that began
 
 -- What each status says of a run that began: the report was written, or nothing, and what failed. A folder fault comes before the
 -- names, the names before a write fault, and that before want of memory: so each says that those before it did not come. Where there
--- was no memory for the report itself, nothing was written, and nothing more is said.
+-- was no memory for the report itself, nothing was written, and nothing more is said. With Ok the text, and the stored configuration that
+-- is left, are decided by the folder and the script alone.
 abbrev pub Ends : Task → Start → FolderTold → FolderTold → SinkTold → SinkTold → Status → Type 0
 Ends task start folder folder_now out out_now Ok =
-    (run : Run start folder folder_now) × WroteAll out out_now (text_of task run) × FolderWell folder folder_now × IsWhole run × IsServed run
+    (run : Run start folder folder_now) × WroteAll out out_now (text_of task run) × FolderWell folder folder_now × IsWhole run × IsServed run × IsDecided run × HasDecided run
 Ends task start folder folder_now out out_now WriteFault =
     (run : Run start folder folder_now) × WroteFront out out_now (text_of task run) × FolderWell folder folder_now × HasNames run
 Ends task start folder folder_now out out_now FolderFault =

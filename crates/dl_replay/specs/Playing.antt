@@ -15,7 +15,8 @@ use Rattle.dl_replay.specs.declared.status.Status.TheVariants.{FolderFault, OutO
 use Rattle.dl_replay.specs.declared.task.Task.{Task}
 use Rattle.dl_replay.specs.Finish.{frames_for, report_for}
 use Rattle.dl_replay.specs.Run.{Run, marks, text_of}
-use Rattle.dl_replay.specs.Told.{FolderTold, IsUnchanged}
+use Rattle.dl_outside.specs.Told.{FolderTold}
+use Rattle.dl_replay.specs.Told.{IsUnchanged}
 
 -- what was played is this run
 pub record IsOf {start : Start} {old new : FolderTold} (run : Run start old new) (played : Played) : Type 0 where

@@ -17,7 +17,8 @@ use Rattle.dl_replay.specs.Finish.{Ends}
 use Rattle.dl_replay.specs.Run.{Run, text_of}
 use Rattle.dl_replay.specs.Status.{line_of}
 use Rattle.dl_replay.specs.Task.{task_of}
-use Rattle.dl_replay.specs.Told.{IsUnchanged, SinkTold, Told, Wrote, WroteNothing}
+use Rattle.dl_outside.specs.Told.{SinkTold}
+use Rattle.dl_replay.specs.Told.{IsUnchanged, Told, Wrote, WroteNothing}
 
 -- ---- the two halves of a run
 

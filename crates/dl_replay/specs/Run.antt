@@ -1,5 +1,6 @@
 -- A run: what it begins with, what it comes to, and what it prints.
-use Rattle.std.specs.Prelude.{◌≡◌, ◌≢◌, ℕ, ◌+◌, ◌-◌, ◌^◌, ◌<◌, ◌≤◌, ◌⊎◌, min, Bool, true, false, List, [], length, Some, None, IfSome, IsSomeAnd}
+use Rattle.std.specs.Prelude.{◌≡◌, ◌≢◌, ℕ, ◌+◌, ◌-◌, ◌^◌, ◌<◌, ◌≤◌, ◌⊎◌, min, Bool, true, false, List, [], length, count_by, Option, Some, None, IfSome, IsSomeAnd}
+use Rattle.std.specs.FinMap as map
 use Rattle.std.specs.List.{list_any}
 use Rattle.dl_bytes.specs.declared.outcome.Done.{Done}
 use Rattle.dl_bytes.specs.declared.outcome.Done.TheVariants as did
@@ -13,12 +14,15 @@ use Rattle.dl_model.specs.Setting.{Setting}
 use Rattle.dl_model.specs.Steps as steps
 use Rattle.dl_model.specs.TraceFiles.{StoredFile, is_spent}
 use Rattle.dl_core.specs.Settings.{setting_of}
+use Rattle.dl_outside.specs.Folder.{Files}
+use Rattle.dl_program.specs.Setup.{stored_name}
 use Rattle.dl_trace.specs.Stands.{HasFiles}
-use Rattle.dl_world.specs.Played.{IsTraced, failures, frames_in}
+use Rattle.dl_world.specs.Played.{IsTraced, failures, frames_in, is_failed}
+use Rattle.dl_world.specs.Stored.{HoldsStored}
 use Rattle.dl_replay.specs.declared.begin.Start.{Start}
 use Rattle.dl_replay.specs.declared.task.Task.{Task}
 use Rattle.dl_replay.specs.Task.{shows_frames}
-use Rattle.dl_replay.specs.Told.{FolderTold}
+use Rattle.dl_outside.specs.Told.{FolderTold}
 
 -- ---- what it begins with
 
@@ -40,6 +44,10 @@ marks start answers = steps.run (setting start) answers start.steps
 abbrev pub no_trace : TraceState
 no_trace = record { files = []; end = None }
 
+-- the stored configuration is what these marks made of the file that stood there, where the folder tells its files
+abbrev pub HoldsItsStored : Start → Option Files → Option Files → List Mark → Type 0
+HoldsItsStored start old new done = IfSome old (λ files. HoldsStored (setting start) (map.get files stored_name) (journal done) new)
+
 -- A run: the trace files that stood before, what the folder answered to the Stores and the Resets, and what the trace tells at
 -- the end.
 pub record Run (start : Start) (old new : FolderTold) : Type 0 where
@@ -55,6 +63,8 @@ pub record Run (start : Start) (old new : FolderTold) : Type 0 where
   -- while it goes on, the folder holds the files of the rotation rule
   pub holds : IsTracing start → trace.end ≡ None
       → IfSome old.files (λ files. IsSomeAnd new.files (λ now. HasFiles start.conf.directory now (files_of (setting start) stood (marks start answers))))
+  -- where it failed at no Store and no Reset, the stored configuration is what the run made of the one that stood there
+  pub stored : count_by is_failed (marks start answers) ≡ 0 → HoldsItsStored start old.files new.files (marks start answers)
   -- the folder's count of faults rose at least as often as it failed
   pub failed : min (old.failed + failures (marks start answers) trace) (2 ^ 64 - 1) ≤ new.failed
 
@@ -83,6 +93,15 @@ unserved events = list_any is_unserved events
 -- each Store and Reset had memory
 abbrev pub IsServed : {start : Start} {old new : FolderTold} → Run start old new → Type 0
 IsServed {start = start} run = unserved (journal (marks start run.answers)) ≡ false
+
+-- The folder said Yes to each Store and each Reset, where its count of faults had room to rise: so the run is that of the folder and the
+-- script alone.
+abbrev pub IsDecided : {start : Start} {old new : FolderTold} → Run start old new → Type 0
+IsDecided {start = start} {old = old} run = old.failed < 2 ^ 64 - 1 → marks start run.answers ≡ marks start []
+
+-- So is what the stored configuration holds then.
+abbrev pub HasDecided : {start : Start} {old new : FolderTold} → Run start old new → Type 0
+HasDecided {start = start} {old = old} {new = new} run = old.failed < 2 ^ 64 - 1 → HoldsItsStored start old.files new.files (marks start [])
 
 -- a Store, a Reset or the trace wanted memory
 abbrev pub WantedMemory : {start : Start} {old new : FolderTold} → Run start old new → Type 0

@@ -2,31 +2,27 @@
 use Rattle.std.specs.Prelude.{◌≡◌, ℕ, ◌⊎◌, List, Option}
 use Rattle.dl_outside.specs.Folder.{Files}
 use Rattle.dl_outside.specs.Outside.{HasRisen, Stays}
-use Rattle.dl_program.specs.Output.{TookAll, TookFront}
-
--- ---- what they tell
-
--- a source: what is left to read, where it tells that, and how often it failed
-pub record SourceTold : Type 0 where
-  pub left : Option (List ℕ)
-  pub failed : ℕ
-
--- a folder: its files, where it tells them, how often it failed, and how often a file was to change
-pub record FolderTold : Type 0 where
-  pub files : Option Files
-  pub failed : ℕ
-  pub changes : ℕ
-
--- a sink: what it holds, where it tells that, and how often it failed
-pub record SinkTold : Type 0 where
-  pub held : Option (List ℕ)
-  pub failed : ℕ
+use Rattle.dl_outside.specs.Told.{SourceTold, FolderTold, SinkTold}
+use Rattle.dl_outside.specs.Written.{TookAll, TookFront}
 
 -- all that a run reads and writes
 pub record Told : Type 0 where
   pub input : SourceTold
   pub folder : FolderTold
   pub out : SinkTold
+
+-- what each tells, by its parts
+abbrev pub source_told : Option (List ℕ) → ℕ → SourceTold
+source_told left failed = record { left = left; failed = failed }
+
+abbrev pub folder_told : Option Files → ℕ → ℕ → FolderTold
+folder_told files failed changes = record { files = files; failed = failed; changes = changes }
+
+abbrev pub sink_told : Option (List ℕ) → ℕ → SinkTold
+sink_told held failed = record { held = held; failed = failed }
+
+abbrev pub told : SourceTold → FolderTold → SinkTold → Told
+told input folder out = record { input = input; folder = folder; out = out }
 
 -- ---- the folder
 

@@ -4,7 +4,7 @@ ghost use Rattle.std.specs.Prelude.{◌≡◌, ◌≤◌, IfOk};
 ghost use Rattle.dl_program.specs.Input.{GaveAtMost};
 ghost use Rattle.dl_replay.specs.Begin.{Begins, MakesSteps, SetsUp, TakesSteps};
 ghost use Rattle.dl_replay.specs.Task.{IsWithin};
-ghost use Rattle.dl_replay.specs.Told.{FolderTold, SourceTold};
+ghost use Rattle.dl_replay.specs.Told.{folder_told, source_told};
 ghost use Rattle.dl_script_laws.specs.Playable.{IsPlayable};
 
 use crate::status::Status;
@@ -20,7 +20,9 @@ use std::alloc::Global;
 /// The configuration and the stored one.
 #[derive(Drop)]
 pub struct Setup {
+    /// What `dlt.conf` says, or the values where there is none.
     pub conf: Conf,
+    /// What `dlt_stored.cfg` says; nothing where it isn't there.
     pub stored: Stored,
 }
 
@@ -37,8 +39,8 @@ pub struct Start {
 
 /// The configuration and the stored one, or why they aren't there.
 fn set_up<F: Folder>(alloc: Global, folder: &mut F) -> Result<Setup, Status>
-    ensures { SetsUp (record { files = F.files folder.old; failed = F.faults folder.old; changes = F.changes folder.old })
-        (record { files = F.files folder.new; failed = F.faults folder.new; changes = F.changes folder.new }) result }
+    ensures { SetsUp (folder_told (F.files folder.old) (F.faults folder.old) (F.changes folder.old))
+        (folder_told (F.files folder.new) (F.faults folder.new) (F.changes folder.new)) result }
 {
     let conf = match conf_in(alloc, folder, CONF_NAME) {
         Ok(conf) => conf,
@@ -56,8 +58,8 @@ fn set_up<F: Folder>(alloc: Global, folder: &mut F) -> Result<Setup, Status>
 
 /// The steps of the script that the input has, or why they aren't there.
 fn read_script<I: Source>(alloc: Global, input: &mut I) -> Result<StepList, Status>
-    ensures steps { TakesSteps Task.Steps (record { left = I.left input.old; failed = I.faults input.old })
-        (record { left = I.left input.new; failed = I.faults input.new }) result }
+    ensures steps { TakesSteps Task.Steps (source_told (I.left input.old) (I.faults input.old))
+        (source_told (I.left input.new) (I.faults input.new)) result }
     ensures at_most { GaveAtMost (I.left input.old) (I.left input.new) }
     ensures playable { IfOk result IsPlayable }
 {
@@ -96,8 +98,8 @@ fn make_script(alloc: Global, number: u64, calls: u32) -> Result<StepList, Statu
 /// The steps of the task, or why they aren't there.
 fn steps_for<I: Source>(alloc: Global, task: Task, input: &mut I) -> Result<StepList, Status>
     requires { IsWithin task }
-    ensures steps { TakesSteps task (record { left = I.left input.old; failed = I.faults input.old })
-        (record { left = I.left input.new; failed = I.faults input.new }) result }
+    ensures steps { TakesSteps task (source_told (I.left input.old) (I.faults input.old))
+        (source_told (I.left input.new) (I.faults input.new)) result }
     ensures at_most { GaveAtMost (I.left input.old) (I.left input.new) }
     ensures playable { IfOk result IsPlayable }
 {
@@ -116,10 +118,10 @@ pub fn begin<F: Folder, I: Source>(
 ) -> Result<Start, Status>
     requires { IsWithin task }
     ensures begins { Begins task
-        (record { left = I.left input.old; failed = I.faults input.old })
-        (record { left = I.left input.new; failed = I.faults input.new })
-        (record { files = F.files folder.old; failed = F.faults folder.old; changes = F.changes folder.old })
-        (record { files = F.files folder.new; failed = F.faults folder.new; changes = F.changes folder.new }) result }
+        (source_told (I.left input.old) (I.faults input.old))
+        (source_told (I.left input.new) (I.faults input.new))
+        (folder_told (F.files folder.old) (F.faults folder.old) (F.changes folder.old))
+        (folder_told (F.files folder.new) (F.faults folder.new) (F.changes folder.new)) result }
     ensures at_most { GaveAtMost (I.left input.old) (I.left input.new) }
     ensures playable { IfOk result (λ start. IsPlayable start.steps) }
 {

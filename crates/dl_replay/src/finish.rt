@@ -5,14 +5,13 @@ ghost use Rattle.std.specs.List.{All};
 ghost use Rattle.dl_report.specs.Counts.{HasStreams};
 ghost use Rattle.dl_replay.specs.Finish.{Finishes, frames_for, report_for, status_after};
 ghost use Rattle.dl_replay.specs.Run.{is_unserved, unserved};
-ghost use Rattle.dl_replay.specs.Told.{SinkTold};
+ghost use Rattle.dl_replay.specs.Told.{sink_told};
 
 use crate::status::Status;
 use crate::task::Task;
 use dl_bytes::{Bytes, Done, OutOfMemory, TraceEnd};
 use dl_events::Event;
-use dl_outside::Sink;
-use dl_program::write_text;
+use dl_outside::{Sink, write_text};
 use dl_report::report;
 use dl_world::Played;
 use std::alloc::Global;
@@ -83,8 +82,8 @@ pub fn finish<O: Sink>(
 ) -> Status
     requires { All (HasStreams (frames_for task played.now)) played.now.ends.links }
     ensures { Finishes (report_for task played.now) failed played.now.ends.trace.end (unserved played.now.events.events)
-        (record { held = O.held out.old; failed = O.faults out.old })
-        (record { held = O.held out.new; failed = O.faults out.new }) result }
+        (sink_told (O.held out.old) (O.faults out.old))
+        (sink_told (O.held out.new) (O.faults out.new)) result }
 {
     let Ok(text) = report_for(alloc, task, played) else {
         return Status::OutOfMemory;

@@ -7,7 +7,7 @@ ghost use Rattle.dl_replay.specs.Playing.{OwnFiles, Plays};
 ghost use Rattle.dl_replay.specs.Program.{Asked, ChangesOwnFiles, IsRun, Outcome};
 ghost use Rattle.dl_replay.specs.Status.{number};
 ghost use Rattle.dl_replay.specs.Task.{IsWithin, task_of};
-ghost use Rattle.dl_replay.specs.Told.{FolderTold, SinkTold, SourceTold, Told};
+ghost use Rattle.dl_replay.specs.Told.{folder_told, sink_told, source_told, told};
 ghost use Rattle.dl_replay.specs.declared.status.Status.{Status};
 ghost use Rattle.dl_script_laws.specs.Playable.{IsPlayable};
 
@@ -26,8 +26,8 @@ use std::alloc::Global;
 fn play_start<F: Folder>(alloc: Global, start: Start, folder: &mut F) -> Result<Played, Status>
     requires { IsPlayable start.steps }
     ensures plays { Plays start
-        (record { files = F.files folder.old; failed = F.faults folder.old; changes = F.changes folder.old })
-        (record { files = F.files folder.new; failed = F.faults folder.new; changes = F.changes folder.new }) result }
+        (folder_told (F.files folder.old) (F.faults folder.old) (F.changes folder.old))
+        (folder_told (F.files folder.new) (F.faults folder.new) (F.changes folder.new)) result }
     ensures others { OwnFiles start (F.files folder.old) (F.files folder.new) }
 {
     let Start {
@@ -56,10 +56,10 @@ fn perform<F: Folder, O: Sink>(
 ) -> Status
     requires { IsPlayable start.steps }
     ensures ends { Ends task start
-        (record { files = F.files folder.old; failed = F.faults folder.old; changes = F.changes folder.old })
-        (record { files = F.files folder.new; failed = F.faults folder.new; changes = F.changes folder.new })
-        (record { held = O.held out.old; failed = O.faults out.old })
-        (record { held = O.held out.new; failed = O.faults out.new }) result }
+        (folder_told (F.files folder.old) (F.faults folder.old) (F.changes folder.old))
+        (folder_told (F.files folder.new) (F.faults folder.new) (F.changes folder.new))
+        (sink_told (O.held out.old) (O.faults out.old))
+        (sink_told (O.held out.new) (O.faults out.new)) result }
     ensures others { OwnFiles start (F.files folder.old) (F.files folder.new) }
 {
     let before = folder.faults();
@@ -81,16 +81,8 @@ fn serve<F: Folder, I: Source, O: Sink>(
 ) -> Status
     requires { IsWithin task }
     ensures outcome { Outcome task
-        (record {
-          input = record { left = I.left input.old; failed = I.faults input.old };
-          folder = record { files = F.files folder.old; failed = F.faults folder.old; changes = F.changes folder.old };
-          out = record { held = O.held out.old; failed = O.faults out.old };
-        })
-        (record {
-          input = record { left = I.left input.new; failed = I.faults input.new };
-          folder = record { files = F.files folder.new; failed = F.faults folder.new; changes = F.changes folder.new };
-          out = record { held = O.held out.new; failed = O.faults out.new };
-        }) result }
+        (told (source_told (I.left input.old) (I.faults input.old)) (folder_told (F.files folder.old) (F.faults folder.old) (F.changes folder.old)) (sink_told (O.held out.old) (O.faults out.old)))
+        (told (source_told (I.left input.new) (I.faults input.new)) (folder_told (F.files folder.new) (F.faults folder.new) (F.changes folder.new)) (sink_told (O.held out.new) (O.faults out.new))) result }
     ensures at_most { GaveAtMost (I.left input.old) (I.left input.new) }
     ensures others { ChangesOwnFiles (F.files folder.old) (F.files folder.new) }
 {
@@ -109,16 +101,8 @@ fn ask<F: Folder, I: Source, O: Sink>(
     out: &mut O,
 ) -> Status
     ensures asked { Asked (task_of (map string_bytes words.now))
-        (record {
-          input = record { left = I.left input.old; failed = I.faults input.old };
-          folder = record { files = F.files folder.old; failed = F.faults folder.old; changes = F.changes folder.old };
-          out = record { held = O.held out.old; failed = O.faults out.old };
-        })
-        (record {
-          input = record { left = I.left input.new; failed = I.faults input.new };
-          folder = record { files = F.files folder.new; failed = F.faults folder.new; changes = F.changes folder.new };
-          out = record { held = O.held out.new; failed = O.faults out.new };
-        }) result }
+        (told (source_told (I.left input.old) (I.faults input.old)) (folder_told (F.files folder.old) (F.faults folder.old) (F.changes folder.old)) (sink_told (O.held out.old) (O.faults out.old)))
+        (told (source_told (I.left input.new) (I.faults input.new)) (folder_told (F.files folder.new) (F.faults folder.new) (F.changes folder.new)) (sink_told (O.held out.new) (O.faults out.new))) result }
     ensures at_most { GaveAtMost (I.left input.old) (I.left input.new) }
     ensures others { ChangesOwnFiles (F.files folder.old) (F.files folder.new) }
 {
@@ -138,18 +122,10 @@ fn run<F: Folder, I: Source, O: Sink, E: Sink>(
     err: &mut E,
 ) -> Status
     ensures { IsRun (map string_bytes words.now)
-        (record {
-          input = record { left = I.left input.old; failed = I.faults input.old };
-          folder = record { files = F.files folder.old; failed = F.faults folder.old; changes = F.changes folder.old };
-          out = record { held = O.held out.old; failed = O.faults out.old };
-        })
-        (record {
-          input = record { left = I.left input.new; failed = I.faults input.new };
-          folder = record { files = F.files folder.new; failed = F.faults folder.new; changes = F.changes folder.new };
-          out = record { held = O.held out.new; failed = O.faults out.new };
-        })
-        (record { held = E.held err.old; failed = E.faults err.old })
-        (record { held = E.held err.new; failed = E.faults err.new }) result }
+        (told (source_told (I.left input.old) (I.faults input.old)) (folder_told (F.files folder.old) (F.faults folder.old) (F.changes folder.old)) (sink_told (O.held out.old) (O.faults out.old)))
+        (told (source_told (I.left input.new) (I.faults input.new)) (folder_told (F.files folder.new) (F.faults folder.new) (F.changes folder.new)) (sink_told (O.held out.new) (O.faults out.new)))
+        (sink_told (E.held err.old) (E.faults err.old))
+        (sink_told (E.held err.new) (E.faults err.new)) result }
 {
     let status = ask(alloc, words, input, folder, out);
     status.say(err);
@@ -169,18 +145,10 @@ pub fn replay<F: Folder, I: Source, O: Sink, E: Sink>(
     err: &mut E,
 ) -> u8
     ensures { (status : Status) × (result ≡ number status) × IsRun (map string_bytes words.now)
-        (record {
-          input = record { left = I.left input.old; failed = I.faults input.old };
-          folder = record { files = F.files folder.old; failed = F.faults folder.old; changes = F.changes folder.old };
-          out = record { held = O.held out.old; failed = O.faults out.old };
-        })
-        (record {
-          input = record { left = I.left input.new; failed = I.faults input.new };
-          folder = record { files = F.files folder.new; failed = F.faults folder.new; changes = F.changes folder.new };
-          out = record { held = O.held out.new; failed = O.faults out.new };
-        })
-        (record { held = E.held err.old; failed = E.faults err.old })
-        (record { held = E.held err.new; failed = E.faults err.new }) status }
+        (told (source_told (I.left input.old) (I.faults input.old)) (folder_told (F.files folder.old) (F.faults folder.old) (F.changes folder.old)) (sink_told (O.held out.old) (O.faults out.old)))
+        (told (source_told (I.left input.new) (I.faults input.new)) (folder_told (F.files folder.new) (F.faults folder.new) (F.changes folder.new)) (sink_told (O.held out.new) (O.faults out.new)))
+        (sink_told (E.held err.old) (E.faults err.old))
+        (sink_told (E.held err.new) (E.faults err.new)) status }
 {
     run(alloc, words, input, folder, out, err).number()
 }

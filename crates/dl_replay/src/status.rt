@@ -2,15 +2,15 @@
 
 ghost use Rattle.std.specs.Prelude.{◌≡◌, ◌≢◌, OnErr, OnOk};
 ghost use Rattle.dl_outside.specs.Outside.{HasRisen};
-ghost use Rattle.dl_program.specs.Output.{TookAll, TookFront};
+ghost use Rattle.dl_outside.specs.Written.{TookAll, TookFront};
 ghost use Rattle.dl_replay.specs.Status.{fixed_line, line_of, number};
-ghost use Rattle.dl_replay.specs.Told.{SinkTold, Wrote, WroteNothing};
+ghost use Rattle.dl_replay.specs.Told.{Wrote, WroteNothing, sink_told};
 ghost use Rattle.dl_replay.specs.declared.status.Status.{Status};
 
 use dl_conf::{ConfKind, StoredKind};
 use dl_fields::ScriptKind;
-use dl_outside::Sink;
-use dl_program::{WriteError, conf_word, say_refusal, script_word, stored_word, write_text};
+use dl_outside::{Sink, WriteError, write_text};
+use dl_program::{conf_word, say_refusal, script_word, stored_word};
 
 /// The program's name, with which each line on standard error begins.
 const PROGRAM: &[u8] = b"dlt_replay";
@@ -134,8 +134,8 @@ impl Status {
 
     /// Says on standard error how the replay ended, in one line; nothing where all went well. A fault there changes nothing.
     pub fn say<E: Sink>(self, err: &mut E)
-        ensures silent { self ≡ Status.Ok → WroteNothing (record { held = E.held err.old; failed = E.faults err.old }) (record { held = E.held err.new; failed = E.faults err.new }) }
-        ensures told { self ≢ Status.Ok → Wrote (record { held = E.held err.old; failed = E.faults err.old }) (record { held = E.held err.new; failed = E.faults err.new }) (line_of self) }
+        ensures silent { self ≡ Status.Ok → WroteNothing (sink_told (E.held err.old) (E.faults err.old)) (sink_told (E.held err.new) (E.faults err.new)) }
+        ensures told { self ≢ Status.Ok → Wrote (sink_told (E.held err.old) (E.faults err.old)) (sink_told (E.held err.new) (E.faults err.new)) (line_of self) }
     {
         match self {
             Status::Ok => {}

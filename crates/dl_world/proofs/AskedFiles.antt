@@ -1,12 +1,8 @@
 -- What a request leaves in the folder: every file but the stored configuration as it was.
-use Rattle.std.proofs.Common.{◌≡◌, ◌≢◌, ℕ, ◌≤◌, Bool, false, cond, List, Option, Some, None, Result, Ok, Err, refl, sym, ap, subst, ◌∙◌, arith}
+use Rattle.std.proofs.Common.{◌≡◌, ◌≢◌, ℕ, ◌≤◌, Bool, List, Option, Some, None, Result, Ok, Err, refl, sym, ap, subst, ◌∙◌, arith}
 use Rattle.std.specs.Prelude.{IfSome}
 use Rattle.std.specs.Option.{option_map}
 use Rattle.std.specs.FinMap as map
-use Rattle.std.specs.Ordering.{nat_cmp, eq_by_cmp, is_eq}
-use Rattle.std.specs.Cmp.Lexicographic.{slice_cmp, nat_list_cmp_total}
-use Rattle.std.specs.declared.cmp.Ordering.TheVariants.{Less, Equal, Greater}
-use Rattle.std.specs.FinMap.{slice_cmp-IsAntisymmetric, nat_cmp-IsAntisymmetric, get-insert, get-remove}
 use Rattle.dl_bytes.specs.declared.outcome.Done.{Done}
 use Rattle.dl_outside.specs.Folder.{Files, AllBut, Puts, Removes, HasCause}
 use Rattle.dl_outside.specs.declared.folder.FolderFault.{FolderFault}
@@ -16,24 +12,9 @@ use Rattle.dl_services.specs.declared.wish.Want.TheVariants as want
 use Rattle.dl_trace.specs.State.{Trace}
 use Rattle.dl_core.specs.Serving.{Answers, stored_name}
 use Rattle.dl_core.specs.State.{Core}
+use Rattle.dl_core.proofs.Requested.{put_other, gone_other}
 use Rattle.dl_world.specs.Folders.{Told, Leaves}
 use Rattle.dl_world.specs.Played.{ChangesOwnFiles}
-
--- ---- one file
-
-not_tied : (x y : List ℕ) → x ≢ y → eq_by_cmp (slice_cmp nat_cmp) x y ≡ false
-not_tied x y other =
-    elim (slice_cmp nat_cmp x y) as (λ o. slice_cmp nat_cmp x y ≡ o → is_eq o ≡ false) [
-      | Less ↦ λ _. refl
-      | Equal ↦ λ e. absurd (other (slice_cmp-IsAntisymmetric nat_cmp-IsAntisymmetric x y e))
-      | Greater ↦ λ _. refl
-    ] refl
-
-put_other : (folder : Files) (name bytes other : List ℕ) → other ≢ name → map.get (map.insert folder name bytes) other ≡ map.get folder other
-put_other folder name bytes other apart = get-insert nat_list_cmp_total folder name bytes other ∙ ap (λ b. cond b (Some bytes) (map.get folder other)) (not_tied other name apart)
-
-gone_other : (folder : Files) (name other : List ℕ) → other ≢ name → map.get (map.remove folder name) other ≡ map.get folder other
-gone_other folder name other apart = get-remove nat_list_cmp_total folder name other ∙ ap (λ b. cond b None (map.get folder other)) (not_tied other name apart)
 
 -- ---- the others stay
 

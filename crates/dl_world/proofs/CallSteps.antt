@@ -1,26 +1,23 @@
 -- The steps of log calls up to their rings and counts: marks that the daemon, the clients and the clock don't see.
-use Rattle.std.proofs.Common.{◌≡◌, ℕ, Bool, true, false, cond, eqb, List, [], ◌∷◌, ◌++◌, Option, Some, None, refl, sym, ap, subst, ◌∙◌, append_assoc, arith}
-use Rattle.std.specs.Prelude.{if◌then◌else◌, reverse}
+use Rattle.std.proofs.Common.{◌≡◌, ℕ, Bool, true, false, cond, List, [], ◌∷◌, ◌++◌, Option, Some, None, refl, sym, ap, subst, ◌∙◌, append_assoc}
+use Rattle.std.specs.Prelude.{if◌then◌else◌}
 use Rattle.std.specs.List.{filter_map, flat_map, AllByRecursion}
-use Rattle.std.specs.Option.{option_and_then}
 use Rattle.std.proofs.lemmas.List.{append-nil}
-use Rattle.std.proofs.lemmas.Bool.Decides.{nat_tests}
 use Rattle.dl_bytes.specs.Level.{passes}
 use Rattle.dl_steps.specs.declared.line.CallLine.{CallLine}
-use Rattle.dl_model.specs.Along.{last_that}
 use Rattle.dl_model.specs.Setting.{Setting}
-use Rattle.dl_model.specs.Marks.{Call, Mark, Filtered, Passed, Queued, Refused, Counted, event_of, app_of, clocked, waits_of, fed_of, heard_of, journal, is_step_of, passed, refused, to_push, to_count, is_full}
+use Rattle.dl_model.specs.Marks.{Call, Mark, Filtered, Passed, Queued, Refused, Counted, event_of, app_of, clocked, waits_of, fed_of, heard_of, journal, to_push, to_count, is_full}
 use Rattle.dl_model.specs.Steps.{Act, just, for_some, loaded, load, push, count, finish, begin_call}
-use Rattle.dl_laws.proofs.Lists.{last_that-one, find-passes}
-use Rattle.dl_laws.proofs.Founded.{passed_is, refused_is, last_step}
+use Rattle.dl_laws.proofs.Founded.{finished}
 use Rattle.dl_calls.specs.Follows as calls
 use Rattle.dl_calls.specs.Injections.{AreAfter, is_no_injection}
 use Rattle.dl_calls.specs.State.{Calls}
 use Rattle.dl_calls.proofs.InjectionCounts.{no-injection-stays}
 use Rattle.dl_core.specs.Follows.{Run, HoldsTrace}
-use Rattle.dl_world.specs.Follows.{IsAfter, Doing, Loads, answer_of}
+use Rattle.dl_world.specs.Follows.{IsAfter, Doing, Loads}
 use Rattle.dl_world.specs.declared.world.World.{World}
 use Rattle.dl_world.proofs.Doings.{ComesTo, doing_by}
+use Rattle.dl_world.proofs.StoredFiles.{asked_by}
 use Rattle.dl_world.proofs.Quiet.{journal_same, apps_same, fed_same, heard_same, moment_same, later_same, goes_on}
 
 -- ---- one mark, and many
@@ -30,7 +27,7 @@ pub record IsStep (mark : Mark) : Type 0 where
   pub no_app : app_of mark ≡ None
   pub no_clock : clocked mark ≡ None
   pub no_wait : waits_of mark ≡ None
-  pub no_answer : answer_of mark ≡ None
+  pub no_request : asked_by mark ≡ None
   pub unfed : (number : ℕ) → fed_of number mark ≡ []
   pub unheard : (channel : ℕ) → heard_of channel mark ≡ []
   pub no_injection : is_no_injection mark ≡ true
@@ -63,19 +60,19 @@ asked None act done steps = tt
 asked (Some x) act done steps = steps x
 
 of_filtered : (c : Call) → IsStep (Filtered c)
-of_filtered c = record { no_event = refl; no_app = refl; no_clock = refl; no_wait = refl; no_answer = refl; unfed = λ number. refl; unheard = λ channel. refl; no_injection = refl }
+of_filtered c = record { no_event = refl; no_app = refl; no_clock = refl; no_wait = refl; no_request = refl; unfed = λ number. refl; unheard = λ channel. refl; no_injection = refl }
 
 of_passed : (c : Call) → IsStep (Passed c)
-of_passed c = record { no_event = refl; no_app = refl; no_clock = refl; no_wait = refl; no_answer = refl; unfed = λ number. refl; unheard = λ channel. refl; no_injection = refl }
+of_passed c = record { no_event = refl; no_app = refl; no_clock = refl; no_wait = refl; no_request = refl; unfed = λ number. refl; unheard = λ channel. refl; no_injection = refl }
 
 of_queued : (c : Call) → IsStep (Queued c)
-of_queued c = record { no_event = refl; no_app = refl; no_clock = refl; no_wait = refl; no_answer = refl; unfed = λ number. refl; unheard = λ channel. refl; no_injection = refl }
+of_queued c = record { no_event = refl; no_app = refl; no_clock = refl; no_wait = refl; no_request = refl; unfed = λ number. refl; unheard = λ channel. refl; no_injection = refl }
 
 of_refused : (c : Call) → IsStep (Refused c)
-of_refused c = record { no_event = refl; no_app = refl; no_clock = refl; no_wait = refl; no_answer = refl; unfed = λ number. refl; unheard = λ channel. refl; no_injection = refl }
+of_refused c = record { no_event = refl; no_app = refl; no_clock = refl; no_wait = refl; no_request = refl; unfed = λ number. refl; unheard = λ channel. refl; no_injection = refl }
 
 of_counted : (c : Call) → IsStep (Counted c)
-of_counted c = record { no_event = refl; no_app = refl; no_clock = refl; no_wait = refl; no_answer = refl; unfed = λ number. refl; unheard = λ channel. refl; no_injection = refl }
+of_counted c = record { no_event = refl; no_app = refl; no_clock = refl; no_wait = refl; no_request = refl; unfed = λ number. refl; unheard = λ channel. refl; no_injection = refl }
 
 pub push_steps : (writer : ℕ) (done : List Mark) → AreSteps (push writer done)
 push_steps writer done = asked (to_push writer done) (λ c. just (if is_full c.item.app done then Refused c else Queued c)) done (λ c. (by_room c (is_full c.item.app done), tt)) where
@@ -118,7 +115,7 @@ module _ (run : Run) (done more : List Mark) (old : World) (now : Calls) (steps 
   steps_come = record {
     after = steps_after;
     holds = λ told (held : HoldsTrace run (journal done) old.core told). rw (journal_same done more (none_given event_of (λ mark is. is.no_event) more steps)) held;
-    unasked = none_given answer_of (λ mark is. is.no_answer) more steps;
+    unasked = none_given asked_by (λ mark is. is.no_request) more steps;
   }
 
 -- a call of the log calls alone
@@ -126,56 +123,6 @@ pub steps_doing : (act : Act) (old : World) (now : Calls) → ((done : List Mark
 steps_doing act old now steps does =
     doing_by (λ setting. act) old (record old { calls = now }) refl
     (λ run done after is_run. steps_come run done (act done) old now (steps done) (does done after.so_far.calls_so) after)
-
--- ---- a writer's call is finished before its next one
-
-same_by : (a b : ℕ) → eqb a b ≡ true → a ≡ b
-same_by a b e = grind (arith, nat_tests)
-
-own_step : (writer : ℕ) (c : Call) → c.item.writer ≡ writer → eqb c.item.writer writer ≡ true
-own_step writer c e = grind (arith, nat_tests, e)
-
-pushes_own : (writer : ℕ) (done : List Mark) (c : Call) → to_push writer done ≡ Some c → c.item.writer ≡ writer
-pushes_own writer done c e =
-    let last = last_step passed (last_that (is_step_of writer) done) c e in
-    let is = find-passes (is_step_of writer) (reverse done) last.0 last.1 in
-    same_by c.item.writer writer (subst (λ m. is_step_of writer m ≡ true) (passed_is last.0 c last.2) is)
-
-counts_own : (writer : ℕ) (done : List Mark) (c : Call) → to_count writer done ≡ Some c → c.item.writer ≡ writer
-counts_own writer done c e =
-    let last = last_step refused (last_that (is_step_of writer) done) c e in
-    let is = find-passes (is_step_of writer) (reverse done) last.0 last.1 in
-    same_by c.item.writer writer (subst (λ m. is_step_of writer m ≡ true) (refused_is last.0 c last.2) is)
-
-step_one : (writer : ℕ) (done : List Mark) (mark : Mark) → is_step_of writer mark ≡ true → last_that (is_step_of writer) (done ++ mark ∷ []) ≡ Some mark
-step_one writer done mark is = last_that-one (is_step_of writer) done mark ∙ ap (λ b. cond b (Some mark) (last_that (is_step_of writer) done)) is
-
-pushed : (writer : ℕ) (done : List Mark) → to_push writer (done ++ push writer done) ≡ None
-pushed writer done = by_call (to_push writer done) refl where
-  by_full : (c : Call) (b : Bool) → to_push writer done ≡ Some c → to_push writer (done ++ cond b (Refused c) (Queued c) ∷ []) ≡ None
-  by_full c true e = ap (option_and_then passed) (step_one writer done (Refused c) (own_step writer c (pushes_own writer done c e)))
-  by_full c false e = ap (option_and_then passed) (step_one writer done (Queued c) (own_step writer c (pushes_own writer done c e)))
-
-  by_call : (o : Option Call) → to_push writer done ≡ o → to_push writer (done ++ for_some o (λ c. just (cond (is_full c.item.app done) (Refused c) (Queued c))) done) ≡ None
-  by_call None e = ap (to_push writer) (append-nil done) ∙ e
-  by_call (Some c) e = by_full c (is_full c.item.app done) e
-
-counted : (writer : ℕ) (done : List Mark) → to_push writer done ≡ None → (to_push writer (done ++ count writer done) ≡ None) × (to_count writer (done ++ count writer done) ≡ None)
-counted writer done no_push = by_call (to_count writer done) refl where
-  by_call : (o : Option Call) → to_count writer done ≡ o →
-      (to_push writer (done ++ for_some o (λ c. just (Counted c)) done) ≡ None) × (to_count writer (done ++ for_some o (λ c. just (Counted c)) done) ≡ None)
-  by_call None e = (ap (to_push writer) (append-nil done) ∙ no_push, ap (to_count writer) (append-nil done) ∙ e)
-  by_call (Some c) e =
-      let last = step_one writer done (Counted c) (own_step writer c (counts_own writer done c e)) in
-      (ap (option_and_then passed) last, ap (option_and_then refused) last)
-
-finished : (writer : ℕ) (done : List Mark) → (to_push writer (done ++ finish writer done) ≡ None) × (to_count writer (done ++ finish writer done) ≡ None)
-finished writer done =
-    let now = done ++ push writer done in
-    let all : done ++ finish writer done ≡ now ++ count writer now =
-    ap (λ ms. done ++ (push writer done ++ ms)) (append-nil (count writer now)) ∙ sym (append_assoc done (push writer done) (count writer now)) in
-    let is = counted writer now (pushed writer done) in
-    (ap (to_push writer) all ∙ is.0, ap (to_count writer) all ∙ is.1)
 
 -- ---- a new call
 
@@ -197,5 +144,5 @@ begins_call call old mid new finishes core_same loads =
     subst (λ (more : List Mark). ComesTo run done more old new) (sym all) (record {
       after = subst (λ (ms : List Mark). IsAfter run ms new) (append_assoc done first second) last;
       holds = λ told (held : HoldsTrace run (journal done) old.core told). rw (journal_same done (first ++ second) none, core_same) held;
-      unasked = none_given answer_of (λ mark is. is.no_answer) (first ++ second) steps;
+      unasked = none_given asked_by (λ mark is. is.no_request) (first ++ second) steps;
     }))

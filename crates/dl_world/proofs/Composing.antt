@@ -1,5 +1,6 @@
 -- One call after the other: what each of them comes to makes what both come to.
 use Rattle.std.proofs.Common.{◌≡◌, ◌+◌, List, [], ◌∷◌, ◌++◌, length, sym, ap, subst, ◌∙◌, append_assoc, length-append, arith}
+use Rattle.std.specs.Prelude.{count_by}
 use Rattle.std.specs.List.{filter_map, AllByRecursion}
 use Rattle.std.proofs.lemmas.List.{append-nil}
 use Rattle.std.proofs.lemmas.List.Elements.{filter_map-append}
@@ -12,6 +13,7 @@ use Rattle.dl_core.specs.Follows.{Run, HoldsTrace}
 use Rattle.dl_frame_laws.proofs.KeptIds.{kept_id}
 use Rattle.dl_world.specs.Folders.{Told}
 use Rattle.dl_world.specs.Follows.{GivesCall, IsRunOf, IsAfter, BeginWith, answers_in, is_failure, Deed, Goes, Does, Doing}
+use Rattle.dl_world.specs.Stored.{HoldsStored}
 use Rattle.dl_world.specs.declared.world.World.{World}
 
 -- ---- parts of what is given
@@ -36,6 +38,10 @@ abbrev pub both : Deed → Deed → Deed
 both first second setting answers done = first setting answers done ++ second setting answers (done ++ first setting answers done)
 
 module _ (first second : Deed) (old mid new : World) (told told_mid told_now : Told) (one : Does first old mid told told_mid) (two : Does second mid new told_mid told_now) where
+  -- the folder failed at no request of either
+  none_failed : count_by is_failure (one.answered ++ two.answered) ≡ 0 → (count_by is_failure one.answered ≡ 0) × (count_by is_failure two.answered ≡ 0)
+  none_failed fine = let parts = count_by-append is_failure one.answered two.answered in (omega (arith, parts, fine), omega (arith, parts, fine))
+
   goes_both : (run : Run) (done : List Mark) (answers : List Done) → BeginWith (answers_in done ++ (one.answered ++ two.answered)) answers → IsAfter run done old
       → IsRunOf run (done ++ both first second run.setting answers done)
       → Goes run done (both first second run.setting answers done) old new told told_now (one.answered ++ two.answered)
@@ -52,6 +58,9 @@ module _ (first second : Deed) (old mid new : World) (told told_mid told_now : T
       record {
         after = subst (λ (ms : List Mark). IsAfter run ms new) apart rest.after;
         holds = λ holds. subst (λ (ms : List Mark). HoldsTrace run (journal ms) new.core told_now.files) apart (rest.holds (so_far.holds holds));
+        stored = λ first fine holds.
+            let none = none_failed fine in
+            subst (λ (ms : List Mark). HoldsStored run.setting first (journal ms) told_now.files) apart (rest.stored first none.1 (so_far.stored first none.0 holds));
         answers = ap answers_in (sym apart) ∙ rest.answers ∙ ap (λ (xs : List Done). xs ++ two.answered) so_far.answers ∙ append_assoc (answers_in done) one.answered two.answered;
       }
 

@@ -14,6 +14,7 @@ use Rattle.dl_core.specs.Follows as core
 use Rattle.dl_core.specs.Follows.{Run, HoldsTrace}
 use Rattle.dl_world.specs.Folders.{Told}
 use Rattle.dl_world.specs.Follows.{IsRunOf, IsSoFar, IsAfter, answer_of, answers_in, Deed, Goes, Does, Doing}
+use Rattle.dl_world.specs.Stored.{HoldsStored}
 use Rattle.dl_world.specs.State.{Client, client_at, taken_by}
 use Rattle.dl_world.specs.declared.world.World.{World}
 
@@ -43,6 +44,7 @@ does_nothing world told = record {
       record {
         after = subst (λ (ms : List Mark). IsAfter run ms world) same after;
         holds = λ holds. subst (λ (ms : List Mark). HoldsTrace run (journal ms) world.core told.files) same holds;
+        stored = λ first fine holds. subst (λ (ms : List Mark). HoldsStored run.setting first (journal ms) told.files) same holds;
         answers = ap answers_in (append-nil done) ∙ sym (append-nil (answers_in done));
       };
   trace_failed = 0;
@@ -141,6 +143,7 @@ quiet_does act old new stays alone turns told = record {
       record {
         after = quiet_after run done more old new left stays (turns run done after) after;
         holds = λ (held : HoldsTrace run (journal done) old.core told.files). rw (events_same, stays.core_is) held;
+        stored = λ first fine holds. subst (λ (es : List Event). HoldsStored run.setting first es told.files) (sym events_same) holds;
         answers = same_answers done more left.quiet ∙ sym (append-nil (answers_in done));
       };
   trace_failed = 0;

@@ -26,15 +26,16 @@ use Rattle.dl_world.specs.Follows.{IsRunOf, IsSoFar, IsAfter, answer_of, answers
 use Rattle.dl_world.specs.State.{Client, client_at, taken_by}
 use Rattle.dl_world.specs.declared.world.World.{World}
 use Rattle.dl_world.proofs.Quiet.{goes_on, held}
+use Rattle.dl_world.proofs.StoredFiles.{asked_in, holds_same, stored_unasked, unanswered}
 use Rattle.dl_world.proofs.Noting.{IsNoTurn, noted_before, journal_noted, if_some}
 
 -- ---- calls that are handed no folder
 
--- What a call comes to: marks after which the world is, and what holds of the folder goes on holding. No request asked the folder.
+-- What a call comes to: marks after which the world is, and what holds of the folder goes on holding. No request is among them.
 pub record ComesTo (run : Run) (done more : List Mark) (old new : World) : Type 0 where
   pub after : IsAfter run (done ++ more) new
   pub holds : (told : Option Files) → HoldsTrace run (journal done) old.core told → HoldsTrace run (journal (done ++ more)) new.core told
-  pub unasked : answers_in more ≡ []
+  pub unasked : asked_in more ≡ []
 
 pub no_answers : (done more : List Mark) → answers_in more ≡ [] → answers_in (done ++ more) ≡ answers_in done ++ []
 no_answers done more none = filter_map-append answer_of done more ∙ ap (λ (xs : List Done). answers_in done ++ xs) none
@@ -46,7 +47,13 @@ doing_by act old new same comes told = record {
   answered = [];
   goes = λ run done answers begins after is_run.
       let to = comes run done after is_run in
-      record { after = to.after; holds = to.holds told.files; answers = no_answers done (act run.setting done) to.unasked };
+      let more = act run.setting done in
+      record {
+        after = to.after;
+        holds = to.holds told.files;
+        stored = λ first fine. holds_same run.setting first (journal done) (journal (done ++ more)) told.files (stored_unasked run.setting first done more to.unasked);
+        answers = no_answers done more (unanswered more to.unasked);
+      };
   trace_failed = 0;
   failures = rw same (omega arith);
   rose = omega arith;

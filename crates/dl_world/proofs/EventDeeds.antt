@@ -17,7 +17,7 @@ use Rattle.dl_model.specs.Steps.{Act, changes, level_noted, hand_out, hand_out_n
 use Rattle.dl_laws.proofs.Lists.{count_by-append}
 use Rattle.dl_hub.specs.State.{Hub, outbox_of, is_open}
 use Rattle.dl_core.specs.Follows.{Run, source_of}
-use Rattle.dl_world.specs.Follows.{IsRunOf, IsAfter, Doing, MayConnect, answer_of, answers_in, noting, open_among}
+use Rattle.dl_world.specs.Follows.{IsRunOf, IsAfter, Doing, MayConnect, answers_in, noting, open_among}
 use Rattle.dl_world.specs.State.{taken_by}
 use Rattle.dl_world.specs.declared.world.World.{World}
 use Rattle.dl_world.proofs.Deeds.{does_as, does_none}
@@ -26,6 +26,7 @@ use Rattle.dl_world.proofs.Telling.{does_note}
 use Rattle.dl_world.proofs.Doings.{ComesTo, doing_by}
 use Rattle.dl_world.proofs.Going.{open_by_hub, known_by_hub}
 use Rattle.dl_world.proofs.Noting.{came_by_events}
+use Rattle.dl_world.proofs.StoredFiles.{asked_by, asked_in}
 
 -- ---- an event in its turn
 
@@ -33,28 +34,29 @@ pub doing_note : (make : List Mark → Event) (old one two new : World) → Doin
 doing_note make old one two new before noted behind told = does_note make old one two new told told before (noted told) behind
 
 -- no request is among them
-levels_unasked : (cs : List LevelChange) → answers_in (map level_noted cs) ≡ []
+levels_unasked : (cs : List LevelChange) → asked_in (map level_noted cs) ≡ []
 levels_unasked [] = refl
 levels_unasked (c ∷ cs) = levels_unasked cs
 
-now_unasked : (setting : Setting) (done : List Mark) → answers_in (hand_out_now setting done) ≡ []
+now_unasked : (setting : Setting) (done : List Mark) → asked_in (hand_out_now setting done) ≡ []
 now_unasked setting done = by (is_later done) where
-  by : (b : Bool) → answers_in (cond b [] (hand_out setting done)) ≡ []
+  by : (b : Bool) → asked_in (cond b [] (hand_out setting done)) ≡ []
   by true = refl
   by false = levels_unasked (changes setting (journal done))
 
-nothing_asked : (xs ys : List Mark) → answers_in xs ≡ [] → answers_in ys ≡ [] → answers_in (xs ++ ys) ≡ []
-nothing_asked xs ys none nothing = filter_map-append answer_of xs ys ∙ ap (λ (more : List Done). more ++ answers_in ys) none ∙ nothing
+nothing_asked : (xs ys : List Mark) → asked_in xs ≡ [] → asked_in ys ≡ [] → asked_in (xs ++ ys) ≡ []
+nothing_asked xs ys none nothing = filter_map-append asked_by xs ys ∙ ap (λ (more : List Done). more ++ asked_in ys) none ∙ nothing
 
-note_unasked : (setting : Setting) (make : List Mark → Event) (done : List Mark) → answers_in (note setting make done) ≡ []
-note_unasked setting make done =
+note_unasked : (setting : Setting) (make : List Mark → Event) (done : List Mark) → ((now : List Mark) → asked_in (Noted (make now) ∷ []) ≡ []) → asked_in (note setting make done) ≡ []
+note_unasked setting make done none =
     let waiting = hand_out setting done in
     let mark = Noted (make (done ++ waiting)) ∷ [] in
     let behind = hand_out_now setting ((done ++ waiting) ++ mark) in
-    nothing_asked waiting (mark ++ (behind ++ [])) (levels_unasked (changes setting (journal done))) (nothing_asked behind [] (now_unasked setting ((done ++ waiting) ++ mark)) refl)
+    nothing_asked waiting (mark ++ (behind ++ [])) (levels_unasked (changes setting (journal done)))
+    (nothing_asked mark (behind ++ []) (none (done ++ waiting)) (nothing_asked behind [] (now_unasked setting ((done ++ waiting) ++ mark)) refl))
 
 -- what a call that is an act comes to after these marks
-pub comes_of : (act : Setting → Act) (old new : World) → Doing act old new → (run : Run) (done : List Mark) → IsAfter run done old → IsRunOf run (done ++ act run.setting done) → answers_in (act run.setting done) ≡ []
+pub comes_of : (act : Setting → Act) (old new : World) → Doing act old new → (run : Run) (done : List Mark) → IsAfter run done old → IsRunOf run (done ++ act run.setting done) → asked_in (act run.setting done) ≡ []
     → ComesTo run done (act run.setting done) old new
 comes_of act old new doing run done after is_run none =
     let at = λ (files : Option Files). doing (record { files = files; faults = 0 }) in
@@ -171,7 +173,7 @@ connect_accepted old one two new few open_few before clients_are hub_is noted be
     let may : MayConnect one = (omega (arith, ap (λ (h : Hub). length h.clients) hub_is, at.hub_is, few), omega (arith, ap (λ (h : Hub). count_by is_open h.clients) hub_is, at.all_is, open_few)) in
     subst (λ (more : List Mark). ComesTo run done more old new) (sym marks)
     (comes_of (λ setting. note setting next_number) old new (doing_note next_number old one two new before (noted may) behind) run done after
-    (subst (λ (more : List Mark). IsRunOf run (done ++ more)) marks is_run) (note_unasked run.setting next_number done)))
+    (subst (λ (more : List Mark). IsRunOf run (done ++ more)) marks is_run) (note_unasked run.setting next_number done (λ now. refl))))
 
 -- what a test that holds tells at last
 pub opened_where : (b : Bool) (P Q R : Type 0) → b ≡ true → (IsTrue b → P × Q × R) → R

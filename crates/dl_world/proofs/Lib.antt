@@ -19,6 +19,7 @@ pub mod Claims
 pub mod StepLines
 pub mod Needs
 pub mod Served
+pub mod StoredFiles
 pub mod AskedFiles
 pub mod Emptying
 pub mod FedClients

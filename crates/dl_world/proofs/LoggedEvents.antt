@@ -38,6 +38,7 @@ use Rattle.dl_world.proofs.Composing.{run_before}
 use Rattle.dl_world.proofs.Doings.{holds_by, the_events, no_answers}
 use Rattle.dl_world.proofs.Failing.{Fails}
 use Rattle.dl_world.proofs.Noting.{IsNoTurn, noted_before, journal_noted}
+use Rattle.dl_world.proofs.StoredFiles.{KeepsStored, asked_in, holds_on, stored_unasked}
 
 -- ---- an event that the folder may see
 
@@ -45,12 +46,13 @@ use Rattle.dl_world.proofs.Noting.{IsNoTurn, noted_before, journal_noted}
 pub record IsPutBy (run : Run) (done : List Mark) (e : Event) (old : Core) (mid : World) (told told_now : Told) : Type 0 where
   pub before : IsBefore run (done ++ Noted e ∷ []) mid
   pub holds : HoldsTrace run (journal done) old told.files → HoldsTrace run (journal done ++ e ∷ []) mid.core told_now.files
+  pub unasked : asked_in (Noted e ∷ []) ≡ []
 
-pub does_event : (make : List Mark → Event) (old mid new : World) (told told_now : Told) → Fails old.core.trace mid.core.trace told.faults told_now.faults → new.core.trace ≡ mid.core.trace
+pub does_event : (make : List Mark → Event) (old mid new : World) (told told_now : Told) → Fails old.core.trace mid.core.trace told.faults told_now.faults → KeepsStored told.files told_now.files → new.core.trace ≡ mid.core.trace
     → ((run : Run) (done : List Mark) → IsAfter run done old → IsRunOf run (done ++ Noted (make done) ∷ []) → IsPutBy run done (make done) old.core mid told told_now)
     → ((run : Run) (done : List Mark) → IsBefore run done mid → IsAfter run done new)
     → Does (λ setting answers. noting make setting) old new told told_now
-does_event make old mid new told told_now fails still puts takes = record {
+does_event make old mid new told told_now fails keeps still puts takes = record {
   answered = [];
   goes = λ run done answers begins after is_run.
       let put = puts run done after is_run in
@@ -58,6 +60,8 @@ does_event make old mid new told told_now fails still puts takes = record {
         after = takes run (done ++ Noted (make done) ∷ []) put.before;
         holds = λ held. holds_by run (done ++ Noted (make done) ∷ []) mid.core new.core told_now.files still
             (subst (λ (es : List Event). HoldsTrace run es mid.core told_now.files) (sym (journal_noted done (make done))) (put.holds held));
+        stored = λ first fine. holds_on run.setting first (journal done) (journal (done ++ Noted (make done) ∷ [])) told.files told_now.files
+            (stored_unasked run.setting first done (Noted (make done) ∷ []) put.unasked) keeps;
         answers = no_answers done (Noted (make done) ∷ []) refl;
       };
   trace_failed = fails.trace_failed;
@@ -111,7 +115,7 @@ module _ (old new : World) (app : ℕ) (item : Item) (core_now : Core) (made kep
     (adds : Adds (log_event old.moment item ∷ []) (GivesFrame item) old.core core_now told.files told_now.files)
     (noted : notes.Adds (Some made.events) (Some kept.events) (log_event old.moment item))
     (took : (writer call : ℕ) (at : Moment) → calls.Does (just (Noted (event.Log app writer call at))) old.calls calls_now)
-    (fails : Fails old.core.trace core_now.trace told.faults told_now.faults) (still : new.core.trace ≡ core_now.trace)
+    (fails : Fails old.core.trace core_now.trace told.faults told_now.faults) (keeps : KeepsStored told.files told_now.files) (still : new.core.trace ≡ core_now.trace)
     (takes : (run : Run) (done : List Mark) → IsBefore run done (record old { core = core_now; journal = kept; calls = calls_now }) → IsAfter run done new) where
   abbrev mid : World
   mid = record old { core = core_now; journal = kept; calls = calls_now }
@@ -132,12 +136,13 @@ module _ (old new : World) (app : ℕ) (item : Item) (core_now : Core) (made kep
           rest = record { injections_rest = refl; clients_rest = refl; channels_rest = refl; moment_rest = refl; later_rest = refl };
         });
         holds = λ held. subst (λ (x : Event). HoldsTrace run (journal done ++ x ∷ []) core_now told_now.files) same (core_noted.1 held);
+        unasked = refl;
       }
 
   pub log_does : (other : Item) → next_item old.calls app ≡ Some other → Does (λ setting answers. noting (λ now. event.Log app other.writer other.call (moment now)) setting) old new told told_now
   log_does other is =
       subst (λ (i : Item). Does (λ setting answers. noting (λ now. event.Log app i.writer i.call (moment now)) setting) old new told told_now) (one_of (sym next ∙ is))
-      (does_event (λ now. event.Log app item.writer item.call (moment now)) old mid new told told_now fails still log_put takes)
+      (does_event (λ now. event.Log app item.writer item.call (moment now)) old mid new told told_now fails keeps still log_put takes)
 
 -- ---- lost calls
 
@@ -157,7 +162,7 @@ module _ (old new : World) (app count : ℕ) (apid : List ℕ) (core_now : Core)
     (adds : Adds (event.Lost app count old.moment ∷ []) (GivesApid app apid) old.core core_now told.files told_now.files)
     (noted : notes.Adds (Some made.events) (Some kept.events) (event.Lost app count old.moment))
     (tells : (lost : ℕ) (at : Moment) → calls.Does (just (Noted (event.Lost app lost at))) old.calls calls_now)
-    (fails : Fails old.core.trace core_now.trace told.faults told_now.faults) (still : new.core.trace ≡ core_now.trace)
+    (fails : Fails old.core.trace core_now.trace told.faults told_now.faults) (keeps : KeepsStored told.files told_now.files) (still : new.core.trace ≡ core_now.trace)
     (takes : (run : Run) (done : List Mark) → IsBefore run done (record old { core = core_now; journal = kept; calls = calls_now }) → IsAfter run done new) where
   losses_put : (run : Run) (done : List Mark) → IsAfter run done old → IsRunOf run (done ++ Noted (event.Lost app count (moment done)) ∷ [])
       → IsPutBy run done (event.Lost app count (moment done)) old.core (record old { core = core_now; journal = kept; calls = calls_now }) told told_now
@@ -176,10 +181,11 @@ module _ (old new : World) (app count : ℕ) (apid : List ℕ) (core_now : Core)
           rest = record { injections_rest = refl; clients_rest = refl; channels_rest = refl; moment_rest = refl; later_rest = refl };
         });
         holds = λ held. subst (λ (x : Event). HoldsTrace run (journal done ++ x ∷ []) core_now told_now.files) same (core_noted.1 held);
+        unasked = refl;
       }
 
   pub losses_does : Does (λ setting answers. noting (λ now. event.Lost app count (moment now)) setting) old new told told_now
-  losses_does = does_event (λ now. event.Lost app count (moment now)) old (record old { core = core_now; journal = kept; calls = calls_now }) new told told_now fails still losses_put takes
+  losses_does = does_event (λ now. event.Lost app count (moment now)) old (record old { core = core_now; journal = kept; calls = calls_now }) new told told_now fails keeps still losses_put takes
 
 -- ---- user messages
 
@@ -190,7 +196,7 @@ module _ (old new : World) (channel : ℕ) (msg : UserMsg) (core_now : Core) (ma
     (fit : CanBeTold msg) (made_is : made.events ≡ old.journal.events)
     (adds : Adds (event.User channel msg old.moment ∷ []) (λ run. Unit {0}) old.core core_now told.files told_now.files)
     (noted : notes.Adds (Some made.events) (Some kept.events) (event.User channel msg old.moment))
-    (fails : Fails old.core.trace core_now.trace told.faults told_now.faults) (still : new.core.trace ≡ core_now.trace)
+    (fails : Fails old.core.trace core_now.trace told.faults told_now.faults) (keeps : KeepsStored told.files told_now.files) (still : new.core.trace ≡ core_now.trace)
     (takes : (run : Run) (done : List Mark) → IsBefore run done (record old { core = core_now; journal = kept }) → IsAfter run done new) where
   message_put : (run : Run) (done : List Mark) → IsAfter run done old → IsRunOf run (done ++ Noted (event.User channel msg (moment done)) ∷ [])
       → IsPutBy run done (event.User channel msg (moment done)) old.core (record old { core = core_now; journal = kept }) told told_now
@@ -207,7 +213,8 @@ module _ (old new : World) (channel : ℕ) (msg : UserMsg) (core_now : Core) (ma
           rest = record { injections_rest = refl; clients_rest = refl; channels_rest = refl; moment_rest = refl; later_rest = refl };
         });
         holds = λ held. subst (λ (x : Event). HoldsTrace run (journal done ++ x ∷ []) core_now told_now.files) same (core_noted.1 held);
+        unasked = refl;
       }
 
   pub message_does : Does (λ setting answers. noting (λ now. event.User channel msg (moment now)) setting) old new told told_now
-  message_does = does_event (λ now. event.User channel msg (moment now)) old (record old { core = core_now; journal = kept }) new told told_now fails still message_put takes
+  message_does = does_event (λ now. event.User channel msg (moment now)) old (record old { core = core_now; journal = kept }) new told told_now fails keeps still message_put takes

@@ -1,9 +1,9 @@
 -- What a request wants of the folder or of a queue is what a run of steps asks for it.
 use Rattle.std.proofs.Common.{◌≡◌, ℕ, ◌<◌, Bool, true, false, cond, List, [], ◌∷◌, map, Option, Some, None, Result, Ok, refl, sym, ap, subst, ◌∙◌}
-use Rattle.std.specs.Prelude.{is_some, if◌then◌else◌}
+use Rattle.std.specs.Prelude.{if◌then◌else◌}
 use Rattle.std.specs.List.{AllByRecursion}
 use Rattle.std.specs.Map.{lookup}
-use Rattle.std.specs.Option.{option_and_then, option_map, option_map_or}
+use Rattle.std.specs.Option.{option_and_then, option_map}
 use Rattle.std.specs.Result.{result_ok}
 use Rattle.std.specs.Str.{bytes_eq}
 use Rattle.dl_bytes.specs.Payload.{Arguments}
@@ -18,44 +18,43 @@ use Rattle.dl_model.specs.Journal.{registry_of, slots_of}
 use Rattle.dl_model.specs.Registry.{App, Registry, IsInOrder, app_of, context_of, reset}
 use Rattle.dl_model.specs.Reply.{apid_of, asked, ctid_of, injected, reset_requested}
 use Rattle.dl_model.specs.Setting.{Setting}
-use Rattle.dl_model.specs.Steps.{Folder, Nothing, Queue, need_of}
+use Rattle.dl_model.specs.Steps.{need_of}
 use Rattle.dl_model.proofs.Order.{app_of_found, in_order-registry_of}
 use Rattle.dl_services.specs.Wish.{wanted, needed, removes, sends}
 use Rattle.dl_services.specs.declared.wish.Want.TheVariants as want
+use Rattle.dl_services.proofs.Requests.{reset_needs, inject_needs}
 
 -- ---- needs
-
-reset_needs : (o : Option Registry) → (if is_some o then Folder else Nothing) ≡ needed (removes o)
-reset_needs None = refl
-reset_needs (Some new) = refl
-
-inject_needs : (service : ℕ) (body : Arguments) (o : Option (App × Context)) → option_map_or (λ (target : App × Context). Queue target.0.number) o Nothing ≡ needed (sends service body o)
-inject_needs service body None = refl
-inject_needs service body (Some target) = refl
 
 injected_alike : (one other : Setting) (registry : Registry) (apid ctid : List ℕ) → one.injection ≡ other.injection → injected one registry apid ctid ≡ injected other registry apid ctid
 injected_alike one other registry apid ctid same =
     ap (λ (b : Bool). if b then option_and_then {U = App × Context} (λ app. option_map {U = App × Context} (λ context. (app, context)) (context_of app ctid)) (app_of registry 0 apid) else None) same
 
 -- under a setting that a request sees as the other one
-needed_so : (setting other : Setting) (events : List Event) (frame : List ℕ) (request : Result Request RequestFault) → setting.level ≡ other.level → setting.injection ≡ other.injection
-    → need_of setting events frame request ≡ needed (wanted other (slots_of setting events) (registry_of setting events) (apid_of frame) (ctid_of frame) request)
-needed_so setting other events frame (Ok Store) level mode = refl
-needed_so setting other events frame (Ok Reset) level mode =
-    reset_needs (reset_requested setting (slots_of setting events) (registry_of setting events))
-    ∙ ap (λ (n : ℕ). needed (removes (result_ok (reset (slots_of setting events) (registry_of setting events) n)))) level
-needed_so setting other events frame (Ok (Inject service body)) level mode =
-    inject_needs service body (injected setting (registry_of setting events) (apid_of frame) (ctid_of frame))
-    ∙ ap (λ (o : Option (App × Context)). needed (sends service body o)) (injected_alike setting other (registry_of setting events) (apid_of frame) (ctid_of frame) mode)
-needed_so setting other events frame _ level mode = refl
+wanted_alike : (setting other : Setting) (slots : ℕ → Slot) (registry : Registry) (apid ctid : List ℕ) (request : Result Request RequestFault) → setting.level ≡ other.level → setting.injection ≡ other.injection
+    → wanted setting slots registry apid ctid request ≡ wanted other slots registry apid ctid request
+wanted_alike setting other slots registry apid ctid (Ok Store) level mode = refl
+wanted_alike setting other slots registry apid ctid (Ok Reset) level mode = ap (λ (n : ℕ). removes (result_ok (reset slots registry n))) level
+wanted_alike setting other slots registry apid ctid (Ok (Inject service body)) level mode =
+    ap (λ (o : Option (App × Context)). sends service body o) (injected_alike setting other registry apid ctid mode)
+wanted_alike setting other slots registry apid ctid _ level mode = refl
 
-pub needs_are : (setting other : Setting) (events : List Event) (slots : ℕ → Slot) (registry : Registry) (frame : List ℕ) → setting.level ≡ other.level → setting.injection ≡ other.injection
+-- what it wants of a run is what it wants of a core that stands for it
+pub wanted_is : (setting other : Setting) (events : List Event) (slots : ℕ → Slot) (registry : Registry) (frame : List ℕ) → setting.level ≡ other.level → setting.injection ≡ other.injection
     → slots ≡ slots_of setting events → registry ≡ registry_of setting events
-    → need_of setting events frame (asked frame) ≡ needed (wanted other slots registry (apid_of frame) (ctid_of frame) (asked frame))
-needs_are setting other events slots registry frame level mode slots_are registry_is =
-    needed_so setting other events frame (asked frame) level mode
-    ∙ ap (λ (s : ℕ → Slot). needed (wanted other s (registry_of setting events) (apid_of frame) (ctid_of frame) (asked frame))) (sym slots_are)
-    ∙ ap (λ (r : Registry). needed (wanted other slots r (apid_of frame) (ctid_of frame) (asked frame))) (sym registry_is)
+    → wanted setting (slots_of setting events) (registry_of setting events) (apid_of frame) (ctid_of frame) (asked frame) ≡ wanted other slots registry (apid_of frame) (ctid_of frame) (asked frame)
+wanted_is setting other events slots registry frame level mode slots_are registry_is =
+    wanted_alike setting other (slots_of setting events) (registry_of setting events) (apid_of frame) (ctid_of frame) (asked frame) level mode
+    ∙ ap (λ (s : ℕ → Slot). wanted other s (registry_of setting events) (apid_of frame) (ctid_of frame) (asked frame)) (sym slots_are)
+    ∙ ap (λ (r : Registry). wanted other slots r (apid_of frame) (ctid_of frame) (asked frame)) (sym registry_is)
+
+-- and a run of steps asks for it
+pub needs_are : (setting : Setting) (events : List Event) (frame : List ℕ) (request : Result Request RequestFault)
+    → need_of setting events frame request ≡ needed (wanted setting (slots_of setting events) (registry_of setting events) (apid_of frame) (ctid_of frame) request)
+needs_are setting events frame (Ok Store) = refl
+needs_are setting events frame (Ok Reset) = reset_needs (reset_requested setting (slots_of setting events) (registry_of setting events))
+needs_are setting events frame (Ok (Inject service body)) = inject_needs service body (injected setting (registry_of setting events) (apid_of frame) (ctid_of frame))
+needs_are setting events frame _ = refl
 
 -- ---- the application of an injection is one of 16
 

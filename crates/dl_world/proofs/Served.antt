@@ -23,7 +23,7 @@ use Rattle.dl_calls.proofs.Changing.{no-call-stays}
 use Rattle.dl_calls.proofs.Places.{slice_get-end, slice_get-more}
 use Rattle.dl_registry.specs.Kept.{slots}
 use Rattle.dl_hub.specs.State.{Hub, Waiting, HasRoom, outbox_of}
-use Rattle.dl_services.specs.Wish.{needed}
+use Rattle.dl_services.specs.Wish.{needed, wanted}
 use Rattle.dl_services.specs.declared.wish.Want.{Want}
 use Rattle.dl_services.specs.declared.wish.Want.TheVariants as want
 use Rattle.dl_frame_laws.proofs.Answered.{every_reply_tells}
@@ -34,10 +34,12 @@ use Rattle.dl_core.specs.Settings.{seen}
 use Rattle.dl_world.specs.Folders.{Told}
 use Rattle.dl_world.specs.Follows.{IsAfter, IsBefore, BeginWith, answer_of, answers_in, is_failure, failures_of, Goes, Does, Queues}
 use Rattle.dl_world.specs.State.{taken_by}
+use Rattle.dl_world.specs.Stored.{HoldsStored}
 use Rattle.dl_world.specs.declared.world.World.{World}
-use Rattle.dl_world.proofs.Needs.{needs_are, injection_below}
+use Rattle.dl_world.proofs.Needs.{needs_are, injection_below, wanted_is}
 use Rattle.dl_world.proofs.Noting.{IsNoTurn, journal_noted, noted_before}
 use Rattle.dl_world.proofs.Quiet.{journal_same, answered_after, injected_after}
+use Rattle.dl_world.proofs.StoredFiles.{request_stored}
 
 -- ---- the trace alone counts for what the folder holds
 
@@ -74,8 +76,10 @@ module _ (client : ℕ) (frame : List ℕ) (answer : Done) (old mid new : World)
 
   -- behind the marks of what was asked for
   pub goes_by : (run : Run) (done front : List Mark) (answered : List Done) → IsAfter run done old → filter_map event_of front ≡ [] → answers_in (front ++ Noted e ∷ []) ≡ answered
-      → IsAfter run (done ++ front) between → Goes run done (front ++ Noted e ∷ []) old new told told_now answered
-  goes_by run done front answered after none answered_is ahead =
+      → IsAfter run (done ++ front) between
+      → ((first : Option (List ℕ)) → count_by is_failure answered ≡ 0 → HoldsStored run.setting first (journal done) told.files → HoldsStored run.setting first (journal done ++ e ∷ []) told_now.files)
+      → Goes run done (front ++ Noted e ∷ []) old new told told_now answered
+  goes_by run done front answered after none answered_is ahead stores =
       let events : journal (done ++ front) ≡ journal done = journal_same done front none in
       let core_noted = is.adds run (journal done) (taken_by old.clients) tt after.so_far.core_so in
       let before : IsBefore run ((done ++ front) ++ Noted e ∷ []) mid = noted_before run (done ++ front) e between mid (no_turn client frame answer) ahead (record {
@@ -91,6 +95,7 @@ module _ (client : ℕ) (frame : List ℕ) (answer : Done) (old mid new : World)
       record {
         after = subst (λ (ms : List Mark). IsAfter run ms new) all (is.delivers run ((done ++ front) ++ Noted e ∷ []) before);
         holds = λ held. holds_as run (journal done ++ e ∷ []) (journal (done ++ (front ++ Noted e ∷ []))) mid.core new.core told_now.files whole is.trace_new (core_noted.1 held);
+        stored = λ first fine holds. subst (λ (es : List Event). HoldsStored run.setting first es told_now.files) (sym whole) (stores first fine holds);
         answers = filter_map-append answer_of done (front ++ Noted e ∷ []) ∙ ap (λ (xs : List Done). answers_in done ++ xs) answered_is;
       }
 
@@ -125,50 +130,68 @@ rose_by (Ok made) faults faults_now cause = omega (arith, cause)
 rose_by (Err fault.Failed) faults faults_now cause = omega (arith, cause.1)
 rose_by (Err fault.OutOfMemory) faults faults_now cause = omega (arith, cause)
 
+-- where it failed at none, it did not fail at the one
+none_failed : (answer : Done) → count_by is_failure (answer ∷ []) ≡ 0 → is_failure answer ≡ false
+none_failed did.Yes fine = refl
+none_failed did.Failed fine = absurd (omega (arith, fine))
+none_failed did.NoMemory fine = refl
+
 -- ---- by what the request wants
 
 -- what is known of each run: what it asks for is what the request wants, and an injection is for one of 16 applications
 pub record IsWanted (frame : List ℕ) (wants : Want) (old : World) : Type 0 where
   pub needs : (run : Run) (done : List Mark) → IsAfter run done old → need_of run.setting (journal done) frame (asked frame) ≡ needed wants
+  pub is_what : (run : Run) (done : List Mark) → IsAfter run done old
+      → wanted run.setting (slots_of run.setting (journal done)) (registry_of run.setting (journal done)) (apid_of frame) (ctid_of frame) (asked frame) ≡ wants
   pub below : (app : ℕ) (injection : Injection) (run : Run) (done : List Mark) → IsAfter run done old → wants ≡ want.Inject app injection → app < 16
 
 module _ (client : ℕ) (frame : List ℕ) (answer : Done) (old mid new : World) (told told_now : Told) (is : HasServed client frame answer old mid new told told_now) where
   abbrev noted : Done → Mark
   noted what = Noted (event.Request client frame what)
 
+  -- what the journal with its event makes of the stored configuration, where the folder did not fail
+  abbrev Stores : Want → Type 0
+  Stores wants = (needed wants ≡ Folder → is_failure answer ≡ false) → (run : Run) (done : List Mark) → IsAfter run done old → (first : Option (List ℕ))
+      → HoldsStored run.setting first (journal done) told.files → HoldsStored run.setting first (journal done ++ event.Request client frame answer ∷ []) told_now.files
+
+  stores_so : (wants : Want) (pushed : Bool) → IsWanted frame wants old → Answers wants pushed answer told.files told_now.files told.faults told_now.faults → Stores wants
+  stores_so wants pushed known acts fine run done after first =
+      request_stored run.setting first (journal done) client frame answer wants pushed told.files told_now.files told.faults told_now.faults (known.is_what run done after) acts fine
+
   -- the queues are as they were
   same_queues : (run : Run) (done : List Mark) → mid.injections ≡ old.injections → IsAfter run done old → IsAfter run done (record old { injections = mid.injections })
   same_queues run done same after = subst (λ (waiting : List ℕ). IsAfter run done (record old { injections = waiting })) (sym same) after
 
   -- nothing is wanted
-  does_alone : IsWanted frame want.Nothing old → answer ≡ did.Yes → told_now.faults ≡ told.faults → mid.injections ≡ old.injections
+  does_alone : IsWanted frame want.Nothing old → Stores want.Nothing → answer ≡ did.Yes → told_now.faults ≡ told.faults → mid.injections ≡ old.injections
       → Does (λ setting answers. request_now setting answers client frame) old new told told_now
-  does_alone wanted yes_is faults same = record {
+  does_alone known stores yes_is faults same = record {
     answered = [];
     goes = λ run done answers begins after is_run.
         let marks : request_now run.setting answers client frame done ≡ noted answer ∷ [] =
-        ap (λ (need : Need). served answers client frame need done) (wanted.needs run done after) ∙ ap (λ (what : Done). noted what ∷ []) (sym yes_is) in
+        ap (λ (need : Need). served answers client frame need done) (known.needs run done after) ∙ ap (λ (what : Done). noted what ∷ []) (sym yes_is) in
         let ahead : IsAfter run (done ++ []) (record old { injections = mid.injections }) =
         subst (λ (ms : List Mark). IsAfter run ms (record old { injections = mid.injections })) (sym (append-nil done)) (same_queues run done same after) in
-        subst (λ (more : List Mark). Goes run done more old new told told_now []) (sym marks) (goes_by client frame answer old mid new told told_now is run done [] [] after refl refl ahead);
+        subst (λ (more : List Mark). Goes run done more old new told told_now []) (sym marks)
+        (goes_by client frame answer old mid new told told_now is run done [] [] after refl refl ahead (λ first fine. stores (λ e. absurd cc) run done after first));
     trace_failed = 0;
     failures = failed_none client frame answer old mid new told told_now is;
     rose = omega (arith, faults);
   }
 
   -- the folder was asked
-  does_asking : (wants : Want) → IsWanted frame wants old → needed wants ≡ Folder → (result : Result (Unit {0}) FolderFault) → answer ≡ done_by result
+  does_asking : (wants : Want) → IsWanted frame wants old → Stores wants → needed wants ≡ Folder → (result : Result (Unit {0}) FolderFault) → answer ≡ done_by result
       → HasCause told.faults told_now.faults result → mid.injections ≡ old.injections
       → Does (λ setting answers. request_now setting answers client frame) old new told told_now
-  does_asking wants wanted folder result answer_is cause same = record {
+  does_asking wants known stores folder result answer_is cause same = record {
     answered = answer ∷ [];
     goes = λ run done answers begins after is_run.
         let marks : request_now run.setting answers client frame done ≡ Answered answer ∷ noted answer ∷ [] =
-        ap (λ (need : Need). served answers client frame need done) (wanted.needs run done after ∙ folder)
+        ap (λ (need : Need). served answers client frame need done) (known.needs run done after ∙ folder)
         ∙ ap (λ (what : Done). Answered what ∷ noted what ∷ []) (next_answer done answer answers begins) in
         let ahead = same_queues_after run done after in
         subst (λ (more : List Mark). Goes run done more old new told told_now (answer ∷ [])) (sym marks)
-        (goes_by client frame answer old mid new told told_now is run done (Answered answer ∷ []) (answer ∷ []) after refl refl ahead);
+        (goes_by client frame answer old mid new told told_now is run done (Answered answer ∷ []) (answer ∷ []) after refl refl ahead (λ first fine. stores (λ _. none_failed answer fine) run done after first));
     trace_failed = 0;
     failures = failed_none client frame answer old mid new told told_now is;
     rose = subst (λ (what : Done). min (told.faults + (count_by is_failure (what ∷ []) + 0)) (2 ^ 64 - 1) ≤ told_now.faults) (sym answer_is) (rose_by result told.faults told_now.faults cause);
@@ -178,36 +201,37 @@ module _ (client : ℕ) (frame : List ℕ) (answer : Done) (old mid new : World)
         subst (λ (waiting : List ℕ). IsAfter run (done ++ Answered answer ∷ []) (record old { injections = waiting })) (sym same) (answered_after run done old after answer)
 
   -- a queue was asked
-  does_sending : (app : ℕ) (injection : Injection) (pushed : Bool) → IsWanted frame (want.Inject app injection) old → answer ≡ (if pushed then did.Yes else did.Failed) → told_now.faults ≡ told.faults
+  does_sending : (app : ℕ) (injection : Injection) (pushed : Bool) → IsWanted frame (want.Inject app injection) old → Stores (want.Inject app injection) → answer ≡ (if pushed then did.Yes else did.Failed) → told_now.faults ≡ told.faults
       → Queues (Some app) pushed old.injections mid.injections
       → Does (λ setting answers. request_now setting answers client frame) old new told told_now
-  does_sending app injection true wanted answer_is faults queues = record {
+  does_sending app injection true known stores answer_is faults queues = record {
     answered = [];
     goes = λ run done answers begins after is_run.
         let room : nat_lt (injections app done) 16 ≡ true = (let count = after.so_far.injections_so.each app queues.0 in let few = queues.1 in grind (arith, count, few)) in
         let marks : request_now run.setting answers client frame done ≡ Injected app ∷ noted answer ∷ [] =
-        ap (λ (need : Need). served answers client frame need done) (wanted.needs run done after)
+        ap (λ (need : Need). served answers client frame need done) (known.needs run done after)
         ∙ ap (λ (b : Bool). if b then Injected app ∷ noted did.Yes ∷ [] else noted did.Failed ∷ []) room
         ∙ ap (λ (what : Done). Injected app ∷ noted what ∷ []) (sym answer_is) in
         let ahead = injected_after run done old after app mid.injections (queues.2 done after.so_far.injections_so) in
         subst (λ (more : List Mark). Goes run done more old new told told_now []) (sym marks)
-        (goes_by client frame answer old mid new told told_now is run done (Injected app ∷ []) [] after refl refl ahead);
+        (goes_by client frame answer old mid new told told_now is run done (Injected app ∷ []) [] after refl refl ahead (λ first fine. stores (λ e. absurd cc) run done after first));
     trace_failed = 0;
     failures = failed_none client frame answer old mid new told told_now is;
     rose = omega (arith, faults);
   }
-  does_sending app injection false wanted answer_is faults queues = record {
+  does_sending app injection false known stores answer_is faults queues = record {
     answered = [];
     goes = λ run done answers begins after is_run.
-        let small = wanted.below app injection run done after refl in
+        let small = known.below app injection run done after refl in
         let full : nat_lt (injections app done) 16 ≡ false = (let count = after.so_far.injections_so.each app small in let most = queues.0 small in grind (arith, count, most)) in
         let marks : request_now run.setting answers client frame done ≡ noted answer ∷ [] =
-        ap (λ (need : Need). served answers client frame need done) (wanted.needs run done after)
+        ap (λ (need : Need). served answers client frame need done) (known.needs run done after)
         ∙ ap (λ (b : Bool). if b then Injected app ∷ noted did.Yes ∷ [] else noted did.Failed ∷ []) full
         ∙ ap (λ (what : Done). noted what ∷ []) (sym answer_is) in
         let ahead : IsAfter run (done ++ []) (record old { injections = mid.injections }) =
         subst (λ (ms : List Mark). IsAfter run ms (record old { injections = mid.injections })) (sym (append-nil done)) (same_queues run done queues.1 after) in
-        subst (λ (more : List Mark). Goes run done more old new told told_now []) (sym marks) (goes_by client frame answer old mid new told told_now is run done [] [] after refl refl ahead);
+        subst (λ (more : List Mark). Goes run done more old new told told_now []) (sym marks)
+        (goes_by client frame answer old mid new told told_now is run done [] [] after refl refl ahead (λ first fine. stores (λ e. absurd cc) run done after first));
     trace_failed = 0;
     failures = failed_none client frame answer old mid new told told_now is;
     rose = omega (arith, faults);
@@ -217,25 +241,32 @@ module _ (client : ℕ) (frame : List ℕ) (answer : Done) (old mid new : World)
   pub does_request : (wants : Want) (pushed : Bool) → IsWanted frame wants old → Answers wants pushed answer told.files told_now.files told.faults told_now.faults
       → Queues (option_map (λ (i : ℕ × Injection). i.0) (injection_in wants)) pushed old.injections mid.injections
       → Does (λ setting answers. request_now setting answers client frame) old new told told_now
-  does_request want.Nothing pushed wanted acts queues = does_alone wanted acts.0 acts.2 queues.1
-  does_request (want.Put text stored) pushed wanted acts queues = does_asking (want.Put text stored) wanted refl acts.0 acts.1 acts.3 queues.1
-  does_request want.Remove pushed wanted acts queues = does_asking want.Remove wanted refl acts.0 acts.1 acts.3 queues.1
-  does_request (want.Inject app injection) pushed wanted acts queues = does_sending app injection pushed wanted acts.0 acts.2 queues
+  does_request want.Nothing pushed known acts queues = does_alone known (stores_so want.Nothing pushed known acts) acts.0 acts.2 queues.1
+  does_request (want.Put text stored) pushed known acts queues =
+      does_asking (want.Put text stored) known (stores_so (want.Put text stored) pushed known acts) refl acts.0 acts.1 acts.3 queues.1
+  does_request want.Remove pushed known acts queues = does_asking want.Remove known (stores_so want.Remove pushed known acts) refl acts.0 acts.1 acts.3 queues.1
+  does_request (want.Inject app injection) pushed known acts queues =
+      does_sending app injection pushed known (stores_so (want.Inject app injection) pushed known acts) acts.0 acts.2 queues
 
 -- ---- what the core's call tells
 
 pub wanted_by : (frame : List ℕ) (ready : Ready) (old : World) → IsReady old.core ready → ready.frame ≡ frame → IsWanted frame ready.want old
 wanted_by frame ready old is same = record {
-  needs = λ run done after.
-      let set_to = after.so_far.core_so.set_to in
-      let kept = after.so_far.core_so.registry in
-      needs_are run.setting (seen old.core) (journal done) (slots old.core.registry) old.core.registry.registry frame (sym set_to.level) (sym set_to.injection) kept.slots kept.registry ∙ ap needed (sym want_is);
+  needs = λ run done after. needs_are run.setting (journal done) frame (asked frame) ∙ ap needed (what run done after);
+  is_what = what;
   below = λ app injection run done after here.
       injection_below run.setting (seen old.core) (journal done) (slots old.core.registry) old.core.registry.registry (apid_of frame) (ctid_of frame) (asked frame) app injection
       after.so_far.core_so.registry.registry (sym want_is ∙ here);
 } where
   want_is : ready.want ≡ wanted_now old.core frame
   want_is = is.want ∙ ap (wanted_now old.core) same
+
+  what : (run : Run) (done : List Mark) → IsAfter run done old
+      → wanted run.setting (slots_of run.setting (journal done)) (registry_of run.setting (journal done)) (apid_of frame) (ctid_of frame) (asked frame) ≡ ready.want
+  what run done after =
+      let set_to = after.so_far.core_so.set_to in
+      let kept = after.so_far.core_so.registry in
+      wanted_is run.setting (seen old.core) (journal done) (slots old.core.registry) old.core.registry.registry frame (sym set_to.level) (sym set_to.injection) kept.slots kept.registry ∙ sym want_is
 
 pub has_served : (client : ℕ) (frame : List ℕ) (ready : Ready) (pushed : Bool) (old mid new : World) (before : Core) (told told_now : Told) (events : List Event)
     → (serves : Serves ready pushed before mid.core told.files told_now.files told.faults told_now.faults (Some events) (Some mid.journal.events))

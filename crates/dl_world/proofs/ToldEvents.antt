@@ -20,6 +20,7 @@ use Rattle.dl_world.proofs.Doings.{the_events}
 use Rattle.dl_world.proofs.Failing.{Fails}
 use Rattle.dl_world.proofs.LoggedEvents.{IsPutBy, does_event}
 use Rattle.dl_world.proofs.Noting.{IsNoTurn, noted_before}
+use Rattle.dl_world.proofs.StoredFiles.{KeepsStored}
 
 no_turn_message : (channel : ℕ) (msg : UserMsg) (at : Moment) → IsNoTurn (event.User channel msg at)
 no_turn_message channel msg at = record { connects = refl; closes = refl; nobody = λ number. refl }
@@ -27,7 +28,7 @@ no_turn_message channel msg at = record { connects = refl; closes = refl; nobody
 module _ (old new : World) (channel : ℕ) (msg : UserMsg) (core_now : Core) (made kept : Journaled) (told told_now : Told) (fit : CanBeTold msg) (made_is : made.events ≡ old.journal.events)
     (adds : Adds (event.User channel msg old.moment ∷ []) (λ run. Unit {0}) old.core core_now told.files told_now.files)
     (noted : notes.Adds (Some made.events) (Some kept.events) (event.User channel msg old.moment))
-    (fails : Fails old.core.trace core_now.trace told.faults told_now.faults) (still : new.core.trace ≡ core_now.trace)
+    (fails : Fails old.core.trace core_now.trace told.faults told_now.faults) (keeps : KeepsStored told.files told_now.files) (still : new.core.trace ≡ core_now.trace)
     (takes : (run : Run) (done : List Mark) → IsBefore run done (record old { core = core_now; journal = kept }) → IsAfter run done new) where
   abbrev mid : World
   mid = record old { core = core_now; journal = kept }
@@ -47,7 +48,8 @@ module _ (old new : World) (channel : ℕ) (msg : UserMsg) (core_now : Core) (ma
           rest = record { injections_rest = refl; clients_rest = refl; channels_rest = refl; moment_rest = refl; later_rest = refl };
         });
         holds = λ held. subst (λ (x : Event). HoldsTrace run (journal done ++ x ∷ []) core_now told_now.files) same (core_noted.1 held);
+        unasked = refl;
       }
 
   pub message_does : Does (λ setting answers. noting (λ now. event.User channel msg (moment now)) setting) old new told told_now
-  message_does = does_event (λ now. event.User channel msg (moment now)) old mid new told told_now fails still message_put takes
+  message_does = does_event (λ now. event.User channel msg (moment now)) old mid new told told_now fails keeps still message_put takes

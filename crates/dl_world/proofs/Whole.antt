@@ -1,6 +1,7 @@
 -- A whole run: what its lines and its end come to is the run of the definitions.
 use Rattle.std.proofs.Common.{◌≡◌, ℕ, ◌+◌, Bool, false, cond, List, [], ◌∷◌, ◌++◌, take, Option, Some, None, refl, sym, ap, subst, ◌∙◌, arith}
 use Rattle.std.specs.Prelude.{slice_get, count_by, IfSome, IsSomeAnd, Result, Ok, Err, IfOk}
+use Rattle.std.specs.FinMap as map
 use Rattle.std.specs.List.{filter_map, AllByRecursion}
 use Rattle.std.specs.Option.{option_map, option_map_or}
 use Rattle.std.proofs.lemmas.List.{append-nil}
@@ -27,6 +28,7 @@ use Rattle.dl_trace.specs.Stands.{HasFiles}
 use Rattle.dl_trace.specs.State as traces
 use Rattle.dl_trace.specs.State.{Trace, listed}
 use Rattle.dl_core.specs.Settings.{setting_of}
+use Rattle.dl_core.specs.Serving.{stored_name}
 use Rattle.dl_core.specs.State.{Core}
 use Rattle.dl_core.specs.Follows.{Run, IsTraceAfter, HoldsTrace, stored_by}
 use Rattle.dl_world.specs.Folders.{Told, directory_of}
@@ -35,6 +37,7 @@ use Rattle.dl_world.specs.Known.{MayCome}
 use Rattle.dl_world.specs.Left.{IsLeft, told_of}
 use Rattle.dl_script_laws.specs.Playable.{HasShortText, IsPlayable}
 use Rattle.dl_world.specs.Played.{frames_in, files_with, IsTraced, TellsOf, Holds, is_failed, trace_failures, IsPlayed}
+use Rattle.dl_world.specs.Stored.{HoldsStored}
 use Rattle.dl_world.specs.declared.played.Played.{Played}
 use Rattle.dl_world.specs.declared.world.World.{World}
 use Rattle.dl_world.proofs.Knowing.{known_after, lines_known, nothing_known, may_come}
@@ -165,6 +168,12 @@ module _ (conf : Conf) (kept : Stored) (handed : Option Trace) (stood : List Sto
     holds_at_end (Some old) None state told told_now same is holds = absurd cc
     holds_at_end (Some old) (Some last) state told told_now same is holds = λ goes_on stands. holds stands (ap (λ (s : TraceState). s.end) (sym is) ∙ goes_on)
 
+    -- the stored configuration, from the file that stood there
+    stored_at_end : (told told_now : Option Files) → ((first : Option (List ℕ)) → HoldsStored setting first [] told → HoldsStored setting first (journal done) told_now)
+        → IfSome told (λ folder. HoldsStored setting (map.get folder stored_name) (journal done) told_now)
+    stored_at_end None told_now goes = tt
+    stored_at_end (Some folder) told_now goes = goes (map.get folder stored_name) refl
+
   begun_holds : (r : Run) (core : Core) (told : Option Files) → IsSomeAnd told (λ folder. HasFiles r.setting.directory folder r.stood) → HoldsTrace r [] core told
   begun_holds r core told holds = by_trace core.trace where
     by_trace : (o : Option Trace) → IfSome o (λ (kept : Trace). kept.state.end ≡ None → IsSomeAnd told (λ folder. HasFiles r.setting.directory folder r.stood))
@@ -208,6 +217,7 @@ module _ (conf : Conf) (kept : Stored) (handed : Option Trace) (stood : List Sto
         trace_is = tells_of done handed last.core.trace played.ends.trace directories traces_so left.trace_is;
         holds = holds_at_end done handed last.core.trace played.ends.trace told.files told_now.files directories left.trace_is
             (λ stands. goes.holds (begun_holds r first.core told.files stands));
+        stored = λ none. stored_at_end done told.files told_now.files (λ first. goes.stored first (sym failed ∙ none));
         faults_rose = omega (arith, does.rose, does.failures, zero_before, at_end, failed);
       }
 

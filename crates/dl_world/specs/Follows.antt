@@ -26,6 +26,7 @@ use Rattle.dl_core.specs.State.{Core}
 use Rattle.dl_world.specs.State.{Client, client_at, channel_at, taken_by}
 use Rattle.dl_world.specs.Fed.{IsFedBy, IsHeardBy}
 use Rattle.dl_world.specs.Played.{trace_failures}
+use Rattle.dl_world.specs.Stored.{HoldsStored}
 use Rattle.dl_world.specs.Folders.{Told}
 use Rattle.dl_world.specs.declared.world.World.{World}
 
@@ -116,10 +117,13 @@ failures_of at = option_map_or (λ (trace : Trace). trace_failures trace.state.e
 abbrev pub Deed : Type 0
 Deed = Setting → List Done → Act
 
--- what holds before a call holds after it, of the marks and of the folder
+-- What holds before a call holds after it, of the marks and of the folder; of the stored configuration, where the folder failed at no
+-- request meanwhile.
 pub record Goes (run : Run) (done more : List Mark) (old new : World) (told told_now : Told) (answered : List Done) : Type 0 where
   pub after : IsAfter run (done ++ more) new
   pub holds : HoldsTrace run (journal done) old.core told.files → HoldsTrace run (journal (done ++ more)) new.core told_now.files
+  pub stored : (first : Option (List ℕ)) → count_by is_failure answered ≡ 0
+      → HoldsStored run.setting first (journal done) told.files → HoldsStored run.setting first (journal (done ++ more)) told_now.files
   pub answers : answers_in (done ++ more) ≡ answers_in done ++ answered
 
 -- The call is this act: whatever marks came before, it comes to the marks of the act after them. The folder answered so to the requests

@@ -19,6 +19,7 @@ use Rattle.dl_outside.specs.Folder.{Files}
 use Rattle.dl_trace.specs.State.{Trace, listed}
 use Rattle.dl_trace.specs.Stands.{HasFiles, IsTraceName}
 use Rattle.dl_core.specs.Serving.{stored_name}
+use Rattle.dl_world.specs.Stored.{HoldsStored}
 use Rattle.dl_world.specs.declared.played.Played.{Played}
 
 -- ---- trace files
@@ -82,7 +83,8 @@ failures done state = count_by is_failed done + trace_failures state.end
 -- ---- the whole
 
 -- A run was played: for some answers of the folder to the requests that asked it, records, journal, streams, backlog and trace files
--- are those of the run of the steps. The folder's count of faults rose by as many as it failed, at least.
+-- are those of the run of the steps. Where the folder failed at none of these requests, the stored configuration is what the journal made of
+-- the file that stood there. The folder's count of faults rose by as many as it failed, at least.
 pub record IsPlayed (setting : Setting) (stood : List StoredFile) (steps : List Step) (trace : Option Trace) (played : Played) (told told_now : Option Files) (faults faults_now : ℕ) : Type 0 where
   pub answers : List Done
   pub done : List Mark
@@ -95,4 +97,5 @@ pub record IsPlayed (setting : Setting) (stood : List StoredFile) (steps : List 
   pub backlog_is : played.backlog ≡ left setting.buffer (traffic (source_of setting done) (journal done))
   pub trace_is : TellsOf setting stood done trace played.ends.trace
   pub holds : Holds setting stood done trace played.ends.trace told told_now
+  pub stored : count_by is_failed done ≡ 0 → IfSome told (λ folder. HoldsStored setting (files.get folder stored_name) (journal done) told_now)
   pub faults_rose : min (faults + failures done played.ends.trace) (2 ^ 64 - 1) ≤ faults_now

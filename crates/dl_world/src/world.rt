@@ -23,18 +23,26 @@ const START: Moment = Moment {
     ticks: 0,
 };
 
-/// The core, the log calls up to it, the injections that wait, the journal, the clients, the channels of user messages, the moment that
-/// the script's clock told last, and whether Level events wait until they are asked for.
+/// The core of the daemon, and all that moves around it in a script.
 #[derive(Drop)]
 pub struct World {
+    /// Where memory comes from.
     pub alloc: Global,
+    /// The core of the daemon.
     pub core: Core,
+    /// The log calls up to it: writers, rings and counts of lost calls.
     pub calls: Calls,
+    /// The injections that wait for their applications.
     pub injections: Injections,
+    /// The events so far.
     pub journal: Kept,
+    /// The clients: what each sent, and which frames its link took.
     pub clients: Clients,
+    /// The channels of user messages.
     pub channels: Channels,
+    /// The moment that the script's clock told last.
     pub moment: Moment,
+    /// Whether Level events wait until they are asked for.
     pub later: bool,
 }
 

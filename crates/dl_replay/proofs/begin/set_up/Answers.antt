@@ -1,6 +1,6 @@
 use Rattle.dl_conf.specs.Outcome.{values_of}
 use Rattle.dl_replay.proofs.Begins.{both_said, quiet_twice, stored_is_bad}
-use Rattle.dl_replay.specs.Told.{FolderTold}
+use Rattle.dl_outside.specs.Told.{FolderTold}
 use Rattle.dl_replay.proofs.begin.set_up.Goals as goal
 
 pub returns-in-Ok-stored_in : goal.returns-in-Ok-stored_in

@@ -1,5 +1,5 @@
 use Rattle.std.specs.Prelude.{nat_lt}
-use Rattle.dl_replay.specs.Told.{FolderTold, SinkTold}
+use Rattle.dl_outside.specs.Told.{FolderTold, SinkTold}
 use Rattle.dl_replay.proofs.Endings.{ended}
 use Rattle.dl_replay.proofs.program.perform.Goals as goal
 

@@ -1,5 +1,5 @@
 use Rattle.std.proofs.Common.{◌≤◌, ℕ, subst}
-use Rattle.dl_replay.specs.Told.{FolderTold}
+use Rattle.dl_outside.specs.Told.{FolderTold}
 use Rattle.dl_replay.proofs.Playings.{changes_own, is_run, own_stay}
 use Rattle.dl_replay.proofs.program.play_start.Goals as goal
 

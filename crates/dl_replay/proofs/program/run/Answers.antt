@@ -1,6 +1,7 @@
 use Rattle.std.proofs.Common.{map}
 use Rattle.std.specs.String.{string_bytes}
-use Rattle.dl_replay.specs.Told.{SinkTold, Told}
+use Rattle.dl_outside.specs.Told.{SinkTold}
+use Rattle.dl_replay.specs.Told.{Told}
 use Rattle.dl_replay.proofs.Runs.{a_run}
 use Rattle.dl_replay.proofs.program.run.Goals as goal
 

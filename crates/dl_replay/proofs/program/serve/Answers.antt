@@ -1,5 +1,5 @@
 use Rattle.std.proofs.Common.{inr}
-use Rattle.dl_replay.specs.Told.{FolderTold, SinkTold, SourceTold}
+use Rattle.dl_outside.specs.Told.{FolderTold, SinkTold, SourceTold}
 use Rattle.dl_replay.proofs.Endings.{earlier}
 use Rattle.dl_replay.proofs.Folders.{own_files}
 use Rattle.dl_replay.proofs.Runs.{refusal_changes}

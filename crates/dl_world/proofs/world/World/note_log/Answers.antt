@@ -4,6 +4,7 @@ use Rattle.dl_world.specs.Folders.{tells}
 use Rattle.dl_world.proofs.LeftFiles.{leaves_alone}
 use Rattle.dl_world.proofs.Failing.{stores_in, leaves_where}
 use Rattle.dl_world.proofs.LoggedEvents.{log_does}
+use Rattle.dl_world.proofs.StoredFiles.{traced_keeps}
 use Rattle.dl_world.proofs.world.World.note_log.Goals as goal
 
 pub returns-in_default-clause-leaves : goal.returns-in_default-clause-leaves
@@ -20,6 +21,7 @@ returns-clause-does g c =
     (sym c.in-Some.ensures) (record { apid_long = c.has_sizes.ensures.apid; ctid_long = c.has_sizes.ensures.ctid; payload_within = c.has_sizes.ensures.payload })
     c.make_room.ensures.events c.log.ensures.after c.log.ensures.event c.take.ensures
     (stores_in _ c.args.self.now.core.trace c.log.new.self.trace (g.F.Folder.files c.args.folder.now) (g.F.Folder.files c.log.new.folder) (g.F.Folder.faults c.args.folder.now) (g.F.Folder.faults c.log.new.folder) c.log.ensures.stored)
+    (traced_keeps c.args.self.now.core.trace (g.F.Folder.files c.args.folder.now) (g.F.Folder.files c.log.new.folder) c.log.ensures.others)
     c.deliver.ensures.trace)
     c.deliver.ensures.takes
 

@@ -4,6 +4,7 @@ use Rattle.dl_world.specs.Folders.{tells}
 use Rattle.dl_world.proofs.LeftFiles.{leaves_alone}
 use Rattle.dl_world.proofs.Failing.{stores_each, leaves_where}
 use Rattle.dl_world.proofs.LoggedEvents.{losses_does}
+use Rattle.dl_world.proofs.StoredFiles.{traced_keeps}
 use Rattle.dl_world.proofs.world.World.note_losses.Goals as goal
 
 pub returns-in_err-make_room-clause-leaves : goal.returns-in_err-make_room-clause-leaves
@@ -16,6 +17,7 @@ returns-clause-does g c =
     (tells (g.F.Folder.files c.args.folder.now) (g.F.Folder.faults c.args.folder.now)) (tells (g.F.Folder.files c.lost.new.folder) (g.F.Folder.faults c.lost.new.folder)) c.requires.known
     c.apid-apid.ensures c.bytes-bytes.ensures.len c.make_room.ensures.events c.lost.ensures.after c.lost.ensures.event c.tell_losses.ensures
     (stores_each _ c.args.self.now.core.trace c.lost.new.self.trace (g.F.Folder.files c.args.folder.now) (g.F.Folder.files c.lost.new.folder) (g.F.Folder.faults c.args.folder.now) (g.F.Folder.faults c.lost.new.folder) c.lost.ensures.stored)
+    (traced_keeps c.args.self.now.core.trace (g.F.Folder.files c.args.folder.now) (g.F.Folder.files c.lost.new.folder) c.lost.ensures.others)
     c.deliver.ensures.trace)
     c.deliver.ensures.takes
 

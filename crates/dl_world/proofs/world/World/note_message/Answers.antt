@@ -5,6 +5,7 @@ use Rattle.dl_world.specs.Folders.{Told, Leaves, tells}
 use Rattle.dl_world.proofs.LeftFiles.{leaves_alone}
 use Rattle.dl_world.proofs.Failing.{stores_each, leaves_where}
 use Rattle.dl_world.proofs.ToldEvents.{message_does}
+use Rattle.dl_world.proofs.StoredFiles.{traced_keeps}
 use Rattle.dl_world.proofs.world.World.note_message.Goals as goal
 
 pub returns-in_err-make_room-clause-leaves : goal.returns-in_err-make_room-clause-leaves
@@ -24,6 +25,7 @@ returns-clause-does g c =
     (tells (g.F.Folder.files c.args.folder.now) (g.F.Folder.faults c.args.folder.now)) (tells (g.F.Folder.files c.user.new.folder) (g.F.Folder.faults c.user.new.folder)) c.requires.fit
     c.make_room.ensures.events c.in_ok-_refused.ensures.after c.in_ok-_refused.ensures.event
     (stores_each _ c.args.self.now.core.trace c.user.new.self.trace (g.F.Folder.files c.args.folder.now) (g.F.Folder.files c.user.new.folder) (g.F.Folder.faults c.args.folder.now) (g.F.Folder.faults c.user.new.folder) c.in_ok-_refused.ensures.stored)
+    (traced_keeps c.args.self.now.core.trace (g.F.Folder.files c.args.folder.now) (g.F.Folder.files c.user.new.folder) c.in_ok-_refused.ensures.others)
     c.deliver.ensures.trace)
     c.deliver.ensures.takes
 
