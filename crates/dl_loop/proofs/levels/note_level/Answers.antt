@@ -1,0 +1,39 @@
+use Rattle.std.proofs.Common.{Some, length, ap, sym, ◌∙◌}
+use Rattle.dl_model.specs.declared.registry.LevelChange.{LevelChange}
+use Rattle.dl_registry.specs.Kept.{Kept, with_change}
+use Rattle.dl_core.specs.State.{Core}
+use Rattle.dl_loop.proofs.LevelWords.{desk_after, desk_as, is_set, owed_within, sets_level}
+use Rattle.dl_loop.proofs.levels.note_level.Goals as goal
+
+pub set-set-requires : goal.set-set-requires
+set-set-requires g c =
+    owed_within c.args.core.now.registry c.in-Some.change (g.D.Post.apps c.args.desk.now) (g.D.Post.first c.args.desk.now) (g.D.Post.sets c.args.desk.now)
+    (sym c.in-Some.ensures.change) c.requires.desk
+
+pub returns-in-Some-clause-sets : goal.returns-in-Some-clause-sets
+returns-in-Some-clause-sets g c =
+    let set =
+    is_set c.args.core.now.registry c.in-Some.change (g.D.Post.apps c.args.desk.now) (g.D.Post.first c.args.desk.now) (g.D.Post.sets c.args.desk.now)
+    (ap (λ (k : Kept). length k.held) (sym c.registry.ensures) ∙ c.slots_are_apart.ensures.all) (sym c.in-Some.ensures.change) c.requires.desk
+    c.set-set.result (g.D.Post.sets c.set-set.new.self) c.in-Some.ensures.version c.set-set.ensures.worn c.set-set.ensures.set in
+    λ yes files faults. (
+      c.in-Some.change,
+      sets_level c.args.core.now c.level.new.self c.in-Some.change _ _ _ _ _ _ c.args.journal.now c.level.new.journal (sym c.in-Some.ensures.change) c.in-Some.ensures.value
+          c.in-Some.ensures.after c.in-Some.ensures.event set c.set-set.ensures.pushed c.set-set.ensures.refusals files faults,
+    )
+
+pub returns-in-Some-clause-desk : goal.returns-in-Some-clause-desk
+returns-in-Some-clause-desk g c =
+    let set =
+    is_set c.args.core.now.registry c.in-Some.change (g.D.Post.apps c.args.desk.now) (g.D.Post.first c.args.desk.now) (g.D.Post.sets c.args.desk.now)
+    (ap (λ (k : Kept). length k.held) (sym c.registry.ensures) ∙ c.slots_are_apart.ensures.all) (sym c.in-Some.ensures.change) c.requires.desk
+    c.set-set.result (g.D.Post.sets c.set-set.new.self) c.in-Some.ensures.version c.set-set.ensures.worn c.set-set.ensures.set in
+    let next : LevelChange = c.in-Some.change in
+    let old = c.args.core.now.registry in
+    let apps = g.D.Post.apps c.args.desk.now in
+    let first = g.D.Post.first c.args.desk.now in
+    let sets = g.D.Post.sets c.args.desk.now in
+    let all = ap (λ (k : Kept). length k.held) (sym c.registry.ensures) ∙ c.slots_are_apart.ensures.all in
+    let after = desk_after old next apps first sets all (sym c.in-Some.ensures.change) c.requires.desk in
+    desk_as (with_change old (Some next)) c.level.new.self.registry apps (g.D.Post.apps c.set-set.new.self) first (g.D.Post.first c.set-set.new.self) _ (g.D.Post.sets c.set-set.new.self)
+    (ap (λ (core : Core). core.registry) c.in-Some.ensures.value) c.set-set.ensures.apps c.set-set.ensures.first set after

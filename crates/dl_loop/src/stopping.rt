@@ -1,0 +1,183 @@
+//! The closing turns of a client at the daemon's stop.
+
+ghost use Rattle.std.specs.Prelude.{◌≡◌, ◌≤◌, ◌<◌, ◌+◌, ◌⊎◌, ℕ, true, false, length, IsSomeAnd, List, Option, Ok, Err, IfErr, IfOk, IsSome, OnErr, OnOk};
+ghost use Rattle.dl_bytes.specs.Limits.{client_limit};
+ghost use Rattle.dl_bytes.specs.declared.item.Injection.{Injection};
+ghost use Rattle.dl_levels.specs.declared.history.Change.{Change};
+ghost use Rattle.dl_outside.specs.Folder.{Files};
+ghost use Rattle.dl_registry.specs.Kept.{owed_change};
+ghost use Rattle.dl_hub.specs.State.{outbox_of};
+ghost use Rattle.dl_core.specs.Closing.{MayEnd};
+ghost use Rattle.dl_loop.specs.Events.{Closes, HasServed, IsDeskOf, IsServing};
+ghost use Rattle.dl_loop.specs.State.{side};
+ghost use Rattle.dl_loop.specs.Stopping.{GoesOn, IsClosedIn, IsStop, IsWoundUp};
+
+use crate::hearing::listen;
+use crate::turns::pump_turn;
+use dl_core::Core;
+use dl_desk::Post;
+use dl_events::{Kept, Why};
+use dl_message::Cutter;
+use dl_outside::{Folder, Link};
+use std::alloc::Global;
+use std::sync::Wait;
+
+/// The most closing turns of a client.
+const CLOSING_TURNS: u32 = 1000;
+
+/// Why a client that is still open is closed at the stop.
+fn stop_cause(core: &Core, client: u32) -> Why
+    requires { IsSome (outbox_of core.now.hub client) }
+    ensures stop { IsStop result }
+    ensures may { MayEnd core.now.hub client result }
+{
+    let left = core.hub().waiting(client);
+    if left == 0 {
+        return Why::Stopped;
+    }
+    Why::Stuck { left }
+}
+
+/// Closes a client that is still open: stopped where nothing waits for it, and stuck where something does.
+fn stop(core: &mut Core, journal: &mut Kept, client: u32) -> Why
+    requires open { IsSome (outbox_of core.old.hub client) }
+    requires settled { owed_change core.old.registry ≡ None }
+    requires spare { 1 ≤ journal.old.spare }
+    ensures stop { IsStop result }
+    ensures closes { (sets : List Change) (pushed : ℕ → List Injection) (refusals : ℕ → ℕ) (files : Option Files) (faults : ℕ)
+        → Closes client result (side core.old sets pushed refusals journal.old files faults) (side core.new sets pushed refusals journal.new files faults) }
+    ensures served { (served : ℕ) → HasServed client served core.old → HasServed client served core.new }
+    ensures registry { core.new.registry ≡ core.old.registry }
+    ensures spare { journal.new.spare + 1 ≡ journal.old.spare }
+{
+    let why = stop_cause(core, client);
+    core.close(client, why, journal);
+    why
+}
+
+/// Whether a link gave nothing and nothing is left to send.
+fn is_quiet(core: &Core, client: u32, gave: bool) -> bool
+    requires { IsSome (outbox_of core.now.hub client) }
+    ensures quiet { result ≡ true → (gave ≡ false) × IsSomeAnd (outbox_of core.now.hub client) (λ outbox. length outbox.bytes ≡ 0) }
+    ensures not_quiet { result ≡ false → (gave ≡ true) ⊎ IsSomeAnd (outbox_of core.now.hub client) (λ outbox. 0 < length outbox.bytes) }
+{
+    if gave {
+        return false;
+    }
+    core.hub().waiting(client) == 0
+}
+
+/// One closing turn: the client is listened to, and then what waits is sent. Answers whether the link gave nothing and nothing is left to
+/// send; an error is the cause for which the client was closed.
+fn closing_turn<R: Wait, D: Post, L: Link, F: Folder>(
+    rt: &R,
+    alloc: Global,
+    core: &mut Core,
+    desk: &mut D,
+    journal: &mut Kept,
+    cutter: &mut Cutter,
+    served: &mut u32,
+    client: u32,
+    link: &mut L,
+    folder: &mut F,
+) -> Result<bool, Why>
+    requires limit { cutter.old.limit ≡ client_limit }
+    requires serving { IsServing client served.old core.old (D.apps desk.old) (D.first desk.old) (D.sets desk.old) }
+    requires spare { 1 ≤ journal.old.spare }
+    ensures goes { IfOk result (λ quiet. GoesOn client quiet
+        (record {
+          line = record { left = L.left link.old; over = L.over link.old; given = L.given link.old; taken = L.taken link.old; faults = L.faults link.old; idles = L.idles link.old; waits = L.waits link.old; is_shut = L.is_shut link.old };
+          cutter = cutter.old;
+          side = side core.old (D.sets desk.old) (D.pushed desk.old) (D.refusals desk.old) journal.old (F.files folder.old) (F.faults folder.old);
+        })
+        (record {
+          line = record { left = L.left link.new; over = L.over link.new; given = L.given link.new; taken = L.taken link.new; faults = L.faults link.new; idles = L.idles link.new; waits = L.waits link.new; is_shut = L.is_shut link.new };
+          cutter = cutter.new;
+          side = side core.new (D.sets desk.new) (D.pushed desk.new) (D.refusals desk.new) journal.new (F.files folder.new) (F.faults folder.new);
+        })) }
+    ensures closed { IfErr result (λ why. IsClosedIn client why
+        (record {
+          line = record { left = L.left link.old; over = L.over link.old; given = L.given link.old; taken = L.taken link.old; faults = L.faults link.old; idles = L.idles link.old; waits = L.waits link.old; is_shut = L.is_shut link.old };
+          cutter = cutter.old;
+          side = side core.old (D.sets desk.old) (D.pushed desk.old) (D.refusals desk.old) journal.old (F.files folder.old) (F.faults folder.old);
+        })
+        (record {
+          line = record { left = L.left link.new; over = L.over link.new; given = L.given link.new; taken = L.taken link.new; faults = L.faults link.new; idles = L.idles link.new; waits = L.waits link.new; is_shut = L.is_shut link.new };
+          cutter = cutter.new;
+          side = side core.new (D.sets desk.new) (D.pushed desk.new) (D.refusals desk.new) journal.new (F.files folder.new) (F.faults folder.new);
+        })) }
+    ensures limit { cutter.new.limit ≡ client_limit }
+    ensures serving { OnOk result (IsServing client served.new core.new (D.apps desk.new) (D.first desk.new) (D.sets desk.new)) }
+    ensures served { HasServed client served.new core.new }
+    ensures settled { owed_change core.new.registry ≡ None }
+    ensures desk { IsDeskOf core.new.registry (D.apps desk.new) (D.first desk.new) (D.sets desk.new) }
+    ensures spare { OnOk result (journal.old.spare ≤ journal.new.spare) }
+    ensures noted { OnErr result (journal.old.spare ≤ journal.new.spare + 1) }
+    ensures rest { D.same_rest desk.old desk.new }
+{
+    let gave = match listen(
+        rt, alloc, core, desk, journal, cutter, served, client, link, folder,
+    ) {
+        Ok(gave) => gave,
+        Err(why) => {
+            core.close(client, why, journal);
+            return Err(why);
+        }
+    };
+    match pump_turn(core, journal, client, link) {
+        Some(why) => Err(why),
+        None => Ok(is_quiet(core, client, gave)),
+    }
+}
+
+/// Closes a client at the daemon's stop, and answers the cause. Before that it has closing turns, at most 1000: in each it is listened to
+/// as in a turn, and what waits for it is sent. They end after the first one in which its link gave nothing and nothing is left to send,
+/// or in which the client was closed. One that is still open is stopped, or is stuck where its link did not take all.
+pub fn close_turn<R: Wait, D: Post, L: Link, F: Folder>(
+    rt: &R,
+    alloc: Global,
+    core: &mut Core,
+    desk: &mut D,
+    journal: &mut Kept,
+    cutter: &mut Cutter,
+    served: &mut u32,
+    client: u32,
+    link: &mut L,
+    folder: &mut F,
+) -> Why
+    requires limit { cutter.old.limit ≡ client_limit }
+    requires serving { IsServing client served.old core.old (D.apps desk.old) (D.first desk.old) (D.sets desk.old) }
+    requires spare { 1 ≤ journal.old.spare }
+    ensures wound_up { IsWoundUp client result
+        (record {
+          line = record { left = L.left link.old; over = L.over link.old; given = L.given link.old; taken = L.taken link.old; faults = L.faults link.old; idles = L.idles link.old; waits = L.waits link.old; is_shut = L.is_shut link.old };
+          cutter = cutter.old;
+          side = side core.old (D.sets desk.old) (D.pushed desk.old) (D.refusals desk.old) journal.old (F.files folder.old) (F.faults folder.old);
+        })
+        (record {
+          line = record { left = L.left link.new; over = L.over link.new; given = L.given link.new; taken = L.taken link.new; faults = L.faults link.new; idles = L.idles link.new; waits = L.waits link.new; is_shut = L.is_shut link.new };
+          cutter = cutter.new;
+          side = side core.new (D.sets desk.new) (D.pushed desk.new) (D.refusals desk.new) journal.new (F.files folder.new) (F.faults folder.new);
+        }) }
+    ensures served { HasServed client served.new core.new }
+    ensures settled { owed_change core.new.registry ≡ None }
+    ensures desk { IsDeskOf core.new.registry (D.apps desk.new) (D.first desk.new) (D.sets desk.new) }
+    ensures noted { journal.old.spare ≤ journal.new.spare + 1 }
+    ensures rest { D.same_rest desk.old desk.new }
+{
+    let mut turns = 0;
+    while turns < CLOSING_TURNS {
+        match closing_turn(
+            rt, alloc, core, desk, journal, cutter, served, client, link, folder,
+        ) {
+            Ok(quiet) => {
+                if quiet {
+                    return stop(core, journal, client);
+                }
+                turns += 1;
+            }
+            Err(why) => return why,
+        }
+    }
+    stop(core, journal, client)
+}
