@@ -29,12 +29,20 @@ fn log<R: Wait>(rt: &R, book: &mut Book, ctx: &Ctx, at: u32) -> Option<Answer> {
     }
 }
 
-/// Logs so many calls in turn through two books, and tells whether the ring took them all.
-fn queued_in_turn<R: Wait>(rt: &R, one: &mut Book, two: &mut Book, ctx: &Ctx, calls: u32) -> bool {
+/// Whether a call through each book has this answer.
+fn each_answers<R: Wait>(rt: &R, books: &mut [Book], ctx: &Ctx, at: u32, answer: Answer) -> bool {
+    for book in books {
+        if log(rt, book, ctx, at) != Some(answer) {
+            return false;
+        }
+    }
+    true
+}
+
+/// Logs so many calls in turn through all books, and tells whether the ring took them all.
+fn queued_in_turn<R: Wait>(rt: &R, books: &mut [Book], ctx: &Ctx, calls: u32) -> bool {
     for at in 0..calls {
-        if log(rt, one, ctx, at) != Some(Answer::Queued)
-            || log(rt, two, ctx, at) != Some(Answer::Queued)
-        {
+        if !each_answers(rt, books, ctx, at, Answer::Queued) {
             return false;
         }
     }
@@ -114,6 +122,15 @@ fn drain<R: Wait>(rt: &R, desk: &mut Desk) -> u64
     MANY
 }
 
+/// Whether the next takes give eight calls of the writers 1 and 2 in turn and nothing more, and how many calls were lost.
+fn takes_eight<R: Wait>(rt: &R, desk: &mut Desk) -> (bool, u64)
+    requires { 0 < length desk.old.apps }
+{
+    let are_given = gives_in_turn(rt, desk, 8);
+    let are_all = desk.take(rt, 0).is_none();
+    (are_given && are_all, desk.losses(0))
+}
+
 /// Two books on one ring that holds 16.
 #[test]
 fn ring_exact(rt: HostRuntime) -> Result<(), Fail> {
@@ -122,18 +139,9 @@ fn ring_exact(rt: HostRuntime) -> Result<(), Fail> {
         ctx,
         mut books,
     } = one_app(rt.alloc(), 16, 2, 9)?;
-    let Some(mut two) = books.pop() else {
-        return Err("two books")?;
-    };
-    let Some(mut one) = books.pop() else {
-        return Err("two books")?;
-    };
-    assert!(rt; queued_in_turn(&rt, &mut one, &mut two, &ctx, 8));
-    assert_eq!(rt; log(&rt, &mut one, &ctx, 8), Some(Answer::Lost));
-    assert_eq!(rt; log(&rt, &mut two, &ctx, 8), Some(Answer::Lost));
-    assert!(rt; gives_in_turn(&rt, &mut desk, 8));
-    assert!(rt; desk.take(&rt, 0).is_none());
-    assert_eq!(rt; desk.losses(0), 2);
+    assert!(rt; queued_in_turn(&rt, &mut books, &ctx, 8));
+    assert!(rt; each_answers(&rt, &mut books, &ctx, 8, Answer::Lost));
+    assert_eq!(rt; takes_eight(&rt, &mut desk), (true, 2));
     Ok(())
 }
 
@@ -178,7 +186,20 @@ fn is_given<R: Wait>(rt: &R, book: &mut Book, first: u32, end: u32) -> bool {
     true
 }
 
-/// Sixteen injections wait at most.
+/// Whether sixteen injections wait at most, the writer is given them in order, and one more waits once it was given one.
+fn wait_sixteen<R: Wait>(rt: &R, desk: &mut Desk, books: &mut [Book]) -> Option<[bool; 5]>
+    requires { 0 < length desk.old.apps }
+{
+    let book = books.first_mut()?;
+    Some([
+        fill(rt, desk) == 16,
+        is_given(rt, book, 0, 1),
+        desk.inject(rt, 0, injection(16)).is_ok(),
+        is_given(rt, book, 1, 17),
+        book.next_injection(rt).is_none(),
+    ])
+}
+
 #[test]
 fn sixteen_injections_wait(rt: HostRuntime) -> Result<(), Fail> {
     let Program {
@@ -186,13 +207,6 @@ fn sixteen_injections_wait(rt: HostRuntime) -> Result<(), Fail> {
         ctx: _,
         mut books,
     } = one_app(rt.alloc(), 1, 1, 0)?;
-    let Some(mut book) = books.pop() else {
-        return Err("one book")?;
-    };
-    assert_eq!(rt; fill(&rt, &mut desk), 16);
-    assert!(rt; is_given(&rt, &mut book, 0, 1));
-    assert!(rt; desk.inject(&rt, 0, injection(16)).is_ok());
-    assert!(rt; is_given(&rt, &mut book, 1, 17));
-    assert!(rt; book.next_injection(&rt).is_none());
+    assert_eq!(rt; wait_sixteen(&rt, &mut desk, &mut books), Some([true; 5]));
     Ok(())
 }

@@ -1,6 +1,6 @@
 //! Two threads log through one application while a third sets the level of their context.
 
-ghost use Rattle.std.specs.Prelude.{◌<◌, length};
+ghost use Rattle.std.specs.Prelude.{◌≡◌, ◌<◌, length};
 
 use crate::programs::{Program, one_app};
 use dl_bytes::{Level, OutOfMemory, Payload, Severity};
@@ -36,14 +36,22 @@ fn log_all<R: Wait>(rt: &R, book: Book, ctx: Ctx) -> Book {
     book
 }
 
+/// Sets the level of the context to that of a version.
+fn set(desk: &mut Desk, version: u64)
+    requires { 0 < length desk.old.apps }
+    ensures { length desk.new.apps ≡ length desk.old.apps }
+{
+    if let Some(level) = level_of(version) {
+        let _worn = desk.set(0, level);
+    }
+}
+
 /// Sets the level of the context again and again.
 fn set_often(desk: &mut Desk)
     requires { 0 < length desk.old.apps }
 {
     for count in 0..SETS {
-        if let Some(level) = level_of(u64::from(count) + 2) {
-            let _worn = desk.set(0, level);
-        }
+        set(desk, u64::from(count) + 2);
     }
 }
 
@@ -90,16 +98,23 @@ fn are_held(records: &[Record]) -> bool {
     true
 }
 
+/// How many records the books have, where all are held.
+fn held(books: &[Book]) -> Option<usize> {
+    let mut count = 0usize;
+    for book in books {
+        if !are_held(book.records()) {
+            return None;
+        }
+        count = count.saturating_add(book.records().len());
+    }
+    Some(count)
+}
+
 /// Whatever the schedule: each level that a call met is one that its context held, and no version falls.
 #[test]
 fn levels_are_held(rt: HostRuntime) -> Result<(), Fail> {
-    let alloc = rt.alloc();
-    let Program { desk, ctx, books } = one_app(alloc, 16, 2, CALLS)?;
-    let mut calls = 0usize;
-    for book in crowd(&rt, alloc, desk, books, ctx)? {
-        assert!(rt; are_held(book.records()));
-        calls = calls.saturating_add(book.records().len());
-    }
-    assert_eq!(rt; calls, 2 * CALLS as usize);
+    let Program { desk, ctx, books } = one_app(rt.alloc(), 16, 2, CALLS)?;
+    let books = crowd(&rt, rt.alloc(), desk, books, ctx)?;
+    assert_eq!(rt; held(&books), Some(2 * CALLS as usize));
     Ok(())
 }

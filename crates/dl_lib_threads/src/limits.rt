@@ -1,18 +1,19 @@
 //! Calls, contexts and writers past what there is room for.
 
-ghost use Rattle.std.specs.Prelude.{◌≡◌};
 ghost use Rattle.dl_desk.specs.Made.{IsAppOf};
 
 use crate::programs::{book, context, spec};
-use dl_bytes::{Ctx, Id, OwnLevel, Payload, Severity};
-use dl_lib::{Answer, App, AppFault, BookFault, Desk, WriterFault};
+use dl_bytes::{Ctx, Id, OutOfMemory, OwnLevel, Payload, Severity};
+use dl_lib::{Answer, App, AppFault, Book, BookFault, Desk, WriterFault};
+use std::alloc::Global;
+use std::sync::Wait;
 use std::test::Fail;
 
 /// Declares contexts with ids of their own until one is refused, and answers how many were declared.
-fn fill(app: &mut App, own: OwnLevel) -> (u8, Option<AppFault>)
-    ensures number { app.new.number ≡ app.old.number }
-    ensures apid { app.new.apid ≡ app.old.apid }
-{
+fn fill(app: &mut App) -> (u8, Option<AppFault>) {
+    let Some(own) = OwnLevel::of(-1) else {
+        return (0, None);
+    };
     for number in 0..100u8 {
         let name = [b'C', b'0' + number / 10, b'0' + number % 10, b'X'];
         if let Err(fault) = app.context(Id::from_bytes(name), b"", own) {
@@ -35,39 +36,61 @@ fn make_writers(app: &mut App, desk: &mut Desk) -> (u8, Option<WriterFault>)
     (100, None)
 }
 
-/// A book with room for two records, another application's context, the 65th context and the 33rd writer.
-#[test]
-#[tactic(auto, using(crate::proofs::Later::same_app))]
-fn past_the_limits(rt: HostRuntime) -> Result<(), Fail> {
-    let alloc = rt.alloc();
-    let specs = [spec(alloc, *b"LOG1", 16)];
-    let (mut desk, mut apps) = Desk::make(alloc, &specs)?;
-    let app = apps.of_mut(0);
-    let own = context(app)?;
+/// What is answered to four calls through a book with room for two records, of which the second is another application's.
+fn answers<R: Wait>(rt: &R, book: &mut Book, own: &Ctx) -> [Result<Answer, BookFault>; 4] {
     let foreign = Ctx::of(1, 0, Id::from_bytes(*b"LOG2"), Id::from_bytes(*b"TEST"));
-    let mut book = book(alloc, app, &mut desk, 2)?;
     let text = Payload::new();
+    [
+        book.log(rt, own, Severity::Info, 1, &text),
+        book.log(rt, &foreign, Severity::Info, 2, &text),
+        book.log(rt, own, Severity::Info, 3, &text),
+        book.log(rt, own, Severity::Info, 4, &text),
+    ]
+}
+
+/// What was answered past the limits.
+#[derive(Drop)]
+struct Met {
+    calls: [Result<Answer, BookFault>; 4],
+    contexts: (u8, Option<AppFault>),
+    writers: (u8, Option<WriterFault>),
+}
+
+/// Goes past the limits of an application: a book with room for two records, the 33rd writer and the 65th context.
+#[tactic(auto, using(crate::proofs::Later::same_app))]
+fn pass_limits<R: Wait>(
+    rt: &R,
+    alloc: Global,
+    app: &mut App,
+    desk: &mut Desk,
+) -> Result<Met, OutOfMemory>
+    requires { IsAppOf desk.old app.old }
+{
+    let mut book = book(alloc, app, desk, 2)?;
+    let writers = make_writers(app, desk);
+    let own = context(app)?;
+    Ok(Met {
+        calls: answers(rt, &mut book, &own),
+        contexts: fill(app),
+        writers,
+    })
+}
+
+#[test]
+fn past_the_limits(rt: HostRuntime) -> Result<(), Fail> {
+    let specs = [spec(rt.alloc(), *b"LOG1", 16)];
+    let (mut desk, mut apps) = Desk::make(rt.alloc(), &specs)?;
+    let met = pass_limits(&rt, rt.alloc(), apps.of_mut(0), &mut desk)?;
     assert_eq!(rt;
-        book.log(&rt, &own, Severity::Info, 1, &text),
-        Ok(Answer::Filtered)
+        met.calls,
+        [
+            Ok(Answer::Filtered),
+            Err(BookFault::Foreign),
+            Ok(Answer::Filtered),
+            Err(BookFault::Full)
+        ]
     );
-    assert_eq!(rt;
-        book.log(&rt, &foreign, Severity::Info, 2, &text),
-        Err(BookFault::Foreign)
-    );
-    assert_eq!(rt;
-        book.log(&rt, &own, Severity::Info, 3, &text),
-        Ok(Answer::Filtered)
-    );
-    assert_eq!(rt;
-        book.log(&rt, &own, Severity::Info, 4, &text),
-        Err(BookFault::Full)
-    );
-    let level = OwnLevel::of(-1).unwrap();
-    assert_eq!(rt; fill(app, level), (63, Some(AppFault::ContextsFull)));
-    assert_eq!(rt;
-        make_writers(app, &mut desk),
-        (31, Some(WriterFault::WritersFull))
-    );
+    assert_eq!(rt; met.contexts, (63, Some(AppFault::ContextsFull)));
+    assert_eq!(rt; met.writers, (31, Some(WriterFault::WritersFull)));
     Ok(())
 }

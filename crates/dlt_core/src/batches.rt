@@ -1,7 +1,7 @@
 //! Log calls that come together do what they do one by one, but that the folder is asked to add to a file less often.
 
 use crate::calls;
-use crate::fixture::{APP, Fixture, NOW, filled, folder, nothing_stored, plain_conf, traced};
+use crate::fixture::{APP, Fixture, NOW, filled, folder, plain_core, traced};
 use dl_bytes::{Id, Item, Moment, Payload, Severity};
 use dl_core::Core;
 use dl_events::{Counted, Event, Journal, Kept};
@@ -110,14 +110,33 @@ fn told(fixture: &Fixture) -> [(u8, u64); 3] {
     files
 }
 
-/// Two cores with a trace: to the one 64 log calls come one by one, to the other together.
+/// A core with a trace to which these log calls came one by one.
+fn singly(alloc: Global, items: &[Item]) -> Option<Fixture> {
+    let mut fixture = traced(alloc)?;
+    if log_each(&mut fixture, items) {
+        Some(fixture)
+    } else {
+        None
+    }
+}
+
+/// A core with a trace to which they came together.
+fn together(alloc: Global, items: &[Item]) -> Option<Fixture> {
+    let mut fixture = traced(alloc)?;
+    if fixture.log_batch(items) {
+        Some(fixture)
+    } else {
+        None
+    }
+}
+
+/// Two cores: to the one 64 log calls come one by one, to the other together.
 fn both(alloc: Global) -> Option<(Fixture, Fixture)> {
     let items = growing(alloc)?;
-    let (mut single, mut batch) = (traced(alloc)?, traced(alloc)?);
-    if !log_each(&mut single, &items) || !batch.log_batch(&items) {
-        return None;
+    match (singly(alloc, &items), together(alloc, &items)) {
+        (Some(single), Some(batch)) => Some((single, batch)),
+        _ => None,
     }
-    Some((single, batch))
 }
 
 /// Whether both are there and the same.
@@ -172,18 +191,23 @@ fn a_batch_is_cut_into_pieces(rt: HostRuntime) {
     assert_eq!(rt; left(rt.alloc()), Some([(b'2', 1903), (b'3', 918), (0, 0)]));
 }
 
-/// How many bytes the longest batch needs, how much room there is once one was taken, whether a second one is taken, and
-/// whether one call of it is.
-fn twice(alloc: Global) -> Option<(u64, u64, bool, bool)> {
-    let mut fixture = filled(alloc, &[])?;
-    let items = longest(alloc)?;
-    if !fixture.log_batch(&items) {
+/// How many bytes these calls need together, how much room there is once they were taken, whether they are taken again, and
+/// whether one more call is.
+fn taken_twice(fixture: &mut Fixture, items: &[Item]) -> Option<(u64, u64, bool, bool)> {
+    if !fixture.log_batch(items) {
         return None;
     }
-    let need = calls::batch_need(&fixture.core, &items)?;
+    let need = calls::batch_need(&fixture.core, items)?;
     let room = calls::room(fixture.core.hub(), 1)?;
-    let is_taken = fixture.log_batch(&items);
+    let is_taken = fixture.log_batch(items);
     Some((need, room, is_taken, fixture.log(&item(65, letters(1390)))))
+}
+
+/// The same of the longest batch.
+fn twice(alloc: Global) -> Option<(u64, u64, bool, bool)> {
+    let items = longest(alloc)?;
+    let mut fixture = filled(alloc, &[])?;
+    taken_twice(&mut fixture, &items)
 }
 
 /// What doesn't fit together is refused whole, though each call would fit.
@@ -192,21 +216,32 @@ fn too_much_together(rt: HostRuntime) {
     assert_eq!(rt; twice(rt.alloc()), Some((90_624, 50_448, false, true)));
 }
 
-/// How many events a journal counts that keeps none, where 64 log calls come together.
-fn counted(alloc: Global) -> Option<u64> {
-    let (conf, stored) = (plain_conf(alloc), nothing_stored(alloc));
-    let mut core = Core::make(alloc, &conf, stored, None, 0).ok()?;
-    let mut folder = folder(alloc, &[])?;
+/// A journal that counts, with room for 64 events.
+fn counting() -> Option<Counted> {
     let mut journal = Counted::make();
     journal.reserve(64).ok()?;
-    let items = growing(alloc)?;
-    if !calls::log_batch(&mut core, &items, NOW, &mut folder, &mut journal) {
-        return None;
+    Some(journal)
+}
+
+/// How many events a journal counts that keeps none, where these log calls come together.
+fn counted(alloc: Global, core: &mut Core, items: &[Item]) -> Option<u64> {
+    let mut folder = folder(alloc, &[])?;
+    let mut journal = counting()?;
+    if calls::log_batch(core, items, NOW, &mut folder, &mut journal) {
+        Some(journal.noted())
+    } else {
+        None
     }
-    Some(journal.noted())
+}
+
+/// The same of 64 log calls.
+fn counted_calls(alloc: Global) -> Option<u64> {
+    let items = growing(alloc)?;
+    let mut core = plain_core(alloc, 0)?;
+    counted(alloc, &mut core, &items)
 }
 
 #[test]
 fn a_journal_that_counts(rt: HostRuntime) {
-    assert_eq!(rt; counted(rt.alloc()), Some(64));
+    assert_eq!(rt; counted_calls(rt.alloc()), Some(64));
 }

@@ -58,7 +58,7 @@ fn conf(directory: Bytes) -> Conf
 }
 
 /// A configuration without a trace.
-pub fn plain_conf(alloc: Global) -> Conf {
+fn plain_conf(alloc: Global) -> Conf {
     conf(Bytes::over(Vec::new(alloc)))
 }
 
@@ -70,7 +70,7 @@ fn traced_conf(alloc: Global) -> Option<Conf>
 }
 
 /// No stored configuration.
-pub fn nothing_stored(alloc: Global) -> Stored {
+fn nothing_stored(alloc: Global) -> Stored {
     Stored {
         level: None,
         own: Sequence::over(Vec::new(alloc)),
@@ -91,44 +91,70 @@ fn journal(alloc: Global) -> Option<Kept> {
     Some(journal)
 }
 
-/// A core without a trace, whose slots begin at this version, over a folder of which these calls fail.
-pub fn plain(alloc: Global, first: u64, fails: &[u64]) -> Option<Fixture> {
+/// A core without a trace, whose slots begin at this version.
+pub fn plain_core(alloc: Global, first: u64) -> Option<Core> {
     if first > LAST_VERSION {
         return None;
     }
-    let (conf, stored) = (plain_conf(alloc), nothing_stored(alloc));
+    Core::make(
+        alloc,
+        &plain_conf(alloc),
+        nothing_stored(alloc),
+        None,
+        first,
+    )
+    .ok()
+}
+
+/// A core without a trace, whose slots begin at this version, over a folder of which these calls fail.
+pub fn plain(alloc: Global, first: u64, fails: &[u64]) -> Option<Fixture> {
     Some(Fixture {
         alloc,
-        core: Core::make(alloc, &conf, stored, None, first).ok()?,
+        core: plain_core(alloc, first)?,
         folder: folder(alloc, fails)?,
         journal: journal(alloc)?,
     })
 }
 
+/// A core with a trace in this folder.
+fn tracing(alloc: Global, folder: &mut Failing<MemoryFolder>) -> Option<Core> {
+    let conf = traced_conf(alloc)?;
+    let trace = Trace::make(alloc, folder, &conf).ok()?;
+    Core::make(alloc, &conf, nothing_stored(alloc), Some(trace), 0).ok()
+}
+
 /// A core with a trace, and a client.
 pub fn traced(alloc: Global) -> Option<Fixture> {
-    let (conf, stored) = (traced_conf(alloc)?, nothing_stored(alloc));
     let mut folder = folder(alloc, &[])?;
-    let trace = Trace::make(alloc, &mut folder, &conf).ok()?;
     let mut fixture = Fixture {
         alloc,
-        core: Core::make(alloc, &conf, stored, Some(trace), 0).ok()?,
+        core: tracing(alloc, &mut folder)?,
         folder,
         journal: journal(alloc)?,
     };
-    fixture.connect()?;
-    Some(fixture)
+    let client = fixture.connect();
+    if client.is_some() {
+        Some(fixture)
+    } else {
+        None
+    }
 }
 
 /// A core with the application, its contexts `TEST` at the default level and `FULL` at level 6, and a client.
 pub fn filled(alloc: Global, fails: &[u64]) -> Option<Fixture> {
     let mut fixture = plain(alloc, 0, fails)?;
-    let is_filled = fixture.app() && fixture.context(*b"TEST", -1) && fixture.context(*b"FULL", 6);
-    fixture.connect()?;
-    if is_filled { Some(fixture) } else { None }
+    if fixture.fill() { Some(fixture) } else { None }
 }
 
 impl Fixture {
+    /// The application and its contexts register, and a client connects.
+    fn fill(&mut self) -> bool {
+        self.app()
+            && self.context(*b"TEST", -1)
+            && self.context(*b"FULL", 6)
+            && self.connect().is_some()
+    }
+
     /// The application registers.
     pub fn app(&mut self) -> bool {
         let msg = UserMsg::RegisterApp {
@@ -251,6 +277,14 @@ impl Fixture {
         None
     }
 
+    /// Whether this is what a client was sent and has not taken. It takes all.
+    pub fn takes(&mut self, client: u32, wanted: &str) -> bool {
+        match self.taken(client) {
+            Some(taken) => taken.as_str() == wanted,
+            None => false,
+        }
+    }
+
     /// What a client was sent and has not taken, in hexadecimal. It takes all.
     pub fn taken(&mut self, client: u32) -> Option<String> {
         let alloc = self.alloc;
@@ -265,8 +299,16 @@ impl Fixture {
         hex::encode(alloc, link.taken()).ok()
     }
 
+    /// Whether the Level events so far have these slots and levels.
+    pub fn has_levels(&self, wanted: &[(u16, u8)]) -> bool {
+        match self.levels() {
+            Some(levels) => levels.as_slice() == wanted,
+            None => false,
+        }
+    }
+
     /// The Level events so far: slots with their levels.
-    pub fn levels(&self) -> Option<Vec<(u16, u8)>> {
+    fn levels(&self) -> Option<Vec<(u16, u8)>> {
         let mut levels = Vec::new(self.alloc);
         for event in self.journal.events() {
             if let Event::Level { slot, level } = event {

@@ -35,16 +35,14 @@ fn the_default_level_changes(rt: HostRuntime) -> Result<(), Fail> {
     let mut fixture = filled(rt.alloc(), &[]).ok_or("a core")?;
     assert_eq!(rt; fixture.other_reply(&TOLD), None);
     assert_eq!(rt; calls::sent(fixture.core.hub(), 1), Some((2, 70)));
-    let levels = fixture.levels().ok_or("levels")?;
-    assert_eq!(rt; levels.as_slice(), [(0, 4), (1, 6), (0, 2)].as_slice());
+    assert!(rt; fixture.has_levels(&[(0, 4), (1, 6), (0, 2)]));
     Ok(())
 }
 
 /// A core whose slots have one version left, with the application, its context at level 4, and a client.
 fn worn(alloc: Global) -> Option<Fixture> {
     let mut fixture = plain(alloc, LAST_VERSION - 1, &[])?;
-    let is_filled = fixture.app() && fixture.context(*b"TEST", 4);
-    fixture.connect()?;
+    let is_filled = fixture.app() && fixture.context(*b"TEST", 4) && fixture.connect().is_some();
     if is_filled { Some(fixture) } else { None }
 }
 
@@ -52,7 +50,6 @@ fn worn(alloc: Global) -> Option<Fixture> {
 fn no_version_is_left(rt: HostRuntime) -> Result<(), Fail> {
     let mut fixture = worn(rt.alloc()).ok_or("a core")?;
     assert_eq!(rt; fixture.other_reply(&WORN), None);
-    let levels = fixture.levels().ok_or("levels")?;
-    assert_eq!(rt; levels.as_slice(), [(0, 4)].as_slice());
+    assert!(rt; fixture.has_levels(&[(0, 4)]));
     Ok(())
 }

@@ -14,8 +14,7 @@ fn one_more_than_a_record_counts(rt: HostRuntime) -> Result<(), Fail> {
     let mut fixture = filled(rt.alloc(), &[]).ok_or("a core")?;
     assert!(rt; fixture.lost(0x1_0000_0000));
     assert_eq!(rt; calls::sent(fixture.core.hub(), 1), Some((2, 56)));
-    let records = fixture.taken(1).ok_or("the records")?;
-    assert_eq!(rt; records.as_str(), RECORDS);
+    assert!(rt; fixture.takes(1, RECORDS));
     Ok(())
 }
 

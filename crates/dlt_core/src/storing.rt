@@ -34,24 +34,22 @@ fn holds(fixture: &mut Fixture, text: &[u8]) -> bool {
     }
 }
 
+/// Whether there is no stored configuration.
+fn holds_none(fixture: &mut Fixture) -> bool {
+    match fixture.folder.inner.read("dlt_stored.cfg") {
+        Ok(stored) => stored.is_none(),
+        Err(_) => false,
+    }
+}
+
 #[test]
 fn stored_and_reset(rt: HostRuntime) -> Result<(), Fail> {
     let mut fixture = filled(rt.alloc(), &[]).ok_or("a core")?;
     assert_eq!(rt; fixture.other_reply(&[STORED]), None);
     assert!(rt; holds(&mut fixture, b"::4\nLOG1:FULL:6\n"));
     assert_eq!(rt; fixture.other_reply(&[RESET]), None);
-    assert_eq!(rt;
-        fixture
-            .folder
-            .inner
-            .read("dlt_stored.cfg")
-            .ok()
-            .ok_or("no fault")?
-            .is_none(),
-        true
-    );
-    let levels = fixture.levels().ok_or("levels")?;
-    assert_eq!(rt; levels.as_slice(), [(0, 4), (1, 6), (1, 4)].as_slice());
+    assert!(rt; holds_none(&mut fixture));
+    assert!(rt; fixture.has_levels(&[(0, 4), (1, 6), (1, 4)]));
     Ok(())
 }
 
@@ -61,7 +59,6 @@ fn the_folder_fails(rt: HostRuntime) -> Result<(), Fail> {
     let mut fixture = filled(rt.alloc(), &[1, 3]).ok_or("a core")?;
     assert_eq!(rt; fixture.other_reply(&[NOT_STORED, STORED, NOT_RESET]), None);
     assert!(rt; holds(&mut fixture, b"::4\nLOG1:FULL:6\n"));
-    let levels = fixture.levels().ok_or("levels")?;
-    assert_eq!(rt; levels.as_slice(), [(0, 4), (1, 6)].as_slice());
+    assert!(rt; fixture.has_levels(&[(0, 4), (1, 6)]));
     Ok(())
 }

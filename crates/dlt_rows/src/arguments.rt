@@ -1,14 +1,17 @@
 //! Arguments of log lines, and the payloads that they make.
 
-use crate::played::steps;
+use crate::played::{Played, steps};
 use std::alloc::{AllocError, Global};
 use std::test::Fail;
 
 /// One application, context, writer and client.
 const DECLARED: &str = "app LOG1 16\ncontext LOG1 TEST info\nwriter LOG1\nconnect\n";
 
-/// The arguments of a call, their number, and the payload: one of each form, and its limits.
-const WRITTEN: [(&str, u8, &str); 40] = [
+/// The arguments of a call, their number, and the payload.
+type Written = (&'static str, u8, &'static str);
+
+/// One of each form, and its limits.
+const WRITTEN: [Written; 40] = [
     ("", 0, ""),
     // Several arguments.
     (
@@ -200,79 +203,102 @@ fn printed(alloc: Global, args: u8, payload: &str) -> Result<String, AllocError>
     )
 }
 
+/// The first of these rows that isn't printed so.
+fn other(alloc: Global, rows: &[Written]) -> Result<Option<&'static str>, AllocError> {
+    for (arguments, args, payload) in rows {
+        let played = steps(alloc, call(alloc, arguments)?.as_bytes())?;
+        if !played.is(0, printed(alloc, *args, payload)?.as_str(), "") {
+            return Ok(Some(*arguments));
+        }
+    }
+    Ok(None)
+}
+
 #[test]
 fn written(rt: HostRuntime) -> Result<(), Fail> {
-    let alloc = rt.alloc();
-    for (arguments, args, payload) in WRITTEN {
-        let played = steps(alloc, call(alloc, arguments)?.as_bytes())?;
-        assert_eq!(rt; played.status, 0, "{arguments}");
-        assert_eq!(rt;
-            played.out.as_slice(),
-            printed(alloc, args, payload)?.as_bytes(),
-            "{arguments}"
-        );
-    }
+    assert_eq!(rt; other(rt.alloc(), &WRITTEN)?, None);
     Ok(())
+}
+
+/// Whether the example is printed so.
+fn is_example(alloc: Global) -> Result<bool, AllocError> {
+    let mut script = String::from_str(alloc, DECLARED)?;
+    script.push_str(EXAMPLE)?;
+    Ok(steps(alloc, script.as_bytes())?.is(0, EXAMPLE_OUT, ""))
 }
 
 #[test]
 fn example(rt: HostRuntime) -> Result<(), Fail> {
-    let alloc = rt.alloc();
-    let mut script = String::from_str(alloc, DECLARED)?;
-    script.push_str(EXAMPLE)?;
-    let played = steps(alloc, script.as_bytes())?;
-    assert_eq!(rt; played.status, 0);
-    assert_eq!(rt; played.out.as_slice(), EXAMPLE_OUT.as_bytes());
+    assert!(rt; is_example(rt.alloc())?);
     Ok(())
+}
+
+/// The status of a run with a call of these arguments, and how many bytes it prints.
+fn ended(alloc: Global, arguments: &str) -> Result<(u8, usize), AllocError> {
+    let played = steps(alloc, call(alloc, arguments)?.as_bytes())?;
+    Ok((played.status, played.out.len()))
+}
+
+/// The first of these texts that isn't refused.
+fn taken(alloc: Global, texts: &[&'static str]) -> Result<Option<&'static str>, AllocError> {
+    for arguments in texts {
+        if ended(alloc, arguments)? != (4, 0) {
+            return Ok(Some(*arguments));
+        }
+    }
+    Ok(None)
 }
 
 #[test]
 fn refused(rt: HostRuntime) -> Result<(), Fail> {
-    let alloc = rt.alloc();
-    for arguments in REFUSED {
-        let played = steps(alloc, call(alloc, arguments)?.as_bytes())?;
-        assert_eq!(rt; played.status, 4, "{arguments}");
-        assert_eq!(rt; played.out.len(), 0, "{arguments}");
-    }
+    assert_eq!(rt; taken(rt.alloc(), &REFUSED)?, None);
     Ok(())
 }
 
-/// So many truth values.
-fn truths(alloc: Global, count: u32) -> Result<String, AllocError> {
-    let mut arguments = String::new(alloc);
-    for _ in 0..count {
-        arguments.push_str("bool:1 ")?;
+/// Arguments that fill a payload, and that are too many for one, with the status. Of its 1390 bytes a truth value takes 5,
+/// and a text 7 more than its letters.
+const FILLED: [(&str, u8); 6] = [
+    ("fill:1383", 0),
+    ("fill:1378 bool:1", 0),
+    ("fill:1379 bool:1", 4),
+    ("bool:1 fill:1379", 4),
+    ("raw:00 fill:1376", 0),
+    ("fill:1377 raw:00", 4),
+];
+
+/// The first of these arguments with which a run ends otherwise.
+fn other_status(
+    alloc: Global,
+    rows: &[(&'static str, u8)],
+) -> Result<Option<&'static str>, AllocError> {
+    for (arguments, status) in rows {
+        if ended(alloc, arguments)?.0 != *status {
+            return Ok(Some(*arguments));
+        }
     }
-    Ok(arguments)
+    Ok(None)
 }
 
 #[test]
 fn payload_limits(rt: HostRuntime) -> Result<(), Fail> {
-    let alloc = rt.alloc();
-    // Of 1390 bytes a truth value takes 5, and a text 7 more than its letters.
-    let cases = [
-        ("fill:1383", 0),
-        ("fill:1378 bool:1", 0),
-        ("fill:1379 bool:1", 4),
-        ("bool:1 fill:1379", 4),
-        ("raw:00 fill:1376", 0),
-        ("fill:1377 raw:00", 4),
-    ];
-    for (arguments, status) in cases {
-        assert_eq!(rt;
-            steps(alloc, call(alloc, arguments)?.as_bytes())?.status,
-            status,
-            "{arguments}"
-        );
+    assert_eq!(rt; other_status(rt.alloc(), &FILLED)?, None);
+    Ok(())
+}
+
+/// A run with a call of so many truth values.
+fn truths(alloc: Global, count: u32) -> Result<Played, AllocError> {
+    let mut arguments = String::new(alloc);
+    for _ in 0..count {
+        arguments.push_str("bool:1 ")?;
     }
-    let most = steps(alloc, call(alloc, truths(alloc, 255)?.as_str())?.as_bytes())?;
-    assert_eq!(rt; most.status, 0);
-    assert!(rt;
-        most.out
-            .as_slice()
-            .starts_with(b"client 1 stopped 1 1301 complete\n")
-    );
-    let more = steps(alloc, call(alloc, truths(alloc, 256)?.as_str())?.as_bytes())?;
-    assert_eq!(rt; more.status, 4);
+    steps(alloc, call(alloc, arguments.as_str())?.as_bytes())
+}
+
+/// A call has 255 arguments at most.
+#[test]
+fn most_arguments(rt: HostRuntime) -> Result<(), Fail> {
+    let most = truths(rt.alloc(), 255)?;
+    assert!(rt; most.frames(0, "client 1 stopped 1 1301 complete\n", ""));
+    assert_eq!(rt; truths(rt.alloc(), 256)?.status, 4);
     Ok(())
 }

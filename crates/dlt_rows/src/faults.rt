@@ -8,10 +8,12 @@ use std::test::Fail;
 const SCRIPT: &str =
     "app LOG1 16\ncontext LOG1 TEST info\nwriter LOG1\nconnect\nlog 1 TEST info 1 \"a\"\nlog 1 TEST info 2 \"b\"\n";
 
+/// The words of a run.
+const STEPS: [&str; 2] = ["dlt_replay", "steps"];
+
 const USAGE: &str = "dlt_replay: usage: dlt_replay steps or generate NUMBER CALLS\n";
 
 /// The texts that a run begins with, and how it is refused.
-#[derive(Clone, Copy)]
 struct Refusal {
     conf: &'static str,
     stored: &'static str,
@@ -91,7 +93,7 @@ fn folder_fails(alloc: Global, script: &str, call: u64) -> Result<Played, AllocE
     faults.folder = one(alloc, call)?;
     play_in(
         alloc,
-        &["dlt_replay", "steps"],
+        &STEPS,
         script.as_bytes(),
         &[
             ("dlt.conf", "OfflineTraceDirectory = trace\n"),
@@ -101,119 +103,149 @@ fn folder_fails(alloc: Global, script: &str, call: u64) -> Result<Played, AllocE
     )
 }
 
+/// Command lines that are none.
+const WORDS: [&[&str]; 14] = [
+    &[],
+    &["dlt_replay"],
+    &["dlt_replay", "step"],
+    &["dlt_replay", "steps", "x"],
+    &["dlt_replay", "--help"],
+    &["dlt_replay", "generate"],
+    &["dlt_replay", "generate", "7"],
+    &["dlt_replay", "generate", "7", "0", "x"],
+    &["dlt_replay", "generate", "07", "0"],
+    &["dlt_replay", "generate", "7", "00"],
+    &["dlt_replay", "generate", "-7", "0"],
+    &["dlt_replay", "generate", "18446744073709551616", "0"],
+    &["dlt_replay", "generate", "7", "1000001"],
+    &["dlt_replay", "Generate", "7", "0"],
+];
+
+/// Whether such a command line is told how the program is used, and nothing else is done.
+fn is_told(alloc: Global, words: &[&str]) -> Result<bool, AllocError> {
+    let played = play(alloc, words, SCRIPT.as_bytes(), none(alloc))?;
+    Ok(played.is(2, "", USAGE) && played.reads == 0 && played.folder.calls == 0)
+}
+
+/// Which of these command lines, from 0, is taken.
+fn taken(alloc: Global, lines: &[&[&str]]) -> Result<Option<usize>, AllocError> {
+    for (place, words) in lines.iter().enumerate() {
+        if !is_told(alloc, words)? {
+            return Ok(Some(place));
+        }
+    }
+    Ok(None)
+}
+
 #[test]
 fn words(rt: HostRuntime) -> Result<(), Fail> {
-    let alloc = rt.alloc();
-    let cases: [&[&str]; 14] = [
-        &[],
-        &["dlt_replay"],
-        &["dlt_replay", "step"],
-        &["dlt_replay", "steps", "x"],
-        &["dlt_replay", "--help"],
-        &["dlt_replay", "generate"],
-        &["dlt_replay", "generate", "7"],
-        &["dlt_replay", "generate", "7", "0", "x"],
-        &["dlt_replay", "generate", "07", "0"],
-        &["dlt_replay", "generate", "7", "00"],
-        &["dlt_replay", "generate", "-7", "0"],
-        &["dlt_replay", "generate", "18446744073709551616", "0"],
-        &["dlt_replay", "generate", "7", "1000001"],
-        &["dlt_replay", "Generate", "7", "0"],
-    ];
-    for case in cases {
-        let played = play(alloc, case, SCRIPT.as_bytes(), none(alloc))?;
-        assert_eq!(rt; played.status, 2);
-        assert_eq!(rt; played.err.as_slice(), USAGE.as_bytes());
-        assert_eq!(rt;
-            (played.out.len(), played.reads, played.folder.calls),
-            (0, 0, 0)
-        );
-    }
+    assert_eq!(rt; taken(rt.alloc(), &WORDS)?, None);
     Ok(())
+}
+
+impl Refusal {
+    /// Whether a run with these texts is refused so, and changes no file.
+    fn is_refused(&self, alloc: Global) -> Result<bool, AllocError> {
+        let played = play_in(
+            alloc,
+            &STEPS,
+            self.script.as_bytes(),
+            &[("dlt.conf", self.conf), ("dlt_stored.cfg", self.stored)],
+            none(alloc),
+        )?;
+        Ok(played.is(self.status, "", self.err) && played.folder.changes() == 0)
+    }
+}
+
+/// The first of these refusals that doesn't come.
+fn missing(alloc: Global, refusals: &[Refusal]) -> Result<Option<&'static str>, AllocError> {
+    for refusal in refusals {
+        if !refusal.is_refused(alloc)? {
+            return Ok(Some(refusal.err));
+        }
+    }
+    Ok(None)
 }
 
 #[test]
 fn refusals(rt: HostRuntime) -> Result<(), Fail> {
-    let alloc = rt.alloc();
-    for refusal in REFUSALS {
-        let Refusal {
-            conf,
-            stored,
-            script,
-            status,
-            err,
-        } = refusal;
-        let played = play_in(
-            alloc,
-            &["dlt_replay", "steps"],
-            script.as_bytes(),
-            &[("dlt.conf", conf), ("dlt_stored.cfg", stored)],
-            none(alloc),
-        )?;
-        assert!(rt; played.is(status, "", err), "{err}");
-        assert_eq!(rt; played.folder.changes(), 0);
-    }
+    assert_eq!(rt; missing(rt.alloc(), &REFUSALS)?, None);
     Ok(())
+}
+
+/// Whether a run says so whose input fails at this call.
+fn read_fails(alloc: Global, call: u64) -> Result<bool, AllocError> {
+    let mut faults = none(alloc);
+    faults.input = one(alloc, call)?;
+    let played = play(alloc, &STEPS, SCRIPT.as_bytes(), faults)?;
+    Ok(played.is(11, "", "dlt_replay: read fault\n"))
 }
 
 #[test]
 fn reads(rt: HostRuntime) -> Result<(), Fail> {
-    let alloc = rt.alloc();
     for call in 1..3 {
-        let mut faults = none(alloc);
-        faults.input = one(alloc, call)?;
-        let played = play(alloc, &["dlt_replay", "steps"], SCRIPT.as_bytes(), faults)?;
-        assert_eq!(rt; played.status, 11);
-        assert_eq!(rt;
-            played.err.as_slice(),
-            b"dlt_replay: read fault\n".as_slice()
-        );
-        assert_eq!(rt; played.out.len(), 0);
+        assert!(rt; read_fails(rt.alloc(), call)?);
     }
     Ok(())
 }
+
+/// Whether a run whose output fails at this call printed so many bytes of the whole before, and says nothing.
+fn write_fails(
+    alloc: Global,
+    whole: &Played,
+    call: u64,
+    printed: usize,
+) -> Result<bool, AllocError> {
+    let faults = Faults {
+        input: Vec::new(alloc),
+        folder: Vec::new(alloc),
+        out: one(alloc, call)?,
+        err: one(alloc, 1)?,
+    };
+    let played = play(alloc, &STEPS, SCRIPT.as_bytes(), faults)?;
+    Ok(
+        played.status == 6
+            && played.err.is_empty()
+            && played.out.len() == printed
+            && whole.out.as_slice().starts_with(&played.out),
+    )
+}
+
+/// The writes, and how many bytes are printed before each.
+const WRITES: [(u64, usize); 3] = [(1, 0), (2, 100), (3, 200)];
 
 #[test]
 fn writes(rt: HostRuntime) -> Result<(), Fail> {
-    let alloc = rt.alloc();
-    let whole = play(
-        alloc,
-        &["dlt_replay", "steps"],
-        SCRIPT.as_bytes(),
-        none(alloc),
-    )?;
+    let whole = play(rt.alloc(), &STEPS, SCRIPT.as_bytes(), none(rt.alloc()))?;
     assert_eq!(rt; (whole.status, whole.writes), (0, 3));
-    for call in 1..4u64 {
-        let faults = Faults {
-            input: Vec::new(alloc),
-            folder: Vec::new(alloc),
-            out: one(alloc, call)?,
-            err: one(alloc, 1)?,
-        };
-        let played = play(alloc, &["dlt_replay", "steps"], SCRIPT.as_bytes(), faults)?;
-        assert_eq!(rt; (played.status, played.err.len()), (6, 0));
-        assert_eq!(rt; played.out.len() as u64, 100 * (call - 1));
-        assert!(rt; whole.out.as_slice().starts_with(&played.out));
+    for (call, printed) in &WRITES {
+        assert!(rt; write_fails(rt.alloc(), &whole, *call, *printed)?);
     }
     Ok(())
 }
 
-/// The folder's calls are three reads and sizes before the run, then two appends.
+/// Whether a run says so whose folder fails at this call, and so many files were to change by then. It prints nothing where
+/// none was.
+fn says_so(alloc: Global, call: u64, changes: u64) -> Result<bool, AllocError> {
+    let played = folder_fails(alloc, SCRIPT, call)?;
+    Ok(
+        played.status == 7
+            && played.err.as_slice() == b"dlt_replay: folder fault\n".as_slice()
+            && played.out.is_empty() == (changes == 0)
+            && played.folder.changes() == changes,
+    )
+}
+
+/// The folder's calls, each with how many files were to change by then: three reads and sizes before the run, then two
+/// appends.
+const CALLS: [(u64, u64); 6] = [(1, 0), (2, 0), (3, 0), (4, 0), (5, 1), (6, 2)];
+
 #[test]
 fn each_call_of_the_folder_fails_in_turn(rt: HostRuntime) -> Result<(), Fail> {
-    let alloc = rt.alloc();
-    let whole = folder_fails(alloc, SCRIPT, 100)?;
+    let whole = folder_fails(rt.alloc(), SCRIPT, 100)?;
     assert_eq!(rt; (whole.status, whole.folder.calls), (0, 6));
-    for call in 1..7u64 {
-        let played = folder_fails(alloc, SCRIPT, call)?;
-        assert_eq!(rt; played.status, 7);
-        assert_eq!(rt;
-            played.err.as_slice(),
-            b"dlt_replay: folder fault\n".as_slice()
-        );
-        // Nothing is written where no file was to change.
-        assert_eq!(rt; played.out.is_empty(), call < 5);
-        assert_eq!(rt; played.folder.changes(), call.saturating_sub(4));
+    for (call, changes) in &CALLS {
+        assert!(rt; says_so(rt.alloc(), *call, *changes)?);
     }
     Ok(())
 }

@@ -25,7 +25,6 @@ const STORE: &str = "bytes 1 21000012160141505000434F4E0005000000\n";
 const RESET: &str = "bytes 1 21000012160141505000434F4E0006000000\n";
 
 /// The number of calls, what stood before, and what is printed and how the run ends.
-#[derive(Clone, Copy)]
 struct Row {
     calls: u32,
     name: &'static str,
@@ -155,113 +154,160 @@ fn played(
     )
 }
 
-#[test]
-fn traces(rt: HostRuntime) -> Result<(), Fail> {
-    let alloc = rt.alloc();
-    for row in ROWS {
-        let Row {
-            calls: count,
-            name,
-            size,
-            status,
-            out,
-            err,
-        } = row;
-        let stood = letters(alloc, size)?;
-        let script = calls(alloc, count)?;
+impl Row {
+    /// Whether so many calls are printed so, where this stood before.
+    fn holds(&self, alloc: Global) -> Result<bool, AllocError> {
+        let stood = letters(alloc, self.size)?;
+        let script = calls(alloc, self.calls)?;
         let played = played(
             alloc,
             SMALL_FILES,
             script.as_str(),
-            name,
+            self.name,
             stood.as_str(),
             100,
         )?;
-        assert!(rt; played.is(status, out, err), "{out}");
+        Ok(played.is(self.status, self.out, self.err))
     }
+}
+
+/// The first of these rows that is printed otherwise.
+fn other(alloc: Global, rows: &[Row]) -> Result<Option<&'static str>, AllocError> {
+    for row in rows {
+        if !row.holds(alloc)? {
+            return Ok(Some(row.out));
+        }
+    }
+    Ok(None)
+}
+
+#[test]
+fn traces(rt: HostRuntime) -> Result<(), Fail> {
+    assert_eq!(rt; other(rt.alloc(), &ROWS)?, None);
     Ok(())
 }
 
-/// The third append fails: the frames before it stand, and the report says why the trace ended.
-#[test]
-fn a_trace_ends(rt: HostRuntime) -> Result<(), Fail> {
-    let alloc = rt.alloc();
+/// Plays three calls with a trace in a folder with one more file. This call of the folder fails.
+fn three_calls(alloc: Global, name: &str, text: &str, fails: u64) -> Result<Played, AllocError> {
     let mut script = String::from_str(alloc, DECLARED)?;
     for _ in 0..3 {
         script.push_str("log 1 TEST info 1 \"hi\"\n")?;
     }
     let conf = "OfflineTraceDirectory = trace\n";
-    let failed = played(alloc, conf, script.as_str(), "x", "", 6)?;
-    assert_eq!(rt; failed.status, 7);
-    assert_eq!(rt;
-        failed.out.as_slice(),
-        b"backlog 3 105 0
+    played(alloc, conf, script.as_str(), name, text, fails)
+}
+
+/// What is printed where the third append fails: the frames before it stand, and the report says why the trace ended.
+const FAILED: &str = "backlog 3 105 0
 app LOG1 calls 3 queued 3 filtered 0 lost 0 reported 0
 file trace/dlt_offlinetrace.000001.dlt 102
 trace ended failed
-"
-            .as_slice()
-    );
-    // Without room for a frame the report is whole, and the status is that of memory.
-    let full = letters(alloc, 99_900)?;
-    let short = played(alloc, conf, script.as_str(), "full", full.as_str(), 100)?;
-    assert_eq!(rt; short.status, 9);
-    assert!(rt; short.out.as_slice().ends_with(b"trace ended memory\n"));
-    assert_eq!(rt;
-        short.err.as_slice(),
-        b"dlt_replay: out of memory\n".as_slice()
-    );
+";
+
+#[test]
+fn a_trace_fails(rt: HostRuntime) -> Result<(), Fail> {
+    let failed = three_calls(rt.alloc(), "x", "", 6)?;
+    assert!(rt; failed.prints(7, FAILED));
     Ok(())
+}
+
+/// Plays three calls where the folder has no room for a frame.
+fn without_room(alloc: Global) -> Result<Played, AllocError> {
+    let full = letters(alloc, 99_900)?;
+    three_calls(alloc, "full", full.as_str(), 100)
+}
+
+/// Without room for a frame the report is whole, and the status is that of memory.
+#[test]
+fn a_trace_finds_no_room(rt: HostRuntime) -> Result<(), Fail> {
+    let short = without_room(rt.alloc())?;
+    assert!(rt; short.frames(9, "", "trace ended memory\n"));
+    assert!(rt; short.says("dlt_replay: out of memory\n"));
+    Ok(())
+}
+
+/// The stored levels, and none.
+const LEVELS: &str = "::4\nLOG1:FULL:6\n";
+
+const NO_LEVELS: &str = "";
+
+/// How a run with these requests ends where this call of the folder fails: its status, and whether these levels are stored.
+fn stores(
+    alloc: Global,
+    requests: &[&str],
+    fails: u64,
+    levels: &str,
+) -> Result<(u8, bool), AllocError> {
+    let mut played = requested(alloc, requests, fails)?;
+    Ok((played.status, played.has("dlt_stored.cfg", levels)))
+}
+
+/// Plays these requests in an empty folder, of which this call fails.
+fn requested(alloc: Global, requests: &[&str], fails: u64) -> Result<Played, AllocError> {
+    let mut script = String::from_str(alloc, TWO_CONTEXTS)?;
+    for request in requests {
+        script.push_str(request)?;
+    }
+    played(alloc, "", script.as_str(), "x", "", fails)
 }
 
 /// Levels are stored and reset; a fault of the folder is the request's answer, and the status.
 #[test]
 fn levels_are_stored(rt: HostRuntime) -> Result<(), Fail> {
-    let alloc = rt.alloc();
-    let mut script = String::from_str(alloc, TWO_CONTEXTS)?;
-    script.push_str(STORE)?;
-    let mut stored = played(alloc, "", script.as_str(), "x", "", 100)?;
-    assert_eq!(rt; stored.status, 0);
-    assert!(rt; stored.has("dlt_stored.cfg", "::4\nLOG1:FULL:6\n"));
-    let mut failed = played(alloc, "", script.as_str(), "x", "", 3)?;
-    assert_eq!(rt; failed.status, 7);
-    assert!(rt; failed.has("dlt_stored.cfg", ""));
+    assert_eq!(rt; stores(rt.alloc(), &[STORE], 100, LEVELS)?, (0, true));
+    assert_eq!(rt; stores(rt.alloc(), &[STORE], 3, NO_LEVELS)?, (7, true));
     assert_eq!(rt;
-        failed.out.as_slice(),
-        b"client 1 stopped 1 23 complete
-25 00 00 17 45 43 55 31 26 01 44 41 31 00 44 43 31 00 05 00 00 00 02
-app LOG1 calls 0 queued 0 filtered 0 lost 0 reported 0
-"
-            .as_slice()
+        stores(rt.alloc(), &[STORE, RESET], 100, NO_LEVELS)?,
+        (0, true)
     );
-    script.push_str(RESET)?;
-    let mut reset = played(alloc, "", script.as_str(), "x", "", 100)?;
-    assert_eq!(rt; reset.status, 0);
-    assert!(rt; reset.has("dlt_stored.cfg", ""));
     Ok(())
 }
 
-/// A script that a number makes prints the same each time.
+/// What is printed where levels can't be stored.
+const NOT_STORED: &str = "client 1 stopped 1 23 complete
+25 00 00 17 45 43 55 31 26 01 44 41 31 00 44 43 31 00 05 00 00 00 02
+app LOG1 calls 0 queued 0 filtered 0 lost 0 reported 0
+";
+
 #[test]
-fn generated(rt: HostRuntime) -> Result<(), Fail> {
-    let alloc = rt.alloc();
-    let words = ["dlt_replay", "generate", "7", "0"];
-    let none_made = play_in(alloc, &words, b"not read", &[], none(alloc))?;
-    assert_eq!(rt; (none_made.status, none_made.reads), (0, 0));
-    assert_eq!(rt;
-        none_made.out.as_slice(),
-        b"client 1 stopped 0 0 complete
+fn levels_are_not_stored(rt: HostRuntime) -> Result<(), Fail> {
+    let failed = requested(rt.alloc(), &[STORE], 3)?;
+    assert!(rt; failed.prints(7, NOT_STORED));
+    Ok(())
+}
+
+/// Plays the script that the number 7 makes with so many calls.
+fn seventh(alloc: Global, calls: &str, input: &[u8]) -> Result<Played, AllocError> {
+    let words = ["dlt_replay", "generate", "7", calls];
+    play_in(alloc, &words, input, &[], none(alloc))
+}
+
+/// What is printed for the script without a call.
+const NO_CALLS: &str = "client 1 stopped 0 0 complete
 app GEN1 calls 0 queued 0 filtered 0 lost 0 reported 0
 app GEN2 calls 0 queued 0 filtered 0 lost 0 reported 0
 app GEN3 calls 0 queued 0 filtered 0 lost 0 reported 0
 app GEN4 calls 0 queued 0 filtered 0 lost 0 reported 0
-"
-            .as_slice()
-    );
-    let more = ["dlt_replay", "generate", "7", "3000"];
-    let first = play_in(alloc, &more, b"", &[], none(alloc))?;
-    let second = play_in(alloc, &more, b"", &[], none(alloc))?;
-    assert_eq!(rt; first.status, 0);
-    assert!(rt; first.out.as_slice() == second.out.as_slice());
+";
+
+/// The input is not read.
+#[test]
+fn none_generated(rt: HostRuntime) -> Result<(), Fail> {
+    let played = seventh(rt.alloc(), "0", b"not read")?;
+    assert!(rt; played.prints(0, NO_CALLS));
+    assert_eq!(rt; played.reads, 0);
+    Ok(())
+}
+
+/// Whether a script that a number makes prints the same each time.
+fn is_repeated(alloc: Global) -> Result<bool, AllocError> {
+    let first = seventh(alloc, "3000", b"")?;
+    let second = seventh(alloc, "3000", b"")?;
+    Ok(first.status == 0 && first.out.as_slice() == second.out.as_slice())
+}
+
+#[test]
+fn generated(rt: HostRuntime) -> Result<(), Fail> {
+    assert!(rt; is_repeated(rt.alloc())?);
     Ok(())
 }

@@ -99,9 +99,23 @@ pub fn steps(alloc: Global, script: &[u8]) -> Result<Played, AllocError> {
 impl Played {
     /// Whether it ended with this status, and with these texts on standard output and standard error.
     pub fn is(&self, status: u8, out: &str, err: &str) -> bool {
-        self.status == status
-            && self.out.as_slice() == out.as_bytes()
-            && self.err.as_slice() == err.as_bytes()
+        self.prints(status, out) && self.says(err)
+    }
+
+    /// Whether it ended with this status, and what it printed begins and ends with these texts.
+    pub fn frames(&self, status: u8, first: &str, last: &str) -> bool {
+        let out = self.out.as_slice();
+        self.status == status && out.starts_with(first.as_bytes()) && out.ends_with(last.as_bytes())
+    }
+
+    /// Whether it ended with this status, and printed this text.
+    pub fn prints(&self, status: u8, out: &str) -> bool {
+        self.status == status && self.out.as_slice() == out.as_bytes()
+    }
+
+    /// Whether it wrote this text to standard error.
+    pub fn says(&self, err: &str) -> bool {
+        self.err.as_slice() == err.as_bytes()
     }
 
     /// Whether a file has this text at the end; an empty text says that it isn't there.

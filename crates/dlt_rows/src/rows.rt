@@ -5,7 +5,6 @@ use std::alloc::{AllocError, Global};
 use std::test::Fail;
 
 /// A configuration, a script, and what is printed.
-#[derive(Clone, Copy)]
 struct Row {
     conf: &'static str,
     script: &'static str,
@@ -254,10 +253,9 @@ const INJECTION: &str = "bytes 1 2100001716014C4F473154455354FF0F000001000000AB\
 const VERSION: &str = "bytes 1 21000012160141505000434F4E0013000000\n";
 
 /// Requests to set the level of all contexts to debug, in both byte orders.
-const TO_DEBUG: [&str; 2] = [
-    "2100001F160141505000434F4E000100000000000000000000000500000000",
-    "2300001F160141505000434F4E000000000100000000000000000500000000",
-];
+const IN_ONE_ORDER: &str = "2100001F160141505000434F4E000100000000000000000000000500000000";
+
+const IN_THE_OTHER: &str = "2300001F160141505000434F4E000000000100000000000000000500000000";
 
 /// Plays a script in a folder with this configuration.
 fn played(alloc: Global, conf: &str, script: &str) -> Result<Played, AllocError> {
@@ -286,12 +284,19 @@ fn many(
     Ok(text)
 }
 
+/// The first script of these rows that prints something else.
+fn other(alloc: Global, rows: &[Row]) -> Result<Option<&'static str>, AllocError> {
+    for row in rows {
+        if !played(alloc, row.conf, row.script)?.is(0, row.out, "") {
+            return Ok(Some(row.script));
+        }
+    }
+    Ok(None)
+}
+
 #[test]
 fn rows(rt: HostRuntime) -> Result<(), Fail> {
-    for row in ROWS {
-        let played = played(rt.alloc(), row.conf, row.script)?;
-        assert!(rt; played.is(0, row.out, ""), "{}", row.script);
-    }
+    assert_eq!(rt; other(rt.alloc(), &ROWS)?, None);
     Ok(())
 }
 
@@ -310,100 +315,109 @@ fn byte_by_byte(alloc: Global, request: &str) -> Result<String, AllocError> {
     Ok(script)
 }
 
-/// A request that comes byte by byte is one request. The call that its level filters takes no message counter.
-#[test]
-fn one_request_in_pieces(rt: HostRuntime) -> Result<(), Fail> {
-    let alloc = rt.alloc();
-    for request in TO_DEBUG {
-        let played = played(alloc, "", byte_by_byte(alloc, request)?.as_str())?;
-        assert_eq!(rt; played.status, 0);
-        assert_eq!(rt;
-            played.out.as_slice(),
-            b"client 1 left 2 57 complete
+/// What is printed for a request that comes byte by byte: it is one request, and the call that its level filters takes no
+/// message counter.
+const IN_PIECES: &str = "client 1 left 2 57 complete
 25 00 00 17 45 43 55 31 26 01 44 41 31 00 44 43 31 00 01 00 00 00 00
 3D 00 00 22 45 43 55 31 00 00 00 01 00 00 00 07 51 01 4C 4F 47 31 54 45 53 54 00 82 00 00 02 00 64 00
 app LOG1 calls 2 queued 1 filtered 1 lost 0 reported 0
-"
-                .as_slice()
-        );
-    }
+";
+
+/// Whether a request that comes byte by byte is one request.
+fn is_one(alloc: Global, request: &str) -> Result<bool, AllocError> {
+    let script = byte_by_byte(alloc, request)?;
+    Ok(played(alloc, "", script.as_str())?.prints(0, IN_PIECES))
+}
+
+#[test]
+fn one_request_in_pieces(rt: HostRuntime) -> Result<(), Fail> {
+    assert!(rt; is_one(rt.alloc(), IN_ONE_ORDER)?);
+    assert!(rt; is_one(rt.alloc(), IN_THE_OTHER)?);
     Ok(())
 }
 
-/// The limits that a script can reach: frames that fill the buffer, injections, requests of one client, clients.
-#[test]
-fn limits(rt: HostRuntime) -> Result<(), Fail> {
-    let alloc = rt.alloc();
-    // Ten frames of 1000 bytes fill the buffer. Two more are refused, also the one that would have had room.
-    let full = many(
+/// Plays a script with this line so many times.
+fn repeated(
+    alloc: Global,
+    before: &str,
+    line: &str,
+    count: u32,
+    behind: &str,
+) -> Result<Played, AllocError> {
+    let script = many(alloc, before, line, count, behind)?;
+    played(alloc, "", script.as_str())
+}
+
+/// Plays eleven calls of frames of 1000 bytes, and one of a short frame, where the buffer has room for ten of them.
+fn filled(alloc: Global) -> Result<Played, AllocError> {
+    let script = many(
         alloc,
         "app LOG1 16\ncontext LOG1 TEST info\nwriter LOG1\n",
         "log 1 TEST info 1 fill:967\n",
         11,
         "log 1 TEST info 1 \"hi\"\nconnect\n",
     )?;
-    let waiting = played(alloc, "RingbufferMaxSize = 10040\n", full.as_str())?;
-    assert_eq!(rt; waiting.status, 0);
-    assert!(rt;
-        waiting
-            .out
-            .as_slice()
-            .starts_with(b"client 1 stopped 11 10028 complete\n")
-    );
-    assert!(rt;
-        waiting.out.as_slice().ends_with(
-            b" 78 00
+    played(alloc, "RingbufferMaxSize = 10040\n", script.as_str())
+}
+
+/// The end of what is printed for them.
+const TWO_LOST: &str = " 78 00
 25 00 00 1C 45 43 55 31 26 01 44 41 31 00 44 43 31 00 14 00 00 00 00 01 02 00 00 00
 app LOG1 calls 12 queued 12 filtered 0 lost 0 reported 0
-"
-        )
-    );
-    // Sixteen injections wait. The seventeenth is refused, unless one was taken.
-    let refused = played(
-        alloc,
-        "",
-        many(alloc, DECLARED, INJECTION, 17, "")?.as_str(),
-    )?;
-    assert!(rt;
-        refused
-            .out
-            .as_slice()
-            .starts_with(b"client 1 stopped 17 391 complete\n")
-    );
-    assert!(rt;
-        refused.out.as_slice().ends_with(
-            b" FF 0F 00 00 02
+";
+
+/// Ten frames of 1000 bytes fill the buffer. Two more are refused, also the one that would have had room.
+#[test]
+fn a_full_buffer(rt: HostRuntime) -> Result<(), Fail> {
+    let waiting = filled(rt.alloc())?;
+    assert!(rt; waiting.frames(0, "client 1 stopped 11 10028 complete\n", TWO_LOST));
+    Ok(())
+}
+
+/// The end of what is printed for an injection that is refused, and for one that is done.
+const REFUSED: &str = " FF 0F 00 00 02
 app LOG1 calls 0 queued 0 filtered 0 lost 0 reported 0
-"
-        )
-    );
-    let mut taken = many(alloc, DECLARED, INJECTION, 16, "inject LOG1\n")?;
-    taken.push_str(INJECTION)?;
-    assert!(rt;
-        played(alloc, "", taken.as_str())?.out.as_slice().ends_with(
-            b" FF 0F 00 00 00
+";
+
+const DONE: &str = " FF 0F 00 00 00
 app LOG1 calls 0 queued 0 filtered 0 lost 0 reported 0
-"
-        )
-    );
-    // The 1001st request ends a client, and the ninth client is refused.
-    let asked = played(
-        alloc,
-        "",
-        many(alloc, DECLARED, VERSION, 1001, "")?.as_str(),
-    )?;
-    assert!(rt;
-        asked
-            .out
-            .as_slice()
-            .starts_with(b"client 1 toomany 1000 36000 complete\n")
-    );
-    let clients = played(alloc, "", many(alloc, "", "connect\n", 9, "")?.as_str())?;
-    assert!(rt;
-        clients
-            .out
-            .as_slice()
-            .ends_with(b"client 8 stopped 0 0 complete\n")
-    );
+";
+
+/// Sixteen injections wait. The seventeenth is refused.
+#[test]
+fn seventeen_injections(rt: HostRuntime) -> Result<(), Fail> {
+    let refused = repeated(rt.alloc(), DECLARED, INJECTION, 17, "")?;
+    assert!(rt; refused.frames(0, "client 1 stopped 17 391 complete\n", REFUSED));
+    Ok(())
+}
+
+/// Plays sixteen injections, the taking of one, and one more.
+fn one_taken(alloc: Global) -> Result<Played, AllocError> {
+    let mut script = many(alloc, DECLARED, INJECTION, 16, "inject LOG1\n")?;
+    script.push_str(INJECTION)?;
+    played(alloc, "", script.as_str())
+}
+
+/// The seventeenth is done where one was taken before.
+#[test]
+fn a_taken_injection(rt: HostRuntime) -> Result<(), Fail> {
+    let taken = one_taken(rt.alloc())?;
+    assert!(rt; taken.frames(0, "", DONE));
+    Ok(())
+}
+
+/// The 1001st request ends a client.
+#[test]
+fn too_many_requests(rt: HostRuntime) -> Result<(), Fail> {
+    let asked = repeated(rt.alloc(), DECLARED, VERSION, 1001, "")?;
+    assert!(rt; asked.frames(0, "client 1 toomany 1000 36000 complete\n", ""));
+    Ok(())
+}
+
+/// The ninth client is refused.
+#[test]
+fn nine_clients(rt: HostRuntime) -> Result<(), Fail> {
+    let clients = repeated(rt.alloc(), "", "connect\n", 9, "")?;
+    assert!(rt; clients.frames(0, "", "client 8 stopped 0 0 complete\n"));
     Ok(())
 }
