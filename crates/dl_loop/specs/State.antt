@@ -41,3 +41,16 @@ pub record Line : Type 0 where
   pub idles : ℕ
   pub waits : ℕ
   pub is_shut : Bool
+
+-- the link of these parts
+abbrev pub line : Option (List ℕ) → Option Bool → Option (List ℕ) → Option (List ℕ) → ℕ → ℕ → ℕ → Bool → Line
+line left over given taken faults idles waits is_shut = record {
+  left = left;
+  over = over;
+  given = given;
+  taken = taken;
+  faults = faults;
+  idles = idles;
+  waits = waits;
+  is_shut = is_shut;
+}

@@ -5,7 +5,7 @@ ghost use Rattle.std.specs.Result.{result_err};
 ghost use Rattle.dl_bytes.specs.Limits.{client_limit};
 ghost use Rattle.dl_outside.specs.Outside.{HasRisen, Stays};
 ghost use Rattle.dl_loop.specs.Events.{IsServing};
-ghost use Rattle.dl_loop.specs.State.{side};
+ghost use Rattle.dl_loop.specs.State.{line, side};
 ghost use Rattle.dl_loop.specs.Turns.{HasGiven, Listens};
 
 use crate::serving::serve_each;
@@ -37,8 +37,8 @@ pub fn listen<R: Wait, D: Post, L: Link, F: Folder>(
     requires limit { cutter.old.limit ≡ client_limit }
     requires serving { IsServing client served.old core.old (D.apps desk.old) (D.first desk.old) (D.sets desk.old) }
     ensures listens { Listens client
-        (record { left = L.left link.old; over = L.over link.old; given = L.given link.old; taken = L.taken link.old; faults = L.faults link.old; idles = L.idles link.old; waits = L.waits link.old; is_shut = L.is_shut link.old })
-        (record { left = L.left link.new; over = L.over link.new; given = L.given link.new; taken = L.taken link.new; faults = L.faults link.new; idles = L.idles link.new; waits = L.waits link.new; is_shut = L.is_shut link.new })
+        (line (L.left link.old) (L.over link.old) (L.given link.old) (L.taken link.old) (L.faults link.old) (L.idles link.old) (L.waits link.old) (L.is_shut link.old))
+        (line (L.left link.new) (L.over link.new) (L.given link.new) (L.taken link.new) (L.faults link.new) (L.idles link.new) (L.waits link.new) (L.is_shut link.new))
         cutter.old cutter.new (result_err result)
         (side core.old (D.sets desk.old) (D.pushed desk.old) (D.refusals desk.old) journal.old (F.files folder.old) (F.faults folder.old))
         (side core.new (D.sets desk.new) (D.pushed desk.new) (D.refusals desk.new) journal.new (F.files folder.new) (F.faults folder.new)) }

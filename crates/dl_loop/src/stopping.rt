@@ -9,7 +9,7 @@ ghost use Rattle.dl_registry.specs.Kept.{owed_change};
 ghost use Rattle.dl_hub.specs.State.{outbox_of};
 ghost use Rattle.dl_core.specs.Closing.{MayEnd};
 ghost use Rattle.dl_loop.specs.Events.{Closes, HasServed, IsDeskOf, IsServing};
-ghost use Rattle.dl_loop.specs.State.{side};
+ghost use Rattle.dl_loop.specs.State.{line, side};
 ghost use Rattle.dl_loop.specs.Stopping.{GoesOn, IsClosedIn, IsStop, IsWoundUp};
 
 use crate::hearing::listen;
@@ -86,23 +86,23 @@ fn closing_turn<R: Wait, D: Post, L: Link, F: Folder>(
     requires spare { 1 ≤ journal.old.spare }
     ensures goes { IfOk result (λ quiet. GoesOn client quiet
         (record {
-          line = record { left = L.left link.old; over = L.over link.old; given = L.given link.old; taken = L.taken link.old; faults = L.faults link.old; idles = L.idles link.old; waits = L.waits link.old; is_shut = L.is_shut link.old };
+          line = line (L.left link.old) (L.over link.old) (L.given link.old) (L.taken link.old) (L.faults link.old) (L.idles link.old) (L.waits link.old) (L.is_shut link.old);
           cutter = cutter.old;
           side = side core.old (D.sets desk.old) (D.pushed desk.old) (D.refusals desk.old) journal.old (F.files folder.old) (F.faults folder.old);
         })
         (record {
-          line = record { left = L.left link.new; over = L.over link.new; given = L.given link.new; taken = L.taken link.new; faults = L.faults link.new; idles = L.idles link.new; waits = L.waits link.new; is_shut = L.is_shut link.new };
+          line = line (L.left link.new) (L.over link.new) (L.given link.new) (L.taken link.new) (L.faults link.new) (L.idles link.new) (L.waits link.new) (L.is_shut link.new);
           cutter = cutter.new;
           side = side core.new (D.sets desk.new) (D.pushed desk.new) (D.refusals desk.new) journal.new (F.files folder.new) (F.faults folder.new);
         })) }
     ensures closed { IfErr result (λ why. IsClosedIn client why
         (record {
-          line = record { left = L.left link.old; over = L.over link.old; given = L.given link.old; taken = L.taken link.old; faults = L.faults link.old; idles = L.idles link.old; waits = L.waits link.old; is_shut = L.is_shut link.old };
+          line = line (L.left link.old) (L.over link.old) (L.given link.old) (L.taken link.old) (L.faults link.old) (L.idles link.old) (L.waits link.old) (L.is_shut link.old);
           cutter = cutter.old;
           side = side core.old (D.sets desk.old) (D.pushed desk.old) (D.refusals desk.old) journal.old (F.files folder.old) (F.faults folder.old);
         })
         (record {
-          line = record { left = L.left link.new; over = L.over link.new; given = L.given link.new; taken = L.taken link.new; faults = L.faults link.new; idles = L.idles link.new; waits = L.waits link.new; is_shut = L.is_shut link.new };
+          line = line (L.left link.new) (L.over link.new) (L.given link.new) (L.taken link.new) (L.faults link.new) (L.idles link.new) (L.waits link.new) (L.is_shut link.new);
           cutter = cutter.new;
           side = side core.new (D.sets desk.new) (D.pushed desk.new) (D.refusals desk.new) journal.new (F.files folder.new) (F.faults folder.new);
         })) }
@@ -150,12 +150,12 @@ pub fn close_turn<R: Wait, D: Post, L: Link, F: Folder>(
     requires spare { 1 ≤ journal.old.spare }
     ensures wound_up { IsWoundUp client result
         (record {
-          line = record { left = L.left link.old; over = L.over link.old; given = L.given link.old; taken = L.taken link.old; faults = L.faults link.old; idles = L.idles link.old; waits = L.waits link.old; is_shut = L.is_shut link.old };
+          line = line (L.left link.old) (L.over link.old) (L.given link.old) (L.taken link.old) (L.faults link.old) (L.idles link.old) (L.waits link.old) (L.is_shut link.old);
           cutter = cutter.old;
           side = side core.old (D.sets desk.old) (D.pushed desk.old) (D.refusals desk.old) journal.old (F.files folder.old) (F.faults folder.old);
         })
         (record {
-          line = record { left = L.left link.new; over = L.over link.new; given = L.given link.new; taken = L.taken link.new; faults = L.faults link.new; idles = L.idles link.new; waits = L.waits link.new; is_shut = L.is_shut link.new };
+          line = line (L.left link.new) (L.over link.new) (L.given link.new) (L.taken link.new) (L.faults link.new) (L.idles link.new) (L.waits link.new) (L.is_shut link.new);
           cutter = cutter.new;
           side = side core.new (D.sets desk.new) (D.pushed desk.new) (D.refusals desk.new) journal.new (F.files folder.new) (F.faults folder.new);
         }) }

@@ -8,7 +8,7 @@ ghost use Rattle.dl_outside.specs.Folder.{Files};
 ghost use Rattle.dl_registry.specs.Kept.{owed_change};
 ghost use Rattle.dl_hub.specs.State.{outbox_of};
 ghost use Rattle.dl_loop.specs.Events.{HasServed, IsDeskOf, IsServing};
-ghost use Rattle.dl_loop.specs.State.{side};
+ghost use Rattle.dl_loop.specs.State.{line, side};
 ghost use Rattle.dl_loop.specs.Turns.{IsPump, IsTurn};
 
 use crate::hearing::listen;
@@ -43,8 +43,8 @@ pub fn client_turn<R: Wait, D: Post, L: Link, F: Folder>(
     requires serving { IsServing client served.old core.old (D.apps desk.old) (D.first desk.old) (D.sets desk.old) }
     requires spare { 1 ≤ journal.old.spare }
     ensures turn { IsTurn client
-        (record { left = L.left link.old; over = L.over link.old; given = L.given link.old; taken = L.taken link.old; faults = L.faults link.old; idles = L.idles link.old; waits = L.waits link.old; is_shut = L.is_shut link.old })
-        (record { left = L.left link.new; over = L.over link.new; given = L.given link.new; taken = L.taken link.new; faults = L.faults link.new; idles = L.idles link.new; waits = L.waits link.new; is_shut = L.is_shut link.new })
+        (line (L.left link.old) (L.over link.old) (L.given link.old) (L.taken link.old) (L.faults link.old) (L.idles link.old) (L.waits link.old) (L.is_shut link.old))
+        (line (L.left link.new) (L.over link.new) (L.given link.new) (L.taken link.new) (L.faults link.new) (L.idles link.new) (L.waits link.new) (L.is_shut link.new))
         cutter.old cutter.new result
         (side core.old (D.sets desk.old) (D.pushed desk.old) (D.refusals desk.old) journal.old (F.files folder.old) (F.faults folder.old))
         (side core.new (D.sets desk.new) (D.pushed desk.new) (D.refusals desk.new) journal.new (F.files folder.new) (F.faults folder.new)) }
@@ -80,8 +80,8 @@ pub fn pump_turn<L: Link>(
     requires settled { owed_change core.old.registry ≡ None }
     requires spare { 1 ≤ journal.old.spare }
     ensures pump { (sets : List Change) (pushed : ℕ → List Injection) (refusals : ℕ → ℕ) (files : Option Files) (faults : ℕ) → IsPump client
-        (record { left = L.left link.old; over = L.over link.old; given = L.given link.old; taken = L.taken link.old; faults = L.faults link.old; idles = L.idles link.old; waits = L.waits link.old; is_shut = L.is_shut link.old })
-        (record { left = L.left link.new; over = L.over link.new; given = L.given link.new; taken = L.taken link.new; faults = L.faults link.new; idles = L.idles link.new; waits = L.waits link.new; is_shut = L.is_shut link.new })
+        (line (L.left link.old) (L.over link.old) (L.given link.old) (L.taken link.old) (L.faults link.old) (L.idles link.old) (L.waits link.old) (L.is_shut link.old))
+        (line (L.left link.new) (L.over link.new) (L.given link.new) (L.taken link.new) (L.faults link.new) (L.idles link.new) (L.waits link.new) (L.is_shut link.new))
         result (side core.old sets pushed refusals journal.old files faults) (side core.new sets pushed refusals journal.new files faults) }
     ensures open { IfNone result (IsSome (outbox_of core.new.hub client)) }
     ensures settled { owed_change core.new.registry ≡ None }
