@@ -42,6 +42,13 @@ impl Frame {
         self.bytes.as_slice()
     }
 
+    /// Takes all bytes out.
+    pub fn clear(&mut self)
+        ensures { self.new ≡ [] }
+    {
+        self.bytes.clear();
+    }
+
     /// How many more bytes it can take.
     pub fn room(&self) -> usize
         ensures { result + length self.now ≡ 1984 }

@@ -65,6 +65,14 @@ impl Payload {
         copy
     }
 
+    /// Takes all arguments out.
+    pub fn clear(&mut self)
+        ensures { self.new ≡ record { bytes = []; args = 0 } }
+    {
+        self.bytes.clear();
+        self.args = 0;
+    }
+
     /// How many more bytes it can take.
     pub fn room(&self) -> usize
         ensures value { result + length self.now.bytes ≡ 1390 }

@@ -2,15 +2,16 @@
 
 ghost use Rattle.std.specs.Prelude.{◌≡◌, ◌≤◌, IfOk, length};
 
-use dl_bytes::{Bytes, Payload};
+use dl_bytes::Payload;
+use smallvec::SmallVec;
 use std::alloc::{AllocError, Global};
 use std::marker::Model;
 
-/// The arguments of a log call, in memory of just their size: a list of lines may hold a million of them. Contracts see
-/// what they see of a [`Payload`].
+/// The arguments of a log call, in memory of just their size: a list of lines may hold a million of them. Up to 48 bytes, as
+/// most calls have, lie in place and take none. Contracts see what they see of a [`Payload`].
 #[derive(Debug, Drop)]
 pub struct CallArguments {
-    bytes: Bytes,
+    bytes: SmallVec<u8, 48>,
     args: u8,
 }
 
@@ -20,9 +21,9 @@ impl Model for CallArguments {
 
     ghost Value = { Arguments };
 
-    ghost view = { λ a. record { bytes = a.bytes; args = a.args } };
+    ghost view = { λ a. record { bytes = a.bytes.items; args = a.args } };
 
-    ghost invariant = { λ a. length a.bytes ≤ 1390 };
+    ghost invariant = { λ a. length a.bytes.items ≤ 1390 };
 }
 
 impl CallArguments {
@@ -30,9 +31,10 @@ impl CallArguments {
     pub fn of(alloc: Global, payload: &Payload) -> Result<CallArguments, AllocError>
         ensures { IfOk result (λ copy. copy ≡ payload.now) }
     {
-        let bytes = Vec::from_slice(alloc, payload.bytes())?;
+        let mut bytes = SmallVec::new(alloc);
+        bytes.extend_from_slice(payload.bytes())?;
         Ok(CallArguments {
-            bytes: Bytes::over(bytes),
+            bytes,
             args: payload.args(),
         })
     }
@@ -42,7 +44,7 @@ impl CallArguments {
         ensures value { result.now ≡ self.now.bytes }
         ensures limit { length self.now.bytes ≤ 1390 }
     {
-        self.bytes.all()
+        self.bytes.as_slice()
     }
 
     /// How many arguments there are: the field NOAR.
@@ -50,17 +52,5 @@ impl CallArguments {
         ensures { result ≡ self.now.args }
     {
         self.args
-    }
-
-    /// The arguments as a log call carries them.
-    pub fn payload(&self) -> Payload
-        ensures { result ≡ self.now }
-    {
-        let mut payload = Payload::new();
-        payload.extend_from_slice(self.bytes.all());
-        for _ in 0..self.args {
-            payload.count_argument();
-        }
-        payload
     }
 }
