@@ -1,6 +1,6 @@
 -- Frames that are admitted and stored one after the other.
 use Rattle.std.proofs.Common.{◌≡◌, ℕ, ◌+◌, ◌-◌, ◌≤◌, ◌<◌, List, [], ◌∷◌, ◌++◌, length, map, Option, Some, None, refl, sym, ap, subst, ◌∙◌, append_assoc, length-append, arith, suc}
-use Rattle.std.specs.Prelude.{IfSome, IsSomeAnd, option_map, min, ◌^◌}
+use Rattle.std.specs.Prelude.{IfSome, option_map, min, ◌^◌}
 use Rattle.std.proofs.lemmas.List.{append-nil, map-append}
 use Rattle.std.proofs.lemmas.List.Sums.{sum_by-cons}
 use Rattle.dl_bytes.specs.Id.{zero_id}
@@ -18,7 +18,7 @@ use Rattle.dl_trace.specs.State.{Trace}
 use Rattle.dl_trace.specs.Stands.{ChangesTraceFiles}
 use Rattle.dl_trace.proofs.Joined.{changes_later, unchanged}
 use Rattle.dl_core.specs.Admission.{Admits, lost_frames}
-use Rattle.dl_core.specs.Storing.{StoresTill, Stores, StoresIn, StoresEach, ChangesTraceAlone}
+use Rattle.dl_core.specs.Storing.{StoresTill, StoresIn, StoresEach, ChangesTraceAlone}
 
 -- ---- the hub
 

@@ -1,5 +1,5 @@
 -- How many replies a client was put: as many as it has requests in the journal.
-use Rattle.std.proofs.Common.{◌≡◌, ℕ, ◌+◌, ◌-◌, Bool, true, false, cond, eqb, List, [], ◌∷◌, ◌++◌, map, Option, Some, None, refl, sym, ap, subst, ◌∙◌, arith}
+use Rattle.std.proofs.Common.{◌≡◌, ℕ, ◌+◌, ◌-◌, Bool, true, false, cond, eqb, List, [], ◌∷◌, ◌++◌, map, Some, None, refl, sym, ap, subst, ◌∙◌, arith}
 use Rattle.std.specs.Prelude.{count_by, slice_get}
 use Rattle.std.proofs.lemmas.Bool.Decides.{nat_tests, eqb_tells}
 use Rattle.std.proofs.lemmas.List.Sums.{sum_by-cons}
@@ -8,7 +8,7 @@ use Rattle.dl_events.specs.declared.event.Event.TheVariants as event
 use Rattle.dl_model.specs.Along.{along_from}
 use Rattle.dl_model.specs.Frames.{FrameSource, frames_of}
 use Rattle.dl_model.specs.Journal.{is_request_of}
-use Rattle.dl_model.specs.Traffic.{Traffic, Admit, Reply}
+use Rattle.dl_model.specs.Traffic.{Admit, Reply}
 use Rattle.dl_model.specs.ClientStream.{traffic, traffic_of}
 use Rattle.dl_laws.proofs.Lists.{count_by-append}
 use Rattle.dl_hub.specs.State.{Hub, Client, client_of}

@@ -1,5 +1,5 @@
 -- The core before its first event.
-use Rattle.std.proofs.Common.{◌≡◌, ℕ, List, [], Option, Some, None, refl, sym, ap, subst, ◌∙◌, arith}
+use Rattle.std.proofs.Common.{◌≡◌, ℕ, [], Option, Some, None, refl, sym, ap, subst, ◌∙◌, arith}
 use Rattle.std.specs.Prelude.{IfSome}
 use Rattle.dl_bytes.specs.declared.conf.Conf.{Conf}
 use Rattle.dl_bytes.specs.declared.conf.Stored.{Stored}
@@ -11,7 +11,7 @@ use Rattle.dl_hub.specs.State.{fresh}
 use Rattle.dl_trace.specs.State as traces
 use Rattle.dl_trace.specs.State.{Trace}
 use Rattle.dl_trace.specs.Made.{IsMade}
-use Rattle.dl_core.specs.Settings.{setting_of, begun, IsSetTo}
+use Rattle.dl_core.specs.Settings.{setting_of, begun}
 use Rattle.dl_core.specs.Follows.{Run, IsTraceAfter, IsAfter}
 
 trace_begins : (run : Run) (conf : Conf) (stored : Stored) (first : ℕ) (kept : Trace) → run.setting ≡ setting_of conf stored first

@@ -1,8 +1,8 @@
 -- Log calls of a batch, one after the other.
-use Rattle.std.proofs.Common.{◌≡◌, ℕ, ◌+◌, ◌-◌, ◌≤◌, ◌<◌, List, [], ◌∷◌, ◌++◌, length, map, take, drop, suc, zero, Option, Some, None, refl, sym, ap, subst, ◌∙◌, append_assoc, length-append, arith}
-use Rattle.std.specs.Prelude.{IfSome, option_map, ◌^◌, get_or}
+use Rattle.std.proofs.Common.{◌≡◌, ℕ, ◌+◌, ◌<◌, List, [], ◌∷◌, ◌++◌, length, map, take, drop, suc, Option, Some, None, sym, ap, subst, ◌∙◌, append_assoc, length-append, arith}
+use Rattle.std.specs.Prelude.{IfSome, option_map, get_or}
 use Rattle.std.proofs.Math.Seq.{take-suc, drop-cons}
-use Rattle.std.proofs.lemmas.List.{append-nil, map-append}
+use Rattle.std.proofs.lemmas.List.{map-append}
 use Rattle.std.proofs.lemmas.List.Sums.{sum_by-cons}
 use Rattle.dl_bytes.specs.declared.item.Item.{Item}
 use Rattle.dl_bytes.specs.declared.moment.Moment.{Moment}
@@ -18,7 +18,7 @@ use Rattle.dl_hub.specs.Follows.{Adds}
 use Rattle.dl_core.specs.declared.storing.TraceWriter.{TraceWriter}
 use Rattle.dl_core.specs.Admission.{Admits, AddsEach, log_event, more_noted}
 use Rattle.dl_core.proofs.Parts.{traces_in}
-use Rattle.dl_core.proofs.Admitted.{admits-none, admits-one, same_hub-later, less_room}
+use Rattle.dl_core.proofs.Admitted.{admits-one, same_hub-later}
 
 -- a call's frame as it is stored
 abbrev pub stored_call : List ℕ → Moment → Item → List ℕ
@@ -36,10 +36,6 @@ pub record Gathered (ecu : List ℕ) (moment : Moment) (done left : List Item) (
   pub spare_is : s1 + length done ≡ s0
   pub room : EachHasRoom (size_of (map (log_message ecu) left)) h1
 
-each-none : (e : Option (List Event)) → AddsEach e e []
-each-none None = refl
-each-none (Some events) = ap Some (sym (append-nil events))
-
 each-more : (e0 e1 e2 : Option (List Event)) (more : List Event) (event : Event) → AddsEach e0 e1 more → notes.Adds e1 e2 event → AddsEach e0 e2 (more ++ event ∷ [])
 each-more None None e2 more event first second = second
 each-more None (Some x) e2 more event first second = absurd (cc first)
@@ -47,21 +43,6 @@ each-more (Some x) None e2 more event first second = absurd (cc first)
 each-more (Some x) (Some y) e2 more event first second =
     let same : y ≡ x ++ more = cc first in
     second ∙ ap Some (ap (λ (es : List Event). es ++ event ∷ []) same ∙ append_assoc x more (event ∷ []))
-
-pub gathers_none : (ecu : List ℕ) (moment : Moment) (items : List Item) (h : Hub) (w : Option TraceWriter) (e : Option (List Event)) (n s : ℕ)
-    → EachHasRoom (size_of (map (log_message ecu) items)) h → IfSome w (λ (x : TraceWriter). x.batch ≡ [])
-    → Gathered ecu moment [] items h h w w e e n n s s
-gathers_none ecu moment items h w e n s room empty = record {
-  adds = admits-none h;
-  same = record { ecu = refl; buffer = refl };
-  admitted = omega arith;
-  trace_is = refl;
-  batch_is = empty;
-  events_are = each-none e;
-  noted_so = refl;
-  spare_is = omega arith;
-  room = room;
-}
 
 batch-more : (w1 w2 : Option TraceWriter) (frames : List (List ℕ)) (frame : List ℕ) → IfSome w1 (λ (w : TraceWriter). w.batch ≡ frames)
     → option_map (λ (w : TraceWriter). w.batch) w2 ≡ option_map (λ (w : TraceWriter). w.batch ++ frame ∷ []) w1
@@ -100,14 +81,6 @@ gathers_one ecu moment done left item frame h0 h1 h2 w0 w1 w2 e0 e1 e2 n0 n1 n2 
           sum_by-cons length (log_message ecu item) (map (log_message ecu) left) ∙ ap (λ (f : List ℕ). length f + size_of (map (log_message ecu) left)) (sym what) in
           rooms (size_of (map (log_message ecu) left)) (subst (λ (n : ℕ). EachHasRoom n h1) size far.room);
     }
-
--- there is room for the next call
-pub room_for_call : (ecu : List ℕ) (moment : Moment) (done left : List Item) (item : Item) (frame : List ℕ) (h0 h1 : Hub) (w0 w1 : Option TraceWriter) (e0 e1 : Option (List Event)) (n0 n1 s0 s1 : ℕ)
-    → Gathered ecu moment done (item ∷ left) h0 h1 w0 w1 e0 e1 n0 n1 s0 s1 → frame ≡ log_message ecu item → EachHasRoom (length frame) h1
-room_for_call ecu moment done left item frame h0 h1 w0 w1 e0 e1 n0 n1 s0 s1 far what =
-    let size : size_of (map (log_message ecu) (item ∷ left)) ≡ length frame + size_of (map (log_message ecu) left) =
-    sum_by-cons length (log_message ecu item) (map (log_message ecu) left) ∙ ap (λ (f : List ℕ). length f + size_of (map (log_message ecu) left)) (sym what) in
-    less_room (size_of (map (log_message ecu) (item ∷ left))) (length frame) h1 (omega (arith, size)) far.room
 
 -- the items before a place, and from it on, with the one there
 pub item_here : {A : Type 0} (items : List A) (k : ℕ) (item : A) → k < length items → item ≡ get_or items k item

@@ -1,6 +1,6 @@
 -- The events of admissions and of clients.
-use Rattle.std.proofs.Common.{◌≡◌, ℕ, List, [], ◌∷◌, ◌++◌, map, Option, Some, None, refl, sym, ap, subst, ◌∙◌, append_assoc}
-use Rattle.std.specs.List.{flat_map, AllByRecursion}
+use Rattle.std.proofs.Common.{◌≡◌, ℕ, List, [], ◌∷◌, ◌++◌, map, Option, refl, sym, ap, subst, ◌∙◌, append_assoc}
+use Rattle.std.specs.List.{flat_map}
 use Rattle.std.proofs.lemmas.Grind.{flat_map-append}
 use Rattle.std.proofs.lemmas.List.{append-nil, map-append}
 use Rattle.dl_bytes.specs.Id.{zero_id}
@@ -14,7 +14,7 @@ use Rattle.dl_message.specs.Frames.{log_message}
 use Rattle.dl_model.specs.Along.{along_from}
 use Rattle.dl_model.specs.Overflow.{overflow_frames}
 use Rattle.dl_model.specs.Setting.{Setting}
-use Rattle.dl_model.specs.Frames.{stored, stored_of, stored_frames}
+use Rattle.dl_model.specs.Frames.{stored, stored_of}
 use Rattle.dl_model.specs.Traffic.{Traffic, Admit, Comes, Goes}
 use Rattle.dl_model.specs.ClientStream.{traffic, traffic_of}
 use Rattle.dl_laws.proofs.Lists.{along_from-append}

@@ -1,6 +1,6 @@
 -- A trace after a call that stored frames, or that stopped at one of them.
-use Rattle.std.proofs.Common.{◌≡◌, ℕ, ◌+◌, ◌-◌, ◌≤◌, ◌<◌, Bool, true, false, cond, leb, List, [], ◌∷◌, ◌++◌, length, map, Option, Some, None, refl, sym, ap, subst, ◌∙◌, append_assoc, arith}
-use Rattle.std.specs.Prelude.{nat_lt, IfSome, IsSomeAnd}
+use Rattle.std.proofs.Common.{◌≡◌, ℕ, ◌+◌, ◌-◌, ◌≤◌, Bool, true, false, cond, leb, List, [], ◌∷◌, ◌++◌, length, map, Option, Some, None, refl, sym, ap, subst, ◌∙◌, append_assoc, arith}
+use Rattle.std.specs.Prelude.{nat_lt, IfSome}
 use Rattle.std.proofs.lemmas.Bool.Decides.{nat_tests}
 use Rattle.std.proofs.lemmas.List.{append-nil}
 use Rattle.dl_bytes.specs.declared.outcome.TraceEnd.{TraceEnd}
@@ -8,11 +8,10 @@ use Rattle.dl_bytes.specs.declared.outcome.TraceEnd.TheVariants.{Spent}
 use Rattle.dl_outside.specs.Folder.{Files}
 use Rattle.dl_model.specs.Backlog.{size_of}
 use Rattle.dl_model.specs.TraceFiles.{StoredFile, greatest, number_limit, segments_from, segments, trace_files, is_spent}
-use Rattle.dl_trace.specs.State.{Trace, IsAfter, IsSameTrace, files_after, listed}
+use Rattle.dl_trace.specs.State.{Trace, IsAfter, listed}
 use Rattle.dl_trace.specs.Stands.{HasFiles}
-use Rattle.dl_trace.specs.Pieces.{pieces, pieces_from, pieces_of, frames_in, room_of}
+use Rattle.dl_trace.specs.Pieces.{pieces, pieces_from, frames_in, room_of}
 use Rattle.dl_trace.specs.Storing.{IsStored, Stops}
-use Rattle.dl_trace.proofs.Joined.{by_same, same_later}
 use Rattle.dl_core.specs.Follows.{Run, HoldsFiles, IsTraceAfter, files_with}
 use Rattle.dl_core.specs.Storing.{StoresTill, Stores, StoresIn, StoresEach}
 

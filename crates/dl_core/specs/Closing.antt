@@ -1,5 +1,5 @@
 -- Which causes a client may be closed for.
-use Rattle.std.specs.Prelude.{◌≡◌, ℕ, ◌+◌, ◌<◌, List, [], length, IsSomeAnd}
+use Rattle.std.specs.Prelude.{◌≡◌, ℕ, ◌+◌, ◌<◌, [], length, IsSomeAnd}
 use Rattle.dl_events.specs.declared.event.Why.{Why}
 use Rattle.dl_events.specs.declared.event.Why.TheVariants.{Slow, Stuck, Stopped}
 use Rattle.dl_hub.specs.State.{Hub, outbox_of}

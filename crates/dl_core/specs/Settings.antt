@@ -1,5 +1,5 @@
 -- Which configuration a core has.
-use Rattle.std.specs.Prelude.{◌≡◌, ℕ, List, [], None, Option, IfSome}
+use Rattle.std.specs.Prelude.{◌≡◌, ℕ, [], None, Option}
 use Rattle.dl_bytes.specs.declared.conf.Conf.{Conf}
 use Rattle.dl_bytes.specs.declared.conf.Stored.{Stored}
 use Rattle.dl_model.specs.Setting.{Setting}

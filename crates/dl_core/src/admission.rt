@@ -19,7 +19,7 @@ use crate::daemon::Core;
 use crate::storing::{begin_batch, store_batch};
 use dl_bytes::{Id, Item, Moment};
 use dl_events::{Event, Journal};
-use dl_message::log_frame;
+use dl_message::write_log_frame;
 use dl_outside::Folder;
 
 impl Core {
@@ -44,13 +44,13 @@ impl Core {
         ensures rest { self.new ≡ record self.old { hub = self.new.hub; trace = self.new.trace } }
         ensures admitted { self.new.hub.admitted ≡ self.old.hub.admitted + 1 }
     {
-        let frame = log_frame(self.ecu, item);
+        write_log_frame(&mut self.frame, self.ecu, item);
         admit(
             &mut self.hub,
             &mut self.trace,
             self.ecu,
             moment,
-            &frame,
+            &self.frame,
             folder,
         );
         journal.note(logged(item, moment));
@@ -122,6 +122,7 @@ impl Core {
             self.ecu,
             moment,
             items,
+            &mut self.frame,
             journal,
         );
         store_batch(&mut self.trace, folder);

@@ -15,7 +15,7 @@ use crate::storing::{TraceWriter, add_to_batch, store};
 use dl_bytes::{Frame, Id, Item, Moment};
 use dl_events::{Event, Journal};
 use dl_hub::Hub;
-use dl_message::{log_frame, overflow_frame};
+use dl_message::{overflow_frame, write_log_frame};
 use dl_outside::Folder;
 
 /// The most that one overflow record counts.
@@ -109,13 +109,14 @@ pub fn report<F: Folder>(
     }
 }
 
-/// Admits and notes log calls, and gathers their frames for the trace.
+/// Admits and notes log calls, and gathers their frames for the trace. Each is written into `frame` in turn.
 pub fn admit_each<J: Journal>(
     hub: &mut Hub,
     writer: &mut Option<TraceWriter>,
     ecu: Id,
     moment: Moment,
     items: &[Item],
+    frame: &mut Frame,
     journal: &mut J,
 )
     requires few_items { length items.now ≤ 64 }
@@ -133,9 +134,9 @@ pub fn admit_each<J: Journal>(
     ensures spare { J.spare journal.new + length items.now ≡ J.spare journal.old }
 {
     for item in items {
-        let frame = log_frame(ecu, item);
-        hub.admit(&frame);
-        add_to_batch(writer, ecu, moment, &frame);
+        write_log_frame(frame, ecu, item);
+        hub.admit(frame);
+        add_to_batch(writer, ecu, moment, frame);
         journal.note(logged(item, moment));
     }
 }

@@ -9,7 +9,7 @@ ghost use Rattle.dl_core.specs.Follows.{Run, IsAfter};
 ghost use Rattle.dl_core.specs.Settings.{begun, setting_of};
 
 use crate::storing::TraceWriter;
-use dl_bytes::{Conf, Id, Level, OutOfMemory, Stored, TraceState};
+use dl_bytes::{Conf, Frame, Id, Level, OutOfMemory, Stored, TraceState};
 use dl_hub::Hub;
 use dl_registry::Registry;
 use dl_trace::Trace;
@@ -26,6 +26,8 @@ pub struct Core {
     pub(crate) registry: Registry,
     pub(crate) hub: Hub,
     pub(crate) trace: Option<TraceWriter>,
+    /// The frame of the log call that is being admitted. It serves each call in turn, and no contract sees it.
+    pub(crate) frame: Frame,
 }
 
 impl Model for Core {
@@ -67,6 +69,7 @@ impl Core {
             registry: Registry::make(alloc, conf.level, stored, first)?,
             hub: Hub::make(alloc, conf.ecu, conf.buffer)?,
             trace: writer_of(alloc, trace)?,
+            frame: Frame::new(),
         })
     }
 

@@ -20,9 +20,19 @@ pub fn log_frame(ecu: Id, item: &Item) -> Frame
     ensures { result ≡ log_message ecu item.now }
 {
     let mut frame = Frame::new();
+    write_log_frame(&mut frame, ecu, item);
+    frame
+}
+
+/// Writes the frame of a log call in place of what `frame` held. One frame that the caller keeps serves many calls, so that
+/// its room is blanked once, and never moved.
+pub fn write_log_frame(frame: &mut Frame, ecu: Id, item: &Item)
+    ensures { frame.new ≡ log_message ecu item.now }
+{
+    frame.clear();
     let payload = item.payload.bytes();
     write_standard(
-        &mut frame,
+        frame,
         &Standard {
             htyp: LOG_HTYP,
             mcnt: item.mcnt,
@@ -33,7 +43,7 @@ pub fn log_frame(ecu: Id, item: &Item) -> Frame
         },
     );
     write_extended(
-        &mut frame,
+        frame,
         &Extended {
             msin: 16 * item.severity.number() + 1,
             noar: item.payload.args(),
@@ -42,7 +52,6 @@ pub fn log_frame(ecu: Id, item: &Item) -> Frame
         },
     );
     frame.extend_from_slice(payload);
-    frame
 }
 
 /// The frame that reports lost messages of an application, `counter` of them since the report before.

@@ -7,7 +7,7 @@ pub mod laws;
 mod message;
 
 pub use cutter::{CLIENT_LIMIT, Cut, Cutter};
-pub use frames::{log_frame, overflow_frame};
+pub use frames::{log_frame, overflow_frame, write_log_frame};
 pub use message::{Parts, read_message};
 
 #[cfg(test)]

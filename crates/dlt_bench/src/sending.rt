@@ -2,9 +2,9 @@
 
 use crate::job::Tally;
 use crate::making::{ECU, call};
-use dl_bytes::Id;
+use dl_bytes::{Frame, Id};
 use dl_hub::Hub;
-use dl_message::log_frame;
+use dl_message::{log_frame, write_log_frame};
 use std::alloc::Global;
 
 /// The backlog's size, in bytes.
@@ -13,13 +13,20 @@ const BUFFER: u32 = 1_000_000;
 /// The only client.
 const CLIENT: u32 = 1;
 
-/// Writes the frames of so many log calls.
+/// Writes the frames of so many log calls, each in place of the one before.
 pub fn run_frames(count: u32) -> Tally {
     let mut tally = Tally::new();
-    let item = call(0);
-    for _turn in 0..count {
-        let frame = log_frame(Id::from_bytes(ECU), &item);
-        tally.count(frame.bytes().len(), frame.bytes()[0] as u64);
+    let items = [call(0), call(1)];
+    let mut frame = Frame::new();
+    for turn in 0..count {
+        // Which call comes and which byte is looked at isn't known before, so each frame has to be written.
+        write_log_frame(
+            &mut frame,
+            Id::from_bytes(ECU),
+            &items[turn as usize % items.len()],
+        );
+        let bytes = frame.bytes();
+        tally.count(bytes.len(), bytes[turn as usize % bytes.len()] as u64);
     }
     tally
 }

@@ -1,4 +1,4 @@
-use Rattle.std.proofs.Common.{◌≡◌, ◌≤◌, ◌<◌, ◌+◌, ◌*◌, ◌∷◌, [], List, ℕ, Option, refl, sym, ap, subst, ◌∙◌, arith}
+use Rattle.std.proofs.Common.{ap, arith}
 use Rattle.std.proofs.Common.{length}
 use Rattle.dl_core.proofs.Sizes.{log_size}
 use Rattle.dl_core.proofs.admitting.log_len.Goals as goal

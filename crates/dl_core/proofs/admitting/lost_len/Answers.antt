@@ -1,4 +1,4 @@
-use Rattle.std.proofs.Common.{◌≡◌, ◌≤◌, ◌<◌, ◌+◌, ◌*◌, ◌∷◌, [], List, ℕ, Option, refl, sym, ap, subst, ◌∙◌, arith}
+use Rattle.std.proofs.Common.{arith}
 use Rattle.dl_core.proofs.Sizes.{lost_size}
 use Rattle.dl_core.proofs.admitting.lost_len.Goals as goal
 

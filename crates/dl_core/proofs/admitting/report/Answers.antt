@@ -1,6 +1,4 @@
-use Rattle.std.proofs.Common.{◌≡◌, ◌∷◌, [], List, ℕ, refl, sym, ap, subst, ◌∙◌, arith, ◌<◌}
-use Rattle.dl_message.specs.Frames.{overflow_record}
-use Rattle.dl_bytes.specs.Id.{zero_id}
+use Rattle.std.proofs.Common.{◌≡◌, refl, ◌∙◌, arith}
 use Rattle.dl_core.proofs.Parts.{traces_in}
 use Rattle.dl_core.proofs.Admitted.{reports_none, reports_one, reports_all, room_for_next}
 use Rattle.dl_core.proofs.admitting.report.Goals as goal

@@ -1,4 +1,3 @@
-use Rattle.std.proofs.Common.{ℕ}
 use Rattle.dl_core.proofs.Admitted.{Reported}
 use Rattle.dl_core.proofs.Parts.{traces_in}
 use Rattle.dl_core.proofs.admitting.report.Given as goal

@@ -1,4 +1,4 @@
-use Rattle.std.proofs.Common.{List, Option, subst}
+use Rattle.std.proofs.Common.{Option, subst}
 use Rattle.std.specs.Prelude.{IfSome}
 use Rattle.dl_trace.specs.State.{Trace}
 use Rattle.dl_core.specs.Follows.{IsTraceAfter, stored_by}

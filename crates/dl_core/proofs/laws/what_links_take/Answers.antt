@@ -1,4 +1,3 @@
-use Rattle.std.proofs.Common.{◌≡◌, ◌≤◌, ◌<◌, ◌+◌, ◌*◌, ◌∷◌, [], List, ℕ, Option, refl, sym, ap, subst, ◌∙◌, arith}
 use Rattle.dl_model.specs.ClientStream.{traffic}
 use Rattle.dl_core.specs.Follows.{source_of}
 use Rattle.dl_core.proofs.laws.what_links_take.Goals as goal

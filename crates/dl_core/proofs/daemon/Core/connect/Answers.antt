@@ -1,4 +1,4 @@
-use Rattle.std.proofs.Common.{◌≡◌, ◌∷◌, [], List, ℕ, refl, sym, ap, subst, ◌∙◌}
+use Rattle.std.proofs.Common.{◌∷◌, [], refl, subst}
 use Rattle.dl_events.specs.declared.event.Event.TheVariants as event
 use Rattle.dl_core.specs.State.{Core}
 use Rattle.dl_core.specs.Follows.{AddsAlone}

@@ -1,4 +1,4 @@
-use Rattle.std.proofs.Common.{◌≡◌, ◌∷◌, [], List, ℕ, refl, sym, ap, subst, ◌∙◌}
+use Rattle.std.proofs.Common.{◌∷◌, [], List, ℕ, refl, subst}
 use Rattle.dl_model.specs.Frames.{stored}
 use Rattle.dl_model.specs.Traffic.{Admit}
 use Rattle.dl_hub.specs.Follows as hub
@@ -23,5 +23,5 @@ returns-clause-after g c =
     let same : IsSameCore old new = record { ecu = refl; level = refl; injection = refl; hub = c.admit.ensures.same } in
     subst (λ (k : Core). Adds (log_event c.args.moment c.args.item.now ∷ []) (GivesFrame c.args.item.now) k new told now) c.self.view_is
     (log_follows c.args.item.now c.args.moment old new told now faults faults_now same refl
-    (subst (λ (f : List ℕ). hub.Adds (Admit f) i.hub c.admit.new.hub) c.log_frame-frame.ensures c.admit.ensures.adds)
-    (subst (λ (f : List ℕ). StoresIn (stored i.ecu c.args.moment f ∷ []) (traces_in i.trace) (traces_in c.admit.new.writer) told now faults faults_now) c.log_frame-frame.ensures c.admit.ensures.stored))
+    (subst (λ (f : List ℕ). hub.Adds (Admit f) i.hub c.admit.new.hub) c.write_log_frame.ensures c.admit.ensures.adds)
+    (subst (λ (f : List ℕ). StoresIn (stored i.ecu c.args.moment f ∷ []) (traces_in i.trace) (traces_in c.admit.new.writer) told now faults faults_now) c.write_log_frame.ensures c.admit.ensures.stored))

@@ -1,9 +1,6 @@
-use Rattle.std.proofs.Common.{◌≡◌, ◌≤◌, ◌<◌, ◌+◌, ◌*◌, ◌∷◌, [], List, ℕ, Option, refl, sym, ap, subst, ◌∙◌, arith}
+use Rattle.std.proofs.Common.{Option, refl, subst, ◌∙◌}
 use Rattle.std.proofs.Common.{map}
-use Rattle.dl_outside.specs.Folder.{Files}
 use Rattle.dl_trace.specs.State.{Trace}
-use Rattle.dl_message.specs.Frames.{log_message}
-use Rattle.dl_model.specs.Frames.{stored}
 use Rattle.dl_core.specs.Admission.{log_event, GivesFrames}
 use Rattle.dl_core.specs.State.{Core}
 use Rattle.dl_core.specs.Storing.{StoresIn}

@@ -1,4 +1,4 @@
-use Rattle.std.proofs.Common.{◌≡◌, ◌≤◌, ◌<◌, ◌+◌, ◌*◌, ◌∷◌, [], List, ℕ, Option, refl, sym, ap, subst, ◌∙◌, arith}
+use Rattle.std.proofs.Common.{◌∷◌, [], refl, subst}
 use Rattle.dl_events.specs.declared.event.Event.TheVariants as event
 use Rattle.dl_core.specs.Admission.{GivesApid}
 use Rattle.dl_core.specs.State.{Core}

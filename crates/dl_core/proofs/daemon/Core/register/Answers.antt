@@ -1,4 +1,4 @@
-use Rattle.std.proofs.Common.{◌≡◌, ◌+◌, ◌≤◌, ap, ◌∙◌, arith}
+use Rattle.std.proofs.Common.{◌+◌, ◌≤◌, ap, ◌∙◌, arith}
 use Rattle.dl_registry.specs.Kept.{owed_change}
 use Rattle.dl_core.specs.State.{Core}
 use Rattle.dl_core.specs.Waiting.{changes_by, waiting}
