@@ -60,11 +60,13 @@ impl Core {
         requires { IsSome (outbox_of self.old.hub client) }
         ensures sent { Pumps client self.old.hub self.new.hub (L.taken link.old) (L.taken link.new) }
         ensures all { result ≡ Pumped.All → IsSomeAnd (outbox_of self.new.hub client) (λ outbox. outbox.bytes ≡ []) }
+        ensures some { result ≡ Pumped.Busy → IsSomeAnd (outbox_of self.new.hub client) (λ outbox. 0 < length outbox.bytes) }
         ensures faults { HasFailed result (L.faults link.old) (L.faults link.new) }
         ensures waits { HasWaited result (L.waits link.old) (L.waits link.new) }
         ensures idles { L.idles link.new ≡ L.idles link.old }
         ensures left { Stays (L.left link.old) (L.left link.new) }
         ensures given { Stays (L.given link.old) (L.given link.new) }
+        ensures shut { L.is_shut link.new ≡ L.is_shut link.old }
         ensures rest { self.new ≡ record self.old { hub = self.new.hub } }
     {
         self.hub.pump(client, link)

@@ -283,11 +283,13 @@ impl Hub {
         requires { IsSome (outbox_of self.old client) }
         ensures sent { Pumps client self.old self.new (L.taken link.old) (L.taken link.new) }
         ensures all { result ≡ Pumped.All → IsSomeAnd (outbox_of self.new client) (λ outbox. outbox.bytes ≡ []) }
+        ensures some { result ≡ Pumped.Busy → IsSomeAnd (outbox_of self.new client) (λ outbox. 0 < length outbox.bytes) }
         ensures faults { HasFailed result (L.faults link.old) (L.faults link.new) }
         ensures waits { HasWaited result (L.waits link.old) (L.waits link.new) }
         ensures idles { L.idles link.new ≡ L.idles link.old }
         ensures left { Stays (L.left link.old) (L.left link.new) }
         ensures given { Stays (L.given link.old) (L.given link.new) }
+        ensures shut { L.is_shut link.new ≡ L.is_shut link.old }
     {
         loop {
             let piece = self.front(client);

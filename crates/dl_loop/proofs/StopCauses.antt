@@ -33,7 +33,7 @@ idles_stay faults faults_now idles idles_now gave.Failed cause = omega (arith, c
 waits_grow : (client : ℕ) (core : Core) (old new : Line) → HasSent client core old new → old.waits ≤ new.waits
 waits_grow client core old new sent = elim sent [
   | inl none ↦ omega (arith, none.1)
-  | inr risen ↦ risen.0
+  | inr busy ↦ busy.1.0
 ]
 
 tried_one : (client : ℕ) (old new : Stage) → GoesOn client false old new → HasTried 1 old.line new.line
@@ -93,7 +93,7 @@ blocked_one client old new goes some =
     let heard = goes.listens.hears.waits in
     elim goes.pumps.sends.0 [
       | inl none ↦ absurd (some (subst (λ (s : Side). IsEmpty client s) (sym goes.pumps.closes) none.0))
-      | inr risen ↦ (omega (arith, heard, risen.0), omega (arith, heard, risen.1))
+      | inr busy ↦ (omega (arith, heard, busy.1.0), omega (arith, heard, busy.1.1))
     ]
 
 blocked : (client count : ℕ) (old last : Stage) → 0 < count → TurnsOn client count old last → (IsEmpty client last.side → ⊥) → HasRisen old.line.waits last.line.waits

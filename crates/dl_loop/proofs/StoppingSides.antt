@@ -6,7 +6,7 @@ use Rattle.dl_outside.specs.Outside.{HasRisen, Stays}
 use Rattle.dl_hub.specs.State.{Waiting, outbox_of}
 use Rattle.dl_loop.specs.State.{Line, Side}
 use Rattle.dl_loop.specs.Stopping.{GoesOn, IsQuiet, Stage, TurnsOn}
-use Rattle.dl_loop.specs.Turns.{HasGiven}
+use Rattle.dl_loop.specs.Turns.{HasGiven, HasSent}
 
 pub empty_outbox : (o : Option Waiting) → IsSomeAnd o (λ b. length b.bytes ≡ 0) → IsSomeAnd o (λ b. b.bytes ≡ [])
 empty_outbox None is = absurd is
@@ -21,13 +21,13 @@ pub quiet_so : (client : ℕ) (quiet gave : Bool) (line heard line_now : Line) (
     → (quiet ≡ true → (gave ≡ false) × IsSomeAnd (outbox_of side.core.hub client) (λ outbox. length outbox.bytes ≡ 0))
     → (quiet ≡ false → (gave ≡ true) ⊎ IsSomeAnd (outbox_of side.core.hub client) (λ outbox. 0 < length outbox.bytes))
     → (gave ≡ true → HasGiven line.given heard.given) → (gave ≡ false → HasRisen line.idles heard.idles × Stays line.given heard.given)
-    → (IsSomeAnd (outbox_of side.core.hub client) (λ outbox. outbox.bytes ≡ []) × (line_now.waits ≡ heard.waits)) ⊎ (HasRisen heard.waits line_now.waits) → IsQuiet client quiet line heard line_now side
+    → HasSent client side.core heard line_now → IsQuiet client quiet line heard line_now side
 quiet_so client true gave line heard line_now side is not given idle sent = let so = is refl in let idled = idle so.0 in (idled.0, empty_outbox (outbox_of side.core.hub client) so.1, idled.1)
 quiet_so client false gave line heard line_now side is not given idle sent = elim (not refl) [
   | inl some ↦ inl (given some)
   | inr left ↦ elim sent [
     | inl none ↦ not_empty (outbox_of side.core.hub client) left none.0
-    | inr waited ↦ inr waited
+    | inr busy ↦ inr busy.1
   ]
 ]
 

@@ -89,10 +89,11 @@ pub record IsTurn (client : ℕ) (line line_now : Line) (cutter cutter_now : Cut
 
 -- ---- one pump
 
--- nothing is left to send, or the link took nothing more and its count of busy turns rose
+-- nothing is left to send; or something is, the link took nothing more, and its count of busy turns rose
 abbrev pub HasSent : ℕ → Core → Line → Line → Type 0
 HasSent client core old new =
-    (IsSomeAnd (outbox_of core.hub client) (λ outbox. outbox.bytes ≡ []) × (new.waits ≡ old.waits)) ⊎ (HasRisen old.waits new.waits)
+    (IsSomeAnd (outbox_of core.hub client) (λ outbox. outbox.bytes ≡ []) × (new.waits ≡ old.waits))
+    ⊎ (IsSomeAnd (outbox_of core.hub client) (λ outbox. 0 < length outbox.bytes) × HasRisen old.waits new.waits)
 
 -- why a client is closed after a pump: only where its link failed, and was not busy; else all was sent that the link took
 abbrev pub SendsRightly : ℕ → Option Why → Core → Line → Line → Type 0
@@ -101,11 +102,12 @@ SendsRightly client (Some Broken) core old new = HasRisen old.faults new.faults 
 SendsRightly client (Some other) core old new = ⊥
 
 -- What waits for a client went through its link, as much as the link took, and the client was closed where there is a cause. Its link was
--- asked for nothing.
+-- asked for nothing, and was not shut.
 pub record IsPump (client : ℕ) (line line_now : Line) (why : Option Why) (old new : Side) : Type 0 where
   pub between : Side
   pub pumps : Pumps client old.core.hub between.core.hub line.taken line_now.taken
   pub rest : between ≡ record old { core = record old.core { hub = between.core.hub } }
   pub sends : SendsRightly client why between.core line line_now
   pub unasked : (line_now.idles ≡ line.idles) × Stays line.left line_now.left × Stays line.given line_now.given
+  pub shut : line_now.is_shut ≡ line.is_shut
   pub closes : ClosesFor client why between new

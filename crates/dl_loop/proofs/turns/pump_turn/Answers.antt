@@ -15,6 +15,7 @@ returns-in-Failed-clause-pump g c = λ sets pushed refusals files faults.
       rest = ap (λ (k : Core). side k sets pushed refusals c.args.journal.now files faults) pumped.rest;
       sends = (pumped.faults, pumped.waits);
       unasked = (pumped.idles, pumped.left, pumped.given);
+      shut = pumped.shut;
       closes = closes c.args.client Broken c.pump.new.self c.close.new.self sets pushed refusals c.args.journal.now c.close.new.journal files faults tt
           (ap (λ (k : Core). owed_change k.registry) pumped.rest ∙ c.requires.settled) c.close.ensures.value c.close.ensures.after c.close.ensures.event;
     }

@@ -11,6 +11,7 @@ loop-piece-init g c = record {
   idles = refl;
   left = stays (g.L.Link.left c.args.link.now);
   given = stays (g.L.Link.given c.args.link.now);
+  shut = refl;
 }
 
 pub loop-piece-smaller : goal.loop-piece-smaller
@@ -30,4 +31,5 @@ loop-piece-preserved g c =
       idles = c.in-Bytes.ensures.idles ∙ c.loop-piece.invariant.idles;
       left = still_stays (g.L.Link.left c.args.link.now) (g.L.Link.left c.loop-piece.link) (g.L.Link.left c.send.new.self) c.loop-piece.invariant.left c.in-Bytes.ensures.left;
       given = still_stays (g.L.Link.given c.args.link.now) (g.L.Link.given c.loop-piece.link) (g.L.Link.given c.send.new.self) c.loop-piece.invariant.given c.in-Bytes.ensures.ungiven;
+      shut = c.in-Bytes.ensures.shut ∙ c.loop-piece.invariant.shut;
     }

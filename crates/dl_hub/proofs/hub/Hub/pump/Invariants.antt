@@ -15,6 +15,7 @@ invariant-loop-piece g l = record {
   idles : g.L.Link.idles l.link ≡ g.L.Link.idles l.fn.link;
   left : Stays (g.L.Link.left l.fn.link) (g.L.Link.left l.link);
   given : Stays (g.L.Link.given l.fn.link) (g.L.Link.given l.link);
+  shut : g.L.Link.is_shut l.link ≡ g.L.Link.is_shut l.fn.link;
 }
 
 abbrev pub decreases-loop-piece : goal.decreases-loop-piece
