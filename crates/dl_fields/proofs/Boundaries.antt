@@ -1,13 +1,15 @@
 -- Where a line may be cut: at blanks, behind blanks, and at its end.
-use Rattle.std.proofs.Common.{◌≡◌, ℕ, zero, suc, ◌+◌, ◌<◌, ◌≤◌, Bool, true, not, eqb, List, [], ◌∷◌, length, drop, get_or, refl, ap, ◌∙◌, subst, inl, inr, arith, length-drop, drop-cons, add-one}
+use Rattle.std.proofs.Common.{◌≡◌, ℕ, zero, suc, ◌+◌, ◌<◌, ◌≤◌, Bool, true, not, eqb, List, [], ◌∷◌, length, drop, get_or, Some, refl, sym, ap, ◌∙◌, subst, inl, inr, arith, length-drop, drop-cons, add-one}
 use Rattle.std.specs.Prelude.{unwrap_or, position}
 use Rattle.std.specs.List.{position_or_len}
 use Rattle.std.specs.Str.{IsUtf8, IsCharBoundary}
 use Rattle.std.proofs.lemmas.Bool.{cases_Bool, or_cases, eqb-true, cases_lt, not-false, lt-ltb, le-ltb}
 use Rattle.std.proofs.lemmas.List.{drop_all}
+use Rattle.std.proofs.lemmas.List.Quantifiers.{position-Some}
 use Rattle.std.proofs.lemmas.List.Sums.{prefix_len-le-length, fails_before_first, passes_at_first}
 use Rattle.std.proofs.lemmas.Str.{IsCharBoundary-start, IsCharBoundary-end, IsCharBoundary-before_ascii, IsCharBoundary-after_ascii}
 use Rattle.dl_text.specs.Lines.{is_blank, without_blanks_before}
+use Rattle.dl_fields.specs.Argument.{is_colon}
 use Rattle.dl_fields.specs.Fields.{is_end}
 
 blank_is_ascii : (b : ℕ) → is_blank b ≡ true → b < 128
@@ -77,3 +79,14 @@ behind_letters (b ∷ xs) = elim (cases_Bool (is_blank b)) [
 
 pub behind_them : (text : List ℕ) → drop (unwrap_or (position (λ b. not (is_blank b)) text) (length text)) text ≡ without_blanks_before text
 behind_them text = rw (first_or_len (λ b. not (is_blank b)) text) (behind_letters text)
+
+-- what begins with a colon is cut before it and behind it
+colon_is_ascii : (text : List ℕ) (n : ℕ) → Some n ≡ position is_colon text → get_or text n 0 < 128
+colon_is_ascii text n first =
+    let is = eqb-true (get_or text n 0) 58 (position-Some is_colon text n 0 (sym first)).1 in omega arith
+
+pub before_colon : (text : List ℕ) (n : ℕ) → Some n ≡ position is_colon text → n < length text → IsCharBoundary text n
+before_colon text n first within = IsCharBoundary-before_ascii text n within (colon_is_ascii text n first)
+
+pub behind_colon : (text : List ℕ) (n : ℕ) → IsUtf8 text → Some n ≡ position is_colon text → n < length text → IsCharBoundary text (n + 1)
+behind_colon text n utf8 first within = IsCharBoundary-after_ascii text n utf8 within (colon_is_ascii text n first)

@@ -5,6 +5,7 @@ pub mod Quotes
 pub mod Payloads
 pub mod Refused
 pub mod Closed
+pub mod Marks
 pub mod Spellings
 pub mod Values
 pub mod JoinedFields

@@ -1,7 +1,6 @@
 -- A text in quotes, character by character.
 use Rattle.std.proofs.Common.{◌≡◌, ◌≢◌, ℕ, suc, ◌<◌, Bool, true, false, ◌||◌, eqb, List, [], ◌∷◌, ◌++◌, length, get_or, Option, Some, None, refl, sym, ap, ◌∙◌, append_assoc, append-nil, lit<, inl, inr, arith}
 use Rattle.std.specs.Prelude.{option_map, encode_utf8}
-use Rattle.std.specs.List.{list_any}
 use Rattle.std.proofs.lemmas.Bool.{eqb-true, eqb-false, ne_eqb, or_cases}
 use Rattle.std.proofs.lemmas.Str.{inside_one, encode_ascii, length-encode, len_utf8_bounds}
 use Rattle.dl_fields.specs.Argument.{is_escapable, unescaped}
@@ -14,17 +13,6 @@ or_parts true y e = absurd cc
 pub one_byte : (b : ℕ) (rest : List ℕ) → b ≢ 34 → b ≢ 92 → unescaped (b ∷ rest) ≡ option_map (λ text. b ∷ text) (unescaped rest)
 one_byte b [] no_quote no_backslash = rw (ne_eqb b 34 no_quote) refl
 one_byte b (c ∷ rest) no_quote no_backslash = rw (ne_eqb b 34 no_quote, ne_eqb b 92 no_backslash) refl
-
--- so do all bytes of a text in which there is neither
-plain_says : (text : List ℕ) → list_any (λ b. eqb b 34) text ≡ false → list_any (λ b. eqb b 92) text ≡ false → unescaped (text ++ 34 ∷ []) ≡ Some text
-plain_says [] no_quote no_backslash = refl
-plain_says (b ∷ text) no_quote no_backslash =
-    let quotes = or_parts (eqb b 34) (list_any (λ b. eqb b 34) text) no_quote in
-    let backslashes = or_parts (eqb b 92) (list_any (λ b. eqb b 92) text) no_backslash in
-    one_byte b (text ++ 34 ∷ []) (eqb-false b 34 quotes.0) (eqb-false b 92 backslashes.0) ∙ ap (option_map (λ rest. b ∷ rest)) (plain_says text quotes.1 backslashes.1)
-
-pub plain_text : (quoted text : List ℕ) → quoted ≡ text ++ 34 ∷ [] → list_any (λ b. eqb b 34) text ≡ false → list_any (λ b. eqb b 92) text ≡ false → unescaped quoted ≡ Some text
-plain_text quoted text is no_quote no_backslash = ap unescaped is ∙ plain_says text no_quote no_backslash
 
 -- so do several
 grouped : (b : ℕ) (bytes : List ℕ) (o : Option (List ℕ)) → option_map (λ text. b ∷ text) (option_map (λ text. bytes ++ text) o) ≡ option_map (λ text. (b ∷ bytes) ++ text) o

@@ -1,14 +1,15 @@
 //! An argument of a log line, from its field to the payload.
 
-ghost use Rattle.std.specs.Prelude.{◌≡◌, Some, IfOk, IfSome, option_map, is_some, string_bytes};
+ghost use Rattle.std.specs.Prelude.{◌≡◌, ◌<◌, Some, IfOk, IfSome, length, option_map, is_some, string_bytes};
+ghost use Rattle.std.specs.List.{position};
 ghost use Rattle.std.specs.Option.{ok_or};
 ghost use Rattle.dl_args.specs.Argument.{written, Adds, IsValue};
-ghost use Rattle.dl_fields.specs.Argument.{is_escapable, unescaped, width_of_bits, number_kind, kind_of, truth_of, fill_of, raw_of, value_by_kind, parted, behind_quote, quoted_value, word_value, value_of, is_label, takes_unit, may_name, with_name, named_of, behind_named, argument_of, is_argument};
+ghost use Rattle.dl_fields.specs.Argument.{is_escapable, unescaped, width_of_bits, number_kind, kind_of, truth_of, fill_of, raw_of, value_by_kind, is_colon, parted, behind_quote, quoted_value, word_value, value_of, is_label, takes_unit, may_name, with_name, named_of, behind_named, argument_of, is_argument};
 ghost use Rattle.dl_fields.specs.Added.{AddsArgument, unnamed, added};
 ghost use Rattle.dl_fields.specs.Kind.{Says, is_of_form};
 ghost use Rattle.dl_fields.specs.declared.kind.ScriptKind.TheVariants as wrong;
 
-use crate::cut::closing_quote;
+use crate::cut::{closing_quote, first_mark};
 use crate::kind::{LineError, ScriptKind};
 use crate::value::{number_within, signed, unsigned};
 use dl_args::{
@@ -69,12 +70,12 @@ pub fn is_closed(quoted: &str) -> bool
 fn plain(quoted: &str) -> Option<&str>
     ensures { IfSome result (λ text. unescaped quoted.now ≡ Some text.now) }
 {
-    let text = quoted.strip_suffix('"')?;
-    let bytes = text.as_bytes();
-    if bytes.contains(&b'"') || bytes.contains(&b'\\') {
+    let bytes = quoted.as_bytes();
+    let place = first_mark(bytes)?;
+    if place + 1 < bytes.len() || bytes[place] != b'"' {
         return None;
     }
-    Some(text)
+    Some(&quoted[..place])
 }
 
 /// A text in quotes, from behind its first quote on.
@@ -201,18 +202,30 @@ fn value_of_kind(alloc: Global, kind: Kind, text: &str) -> Result<Value<'static>
     }
 }
 
+/// The place of the first colon.
+fn first_colon(text: &[u8]) -> Option<usize>
+    ensures value { result ≡ position is_colon text.now }
+    ensures within { IfSome result (λ n. n < length text.now) }
+{
+    text.iter().position(|b| *b == b':')
+}
+
 /// What stands before the first colon, and what stands behind it.
 fn parted(text: &str) -> Option<(&str, &str)>
     ensures { option_map (λ parts. (parts.0.now, parts.1.now)) result ≡ parted text.now }
 {
-    text.split_once(':')
+    let place = first_colon(text.as_bytes())?;
+    Some((&text[..place], &text[place + 1..]))
 }
 
 /// What stands behind a quote at the front.
 pub fn behind_quote(text: &str) -> Option<&str>
     ensures { option_map (λ rest. rest.now) result ≡ behind_quote text.now }
 {
-    text.strip_prefix('"')
+    match text.as_bytes() {
+        [first, ..] if *first == b'"' => Some(&text[1..]),
+        _ => None,
+    }
 }
 
 /// What stands behind `named:`.

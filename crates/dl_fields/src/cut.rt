@@ -1,10 +1,11 @@
 //! A line of a script, cut into fields.
 
 ghost use Rattle.std.specs.Prelude.{◌≡◌, true, false, not, ◌≤◌, ◌<◌, ◌+◌, IfSome, IfOk, Some, None, option_map, length, drop, if◌then◌else◌};
-ghost use Rattle.std.specs.List.{position};
+ghost use Rattle.std.specs.List.{list_any, position};
 ghost use Rattle.std.specs.Option.{option_and_then};
 ghost use Rattle.std.specs.Str.{IsCharBoundary};
 ghost use Rattle.dl_text.specs.Lines.{is_blank, without_blanks_before};
+ghost use Rattle.dl_fields.specs.Argument.{is_escapable};
 ghost use Rattle.dl_fields.specs.Fields.{worded, quoted_len, is_end, field_len, fields_of, texts};
 
 use crate::argument::behind_quote;
@@ -17,7 +18,7 @@ fn first_blank(text: &[u8]) -> Option<usize>
     ensures value { result ≡ position is_blank text.now }
     ensures within { IfSome result (λ n. n ≤ length text.now) }
 {
-    text.iter().position(|b| is_blank(*b))
+    text.iter().position(|b| *b <= b' ' && is_blank(*b))
 }
 
 /// The place of the first byte that is no blank.
@@ -70,16 +71,61 @@ fn escaped_len(text: &[u8]) -> Option<usize>
     None
 }
 
+/// Whether a byte is one that no text in quotes holds bare: a quote or a backslash.
+fn is_mark(byte: u8) -> bool
+    ensures { result ≡ is_escapable byte }
+{
+    byte == b'"' || byte == b'\\'
+}
+
+/// Whether a quote or a backslash is among these bytes. It looks at all of them, so that the compiler makes vector code.
+fn has_mark(piece: &[u8; 16]) -> bool
+    ensures { result ≡ list_any is_escapable piece.now }
+{
+    let mut found = false;
+    for byte in piece {
+        found |= is_mark(*byte);
+    }
+    found
+}
+
+/// The place of the first quote or backslash, byte by byte.
+fn first_mark_near(text: &[u8]) -> Option<usize>
+    ensures value { result ≡ position is_escapable text.now }
+    ensures within { IfSome result (λ n. n < length text.now) }
+{
+    text.iter().position(|byte| is_mark(*byte))
+}
+
+/// The place of the first quote or backslash.
+pub fn first_mark(text: &[u8]) -> Option<usize>
+    ensures value { result ≡ position is_escapable text.now }
+    ensures within { IfSome result (λ n. n < length text.now) }
+{
+    let mut passed = 0;
+    let mut rest = text;
+    while let Some((piece, behind)) = rest.split_first_chunk::<16>() {
+        if has_mark(piece) {
+            break;
+        }
+        passed += 16;
+        rest = behind;
+    }
+    let place = first_mark_near(rest)?;
+    Some(passed + place)
+}
+
 /// The length of a quoted text behind its first quote, its closing quote included.
 pub fn closing_quote(quoted: &str) -> Option<usize>
     ensures value { result ≡ quoted_len false quoted.now }
     ensures within { IfSome result (λ n. (0 < n) × (n ≤ length quoted.now)) }
 {
-    let (text, _) = quoted.split_once('"')?;
-    if text.as_bytes().contains(&b'\\') {
-        return escaped_len(quoted.as_bytes());
+    let bytes = quoted.as_bytes();
+    let place = first_mark(bytes)?;
+    if bytes[place] == b'\\' {
+        return escaped_len(bytes);
     }
-    Some(text.len() + 1)
+    Some(place + 1)
 }
 
 /// Whether a field ends where this text begins.

@@ -153,33 +153,40 @@ fn are_arguments(fields: &[&str]) -> bool
 }
 
 /// The payload of a log call, by its arguments; nothing where they don't fit.
-fn payload(alloc: Global, fields: &[&str]) -> Result<Option<CallArguments>, LineError>
+#[inline(always)]
+fn payload(
+    alloc: Global,
+    payload: &mut Payload,
+    fields: &[&str],
+) -> Result<Option<CallArguments>, LineError>
     ensures { Says (λ x. x) result (payload_fields (texts fields.now)) }
 {
-    let mut payload = Payload::new();
+    payload.clear();
     let mut fits = true;
     for field in fields {
-        if !add(alloc, &mut payload, field)? {
+        if !add(alloc, payload, field)? {
             fits = false;
         }
     }
     if !fits {
         return Ok(None);
     }
-    Ok(Some(CallArguments::of(alloc, &payload)?))
+    Ok(Some(CallArguments::of(alloc, payload)?))
 }
 
 /// The payload of a log call, or what is wrong with it, where each argument is of a known form. So a call whose
 /// arguments are all right is looked at once.
+#[inline(always)]
 #[tactic(auto, using(crate::proofs::Refused::payload_read))]
 fn formed_payload(
     alloc: Global,
+    room: &mut Payload,
     fields: &[&str],
 ) -> Result<Result<Option<CallArguments>, ScriptKind>, LineError>
     ensures form { Says (λ _. true) result (formed (list_all is_argument (texts fields.now))) }
     ensures value { IfOk result (λ read. read ≡ payload_fields (texts fields.now)) }
 {
-    match payload(alloc, fields) {
+    match payload(alloc, room, fields) {
         Ok(payload) => Ok(Ok(payload)),
         Err(LineError::OutOfMemory) => Err(LineError::OutOfMemory),
         Err(LineError::Fault(kind)) => {
@@ -192,9 +199,17 @@ fn formed_payload(
     }
 }
 
-/// `W CTID SEV NUMBER ARG..`, with a number in this range.
+/// `W CTID SEV NUMBER ARG..`, with a number in this range. The arguments are put together in this payload, in place of what it
+/// held; one serves many lines.
+#[inline(always)]
 #[tactic(auto, unfolding(crate::specs::Line::call_line))]
-pub fn log_call(alloc: Global, fields: &[&str], low: u32, high: u32) -> Result<Call, LineError>
+pub fn log_call(
+    alloc: Global,
+    room: &mut Payload,
+    fields: &[&str],
+    low: u32,
+    high: u32,
+) -> Result<Call, LineError>
     ensures { Says (λ x. x) result (call_line low high (texts fields.now)) }
 {
     let [
@@ -207,7 +222,7 @@ pub fn log_call(alloc: Global, fields: &[&str], low: u32, high: u32) -> Result<C
     else {
         return Err(LineError::Fault(ScriptKind::Fields));
     };
-    let payload = formed_payload(alloc, arguments)?;
+    let payload = formed_payload(alloc, room, arguments)?;
     let writer = writer(writer_number)?;
     let ctid = id(ctid)?;
     let severity = severity(severity_word)?;

@@ -132,7 +132,8 @@ fn cuts_lines(rt: HostRuntime) -> Result<(), Fail> {
 fn reads_forms(alloc: Global) -> Result<bool, AllocError> {
     let text = app(alloc, &["A", "16", "\"a b\""]).is_ok()
         && context(alloc, &["A", "B", "off", "\"\""]).is_ok();
-    let call = log_call(alloc, &["1", "B", "info", "7", "bool:1"], 0, 9).is_ok();
+    let fields = ["1", "B", "info", "7", "bool:1"];
+    let call = log_call(alloc, &mut Payload::new(), &fields, 0, 9).is_ok();
     let bytes = client_bytes(alloc, &["1", "00"]).is_ok() && user(alloc, &["16", "0aFF"]).is_ok();
     Ok(text && call && bytes)
 }

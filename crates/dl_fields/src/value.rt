@@ -1,6 +1,6 @@
 //! What a field of a script says: a word, an id, a number, a severity or a level.
 
-ghost use Rattle.std.specs.Prelude.{◌≡◌, ◌*◌, ◌^◌, ◌<◌, ◌≤◌, IfSome, IfOk, FitsSigned};
+ghost use Rattle.std.specs.Prelude.{◌≡◌, ◌==◌, ◌*◌, ◌^◌, ◌<◌, ◌≤◌, IfSome, IfOk, FitsSigned, slice_index};
 ghost use Rattle.std.specs.Char.{is_ascii_digit};
 ghost use Rattle.std.specs.List.{list_all};
 ghost use Rattle.dl_args.specs.Width.{byte_count, int_type};
@@ -20,11 +20,21 @@ pub fn id(field: &str) -> Result<Id, ScriptKind>
     Id::of(field).ok().ok_or(ScriptKind::Id)
 }
 
+/// Whether a plus stands at the front.
+fn has_plus(field: &str) -> bool
+    ensures { result ≡ (slice_index field.now 0 == 43) }
+{
+    match field.as_bytes() {
+        [b'+', ..] => true,
+        _ => false,
+    }
+}
+
 /// A number of at most 32 bits, with no sign.
 fn digits_32(field: &str) -> Option<u32>
     ensures { result ≡ unsigned_field 32 field.now }
 {
-    if field.starts_with('+') {
+    if has_plus(field) {
         return None;
     }
     field.parse().ok()
@@ -34,7 +44,7 @@ fn digits_32(field: &str) -> Option<u32>
 fn digits_64(field: &str) -> Option<u64>
     ensures { result ≡ unsigned_field 64 field.now }
 {
-    if field.starts_with('+') {
+    if has_plus(field) {
         return None;
     }
     field.parse().ok()
@@ -44,7 +54,7 @@ fn digits_64(field: &str) -> Option<u64>
 fn digits_128(field: &str) -> Option<u128>
     ensures { result ≡ unsigned_field 128 field.now }
 {
-    if field.starts_with('+') {
+    if has_plus(field) {
         return None;
     }
     field.parse().ok()
@@ -54,7 +64,7 @@ fn digits_128(field: &str) -> Option<u128>
 fn integer(field: &str) -> Option<i128>
     ensures { result ≡ signed_field 128 field.now }
 {
-    if field.starts_with('+') {
+    if has_plus(field) {
         return None;
     }
     field.parse().ok()
@@ -143,6 +153,9 @@ fn are_digits(field: &str) -> bool
 pub fn writer(field: &str) -> Result<u8, ScriptKind>
     ensures { result ≡ ordinal_field 8 field.now }
 {
+    if let [digit @ b'0'..=b'9'] = field.as_bytes() {
+        return Ok(*digit - b'0');
+    }
     if !are_digits(field) {
         return Err(ScriptKind::Number);
     }

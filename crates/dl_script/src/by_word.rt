@@ -10,7 +10,9 @@ ghost use Rattle.dl_script.specs.declared.word.ScenarioWord.TheVariants as scene
 
 use crate::claim::Claim;
 use crate::read::{Read, all_calls, one_call, says};
+use crate::scratch::Scratch;
 use crate::word::{ScenarioWord, StepWord, scenario_word, step_word};
+use dl_bytes::Payload;
 use dl_fields::{
     Call, LineError, ScriptKind, app, app_id, bare, client_bytes, client_number, clock, context,
     cut_into, leave, levels, log_call, user, worded, writer_number,
@@ -89,10 +91,10 @@ fn clock_step(fields: &[&str]) -> Result<Read<Step>, LineError>
 
 /// `load`
 #[tactic(auto, unfolding(crate::specs::Line::step_by_word))]
-fn load_step(alloc: Global, fields: &[&str]) -> Result<Read<Step>, LineError>
+fn load_step(alloc: Global, payload: &mut Payload, fields: &[&str]) -> Result<Read<Step>, LineError>
     ensures { Says (λ x. x) result (step_by_word word.Load (texts fields.now)) }
 {
-    let call = log_call(alloc, fields, 0, u32::MAX)?;
+    let call = log_call(alloc, payload, fields, 0, u32::MAX)?;
     Ok(loaded(call))
 }
 
@@ -116,19 +118,19 @@ fn count_step(fields: &[&str]) -> Result<Read<Step>, LineError>
 
 /// `call`
 #[tactic(auto, unfolding(crate::specs::Line::step_by_word))]
-fn call_step(alloc: Global, fields: &[&str]) -> Result<Read<Step>, LineError>
+fn call_step(alloc: Global, payload: &mut Payload, fields: &[&str]) -> Result<Read<Step>, LineError>
     ensures { Says (λ x. x) result (step_by_word word.Call (texts fields.now)) }
 {
-    let call = log_call(alloc, fields, 0, u32::MAX)?;
+    let call = log_call(alloc, payload, fields, 0, u32::MAX)?;
     Ok(called(call))
 }
 
 /// `log`
 #[tactic(auto, unfolding(crate::specs::Line::step_by_word))]
-fn log_step(alloc: Global, fields: &[&str]) -> Result<Read<Step>, LineError>
+fn log_step(alloc: Global, payload: &mut Payload, fields: &[&str]) -> Result<Read<Step>, LineError>
     ensures { Says (λ x. x) result (step_by_word word.Log (texts fields.now)) }
 {
-    let call = log_call(alloc, fields, 0, u32::MAX)?;
+    let call = log_call(alloc, payload, fields, 0, u32::MAX)?;
     Ok(logged(call))
 }
 
@@ -214,7 +216,12 @@ fn inject_step(fields: &[&str]) -> Result<Read<Step>, LineError>
 }
 
 /// What the fields of a line of a step script say, by its word.
-fn step_by_word(alloc: Global, word: StepWord, fields: &[&str]) -> Result<Read<Step>, LineError>
+fn step_by_word(
+    alloc: Global,
+    payload: &mut Payload,
+    word: StepWord,
+    fields: &[&str],
+) -> Result<Read<Step>, LineError>
     ensures { Says (λ x. x) result (step_by_word word (texts fields.now)) }
 {
     match word {
@@ -222,11 +229,11 @@ fn step_by_word(alloc: Global, word: StepWord, fields: &[&str]) -> Result<Read<S
         StepWord::Context => context_step(alloc, fields),
         StepWord::Writer => writer_step(fields),
         StepWord::Clock => clock_step(fields),
-        StepWord::Load => load_step(alloc, fields),
+        StepWord::Load => load_step(alloc, payload, fields),
         StepWord::Push => push_step(fields),
         StepWord::Count => count_step(fields),
-        StepWord::Call => call_step(alloc, fields),
-        StepWord::Log => log_step(alloc, fields),
+        StepWord::Call => call_step(alloc, payload, fields),
+        StepWord::Log => log_step(alloc, payload, fields),
         StepWord::Take => take_step(fields),
         StepWord::Losses => losses_step(fields),
         StepWord::Levels => levels_step(fields),
@@ -243,6 +250,7 @@ fn step_by_word(alloc: Global, word: StepWord, fields: &[&str]) -> Result<Read<S
 #[tactic(auto, unfolding(crate::specs::Line::scenario_by_word))]
 fn scenario_by_word(
     alloc: Global,
+    payload: &mut Payload,
     word: ScenarioWord,
     fields: &[&str],
 ) -> Result<Read<ScenarioLine>, LineError>
@@ -266,7 +274,7 @@ fn scenario_by_word(
             Ok(says(Claim::Writer { apid }, ScenarioLine::Writer { apid }))
         }
         ScenarioWord::Calls => {
-            let call = log_call(alloc, fields, 1, 1_000_000)?;
+            let call = log_call(alloc, payload, fields, 1, 1_000_000)?;
             Ok(all_calls(call))
         }
         ScenarioWord::Client => {
@@ -297,7 +305,7 @@ fn scenario_by_word(
 /// What a line of a step script says that is text.
 fn step_in<'a>(
     alloc: Global,
-    fields: &mut Vec<&'a str>,
+    scratch: &mut Scratch<'a>,
     line: &'a str,
 ) -> Result<Read<Step>, LineError>
     ensures { Says (λ x. x) result (line_of_text step_word step_by_word line.now) }
@@ -306,22 +314,22 @@ fn step_in<'a>(
     let Some(word) = step_word(first) else {
         return Err(LineError::Fault(ScriptKind::Word));
     };
-    if !cut_into(fields, rest)? {
+    if !cut_into(&mut scratch.fields, rest)? {
         return Err(LineError::Fault(ScriptKind::Fields));
     }
-    step_by_word(alloc, word, fields)
+    step_by_word(alloc, &mut scratch.payload, word, &scratch.fields)
 }
 
-/// What a line of a step script says, or what is wrong with it. The list is for its fields.
+/// What a line of a step script says, or what is wrong with it. The scratch takes its fields and its arguments.
 pub fn step<'a>(
     alloc: Global,
-    fields: &mut Vec<&'a str>,
+    scratch: &mut Scratch<'a>,
     line: &'a [u8],
 ) -> Result<Read<Step>, LineError>
     ensures { Says (λ x. x) result (step_of line.now) }
 {
     match from_utf8(line) {
-        Ok(text) => step_in(alloc, fields, text),
+        Ok(text) => step_in(alloc, scratch, text),
         Err(_) => Err(LineError::Fault(ScriptKind::NotUtf8)),
     }
 }
@@ -329,7 +337,7 @@ pub fn step<'a>(
 /// What a line of a scenario says that is text.
 fn scenario_line_in<'a>(
     alloc: Global,
-    fields: &mut Vec<&'a str>,
+    scratch: &mut Scratch<'a>,
     line: &'a str,
 ) -> Result<Read<ScenarioLine>, LineError>
     ensures { Says (λ x. x) result (line_of_text scenario_word scenario_by_word line.now) }
@@ -338,22 +346,22 @@ fn scenario_line_in<'a>(
     let Some(word) = scenario_word(first) else {
         return Err(LineError::Fault(ScriptKind::Word));
     };
-    if !cut_into(fields, rest)? {
+    if !cut_into(&mut scratch.fields, rest)? {
         return Err(LineError::Fault(ScriptKind::Fields));
     }
-    scenario_by_word(alloc, word, fields)
+    scenario_by_word(alloc, &mut scratch.payload, word, &scratch.fields)
 }
 
-/// What a line of a scenario says, or what is wrong with it. The list is for its fields.
+/// What a line of a scenario says, or what is wrong with it. The scratch takes its fields and its arguments.
 pub fn scenario_line<'a>(
     alloc: Global,
-    fields: &mut Vec<&'a str>,
+    scratch: &mut Scratch<'a>,
     line: &'a [u8],
 ) -> Result<Read<ScenarioLine>, LineError>
     ensures { Says (λ x. x) result (scenario_line_of line.now) }
 {
     match from_utf8(line) {
-        Ok(text) => scenario_line_in(alloc, fields, text),
+        Ok(text) => scenario_line_in(alloc, scratch, text),
         Err(_) => Err(LineError::Fault(ScriptKind::NotUtf8)),
     }
 }

@@ -7,6 +7,7 @@ mod error;
 mod generator;
 pub mod laws;
 mod read;
+mod scratch;
 mod script;
 mod word;
 

@@ -11,6 +11,7 @@ ghost use Rattle.dl_script.specs.Script.{entries, steps_of, scenario_of, Reads, 
 use crate::by_word::{scenario_line, step};
 use crate::claim::Known;
 use crate::error::ScriptError;
+use crate::scratch::Scratch;
 use dl_fields::{LineError, ScriptKind};
 use dl_steps::{Scenario, ScenarioLine, Step, StepList};
 use dl_text::{SIZE_LIMIT, is_blank, lines};
@@ -38,12 +39,12 @@ fn says_nothing(line: &[u8]) -> bool
 fn judged_step<'a>(
     alloc: Global,
     known: &mut Known,
-    fields: &mut Vec<&'a str>,
+    scratch: &mut Scratch<'a>,
     line: &'a [u8],
 ) -> Result<Step, LineError>
     ensures { Judges step_of line.now result known.old known.new }
 {
-    let said = step(alloc, fields, line)?;
+    let said = step(alloc, scratch, line)?;
     known.admit(said.claim)?;
     match said.line {
         Some(step) => Ok(step),
@@ -56,12 +57,12 @@ fn judged_step<'a>(
 fn judged_line<'a>(
     alloc: Global,
     known: &mut Known,
-    fields: &mut Vec<&'a str>,
+    scratch: &mut Scratch<'a>,
     line: &'a [u8],
 ) -> Result<ScenarioLine, LineError>
     ensures { Judges scenario_line_of line.now result known.old known.new }
 {
-    let said = scenario_line(alloc, fields, line)?;
+    let said = scenario_line(alloc, scratch, line)?;
     known.admit(said.claim)?;
     match said.line {
         Some(line) => Ok(line),
@@ -77,14 +78,14 @@ fn steps(alloc: Global, text: &[u8]) -> Result<Vec<Step>, ScriptError>
 {
     let mut known = Known::new(alloc);
     let mut steps = Vec::new(alloc);
-    let mut fields = Vec::new(alloc);
+    let mut scratch = Scratch::new(alloc);
     let mut number = 0;
     for line in lines(text) {
         number += 1;
         if says_nothing(line) {
             continue;
         }
-        match judged_step(alloc, &mut known, &mut fields, line) {
+        match judged_step(alloc, &mut known, &mut scratch, line) {
             Ok(step) => steps.push(step)?,
             Err(error) => return Err(ScriptError::at(number, error)),
         }
@@ -100,14 +101,14 @@ fn scenario_lines(alloc: Global, text: &[u8]) -> Result<Vec<ScenarioLine>, Scrip
 {
     let mut known = Known::new(alloc);
     let mut scenario = Vec::new(alloc);
-    let mut fields = Vec::new(alloc);
+    let mut scratch = Scratch::new(alloc);
     let mut place = 0;
     for line in lines(text) {
         place += 1;
         if says_nothing(line) {
             continue;
         }
-        match judged_line(alloc, &mut known, &mut fields, line) {
+        match judged_line(alloc, &mut known, &mut scratch, line) {
             Ok(entry) => scenario.push(entry)?,
             Err(error) => return Err(ScriptError::at(place, error)),
         }

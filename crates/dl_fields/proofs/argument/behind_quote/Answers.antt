@@ -1,19 +1,9 @@
-use Rattle.std.proofs.Common.{◌≡◌, ◌≢◌, ℕ, List, [], ◌∷◌, Option, Some, None, refl, ap, lit<}
-use Rattle.std.specs.Prelude.{option_map, MatchOption}
-use Rattle.std.specs.Borrow.{Bor}
-use Rattle.std.proofs.lemmas.Bool.{ne_eqb}
-use Rattle.std.proofs.lemmas.Str.Pattern.{strip_prefix_char}
-use Rattle.dl_fields.specs.Argument.{behind_quote}
+use Rattle.std.proofs.Common.{◌≡◌, ◌≤◌, length, get_or, arith}
+use Rattle.std.proofs.lemmas.Str.{IsCharBoundary-after_ascii}
 use Rattle.dl_fields.proofs.argument.behind_quote.Goals as goal
 
-unquoted : (text : List ℕ) → ((rest : List ℕ) → text ≢ 34 ∷ rest) → None ≡ behind_quote text
-unquoted [] other = refl
-unquoted (b ∷ rest) other = rw (ne_eqb b 34 (λ e. other rest (ap (λ c. c ∷ rest) e))) refl
-
-split : (text : List ℕ) (r : Option (Bor (List ℕ))) → MatchOption r ((rest : List ℕ) → text ≢ 34 ∷ rest) (λ x. text ≡ 34 ∷ x.now)
-    → option_map (λ rest. rest.now) r ≡ behind_quote text
-split text None h = unquoted text h
-split text (Some x) h = rw h refl
-
-pub returns : goal.returns
-returns c = split c.args.text.now c.strip_prefix.result (strip_prefix_char 34 c.args.text.now c.strip_prefix.result c.strip_prefix.ensures.cases (lit< tt))
+pub range_from-requires : goal.range_from-requires
+range_from-requires c some =
+    let len : 1 ≤ length c.args.text.now = rw c.as_bytes.ensures.value at c.in-len1-up.len_at_least in
+    let first : get_or c.args.text.now 0 0 ≡ 34 = rw c.as_bytes.ensures.value at c.if-first-eq34.true in
+    IsCharBoundary-after_ascii c.args.text.now 0 c.utf8.text (omega arith) (omega (arith, first))

@@ -1,0 +1,16 @@
+use Rattle.std.proofs.Common.{◌≡◌, ◌+◌, ◌∷◌, length, ap, sym, ◌∙◌, arith}
+use Rattle.dl_script.specs.Line.{scenario_line_of}
+use Rattle.dl_script.specs.Script.{entries}
+use Rattle.dl_script.proofs.Entries.{all_before, goes_on}
+use Rattle.dl_script.proofs.script.scenario_lines.Goals as goal
+
+pub loop-line-preserved : goal.loop-line-preserved
+loop-line-preserved c =
+    let lines : c.loop-line.line-iterator ≡ c.in-Some.line.now ∷ c.next.new.self = c.in-Some.ensures.steps in
+    record {
+      told = rw c.in_ok-push-in-Ok.ensures.items
+          (sym (goes_on scenario_line_of c.loop-line.known (c.loop-line.place + 1) c.in-Some.line.now c.next.new.self c.loop-line.scenario.items c.in-Ok.entry c.judged_line.new.known
+          (sym c.if-says_nothing.ensures) c.in-Ok.ensures)
+          ∙ ap (λ lines. all_before c.loop-line.scenario.items (entries scenario_line_of c.loop-line.known (c.loop-line.place + 1) lines)) (sym lines) ∙ c.loop-line.invariant.told);
+      lines = omega (arith, c.loop-line.invariant.lines, ap length lines);
+    }
