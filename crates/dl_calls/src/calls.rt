@@ -135,6 +135,7 @@ impl Calls {
     }
 
     /// The ring takes the writer's call that is to be pushed, unless it is full.
+    #[inline(always)]
     pub fn push(&mut self, writer: u8) -> Result<(), OutOfMemory>
         ensures { OnOk result (Does (push writer) self.old self.new) }
     {
@@ -162,6 +163,7 @@ impl Calls {
     }
 
     /// The writer's call that the ring refused is counted as lost.
+    #[inline(always)]
     pub fn count(&mut self, writer: u8) -> Result<(), OutOfMemory>
         ensures { OnOk result (Does (count writer) self.old self.new) }
     {
@@ -224,6 +226,7 @@ impl Calls {
     }
 
     /// What an open call of the writer still needs: its push, and its count where the ring refuses it.
+    #[inline(always)]
     pub fn finish(&mut self, writer: u8) -> Result<(), OutOfMemory>
         ensures { OnOk result (Does (finish writer) self.old self.new) }
     {

@@ -55,13 +55,13 @@ fn add_answer(counts: &mut AppCounts, answer: Answer)
 }
 
 /// Counts the answer to a call, where its application has a place.
-fn count_record(table: &mut [AppCounts], record: &Record)
+fn count_record(table: &mut [AppCounts], call: &Record)
     requires { Each (AreAtMost (2 ^ 127) (2 ^ 128)) table.old }
-    ensures { HasCounted (record.now ∷ []) table.old table.new }
+    ensures { HasCounted (call.now ∷ []) table.old table.new }
 {
-    let place = record.item.app as usize;
+    let place = call.item.app as usize;
     if place < table.len() {
-        add_answer(&mut table[place], record.answer);
+        add_answer(&mut table[place], call.answer);
     }
 }
 
