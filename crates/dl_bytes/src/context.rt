@@ -1,6 +1,7 @@
 //! The handle of a context that a program logs under.
 
 ghost use Rattle.std.specs.Prelude.{◌≡◌, ◌<◌};
+ghost use Rattle.dl_bytes.specs.Context.{slot_of};
 
 use crate::id::Id;
 use std::marker::Model;
@@ -56,6 +57,14 @@ impl Ctx {
         ensures range { result < 64 }
     {
         self.place
+    }
+
+    /// Its slot among those of all applications: 64 to each of them, in the order of their numbers.
+    pub fn slot(&self) -> u16
+        ensures value { result ≡ slot_of self.now }
+        ensures range { result < 1024 }
+    {
+        64 * u16::from(self.app) + u16::from(self.place)
     }
 
     /// The application's id.

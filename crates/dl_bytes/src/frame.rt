@@ -5,9 +5,6 @@ ghost use Rattle.std.specs.Prelude.{◌≡◌, ◌≤◌, ◌+◌, ◌++◌, [],
 use arrayvec::ArrayVec;
 use std::marker::Model;
 
-/// The most bytes of an admitted message.
-pub const FRAME_LIMIT: usize = 1984;
-
 /// A message's bytes, kept in place: standard header, extended header and payload.
 #[derive(Debug, Drop)]
 pub struct Frame {

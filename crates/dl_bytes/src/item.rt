@@ -13,18 +13,18 @@ pub struct Item {
     pub app: u8,
     /// The writer's number, 1 to 32: the session id of the message.
     pub writer: u8,
-    /// The call's number among those of its writer, from 1, filtered and lost ones included.
-    pub call: u64,
+    /// How grave it is.
+    pub severity: Severity,
+    /// The writer's message counter: how many of its calls passed their level before, modulo 256.
+    pub mcnt: u8,
+    /// The timestamp, in units of 0.1 ms.
+    pub at: u32,
     /// The application's id.
     pub apid: Id,
     /// The context's id.
     pub ctid: Id,
-    /// How grave it is.
-    pub severity: Severity,
-    /// The timestamp, in units of 0.1 ms.
-    pub at: u32,
-    /// The writer's message counter: how many of its calls passed their level before, modulo 256.
-    pub mcnt: u8,
+    /// The call's number among those of its writer, from 1, filtered and lost ones included.
+    pub call: u64,
     /// The arguments, at most 1390 bytes and 255 arguments.
     pub payload: Payload,
 }
@@ -37,12 +37,12 @@ impl Item {
         Item {
             app: self.app,
             writer: self.writer,
-            call: self.call,
+            severity: self.severity,
+            mcnt: self.mcnt,
+            at: self.at,
             apid: self.apid,
             ctid: self.ctid,
-            severity: self.severity,
-            at: self.at,
-            mcnt: self.mcnt,
+            call: self.call,
             payload: self.payload.copy(),
         }
     }

@@ -11,6 +11,7 @@ mod id;
 mod item;
 pub mod laws;
 mod level;
+mod limits;
 mod list;
 mod moment;
 mod outcome;
@@ -21,16 +22,21 @@ pub use buffer::Buffer;
 pub use conf::{AppSpec, Conf, DIRECTORY_LIMIT, Stored, StoredLevel};
 pub use context::Ctx;
 pub use cursor::{Cursor, Order};
-pub use frame::{FRAME_LIMIT, Frame};
+pub use frame::Frame;
 pub use htyp::Htyp;
 pub use id::{Id, IdFault};
 pub use item::{Injection, Item};
 pub use level::{Level, OwnLevel, Severity};
+pub use limits::{
+    ADMITTED_LIMIT, APP_LIMIT, ARGS_LIMIT, CALL_LIMIT, CLIENT_LIMIT, CONTEXT_LIMIT, FRAME_LIMIT,
+    INJECTION_LIMIT, LAST_VERSION, MESSAGE_LIMIT, OPEN_CLIENT_LIMIT, PAYLOAD_LIMIT, REQUEST_LIMIT,
+    RING_LIMIT, TEXT_LIMIT, WRITER_CALL_LIMIT, WRITER_LIMIT,
+};
 pub use list::{Bytes, Sequence};
 pub use moment::Moment;
 pub use outcome::{Backlog, Done, Ends, FrameList, LinkEnd, TraceEnd, TraceFile, TraceState};
-pub use payload::{ARGS_LIMIT, PAYLOAD_LIMIT, Payload};
-pub use user::{TEXT_LIMIT, UserMsg};
+pub use payload::Payload;
+pub use user::UserMsg;
 
 /// There is no memory: the one name for it in all crates.
 pub use std::alloc::AllocError as OutOfMemory;

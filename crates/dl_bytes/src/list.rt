@@ -1,7 +1,8 @@
 //! Lists on the heap that contracts see as lists.
 
-ghost use Rattle.std.specs.Prelude.{◌≡◌, ◌<◌, ◌^◌, length, slice_get, Some};
+ghost use Rattle.std.specs.Prelude.{◌≡◌, ◌<◌, ◌^◌, length, slice_get, IfOk, Some};
 
+use std::alloc::{AllocError, Global};
 use std::marker::Model;
 
 /// Bytes of any number, as of a description or of a whole message.
@@ -57,5 +58,14 @@ impl<T> Sequence<T> {
         ensures { result.items ≡ self }
     {
         self.items
+    }
+}
+
+impl Sequence<u8> {
+    /// The same bytes once more.
+    pub fn copy(&self, alloc: Global) -> Result<Bytes, AllocError>
+        ensures { IfOk result (λ copy. copy ≡ self.now) }
+    {
+        Ok(Sequence::over(Vec::from_slice(alloc, self.all())?))
     }
 }

@@ -5,12 +5,6 @@ ghost use Rattle.std.specs.Prelude.{◌≡◌, ◌<◌, ◌≤◌, ◌+◌, ◌-
 use arrayvec::ArrayVec;
 use std::marker::Model;
 
-/// The most bytes that the arguments of one log call take.
-pub const PAYLOAD_LIMIT: usize = 1390;
-
-/// The most arguments of one log call: the field NOAR has one byte.
-pub const ARGS_LIMIT: u8 = 255;
-
 /// The arguments of a log call as a message carries them, kept in place.
 #[derive(Debug, Drop)]
 pub struct Payload {
@@ -40,6 +34,17 @@ impl Payload {
         }
     }
 
+    /// So many arguments, of these bytes. No memory is taken.
+    pub fn of(bytes: &[u8], args: u8) -> Payload
+        requires { length bytes.now ≤ 1390 }
+        ensures { result ≡ record { bytes = bytes.now; args = args } }
+    {
+        let mut payload = Payload::new();
+        payload.extend_from_slice(bytes);
+        payload.args = args;
+        payload
+    }
+
     /// The arguments' bytes.
     pub fn bytes(&self) -> &[u8]
         ensures value { result.now ≡ self.now.bytes }
@@ -59,10 +64,7 @@ impl Payload {
     pub fn copy(&self) -> Payload
         ensures { result ≡ self.now }
     {
-        let mut copy = Payload::new();
-        copy.extend_from_slice(self.bytes());
-        copy.args = self.args;
-        copy
+        Payload::of(self.bytes(), self.args)
     }
 
     /// Takes all arguments out.

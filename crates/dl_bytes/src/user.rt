@@ -1,18 +1,15 @@
 //! What a program outside the daemon tells it: user messages.
 
-ghost use Rattle.std.specs.Prelude.{◌↔◌, IsTrue};
+ghost use Rattle.std.specs.Prelude.{◌≡◌, ◌↔◌, IfOk, IsTrue};
 ghost use Rattle.dl_bytes.specs.UserMessage.{IsFit, HoldsMessage};
 
-use crate::frame::FRAME_LIMIT;
 use crate::htyp::Htyp;
 use crate::id::Id;
 use crate::level::{Level, OwnLevel};
+use crate::limits::{FRAME_LIMIT, PAYLOAD_LIMIT, TEXT_LIMIT};
 use crate::list::Bytes;
-use crate::payload::PAYLOAD_LIMIT;
 use byteorder::{BigEndian, ByteOrder};
-
-/// The most bytes of the description of an application or a context.
-pub const TEXT_LIMIT: usize = 255;
+use std::alloc::{AllocError, Global};
 
 /// A user message, by its kind.
 #[derive(Debug, Drop)]
@@ -106,6 +103,68 @@ impl UserMsg {
             | UserMsg::LogLevel { .. }
             | UserMsg::Overflow { .. } => true,
         }
+    }
+
+    /// The same message once more.
+    pub fn copy(&self, alloc: Global) -> Result<UserMsg, AllocError>
+        ensures { IfOk result (λ copy. copy ≡ self.now) }
+    {
+        Ok(match self {
+            UserMsg::Log(message) => UserMsg::Log(message.copy(alloc)?),
+            UserMsg::RegisterApp { apid, pid, text } => UserMsg::RegisterApp {
+                apid: *apid,
+                pid: *pid,
+                text: text.copy(alloc)?,
+            },
+            UserMsg::UnregisterApp { apid, pid } => UserMsg::UnregisterApp {
+                apid: *apid,
+                pid: *pid,
+            },
+            UserMsg::RegisterContext {
+                apid,
+                ctid,
+                position,
+                level,
+                trace,
+                pid,
+                text,
+            } => UserMsg::RegisterContext {
+                apid: *apid,
+                ctid: *ctid,
+                position: *position,
+                level: *level,
+                trace: *trace,
+                pid: *pid,
+                text: text.copy(alloc)?,
+            },
+            UserMsg::UnregisterContext { apid, ctid, pid } => UserMsg::UnregisterContext {
+                apid: *apid,
+                ctid: *ctid,
+                pid: *pid,
+            },
+            UserMsg::LogLevel {
+                level,
+                trace,
+                position,
+            } => UserMsg::LogLevel {
+                level: *level,
+                trace: *trace,
+                position: *position,
+            },
+            UserMsg::Injection {
+                position,
+                service,
+                body,
+            } => UserMsg::Injection {
+                position: *position,
+                service: *service,
+                body: body.copy(alloc)?,
+            },
+            UserMsg::Overflow { counter, apid } => UserMsg::Overflow {
+                counter: *counter,
+                apid: *apid,
+            },
+        })
     }
 }
 

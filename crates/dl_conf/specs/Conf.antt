@@ -1,5 +1,5 @@
 -- What a dlt.conf says as a whole.
-use Rattle.std.specs.Prelude.{ℕ, ◌*◌, Bool, true, nat_lt, List, [], ◌∷◌, length, codes, Option, Some, None, Result, Ok, Err, if◌then◌else◌}
+use Rattle.std.specs.Prelude.{ℕ, ◌-◌, ◌*◌, Bool, true, ◌==◌, ◌&&◌, nat_lt, List, [], ◌∷◌, length, take, slice_index, codes, Option, Some, None, Result, Ok, Err, if◌then◌else◌}
 use Rattle.std.specs.List.{filter_map, enumerate_from}
 use Rattle.std.specs.Result.{result_err}
 use Rattle.dl_text.specs.Faults.{size_limit, first_fault}
@@ -111,8 +111,16 @@ abbrev pub unless_fault : {A K : Type 0} → Option K → Result A K → Result 
 unless_fault None read = read
 unless_fault (Some fault) read = Err fault
 
+-- the text without the carriage return at its end, where it has one
+abbrev pub without_return : List ℕ → List ℕ
+without_return text = if nat_lt 0 (length text) && (slice_index text (length text - 1) == 13) then take (length text - 1) text else text
+
+-- its lines: one carriage return at the end of a line is dropped, that of the last line too, which no line feed need follow
+abbrev pub conf_lines : List ℕ → List (List ℕ)
+conf_lines text = lines_of (without_return text)
+
 -- the values that a text sets, or its first fault: that of the whole text, of its first line at fault, of the two sizes
 abbrev pub conf_said : List ℕ → Result Values (ℕ × ConfKind)
 conf_said text =
     if nat_lt size_limit (length text) then Err (0, Size)
-    else unless_fault (first_fault fault_in (lines_of text)) (fitting (lines_of text))
+    else unless_fault (first_fault fault_in (conf_lines text)) (fitting (conf_lines text))

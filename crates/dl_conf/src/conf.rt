@@ -4,7 +4,7 @@ ghost use Rattle.std.specs.Prelude.{◌≡◌};
 ghost use Rattle.dl_conf.specs.Conf.{defaults};
 ghost use Rattle.dl_conf.specs.Outcome.{values_of, ReadsConf};
 
-use crate::reading::read_lines;
+use crate::reading::{read_lines, without_return};
 use dl_bytes::{Bytes, Conf, Id, Level, Severity};
 use dl_text::SIZE_LIMIT;
 use std::alloc::Global;
@@ -64,7 +64,7 @@ pub fn read_conf(alloc: Global, bytes: &[u8]) -> Result<Conf, ConfError>
         let (line, kind) = (0, ConfKind::Size);
         return Err(ConfError::Fault { line, kind });
     }
-    let draft = match read_lines(bytes) {
+    let draft = match read_lines(without_return(bytes)) {
         Ok(draft) => draft,
         Err((line, kind)) => return Err(ConfError::Fault { line, kind }),
     };

@@ -12,6 +12,3 @@ mod stored;
 pub use conf::{ConfError, ConfKind, default_conf, read_conf};
 pub use dl_bytes::{Conf, Stored, StoredLevel};
 pub use stored::{ENTRY_LIMIT, StoredError, StoredKind, read_stored, write_stored};
-
-#[cfg(test)]
-mod tests;

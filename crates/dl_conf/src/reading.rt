@@ -5,7 +5,7 @@ ghost use Rattle.std.specs.Option.{unwrap_or};
 ghost use Rattle.dl_text.specs.Faults.{size_limit};
 ghost use Rattle.dl_text.specs.Lines.{lines_of};
 ghost use Rattle.dl_conf.specs.Setting.{shown, IsWithin};
-ghost use Rattle.dl_conf.specs.Conf.{defaults, set_to, size_at};
+ghost use Rattle.dl_conf.specs.Conf.{defaults, set_to, size_at, without_return};
 ghost use Rattle.dl_conf.specs.Outcome.{drafted, ReadsLines};
 
 use crate::conf::ConfKind;
@@ -53,6 +53,19 @@ impl<'a> Draft<'a> {
             }
             Setting::Injection(injection) => self.injection = injection,
         }
+    }
+}
+
+/// The text without the carriage return at its end, where it has one. So a carriage return ends the last line as it does
+/// the others, though no line feed follows it.
+pub fn without_return(text: &[u8]) -> &[u8]
+    ensures value { result.now ≡ without_return text.now }
+    ensures len { length result.now ≤ length text.now }
+{
+    if text.len() > 0 && text[text.len() - 1] == b'\r' {
+        &text[..text.len() - 1]
+    } else {
+        text
     }
 }
 

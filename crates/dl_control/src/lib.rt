@@ -6,6 +6,3 @@ mod request;
 
 pub use reply::{DAEMON_APID, DAEMON_CTID, Reply, ReplyFault, write_reply};
 pub use request::{Request, RequestFault, read_request};
-
-#[cfg(test)]
-mod tests;

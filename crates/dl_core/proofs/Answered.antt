@@ -8,7 +8,7 @@ use Rattle.dl_events.specs.declared.event.Event.TheVariants as event
 use Rattle.dl_model.specs.Along.{along_from}
 use Rattle.dl_model.specs.Frames.{FrameSource, frames_of}
 use Rattle.dl_model.specs.Journal.{is_request_of}
-use Rattle.dl_model.specs.Traffic.{Admit, Reply}
+use Rattle.dl_model.specs.Traffic.{Admitted, Reply}
 use Rattle.dl_model.specs.ClientStream.{traffic, traffic_of}
 use Rattle.dl_laws.proofs.Lists.{count_by-append}
 use Rattle.dl_hub.specs.State.{Hub, Client, client_of}
@@ -16,9 +16,9 @@ use Rattle.dl_hub.specs.Follows.{is_reply_to}
 use Rattle.dl_core.specs.State.{Core}
 use Rattle.dl_core.specs.Follows.{Run, IsAfter, source_of}
 
-none_admitted : (client : ℕ) (frames : List (List ℕ)) → count_by (is_reply_to client) (map Admit frames) ≡ 0
+none_admitted : (client : ℕ) (frames : List (List ℕ)) → count_by (is_reply_to client) (map Admitted frames) ≡ 0
 none_admitted client [] = refl
-none_admitted client (frame ∷ frames) = sum_by-cons (λ t. cond (is_reply_to client t) 1 0) (Admit frame) (map Admit frames) ∙ ap (λ (n : ℕ). 0 + n) (none_admitted client frames)
+none_admitted client (frame ∷ frames) = sum_by-cons (λ t. cond (is_reply_to client t) 1 0) (Admitted frame) (map Admitted frames) ∙ ap (λ (n : ℕ). 0 + n) (none_admitted client frames)
 
 answers_one : (source : FrameSource) (client : ℕ) (before : List Event) (e : Event) → count_by (is_reply_to client) (traffic_of source before e) ≡ cond (is_request_of client e) 1 0
 answers_one source client before (event.Log app writer call moment) = none_admitted client (frames_of source (event.Log app writer call moment))

@@ -11,12 +11,12 @@ use Rattle.dl_hub.specs.State.{fresh}
 use Rattle.dl_trace.specs.State as traces
 use Rattle.dl_trace.specs.State.{Trace}
 use Rattle.dl_trace.specs.Made.{IsMade}
-use Rattle.dl_core.specs.Settings.{setting_of, begun}
+use Rattle.dl_core.specs.Settings.{setting_for, begun_for}
 use Rattle.dl_core.specs.Follows.{Run, IsTraceAfter, IsAfter}
 
-trace_begins : (run : Run) (conf : Conf) (stored : Stored) (first : ℕ) (kept : Trace) → run.setting ≡ setting_of conf stored first
+trace_begins : (run : Run) (conf : Conf) (stored : Stored) (first clients : ℕ) (kept : Trace) → run.setting ≡ setting_for conf stored first clients
     → IsMade conf kept → traces.IsAfter run.stood [] kept → IsTraceAfter run [] kept
-trace_begins run conf stored first kept set made stood = record {
+trace_begins run conf stored first clients kept set made stood = record {
   directory = made.directory ∙ sym (ap (λ (s : Setting). s.directory) set);
   file_size = made.file_size ∙ sym (ap (λ (s : Setting). s.file_size) set);
   max_size = made.max_size ∙ sym (ap (λ (s : Setting). s.max_size) set);
@@ -29,21 +29,22 @@ trace_begins run conf stored first kept set made stood = record {
   spent = λ at. absurd (cc (made.goes_on, at));
 }
 
-pub begins : (run : Run) (conf : Conf) (stored : Stored) (first : ℕ) (kept : Option Trace) → run.setting ≡ setting_of conf stored first
-    → hub.IsAfter [] (λ (number : ℕ). []) (fresh conf.ecu conf.buffer) → IfSome kept (IsMade conf) → IfSome kept (traces.IsAfter run.stood [])
-    → IsAfter run [] (λ (number : ℕ). []) (begun conf stored first kept)
-begins run conf stored first kept set hubs made stood = record {
+pub begins : (run : Run) (conf : Conf) (stored : Stored) (first clients : ℕ) (kept : Option Trace) → run.setting ≡ setting_for conf stored first clients
+    → hub.IsAfter [] (λ (number : ℕ). []) (fresh conf.ecu conf.buffer clients) → IfSome kept (IsMade conf) → IfSome kept (traces.IsAfter run.stood [])
+    → IsAfter run [] (λ (number : ℕ). []) (begun_for conf stored first kept clients)
+begins run conf stored first clients kept set hubs made stood = record {
   set_to = record {
     ecu = sym (ap (λ (s : Setting). s.ecu) set);
     unit = sym (ap (λ (s : Setting). s.ecu) set);
     buffer = sym (ap (λ (s : Setting). s.buffer) set);
     level = sym (ap (λ (s : Setting). s.level) set);
     injection = sym (ap (λ (s : Setting). s.injection) set);
+    clients = sym (ap (λ (s : Setting). s.clients) set);
   };
-  registry = subst (λ (s : Setting). registry.IsAfter s [] (registry.made conf.level stored first)) (sym set) (made_follows (setting_of conf stored first));
+  registry = subst (λ (s : Setting). registry.IsAfter s [] (registry.made conf.level stored first)) (sym set) (made_follows (setting_for conf stored first clients));
   hub = hubs;
   trace = traced kept made stood;
 } where
   traced : (o : Option Trace) → IfSome o (IsMade conf) → IfSome o (traces.IsAfter run.stood []) → IfSome o (IsTraceAfter run [])
   traced None made stood = tt {0}
-  traced (Some t) made stood = trace_begins run conf stored first t set made stood
+  traced (Some t) made stood = trace_begins run conf stored first clients t set made stood

@@ -12,12 +12,12 @@ use Rattle.dl_events.specs.declared.event.Event.{Event}
 use Rattle.dl_message.specs.Frames.{log_message}
 use Rattle.dl_model.specs.Backlog.{size_of}
 use Rattle.dl_model.specs.Frames.{stored}
-use Rattle.dl_model.specs.Traffic.{Admit}
-use Rattle.dl_hub.specs.State.{Hub, IsSameHub, EachHasRoom}
+use Rattle.dl_model.specs.Traffic.{Admitted}
+use Rattle.dl_hub.specs.State.{Hub, IsSameHub, EachHasRoom, is_open}
 use Rattle.dl_hub.specs.Follows.{Adds}
 use Rattle.dl_core.specs.declared.storing.TraceWriter.{TraceWriter}
 use Rattle.dl_core.specs.Admission.{Admits, AddsEach, log_event, more_noted}
-use Rattle.dl_core.proofs.Parts.{traces_in}
+use Rattle.dl_core.specs.Writer.{trace_in}
 use Rattle.dl_core.proofs.Admitted.{admits-one, same_hub-later}
 
 -- a call's frame as it is stored
@@ -28,8 +28,9 @@ stored_call ecu moment item = stored ecu moment (log_message ecu item)
 pub record Gathered (ecu : List ℕ) (moment : Moment) (done left : List Item) (h0 h1 : Hub) (w0 w1 : Option TraceWriter) (e0 e1 : Option (List Event)) (n0 n1 s0 s1 : ℕ) : Type 0 where
   pub adds : Admits (map (log_message ecu) done) h0 h1
   pub same : IsSameHub h0 h1
+  pub still_open : map is_open h1.clients ≡ map is_open h0.clients
   pub admitted : h1.admitted ≡ h0.admitted + length done
-  pub trace_is : traces_in w1 ≡ traces_in w0
+  pub trace_is : trace_in w1 ≡ trace_in w0
   pub batch_is : IfSome w1 (λ (w : TraceWriter). w.batch ≡ map (stored_call ecu moment) done)
   pub events_are : AddsEach e0 e1 (map (log_event moment) done)
   pub noted_so : n1 ≡ more_noted (length done) n0
@@ -57,16 +58,18 @@ batch-more (Some x) (Some y) frames frame is more =
 pub gathers_one : (ecu : List ℕ) (moment : Moment) (done left : List Item) (item : Item) (frame : List ℕ) (h0 h1 h2 : Hub) (w0 w1 w2 : Option TraceWriter) (e0 e1 e2 : Option (List Event)) (n0 n1 n2 s0 s1 s2 : ℕ)
     → Gathered ecu moment done (item ∷ left) h0 h1 w0 w1 e0 e1 n0 n1 s0 s1
     → frame ≡ log_message ecu item
-    → Adds (Admit frame) h1 h2 → ((more : ℕ) → EachHasRoom (length frame + more) h1 → EachHasRoom more h2) → IsSameHub h1 h2 → h2.admitted ≡ h1.admitted + 1
-    → traces_in w2 ≡ traces_in w1
+    → Adds (Admitted frame) h1 h2 → ((more : ℕ) → EachHasRoom (length frame + more) h1 → EachHasRoom more h2) → IsSameHub h1 h2
+    → map is_open h2.clients ≡ map is_open h1.clients → h2.admitted ≡ h1.admitted + 1
+    → trace_in w2 ≡ trace_in w1
     → option_map (λ (w : TraceWriter). w.batch) w2 ≡ option_map (λ (w : TraceWriter). w.batch ++ stored ecu moment frame ∷ []) w1
     → notes.Adds e1 e2 (log_event moment item) → n2 ≡ one_more n1 → s2 + 1 ≡ s1
     → Gathered ecu moment (done ++ item ∷ []) left h0 h2 w0 w2 e0 e2 n0 n2 s0 s2
-gathers_one ecu moment done left item frame h0 h1 h2 w0 w1 w2 e0 e1 e2 n0 n1 n2 s0 s1 s2 far what adds rooms same admitted trace batch event noted spare =
+gathers_one ecu moment done left item frame h0 h1 h2 w0 w1 w2 e0 e1 e2 n0 n1 n2 s0 s1 s2 far what adds rooms same still admitted trace batch event noted spare =
     let count : length (done ++ item ∷ []) ≡ suc (length done) = length-append done (item ∷ []) ∙ omega arith in record {
       adds = subst (λ (fs : List (List ℕ)). Admits fs h0 h2) (sym (map-append (log_message ecu) done (item ∷ [])))
-          (admits-one (map (log_message ecu) done) (log_message ecu item) h0 h1 h2 far.adds (subst (λ (f : List ℕ). Adds (Admit f) h1 h2) what adds));
+          (admits-one (map (log_message ecu) done) (log_message ecu item) h0 h1 h2 far.adds (subst (λ (f : List ℕ). Adds (Admitted f) h1 h2) what adds));
       same = same_hub-later h0 h1 h2 far.same same;
+      still_open = still ∙ far.still_open;
       admitted = omega (arith, admitted, far.admitted, count);
       trace_is = trace ∙ far.trace_is;
       batch_is = subst (λ (fs : List (List ℕ)). IfSome w2 (λ (w : TraceWriter). w.batch ≡ fs)) (sym (map-append (stored_call ecu moment) done (item ∷ [])))

@@ -4,7 +4,7 @@ use Rattle.std.specs.Prelude.{IfSome}
 use Rattle.std.proofs.lemmas.List.{append-nil}
 use Rattle.std.proofs.lemmas.Grind.{flat_map-append}
 use Rattle.dl_events.specs.declared.event.Event.{Event}
-use Rattle.dl_outside.specs.Folder.{Files}
+use Rattle.dl_outside.specs.Told.{FolderTold}
 use Rattle.dl_model.specs.Frames.{FrameSource, stored_of, stored_frames}
 use Rattle.dl_model.specs.Traffic.{Traffic}
 use Rattle.dl_model.specs.ClientStream.{traffic, traffic_of}
@@ -36,6 +36,7 @@ set_later run old new same is = record {
   buffer = same.hub.buffer ∙ is.buffer;
   level = same.level ∙ is.level;
   injection = same.injection ∙ is.injection;
+  clients = same.hub.limit ∙ is.clients;
 }
 
 -- whatever hub these entries make, they make of the traffic of the journal the traffic of the longer one
@@ -43,13 +44,13 @@ abbrev pub AddsTraffic : List Traffic → Hub → Hub → Type 0
 AddsTraffic more old new = (before : List Traffic) (taken : ℕ → List ℕ) → hub.IsAfter before taken old → hub.IsAfter (before ++ more) taken new
 
 -- The core after some events more: what they are for the registry, for the clients, and for the trace.
-pub events_follow : (run : Run) (events more : List Event) (taken : ℕ → List ℕ) (entries : List Traffic) (frames : List (List ℕ)) (old new : Core) (told told_now : Option Files)
+pub events_follow : (run : Run) (events more : List Event) (taken : ℕ → List ℕ) (entries : List Traffic) (frames : List (List ℕ)) (old new : Core) (told told_now : FolderTold)
     → IsSameCore old new
     → registry.IsAfter run.setting (events ++ more) new.registry
     → traffic (source_of run) (events ++ more) ≡ traffic (source_of run) events ++ entries
     → AddsTraffic entries old.hub new.hub
     → stored_by run (events ++ more) ≡ stored_by run events ++ frames
-    → Traced run (stored_by run events) (stored_by run events ++ frames) old.trace new.trace told told_now
+    → Traced run (stored_by run events) (stored_by run events ++ frames) old.trace new.trace told.files told_now.files
     → IsAfter run events taken old
     → IsAfter run (events ++ more) taken new × (HoldsTrace run events old told → HoldsTrace run (events ++ more) new told_now)
 events_follow run events more taken entries frames old new told told_now same registers talk talks stored traced is =
@@ -60,16 +61,16 @@ events_follow run events more taken entries frames old new told told_now same re
         hub = subst (λ (ts : List Traffic). hub.IsAfter ts taken new.hub) (sym talk) (talks (traffic (source_of run) events) taken is.hub);
         trace = subst (λ (fs : List (List ℕ)). IfSome new.trace (IsTraceAfter run fs)) (sym stored) left.0;
       },
-      λ holds. subst (λ (fs : List (List ℕ)). IfSome new.trace (λ t. t.state.end ≡ None → HoldsFiles run fs told_now)) (sym stored) (left.1 holds),
+      λ holds. subst (λ (fs : List (List ℕ)). IfSome new.trace (λ t. t.state.end ≡ None → HoldsFiles run fs told_now.files)) (sym stored) (left.1 holds),
     )
 
 -- the same of one event
-pub event_follows : (run : Run) (events : List Event) (taken : ℕ → List ℕ) (event : Event) (frames : List (List ℕ)) (old new : Core) (told told_now : Option Files)
+pub event_follows : (run : Run) (events : List Event) (taken : ℕ → List ℕ) (event : Event) (frames : List (List ℕ)) (old new : Core) (told told_now : FolderTold)
     → IsSameCore old new
     → registry.IsAfter run.setting (events ++ event ∷ []) new.registry
     → AddsTraffic (traffic_of (source_of run) events event) old.hub new.hub
     → stored_of (source_of run) event ≡ frames
-    → Traced run (stored_by run events) (stored_by run events ++ frames) old.trace new.trace told told_now
+    → Traced run (stored_by run events) (stored_by run events ++ frames) old.trace new.trace told.files told_now.files
     → IsAfter run events taken old
     → IsAfter run (events ++ event ∷ []) taken new × (HoldsTrace run events old told → HoldsTrace run (events ++ event ∷ []) new told_now)
 event_follows run events taken event frames old new told told_now same registers talks stored traced is =
@@ -78,7 +79,7 @@ event_follows run events taken event frames old new told told_now same registers
     (stored-one (source_of run) events event ∙ ap (λ (fs : List (List ℕ)). stored_by run events ++ fs) stored) traced is
 
 -- and of one that stores nothing
-pub quiet_event : (run : Run) (events : List Event) (taken : ℕ → List ℕ) (event : Event) (old new : Core) (told : Option Files)
+pub quiet_event : (run : Run) (events : List Event) (taken : ℕ → List ℕ) (event : Event) (old new : Core) (told : FolderTold)
     → IsSameCore old new → new.trace ≡ old.trace
     → registry.IsAfter run.setting (events ++ event ∷ []) new.registry
     → AddsTraffic (traffic_of (source_of run) events event) old.hub new.hub
@@ -87,4 +88,4 @@ pub quiet_event : (run : Run) (events : List Event) (taken : ℕ → List ℕ) (
     → IsAfter run (events ++ event ∷ []) taken new × (HoldsTrace run events old told → HoldsTrace run (events ++ event ∷ []) new told)
 quiet_event run events taken event old new told same kept registers talks none is =
     event_follows run events taken event [] old new told told same registers talks none
-    (subst (λ (o : Option Trace). Traced run (stored_by run events) (stored_by run events ++ []) old.trace o told told) (sym kept) (trace_stays run (stored_by run events) old.trace told)) is
+    (subst (λ (o : Option Trace). Traced run (stored_by run events) (stored_by run events ++ []) old.trace o told.files told.files) (sym kept) (trace_stays run (stored_by run events) old.trace told.files)) is

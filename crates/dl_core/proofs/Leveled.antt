@@ -17,7 +17,7 @@ use Rattle.dl_model.specs.declared.registry.LevelChange.{LevelChange}
 use Rattle.dl_model.specs.declared.registry.RegistryFault.{RegistryFault}
 use Rattle.dl_model.specs.declared.registry.RegistryFault.TheVariants as fault
 use Rattle.dl_model.specs.declared.registry.Slot.{Slot}
-use Rattle.dl_model.specs.History.{last_version}
+use Rattle.dl_bytes.specs.Limits.{last_version}
 use Rattle.dl_model.specs.Registry.{App, Registry, IsInOrder, app_of, context_of, effective, least_free, numbers, places, slot_of, stored_level, with_app, with_new_app, with_context, with_new_context, without, app_registered, app_unregistered, context_registered, context_unregistered, for_app, applied, change_at, first_change, level_at}
 use Rattle.dl_model.proofs.Numbered.{AllByRecursion-map_filter, least_free-le-length, least_free-is_free}
 use Rattle.dl_model.proofs.Order.{app_of_found, placed_of_found}
@@ -168,7 +168,7 @@ pub level_follows : (old : Core) (now : Kept) (change : LevelChange) → Some ch
     → AddsAlone (event.Level change.slot change.level ∷ []) old (record old { registry = now })
 level_follows old now change is made = λ told run events taken gives after.
     quiet_event run events taken (event.Level change.slot change.level) old (record old { registry = now }) told
-    (record { ecu = refl; level = refl; injection = refl; hub = record { ecu = refl; buffer = refl } }) refl
+    (record { ecu = refl; level = refl; injection = refl; hub = record { ecu = refl; buffer = refl; limit = refl } }) refl
     (subst (λ (k : Kept). registry.IsAfter run.setting (events ++ event.Level change.slot change.level ∷ []) k) (sym made) (change_follows run.setting events old.registry change after.registry (sym is)))
     (admits-none old.hub) refl after
 

@@ -17,7 +17,7 @@ use Rattle.dl_events.specs.Journal as journal
 use Rattle.dl_events.specs.declared.event.Event.{Event}
 use Rattle.dl_events.specs.declared.event.Event.TheVariants as event
 use Rattle.dl_model.specs.Traffic as traffic
-use Rattle.dl_outside.specs.Folder.{Files}
+use Rattle.dl_outside.specs.Told.{FolderTold}
 use Rattle.dl_hub.specs.Follows as hub
 use Rattle.dl_hub.specs.State.{Hub, HasRoom, IsSameHub, changed, with_reply}
 use Rattle.dl_core.specs.Serving.{Answers, Serves}
@@ -118,20 +118,20 @@ module _ (core : Core) (ready : Ready) (request : Result Request RequestFault) (
   ready_room answer room = subst (λ (frame : List ℕ). HasRoom (length frame) core.hub ready.client) (frame_asked answer) room
 
   -- what was answered, and noted
-  pub serves : (new : Core) (pushed : Bool) (answer : Done) (told told_now : Option Files) (faults faults_now : ℕ) (events events_now : Option (List Event))
-      → Answers ready.want pushed answer told told_now faults faults_now
+  pub serves : (new : Core) (pushed : Bool) (answer : Done) (told told_now : FolderTold) (events events_now : Option (List Event))
+      → Answers ready.want pushed answer told told_now
       → journal.Adds events events_now (event.Request ready.client ready.frame answer)
       → new.registry ≡ with_registry core.registry (served (seen core) (slots core.registry) core.registry.registry request answer)
       → hub.Adds (traffic.Reply ready.client (control_reply core.ecu (reply_to (seen core) (slots core.registry) core.registry.registry target.0 target.1 request answer))) core.hub new.hub
       → new.hub ≡ changed ready.client (with_reply (control_reply core.ecu (reply_to (seen core) (slots core.registry) core.registry.registry target.0 target.1 request answer))) core.hub
       → new ≡ record core { registry = new.registry; hub = new.hub }
-      → Serves ready pushed core new told told_now faults faults_now events events_now
-  serves new pushed answer told told_now faults faults_now events events_now acts notes kept talks puts rest =
+      → Serves ready pushed core new told told_now events events_now
+  serves new pushed answer told told_now events events_now acts notes kept talks puts rest =
       let registry_is : new.registry ≡ served_now core ready.frame answer =
       kept ∙ ap (λ (r : Result Request RequestFault). with_registry core.registry (served (seen core) (slots core.registry) core.registry.registry r answer)) asks in
       let hub_is : new.hub ≡ changed ready.client (with_reply (reply_now core ready.frame answer)) core.hub =
       puts ∙ ap (λ (frame : List ℕ). changed ready.client (with_reply frame) core.hub) (sym (frame_asked answer)) in
-      let same : IsSameHub core.hub new.hub = record { ecu = ap (λ (h : Hub). h.ecu) hub_is; buffer = ap (λ (h : Hub). h.buffer) hub_is } in
+      let same : IsSameHub core.hub new.hub = record { ecu = ap (λ (h : Hub). h.ecu) hub_is; buffer = ap (λ (h : Hub). h.buffer) hub_is; limit = ap (λ (h : Hub). h.limit) hub_is } in
       let alike : IsSameCore core new = record {
         ecu = ap (λ (c : Core). c.ecu) rest;
         level = ap (λ (c : Core). c.level) rest;
@@ -146,5 +146,5 @@ module _ (core : Core) (ready : Ready) (request : Result Request RequestFault) (
         reply = hub_is;
         after = request_follows ready.client ready.frame answer core new told told_now alike (ap (λ (c : Core). c.trace) rest) registry_is
             (subst (λ (frame : List ℕ). hub.Adds (traffic.Reply ready.client frame) core.hub new.hub) (sym (frame_asked answer)) talks)
-            (answers_keep ready.want pushed answer told told_now faults faults_now acts);
+            (answers_keep ready.want pushed answer told told_now acts);
       }

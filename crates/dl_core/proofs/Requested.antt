@@ -13,6 +13,7 @@ use Rattle.dl_control.specs.declared.reply.Reply.{Reply}
 use Rattle.dl_events.specs.declared.event.Event.{Event}
 use Rattle.dl_events.specs.declared.event.Event.TheVariants as event
 use Rattle.dl_outside.specs.Folder.{Files, AllBut, Puts, Removes}
+use Rattle.dl_outside.specs.Told.{FolderTold}
 use Rattle.dl_outside.specs.declared.folder.FolderFault.{FolderFault}
 use Rattle.dl_outside.specs.declared.folder.FolderFault.TheVariants as fault
 use Rattle.dl_model.specs.declared.registry.Slot.{Slot}
@@ -113,12 +114,12 @@ kept_removed (Some files) told_now (Err fault.Failed) removes = kept_but (Some f
 kept_removed (Some files) told_now (Err fault.OutOfMemory) removes = (files, removes, λ directory number. refl)
 
 -- whatever the request wanted
-pub answers_keep : (wants : Want) (pushed : Bool) (answer : Done) (told told_now : Option Files) (faults faults_now : ℕ) → Answers wants pushed answer told told_now faults faults_now
-    → KeepsTraces told told_now
-answers_keep want.Nothing pushed answer told told_now faults faults_now acts = kept_as told told_now acts.1
-answers_keep (want.Put text stored) pushed answer told told_now faults faults_now acts = kept_put told told_now acts.0 text acts.2
-answers_keep want.Remove pushed answer told told_now faults faults_now acts = kept_removed told told_now acts.0 acts.2
-answers_keep (want.Inject app injection) pushed answer told told_now faults faults_now acts = kept_as told told_now acts.1
+pub answers_keep : (wants : Want) (pushed : Bool) (answer : Done) (told told_now : FolderTold) → Answers wants pushed answer told told_now
+    → KeepsTraces told.files told_now.files
+answers_keep want.Nothing pushed answer told told_now acts = kept_as told.files told_now.files (ap (λ (f : FolderTold). f.files) acts.1)
+answers_keep (want.Put text stored) pushed answer told told_now acts = kept_put told.files told_now.files acts.0 text acts.2
+answers_keep want.Remove pushed answer told told_now acts = kept_removed told.files told_now.files acts.0 acts.2
+answers_keep (want.Inject app injection) pushed answer told told_now acts = kept_as told.files told_now.files (ap (λ (f : FolderTold). f.files) acts.1)
 
 files_kept : (run : Run) (frames : List (List ℕ)) (told told_now : Option Files) → KeepsTraces told told_now → HoldsFiles run frames told → HoldsFiles run frames told_now
 files_kept run frames None told_now keeps holds = absurd holds
@@ -161,16 +162,16 @@ registry_follows run events client frame answer old new set is serves =
     ∙ served_alike (seen old) run.setting (slots old.registry) old.registry.registry (asked frame) answer set.level)
 
 -- the event of a request that was served
-pub request_follows : (client : ℕ) (frame : List ℕ) (answer : Done) (old new : Core) (told told_now : Option Files)
+pub request_follows : (client : ℕ) (frame : List ℕ) (answer : Done) (old new : Core) (told told_now : FolderTold)
     → IsSameCore old new → new.trace ≡ old.trace → new.registry ≡ served_now old frame answer
     → hub.Adds (traffic.Reply client (reply_now old frame answer)) old.hub new.hub
-    → KeepsTraces told told_now
+    → KeepsTraces told.files told_now.files
     → Adds (event.Request client frame answer ∷ []) (λ run. Unit {0}) old new told told_now
 request_follows client frame answer old new told told_now same trace serves talks keeps = λ run events taken gives is.
     event_follows run events taken (event.Request client frame answer) [] old new told told_now same
     (registry_follows run events client frame answer old new is.set_to is.registry serves)
     (subst (λ (f : List ℕ). hub.Adds (traffic.Reply client f) old.hub new.hub) (sym (reply_of_run run events old frame answer is.set_to is.registry)) talks)
     refl
-    (subst (λ (o : Option Trace). Traced run (stored_by run events) (stored_by run events ++ []) old.trace o told told_now) (sym trace)
-    (trace_kept run (stored_by run events) old.trace told told_now keeps))
+    (subst (λ (o : Option Trace). Traced run (stored_by run events) (stored_by run events ++ []) old.trace o told.files told_now.files) (sym trace)
+    (trace_kept run (stored_by run events) old.trace told.files told_now.files keeps))
     is

@@ -6,6 +6,7 @@ use Rattle.std.proofs.lemmas.List.{append-nil}
 use Rattle.dl_bytes.specs.declared.outcome.TraceEnd.{TraceEnd}
 use Rattle.dl_bytes.specs.declared.outcome.TraceEnd.TheVariants.{Spent}
 use Rattle.dl_outside.specs.Folder.{Files}
+use Rattle.dl_outside.specs.Told.{FolderTold}
 use Rattle.dl_model.specs.Backlog.{size_of}
 use Rattle.dl_model.specs.TraceFiles.{StoredFile, greatest, number_limit, segments_from, segments, trace_files, is_spent}
 use Rattle.dl_trace.specs.State.{Trace, IsAfter, listed}
@@ -170,24 +171,24 @@ stopped_follows run frames more old new told told_now end goes_on is does =
     }
 
 -- whatever the call left
-stores_follow : (run : Run) (frames more : List (List ℕ)) (old new : Trace) (told told_now : Option Files) (faults faults_now : ℕ)
-    → Stores more old new told told_now faults faults_now → IsTraceAfter run frames old
+stores_follow : (run : Run) (frames more : List (List ℕ)) (old new : Trace) (told told_now : FolderTold)
+    → Stores more old new told told_now → IsTraceAfter run frames old
     → IsTraceAfter run (frames ++ more) new
-    × ((old.state.end ≡ None → HoldsFiles run frames told) → new.state.end ≡ None → HoldsFiles run (frames ++ more) told_now)
-stores_follow run frames more old new told told_now faults faults_now call is = by_ends old.state.end new.state.end refl refl call where
-  by_ends : (before after : Option TraceEnd) → old.state.end ≡ before → new.state.end ≡ after → StoresTill before after more old new told told_now faults faults_now
+    × ((old.state.end ≡ None → HoldsFiles run frames told.files) → new.state.end ≡ None → HoldsFiles run (frames ++ more) told_now.files)
+stores_follow run frames more old new told told_now call is = by_ends old.state.end new.state.end refl refl call where
+  by_ends : (before after : Option TraceEnd) → old.state.end ≡ before → new.state.end ≡ after → StoresTill before after more old new told told_now
       → IsTraceAfter run (frames ++ more) new
-      × ((old.state.end ≡ None → HoldsFiles run frames told) → new.state.end ≡ None → HoldsFiles run (frames ++ more) told_now)
+      × ((old.state.end ≡ None → HoldsFiles run frames told.files) → new.state.end ≡ None → HoldsFiles run (frames ++ more) told_now.files)
   by_ends (Some end) after was now left = (
     subst (λ (t : Trace). IsTraceAfter run (frames ++ more) t) (sym left.0) (ended_follows run frames more old end was is),
     λ holds none. absurd (cc (was, none, left.0)),
   )
   by_ends None None was now left = (
-    stored_follows run frames more old new told told_now was is left.0,
-    λ holds none. files_follow run frames more old new told told_now was is left.0 (holds was),
+    stored_follows run frames more old new told.files told_now.files was is left.0,
+    λ holds none. files_follow run frames more old new told.files told_now.files was is left.0 (holds was),
   )
   by_ends None (Some end) was now left = (
-    stopped_follows run frames more old new told told_now end was is left.0,
+    stopped_follows run frames more old new told.files told_now.files end was is left.0,
     λ holds none. absurd (cc (now, none)),
   )
 
@@ -198,27 +199,27 @@ Traced run before after old new told told_now =
     × (IfSome old (λ t. t.state.end ≡ None → HoldsFiles run before told) → IfSome new (λ t. t.state.end ≡ None → HoldsFiles run after told_now))
 
 -- the same where a trace is kept
-pub trace_follows : (run : Run) (frames more : List (List ℕ)) (old new : Option Trace) (told told_now : Option Files) (faults faults_now : ℕ)
-    → StoresIn more old new told told_now faults faults_now → Traced run frames (frames ++ more) old new told told_now
-trace_follows run frames more None new told told_now faults faults_now call =
-    subst (λ (o : Option Trace). Traced run frames (frames ++ more) None o told told_now) (sym call.0) (λ is. (tt {0}, λ holds. tt {0}))
-trace_follows run frames more (Some old) None told told_now faults faults_now call = absurd call
-trace_follows run frames more (Some old) (Some new) told told_now faults faults_now call = λ is. stores_follow run frames more old new told told_now faults faults_now call is
+pub trace_follows : (run : Run) (frames more : List (List ℕ)) (old new : Option Trace) (told told_now : FolderTold)
+    → StoresIn more old new told told_now → Traced run frames (frames ++ more) old new told.files told_now.files
+trace_follows run frames more None new told told_now call =
+    subst (λ (o : Option Trace). Traced run frames (frames ++ more) None o told.files told_now.files) (sym call.0) (λ is. (tt {0}, λ holds. tt {0}))
+trace_follows run frames more (Some old) None told told_now call = absurd call
+trace_follows run frames more (Some old) (Some new) told told_now call = λ is. stores_follow run frames more old new told told_now call is
 
 -- nothing was to be stored
 pub trace_stays : (run : Run) (frames : List (List ℕ)) (kept : Option Trace) (told : Option Files) → Traced run frames (frames ++ []) kept kept told told
 trace_stays run frames kept told = subst (λ (fs : List (List ℕ)). Traced run frames fs kept kept told told) (sym (append-nil frames)) (λ is. (is, λ holds. holds))
 
 -- frames were stored one after the other
-pub each_follows : (run : Run) (frames more : List (List ℕ)) (old new : Option Trace) (told told_now : Option Files) (faults faults_now : ℕ)
-    → StoresEach more old new told told_now faults faults_now → Traced run frames (frames ++ more) old new told told_now
-each_follows run frames [] old new told told_now faults faults_now call =
-    subst (λ (o : Option Trace). Traced run frames (frames ++ []) old o told told_now) (sym call.0)
-    (subst (λ (o : Option Files). Traced run frames (frames ++ []) old old told o) (sym call.1) (trace_stays run frames old told))
-each_follows run frames (x ∷ more) old new told told_now faults faults_now call =
-    let first = trace_follows run frames (x ∷ []) old call.0 told call.1 faults call.2 call.3 in
-    let later = each_follows run (frames ++ x ∷ []) more call.0 new call.1 told_now call.2 faults_now call.4 in
-    subst (λ (fs : List (List ℕ)). Traced run frames fs old new told told_now) (append_assoc frames (x ∷ []) more)
+pub each_follows : (run : Run) (frames more : List (List ℕ)) (old new : Option Trace) (told told_now : FolderTold)
+    → StoresEach more old new told told_now → Traced run frames (frames ++ more) old new told.files told_now.files
+each_follows run frames [] old new told told_now call =
+    subst (λ (o : Option Trace). Traced run frames (frames ++ []) old o told.files told_now.files) (sym call.0)
+    (subst (λ (f : FolderTold). Traced run frames (frames ++ []) old old told.files f.files) (sym call.1) (trace_stays run frames old told.files))
+each_follows run frames (x ∷ more) old new told told_now call =
+    let first = trace_follows run frames (x ∷ []) old call.0 told call.1 call.2 in
+    let later = each_follows run (frames ++ x ∷ []) more call.0 new call.1 told_now call.3 in
+    subst (λ (fs : List (List ℕ)). Traced run frames fs old new told.files told_now.files) (append_assoc frames (x ∷ []) more)
     (λ is.
     let here = first is in
     let there = later here.0 in (there.0, λ holds. there.1 (here.1 holds)))

@@ -13,7 +13,7 @@ use Rattle.std.specs.Prelude.{Bool, true, false, zero, suc}
 use Rattle.dl_events.specs.Journal.{one_more}
 use Rattle.dl_bytes.specs.declared.user.UserMsg.{UserMsg}
 use Rattle.dl_bytes.specs.declared.user.UserMsg.TheVariants as user
-use Rattle.dl_model.specs.Traffic.{Traffic, Admit}
+use Rattle.dl_model.specs.Traffic.{Traffic, Admitted}
 use Rattle.dl_hub.specs.State.{Hub}
 use Rattle.dl_hub.specs.Follows.{IsAfter}
 
@@ -43,7 +43,7 @@ AddsEach None new more = new ≡ None
 
 -- the frames are this traffic of the hub: whatever it was after, it is after that and these
 abbrev pub Admits : List (List ℕ) → Hub → Hub → Type 0
-Admits frames old new = (traffic : List Traffic) (taken : ℕ → List ℕ) → IsAfter traffic taken old → IsAfter (traffic ++ map Admit frames) taken new
+Admits frames old new = (traffic : List Traffic) (taken : ℕ → List ℕ) → IsAfter traffic taken old → IsAfter (traffic ++ map Admitted frames) taken new
 
 -- a user message that admits frames, and concerns no registry
 abbrev pub has_frames : UserMsg → Bool

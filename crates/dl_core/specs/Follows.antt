@@ -8,6 +8,7 @@ use Rattle.dl_model.specs.Frames.{FrameSource, stored_frames}
 use Rattle.dl_model.specs.ClientStream.{traffic}
 use Rattle.dl_model.specs.TraceFiles.{StoredFile, trace_files, is_spent}
 use Rattle.dl_outside.specs.Folder.{Files}
+use Rattle.dl_outside.specs.Told.{FolderTold}
 use Rattle.dl_registry.specs.Kept as registry
 use Rattle.dl_hub.specs.Follows as hub
 use Rattle.dl_trace.specs.State as trace
@@ -62,16 +63,20 @@ pub record IsAfter (run : Run) (events : List Event) (taken : ℕ → List ℕ) 
   pub trace : IfSome core.trace (IsTraceAfter run (stored_by run events))
 
 -- while the trace goes on, the folder tells its files, and its trace files are just those of these events
-abbrev pub HoldsTrace : Run → List Event → Core → Option Files → Type 0
-HoldsTrace run events core told = IfSome core.trace (λ kept. kept.state.end ≡ None → HoldsFiles run (stored_by run events) told)
+abbrev pub HoldsTrace : Run → List Event → Core → FolderTold → Type 0
+HoldsTrace run events core folder = IfSome core.trace (λ kept. kept.state.end ≡ None → HoldsFiles run (stored_by run events) folder.files)
 
 -- The call is these events: whatever a run made of the core, with these events more it makes what the core is now; and the
 -- same of the folder. It holds of each run that gives what the call was handed.
-abbrev pub Adds : List Event → (Run → Type 0) → Core → Core → Option Files → Option Files → Type 0
-Adds more Gives old new told told_now =
+abbrev pub Adds : List Event → (Run → Type 0) → Core → Core → FolderTold → FolderTold → Type 0
+Adds more Gives old new folder folder_now =
     (run : Run) (events : List Event) (taken : ℕ → List ℕ) → Gives run → IsAfter run events taken old
-    → IsAfter run (events ++ more) taken new × (HoldsTrace run events old told → HoldsTrace run (events ++ more) new told_now)
+    → IsAfter run (events ++ more) taken new × (HoldsTrace run events old folder → HoldsTrace run (events ++ more) new folder_now)
 
 -- the same of a call that is handed no frame and no folder
 abbrev pub AddsAlone : List Event → Core → Core → Type 0
-AddsAlone more old new = (told : Option Files) → Adds more (λ run. Unit {0}) old new told told
+AddsAlone more old new = (folder : FolderTold) → Adds more (λ run. Unit {0}) old new folder folder
+
+-- before its first event, in each run of this setting whose trace files are those that the trace found
+abbrev pub Begins : Setting → Option Trace → Core → Type 0
+Begins setting kept core = (run : Run) → run.setting ≡ setting → IfSome kept (trace.IsAfter run.stood []) → IsAfter run [] (λ _. []) core

@@ -1,6 +1,6 @@
 -- Requests: what is got ready for one, and what it leaves.
 use Rattle.std.specs.Prelude.{◌≡◌, ◌≤◌, ℕ, Bool, true, false, List, [], ◌∷◌, length, codes, Option, Some, None, is_some, IfSome, Result, Ok, Err, if◌then◌else◌}
-use Rattle.dl_bytes.specs.Limits.{client_limit}
+use Rattle.dl_bytes.specs.Limits.{message_limit}
 use Rattle.dl_bytes.specs.declared.item.Injection.{Injection}
 use Rattle.dl_bytes.specs.declared.outcome.Done.{Done}
 use Rattle.dl_bytes.specs.declared.outcome.Done.TheVariants as done
@@ -12,9 +12,12 @@ use Rattle.dl_message.specs.Requests.{asks}
 use Rattle.dl_events.specs.Journal as journal
 use Rattle.dl_events.specs.declared.event.Event.{Event}
 use Rattle.dl_events.specs.declared.event.Event.TheVariants as event
-use Rattle.dl_model.specs.Reply.{apid_of, asked, ctid_of, reply_frame_to, served}
-use Rattle.dl_outside.specs.Folder.{Files, HasCause, Puts, Removes}
+use Rattle.dl_control.specs.Reply.{control_reply}
+use Rattle.dl_control.specs.declared.reply.Reply.{Reply}
+use Rattle.dl_model.specs.Reply.{apid_of, asked, ctid_of, reply_frame_to, reply_to, served}
+use Rattle.dl_outside.specs.Folder.{HasCause, Puts, Removes}
 use Rattle.dl_outside.specs.Outside.{one_more}
+use Rattle.dl_outside.specs.Told.{FolderTold}
 use Rattle.dl_outside.specs.declared.folder.FolderFault.{FolderFault}
 use Rattle.dl_outside.specs.declared.folder.FolderFault.TheVariants as fault
 use Rattle.dl_registry.specs.Kept.{Kept, slots, with_registry}
@@ -28,7 +31,7 @@ use Rattle.dl_core.specs.Settings.{seen}
 
 -- a message that asks for something: a whole one within the limit of clients, with a request's MSIN
 pub record IsRequest (frame : List ℕ) : Type 0 where
-  pub whole : IsWholeMessage client_limit frame
+  pub whole : IsWholeMessage message_limit frame
   pub request : asks frame ≡ true
 
 -- the name of the file that has the stored configuration
@@ -49,6 +52,24 @@ served_now core frame answer =
 -- what it wants of the folder, or of an application's queue
 abbrev pub wanted_now : Core → List ℕ → Want
 wanted_now core frame = wanted (seen core) (slots core.registry) core.registry.registry (apid_of frame) (ctid_of frame) (asked frame)
+
+-- ---- the same by what the request asks, and the ids that it is for
+
+abbrev pub reply_for : Core → Result Request RequestFault → List ℕ × List ℕ → Done → Reply
+reply_for core request target answer = reply_to (seen core) (slots core.registry) core.registry.registry target.0 target.1 request answer
+
+abbrev pub frame_for : Core → Result Request RequestFault → List ℕ × List ℕ → Done → List ℕ
+frame_for core request target answer = control_reply core.ecu (reply_for core request target answer)
+
+abbrev pub served_for : Core → Result Request RequestFault → Done → Kept
+served_for core request answer = with_registry core.registry (served (seen core) (slots core.registry) core.registry.registry request answer)
+
+abbrev pub wanted_for : Core → Result Request RequestFault → List ℕ × List ℕ → Want
+wanted_for core request target = wanted (seen core) (slots core.registry) core.registry.registry target.0 target.1 request
+
+-- a reply's frame that was written, where it was, is that of the request
+abbrev pub IsReplyFor : Core → Result Request RequestFault → List ℕ × List ℕ → Done → Option (List ℕ) → Type 0
+IsReplyFor core request target answer reply = IfSome reply (λ bytes. (bytes ≡ frame_for core request target answer) × (length bytes ≤ 65535))
 
 -- ---- by its kind
 
@@ -98,27 +119,29 @@ done_by (Err fault.OutOfMemory) = done.NoMemory
 
 -- The folder was asked for what the request wants, and the answer is the folder's; an injection is done where the queue took it.
 -- Nothing else changed in the folder.
-abbrev pub Answers : Want → Bool → Done → Option Files → Option Files → ℕ → ℕ → Type 0
-Answers want.Nothing pushed answer told told_now faults faults_now = (answer ≡ done.Yes) × (told_now ≡ told) × (faults_now ≡ faults)
-Answers (want.Put text stored) pushed answer told told_now faults faults_now =
-    (result : Result (Unit {0}) FolderFault) × (answer ≡ done_by result) × Puts told told_now result stored_name text × HasCause faults faults_now result
-Answers want.Remove pushed answer told told_now faults faults_now =
-    (result : Result (Unit {0}) FolderFault) × (answer ≡ done_by result) × Removes told told_now result stored_name × HasCause faults faults_now result
-Answers (want.Inject app injection) pushed answer told told_now faults faults_now =
-    (answer ≡ (if pushed then done.Yes else done.Failed)) × (told_now ≡ told) × (faults_now ≡ faults)
+abbrev pub Answers : Want → Bool → Done → FolderTold → FolderTold → Type 0
+Answers want.Nothing pushed answer folder folder_now = (answer ≡ done.Yes) × (folder_now ≡ folder)
+Answers (want.Put text stored) pushed answer folder folder_now =
+    (result : Result (Unit {0}) FolderFault) × (answer ≡ done_by result)
+    × Puts folder.files folder_now.files result stored_name text × HasCause folder.faults folder_now.faults result
+Answers want.Remove pushed answer folder folder_now =
+    (result : Result (Unit {0}) FolderFault) × (answer ≡ done_by result)
+    × Removes folder.files folder_now.files result stored_name × HasCause folder.faults folder_now.faults result
+Answers (want.Inject app injection) pushed answer folder folder_now =
+    (answer ≡ (if pushed then done.Yes else done.Failed)) × (folder_now ≡ folder)
 
 -- the folder was asked once to change a file, where the request wants that
-abbrev pub Asks : Want → ℕ → ℕ → Type 0
-Asks (want.Put text stored) changes changes_now = changes_now ≡ one_more changes
-Asks want.Remove changes changes_now = changes_now ≡ one_more changes
-Asks other changes changes_now = changes_now ≡ changes
+abbrev pub Asks : Want → FolderTold → FolderTold → Type 0
+Asks (want.Put text stored) folder folder_now = folder_now.changes ≡ one_more folder.changes
+Asks want.Remove folder folder_now = folder_now.changes ≡ one_more folder.changes
+Asks other folder folder_now = folder_now.changes ≡ folder.changes
 
 -- The request was served: the folder did what it wanted, or not; the Request event with that answer is noted; the registry is what
 -- the request makes of it, the reply is at the end of the client's outbox, and the core stands for the journal with the event.
-pub record Serves (ready : Ready) (pushed : Bool) (old new : Core) (told told_now : Option Files) (faults faults_now : ℕ) (events events_now : Option (List Event)) : Type 0 where
+pub record Serves (ready : Ready) (pushed : Bool) (old new : Core) (folder folder_now : FolderTold) (events events_now : Option (List Event)) : Type 0 where
   pub answer : Done
-  pub acts : Answers ready.want pushed answer told told_now faults faults_now
+  pub acts : Answers ready.want pushed answer folder folder_now
   pub notes : journal.Adds events events_now (event.Request ready.client ready.frame answer)
   pub registry : new.registry ≡ served_now old ready.frame answer
   pub reply : new.hub ≡ changed ready.client (with_reply (reply_now old ready.frame answer)) old.hub
-  pub after : Adds (event.Request ready.client ready.frame answer ∷ []) (λ run. Unit {0}) old new told told_now
+  pub after : Adds (event.Request ready.client ready.frame answer ∷ []) (λ run. Unit {0}) old new folder folder_now

@@ -1,5 +1,6 @@
 -- Which configuration a core has.
 use Rattle.std.specs.Prelude.{◌≡◌, ℕ, [], None, Option}
+use Rattle.dl_bytes.specs.Limits.{client_limit}
 use Rattle.dl_bytes.specs.declared.conf.Conf.{Conf}
 use Rattle.dl_bytes.specs.declared.conf.Stored.{Stored}
 use Rattle.dl_model.specs.Setting.{Setting}
@@ -8,9 +9,10 @@ use Rattle.dl_registry.specs.Kept.{made}
 use Rattle.dl_trace.specs.State.{Trace}
 use Rattle.dl_core.specs.State.{Core}
 
--- what does not change in a run: of this configuration, after this stored configuration, with this first version
-abbrev pub setting_of : Conf → Stored → ℕ → Setting
-setting_of conf stored first = record {
+-- what does not change in a run: of this configuration, after this stored configuration, with this first version, to which
+-- at most so many clients come
+abbrev pub setting_for : Conf → Stored → ℕ → ℕ → Setting
+setting_for conf stored first clients = record {
   ecu = conf.ecu;
   level = conf.level;
   buffer = conf.buffer;
@@ -20,18 +22,27 @@ setting_of conf stored first = record {
   injection = conf.injection;
   stored = stored;
   first = first;
+  clients = clients;
 }
 
+-- the same of a run that ends
+abbrev pub setting_of : Conf → Stored → ℕ → Setting
+setting_of conf stored first = setting_for conf stored first client_limit
+
 -- a core before its first event
-abbrev pub begun : Conf → Stored → ℕ → Option Trace → Core
-begun conf stored first trace = record {
+abbrev pub begun_for : Conf → Stored → ℕ → Option Trace → ℕ → Core
+begun_for conf stored first trace clients = record {
   ecu = conf.ecu;
   level = conf.level;
   injection = conf.injection;
   registry = made conf.level stored first;
-  hub = fresh conf.ecu conf.buffer;
+  hub = fresh conf.ecu conf.buffer clients;
   trace = trace;
 }
+
+-- the same of a run that ends
+abbrev pub begun : Conf → Stored → ℕ → Option Trace → Core
+begun conf stored first trace = begun_for conf stored first trace client_limit
 
 -- the core has the setting of a run
 pub record IsSetTo (setting : Setting) (core : Core) : Type 0 where
@@ -40,6 +51,7 @@ pub record IsSetTo (setting : Setting) (core : Core) : Type 0 where
   pub buffer : core.hub.buffer ≡ setting.buffer
   pub level : core.level ≡ setting.level
   pub injection : core.injection ≡ setting.injection
+  pub clients : core.hub.limit ≡ setting.clients
 
 -- the configuration as far as a request sees it
 abbrev pub seen : Core → Setting
@@ -53,4 +65,5 @@ seen core = record {
   injection = core.injection;
   stored = record { level = None; own = [] };
   first = core.registry.first;
+  clients = core.hub.limit;
 }

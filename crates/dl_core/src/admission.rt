@@ -1,23 +1,19 @@
 //! Log calls and reports of lost ones: each is admitted, stored and noted.
 
-ghost use Rattle.std.specs.Prelude.{◌≡◌, ◌≤◌, ◌<◌, ◌+◌, ◌^◌, ◌-◌, ◌∷◌, [], ℕ, List, Some, None, length, map};
-ghost use Rattle.dl_bytes.specs.Id.{zero_id};
-ghost use Rattle.dl_events.specs.Journal as notes;
+ghost use Rattle.std.specs.Prelude.{◌≡◌, ◌≤◌, ◌<◌, ◌↔◌, ◌+◌, ℕ, List, None, IsTrue, length, map};
+ghost use Rattle.dl_bytes.specs.Limits.{admitted_limit};
 ghost use Rattle.dl_events.specs.Journal.{one_more};
-ghost use Rattle.dl_events.specs.declared.event.Event.TheVariants as event;
 ghost use Rattle.dl_message.specs.Frames.{log_message};
 ghost use Rattle.dl_model.specs.Backlog.{size_of};
-ghost use Rattle.dl_model.specs.Frames.{stored};
 ghost use Rattle.dl_registry.specs.Kept.{owed_change};
 ghost use Rattle.dl_hub.specs.State.{EachHasRoom};
-ghost use Rattle.dl_core.specs.Admission.{log_event, lost_frames, more_noted, AddsEach, GivesApid, GivesFrame, GivesFrames};
-ghost use Rattle.dl_core.specs.Follows.{Adds};
-ghost use Rattle.dl_core.specs.Storing.{StoresEach, StoresIn, ChangesTraceAlone};
+ghost use Rattle.dl_core.specs.Admission.{lost_frames, more_noted};
+ghost use Rattle.dl_core.specs.Noting.{NotesLog, NotesLogs, NotesLost};
 
 use crate::admitting::{admit, admit_each, log_len, logged, lost_len, report};
 use crate::daemon::Core;
 use crate::storing::{begin_batch, store_batch};
-use dl_bytes::{Id, Item, Moment};
+use dl_bytes::{ADMITTED_LIMIT, Id, Item, Moment};
 use dl_events::{Event, Journal};
 use dl_message::write_log_frame;
 use dl_outside::Folder;
@@ -34,15 +30,11 @@ impl Core {
         requires spare { 1 ≤ J.spare journal.old }
         requires settled { owed_change self.old.registry ≡ None }
         requires room { EachHasRoom (length (log_message self.old.ecu item.now)) self.old.hub }
-        requires few { self.old.hub.admitted < 2 ^ 40 }
-        ensures after { Adds (log_event moment item.now ∷ []) (GivesFrame item.now) self.old self.new (F.files folder.old) (F.files folder.new) }
-        ensures event { notes.Adds (J.events journal.old) (J.events journal.new) (log_event moment item.now) }
+        requires few { self.old.hub.admitted < admitted_limit }
+        ensures notes { NotesLog moment item.now self.old self.new (F.told folder.old) (F.told folder.new) (J.events journal.old) (J.events journal.new) }
         ensures noted { J.noted journal.new ≡ one_more (J.noted journal.old) }
         ensures spare { J.spare journal.new + 1 ≡ J.spare journal.old }
-        ensures stored { StoresIn (stored self.old.ecu moment (log_message self.old.ecu item.now) ∷ []) self.old.trace self.new.trace (F.files folder.old) (F.files folder.new) (F.faults folder.old) (F.faults folder.new) }
-        ensures others { ChangesTraceAlone self.old.trace (F.files folder.old) (F.files folder.new) }
         ensures rest { self.new ≡ record self.old { hub = self.new.hub; trace = self.new.trace } }
-        ensures admitted { self.new.hub.admitted ≡ self.old.hub.admitted + 1 }
     {
         write_log_frame(&mut self.frame, self.ecu, item);
         admit(
@@ -70,15 +62,11 @@ impl Core {
         requires spare { 1 ≤ J.spare journal.old }
         requires settled { owed_change self.old.registry ≡ None }
         requires room { EachHasRoom (size_of (lost_frames self.old.ecu apid count)) self.old.hub }
-        requires few { self.old.hub.admitted + length (lost_frames self.old.ecu apid count) ≤ 2 ^ 40 }
-        ensures after { Adds (event.Lost app count moment ∷ []) (GivesApid app apid) self.old self.new (F.files folder.old) (F.files folder.new) }
-        ensures event { notes.Adds (J.events journal.old) (J.events journal.new) (event.Lost app count moment) }
+        requires few { self.old.hub.admitted + length (lost_frames self.old.ecu apid count) ≤ admitted_limit }
+        ensures notes { NotesLost moment app apid count self.old self.new (F.told folder.old) (F.told folder.new) (J.events journal.old) (J.events journal.new) }
         ensures noted { J.noted journal.new ≡ one_more (J.noted journal.old) }
         ensures spare { J.spare journal.new + 1 ≡ J.spare journal.old }
-        ensures stored { StoresEach (map (stored self.old.ecu moment) (lost_frames self.old.ecu apid count)) self.old.trace self.new.trace (F.files folder.old) (F.files folder.new) (F.faults folder.old) (F.faults folder.new) }
-        ensures others { ChangesTraceAlone self.old.trace (F.files folder.old) (F.files folder.new) }
         ensures rest { self.new ≡ record self.old { hub = self.new.hub; trace = self.new.trace } }
-        ensures admitted { self.new.hub.admitted ≡ self.old.hub.admitted + length (lost_frames self.old.ecu apid count) }
     {
         report(
             &mut self.hub,
@@ -105,15 +93,11 @@ impl Core {
         requires spare { length items.now ≤ J.spare journal.old }
         requires settled { owed_change self.old.registry ≡ None }
         requires room { EachHasRoom (size_of (map (log_message self.old.ecu) items.now)) self.old.hub }
-        requires few { self.old.hub.admitted + length items.now ≤ 2 ^ 40 }
-        ensures after { Adds (map (log_event moment) items.now) (GivesFrames items.now) self.old self.new (F.files folder.old) (F.files folder.new) }
-        ensures event { AddsEach (J.events journal.old) (J.events journal.new) (map (log_event moment) items.now) }
+        requires few { self.old.hub.admitted + length items.now ≤ admitted_limit }
+        ensures notes { NotesLogs moment items.now self.old self.new (F.told folder.old) (F.told folder.new) (J.events journal.old) (J.events journal.new) }
         ensures noted { J.noted journal.new ≡ more_noted (length items.now) (J.noted journal.old) }
         ensures spare { J.spare journal.new + length items.now ≡ J.spare journal.old }
-        ensures stored { StoresIn (map (λ item. stored self.old.ecu moment (log_message self.old.ecu item)) items.now) self.old.trace self.new.trace (F.files folder.old) (F.files folder.new) (F.faults folder.old) (F.faults folder.new) }
-        ensures others { ChangesTraceAlone self.old.trace (F.files folder.old) (F.files folder.new) }
         ensures rest { self.new ≡ record self.old { hub = self.new.hub; trace = self.new.trace } }
-        ensures admitted { self.new.hub.admitted ≡ self.old.hub.admitted + length items.now }
     {
         begin_batch(&mut self.trace);
         admit_each(
@@ -126,6 +110,14 @@ impl Core {
             journal,
         );
         store_batch(&mut self.trace, folder);
+    }
+
+    /// Whether so many frames may be admitted.
+    pub fn may_admit(&self, frames: u64) -> bool
+        ensures { IsTrue result ↔ (self.now.hub.admitted + frames ≤ admitted_limit) }
+    {
+        let admitted = self.hub.admitted();
+        admitted <= ADMITTED_LIMIT && frames <= ADMITTED_LIMIT - admitted
     }
 
     /// How many bytes a log call puts.

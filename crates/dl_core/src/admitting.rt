@@ -5,11 +5,14 @@ ghost use Rattle.dl_events.specs.Journal.{one_more};
 ghost use Rattle.dl_message.specs.Frames.{log_message};
 ghost use Rattle.dl_model.specs.Backlog.{size_of};
 ghost use Rattle.dl_model.specs.Frames.{stored};
-ghost use Rattle.dl_model.specs.Traffic.{Admit};
-ghost use Rattle.dl_hub.specs.State.{EachHasRoom, IsSameHub};
+ghost use Rattle.dl_model.specs.Traffic.{Admitted};
+ghost use Rattle.dl_bytes.specs.Limits.{admitted_limit};
+ghost use Rattle.dl_hub.specs.State.{EachHasRoom, IsSameHub, is_open};
 ghost use Rattle.dl_hub.specs.Follows.{Adds};
 ghost use Rattle.dl_core.specs.Admission.{log_event, lost_frames, more_noted, Admits, AddsEach};
-ghost use Rattle.dl_core.specs.Storing.{StoresEach, StoresIn, ChangesTraceAlone};
+ghost use Rattle.dl_core.specs.Noting.{TakesIn};
+ghost use Rattle.dl_core.specs.Storing.{StoresIn, ChangesTraceAlone};
+ghost use Rattle.dl_core.specs.Writer.{HasBatch, trace_in};
 
 use crate::storing::{TraceWriter, add_to_batch, store};
 use dl_bytes::{Frame, Id, Item, Moment};
@@ -70,13 +73,14 @@ pub fn admit<F: Folder>(
 )
     requires some { 0 < length frame.now }
     requires room { EachHasRoom (length frame.now) hub.old }
-    requires few { hub.old.admitted < 2 ^ 40 }
-    ensures adds { Adds (Admit frame.now) hub.old hub.new }
+    requires few { hub.old.admitted < admitted_limit }
+    ensures adds { Adds (Admitted frame.now) hub.old hub.new }
     ensures rooms { (more : ℕ) → EachHasRoom (length frame.now + more) hub.old → EachHasRoom more hub.new }
     ensures same { IsSameHub hub.old hub.new }
+    ensures open { map is_open hub.new.clients ≡ map is_open hub.old.clients }
     ensures admitted { hub.new.admitted ≡ hub.old.admitted + 1 }
-    ensures stored { StoresIn (stored ecu moment frame.now ∷ []) (option_map (λ w. w.trace) writer.old) (option_map (λ w. w.trace) writer.new) (F.files folder.old) (F.files folder.new) (F.faults folder.old) (F.faults folder.new) }
-    ensures others { ChangesTraceAlone (option_map (λ w. w.trace) writer.old) (F.files folder.old) (F.files folder.new) }
+    ensures stored { StoresIn (stored ecu moment frame.now ∷ []) (trace_in writer.old) (trace_in writer.new) (F.told folder.old) (F.told folder.new) }
+    ensures others { ChangesTraceAlone (trace_in writer.old) (F.told folder.old) (F.told folder.new) }
 {
     hub.admit(frame);
     store(writer, ecu, moment, frame, folder);
@@ -93,12 +97,8 @@ pub fn report<F: Folder>(
     folder: &mut F,
 )
     requires room { EachHasRoom (size_of (lost_frames ecu apid count)) hub.old }
-    requires few { hub.old.admitted + length (lost_frames ecu apid count) ≤ 2 ^ 40 }
-    ensures adds { Admits (lost_frames ecu apid count) hub.old hub.new }
-    ensures same { IsSameHub hub.old hub.new }
-    ensures admitted { hub.new.admitted ≡ hub.old.admitted + length (lost_frames ecu apid count) }
-    ensures stored { StoresEach (map (stored ecu moment) (lost_frames ecu apid count)) (option_map (λ w. w.trace) writer.old) (option_map (λ w. w.trace) writer.new) (F.files folder.old) (F.files folder.new) (F.faults folder.old) (F.faults folder.new) }
-    ensures others { ChangesTraceAlone (option_map (λ w. w.trace) writer.old) (F.files folder.old) (F.files folder.new) }
+    requires few { hub.old.admitted + length (lost_frames ecu apid count) ≤ admitted_limit }
+    ensures { TakesIn ecu moment (lost_frames ecu apid count) hub.old hub.new (trace_in writer.old) (trace_in writer.new) (F.told folder.old) (F.told folder.new) }
 {
     let mut left = count;
     while left > 0 {
@@ -122,13 +122,14 @@ pub fn admit_each<J: Journal>(
     requires few_items { length items.now ≤ 64 }
     requires spare { length items.now ≤ J.spare journal.old }
     requires room { EachHasRoom (size_of (map (log_message ecu) items.now)) hub.old }
-    requires few { hub.old.admitted + length items.now ≤ 2 ^ 40 }
-    requires empty { IfSome writer.old (λ w. w.batch ≡ []) }
+    requires few { hub.old.admitted + length items.now ≤ admitted_limit }
+    requires empty { HasBatch [] writer.old }
     ensures adds { Admits (map (log_message ecu) items.now) hub.old hub.new }
     ensures same { IsSameHub hub.old hub.new }
+    ensures open { map is_open hub.new.clients ≡ map is_open hub.old.clients }
     ensures admitted { hub.new.admitted ≡ hub.old.admitted + length items.now }
-    ensures trace { option_map (λ w. w.trace) writer.new ≡ option_map (λ w. w.trace) writer.old }
-    ensures batch { IfSome writer.new (λ w. w.batch ≡ map (λ item. stored ecu moment (log_message ecu item)) items.now) }
+    ensures trace { trace_in writer.new ≡ trace_in writer.old }
+    ensures batch { HasBatch (map (λ item. stored ecu moment (log_message ecu item)) items.now) writer.new }
     ensures events { AddsEach (J.events journal.old) (J.events journal.new) (map (log_event moment) items.now) }
     ensures noted { J.noted journal.new ≡ more_noted (length items.now) (J.noted journal.old) }
     ensures spare { J.spare journal.new + length items.now ≡ J.spare journal.old }

@@ -1,15 +1,15 @@
 //! The core as a whole: its parts, and what is read of it.
 
 ghost use Rattle.std.specs.Prelude.{◌≡◌, ◌≤◌, [], IfOk, IfSome, option_map};
-ghost use Rattle.dl_model.specs.History.{last_version};
+ghost use Rattle.dl_bytes.specs.Limits.{last_version};
 ghost use Rattle.dl_outside.specs.Folder.{Files};
 ghost use Rattle.dl_trace.specs.Made.{IsMade};
-ghost use Rattle.dl_trace.specs.State as traces;
-ghost use Rattle.dl_core.specs.Follows.{Run, IsAfter};
-ghost use Rattle.dl_core.specs.Settings.{begun, setting_of};
+ghost use Rattle.dl_core.specs.Follows.{Begins};
+ghost use Rattle.dl_core.specs.Settings.{begun, begun_for, setting_for, setting_of};
+ghost use Rattle.dl_core.specs.Writer.{trace_in};
 
 use crate::storing::TraceWriter;
-use dl_bytes::{Conf, Frame, Id, Level, OutOfMemory, Stored, TraceState};
+use dl_bytes::{CLIENT_LIMIT, Conf, Frame, Id, Level, OutOfMemory, Stored, TraceState};
 use dl_hub::Hub;
 use dl_registry::Registry;
 use dl_trace::Trace;
@@ -31,8 +31,8 @@ pub struct Core {
 }
 
 impl Model for Core {
-    ghost use Rattle.std.specs.Prelude.{option_map};
     ghost use Rattle.dl_core.specs.State as state;
+    ghost use Rattle.dl_core.specs.Writer.{trace_in};
 
     ghost Value = { state.Core };
 
@@ -42,13 +42,13 @@ impl Model for Core {
       injection = c.injection;
       registry = c.registry;
       hub = c.hub;
-      trace = option_map (λ w. w.trace) c.trace;
+      trace = trace_in c.trace;
     } };
 }
 
 impl Core {
-    /// The core of a configuration and of what was stored, before its first event. A trace that is handed in was made with
-    /// the same configuration, and has stored nothing yet. Every slot begins at version `first`.
+    /// The core of a configuration and of what was stored, before its first event, for a run that ends. A trace that is
+    /// handed in was made with the same configuration, and has stored nothing yet. Every slot begins at version `first`.
     pub fn make(
         alloc: Global,
         conf: &Conf,
@@ -59,7 +59,24 @@ impl Core {
         requires first { first ≤ last_version }
         requires trace { IfSome trace (IsMade conf.now) }
         ensures value { IfOk result (λ core. core ≡ begun conf.now stored first trace) }
-        ensures after { IfOk result (λ core. (run : Run) → run.setting ≡ setting_of conf.now stored first → IfSome trace (traces.IsAfter run.stood []) → IsAfter run [] (λ _. []) core) }
+        ensures after { IfOk result (λ core. Begins (setting_of conf.now stored first) trace core) }
+    {
+        Core::make_for(alloc, conf, stored, trace, first, CLIENT_LIMIT)
+    }
+
+    /// The same for a run to which at most this many clients come.
+    pub fn make_for(
+        alloc: Global,
+        conf: &Conf,
+        stored: Stored,
+        trace: Option<Trace>,
+        first: u64,
+        clients: u32,
+    ) -> Result<Core, OutOfMemory>
+        requires first { first ≤ last_version }
+        requires trace { IfSome trace (IsMade conf.now) }
+        ensures value { IfOk result (λ core. core ≡ begun_for conf.now stored first trace clients) }
+        ensures after { IfOk result (λ core. Begins (setting_for conf.now stored first clients) trace core) }
     {
         Ok(Core {
             alloc,
@@ -67,7 +84,7 @@ impl Core {
             level: conf.level,
             injection: conf.injection,
             registry: Registry::make(alloc, conf.level, stored, first)?,
-            hub: Hub::make(alloc, conf.ecu, conf.buffer)?,
+            hub: Hub::make_for(alloc, conf.ecu, conf.buffer, clients)?,
             trace: writer_of(alloc, trace)?,
             frame: Frame::new(),
         })
@@ -111,7 +128,7 @@ impl Core {
 
 /// What stores frames in a trace, where there is one.
 fn writer_of(alloc: Global, trace: Option<Trace>) -> Result<Option<TraceWriter>, OutOfMemory>
-    ensures { IfOk result (λ writer. option_map (λ w. w.trace) writer ≡ trace) }
+    ensures { IfOk result (λ writer. trace_in writer ≡ trace) }
 {
     match trace {
         Some(trace) => Ok(Some(TraceWriter::over(alloc, trace)?)),

@@ -3,7 +3,7 @@
 ghost use Rattle.std.specs.Prelude.{◌≡◌, ◌≤◌, ◌+◌, ◌/◌, ◌%◌, ◌++◌, ◌∷◌, ℕ, List, [], count_by, map, min, None, Option, Some, IsSomeAnd, length};
 ghost use Rattle.dl_events.specs.declared.event.Event.{Event};
 ghost use Rattle.dl_model.specs.Journal.{is_request_of, owed};
-ghost use Rattle.dl_outside.specs.Folder.{Files};
+ghost use Rattle.dl_outside.specs.Told.{FolderTold};
 ghost use Rattle.dl_registry.specs.Kept.{owed_change};
 ghost use Rattle.dl_hub.specs.Follows.{took_more};
 ghost use Rattle.dl_hub.specs.State.{Client, bytes_before, changed, client_of, outbox_of, without};
@@ -17,7 +17,7 @@ ghost use Rattle.dl_core.specs.State.{Core};
 
 /// While no event came, the folder holds the trace files that stood before.
 pub fn the_beginning_holds_what_stood()
-    ensures { (run : Run) (core : Core) (told : Option Files) → IsSomeAnd told (λ files. HasFiles run.setting.directory files run.stood) → HoldsTrace run [] core told }
+    ensures { (run : Run) (core : Core) (folder : FolderTold) → IsSomeAnd folder.files (λ files. HasFiles run.setting.directory files run.stood) → HoldsTrace run [] core folder }
 {}
 
 /// No Level event waits exactly where the journal owes none.
@@ -38,10 +38,10 @@ pub fn what_links_take()
 /// A batch of log calls is its calls one after the other: what makes the events of some calls, and then that of one more, makes those of
 /// all of them together, as `log_batch` does.
 pub fn a_batch_is_its_calls()
-    ensures { (moment : Moment) (items : List Item) (item : Item) (old between new : Core) (told told_between told_now : Option Files) →
-        Adds (map (log_event moment) items) (GivesFrames items) old between told told_between
-        → Adds (log_event moment item ∷ []) (GivesFrame item) between new told_between told_now
-        → Adds (map (log_event moment) (items ++ item ∷ [])) (GivesFrames (items ++ item ∷ [])) old new told told_now }
+    ensures { (moment : Moment) (items : List Item) (item : Item) (old between new : Core) (folder folder_between folder_now : FolderTold) →
+        Adds (map (log_event moment) items) (GivesFrames items) old between folder folder_between
+        → Adds (log_event moment item ∷ []) (GivesFrame item) between new folder_between folder_now
+        → Adds (map (log_event moment) (items ++ item ∷ [])) (GivesFrames (items ++ item ∷ [])) old new folder folder_now }
 {}
 
 /// How many records report so many lost calls: one for each 4,294,967,295 of them, and one for the rest.

@@ -4,7 +4,7 @@ ghost use Rattle.std.specs.Prelude.{◌≡◌, ◌≤◌, ◌<◌, ◌+◌, ◌�
 ghost use Rattle.dl_events.specs.Journal as notes;
 ghost use Rattle.dl_events.specs.Journal.{one_more};
 ghost use Rattle.dl_events.specs.declared.event.Event.TheVariants as event;
-ghost use Rattle.dl_model.specs.History.{last_version};
+ghost use Rattle.dl_bytes.specs.Limits.{last_version};
 ghost use Rattle.dl_registry.specs.Kept.{owed_change, slots, with_change};
 ghost use Rattle.dl_core.specs.Follows.{AddsAlone};
 ghost use Rattle.dl_core.specs.Waiting.{waiting};

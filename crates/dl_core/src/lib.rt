@@ -16,4 +16,4 @@ mod requests;
 mod storing;
 
 pub use daemon::Core;
-pub use requests::Ready;
+pub use requests::{Ready, STORED_NAME};

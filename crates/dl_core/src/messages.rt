@@ -1,20 +1,18 @@
 //! User messages: applications that come, tell themselves, and go, and messages of programs outside this process.
 
-ghost use Rattle.std.specs.Prelude.{◌≡◌, ◌≢◌, ◌≤◌, ◌<◌, ◌+◌, ◌^◌, ◌∷◌, [], ℕ, true, false, Ok, Err, Some, None, length, map, IfOk, OnOk, OnErr, IsOk};
+ghost use Rattle.std.specs.Prelude.{◌≡◌, ◌≢◌, ◌≤◌, ◌<◌, ◌+◌, ◌∷◌, [], ℕ, true, false, Ok, Some, None, length, IfOk, OnOk, OnErr};
 ghost use Rattle.std.specs.Result.{result_err};
+ghost use Rattle.dl_bytes.specs.Limits.{admitted_limit, frame_limit};
 ghost use Rattle.dl_bytes.specs.UserMessage.{IsFit};
-ghost use Rattle.dl_events.specs.Journal as notes;
 ghost use Rattle.dl_events.specs.Journal.{one_more};
-ghost use Rattle.dl_events.specs.declared.event.Event.TheVariants as event;
 ghost use Rattle.dl_model.specs.declared.registry.RegistryFault.TheVariants as fault;
 ghost use Rattle.dl_model.specs.Backlog.{size_of};
-ghost use Rattle.dl_model.specs.Frames.{stored, user_frames};
-ghost use Rattle.dl_model.specs.Registry.{applied};
-ghost use Rattle.dl_registry.specs.Kept.{Applies, owed_change, slots};
-ghost use Rattle.dl_hub.specs.State.{EachHasRoom, IsSameHub};
-ghost use Rattle.dl_core.specs.Admission.{Admits, has_frames, lost_frames};
-ghost use Rattle.dl_core.specs.Follows.{Adds};
-ghost use Rattle.dl_core.specs.Storing.{StoresEach, StoresIn, ChangesTraceAlone};
+ghost use Rattle.dl_model.specs.Frames.{user_frames};
+ghost use Rattle.dl_registry.specs.Kept.{owed_change};
+ghost use Rattle.dl_hub.specs.State.{EachHasRoom};
+ghost use Rattle.dl_core.specs.Admission.{has_frames, lost_frames};
+ghost use Rattle.dl_core.specs.Noting.{AdmitsFrames, NotesMessage};
+ghost use Rattle.dl_core.specs.Registering.{Registers, applied_now};
 ghost use Rattle.dl_core.specs.Waiting.{changes_by, waiting};
 
 use crate::admitting::{admit, report};
@@ -39,23 +37,20 @@ impl Core {
         requires spare { 1 ≤ J.spare journal.old }
         requires settled { owed_change self.old.registry ≡ None }
         requires room { EachHasRoom (size_of (user_frames self.old.ecu msg)) self.old.hub }
-        requires few { self.old.hub.admitted + length (user_frames self.old.ecu msg) ≤ 2 ^ 40 }
-        ensures refusal { IfOk result (λ refusal. refusal ≡ result_err (applied (slots self.old.registry) self.old.registry.registry channel msg)) }
+        requires few { self.old.hub.admitted + length (user_frames self.old.ecu msg) ≤ admitted_limit }
+        ensures refusal { IfOk result (λ refusal. refusal ≡ result_err (applied_now self.old channel msg)) }
         ensures no_memory { result ≢ Ok (Some fault.OutOfMemory) }
         ensures memory { OnErr result (has_frames msg ≡ false) }
         ensures unnoted { OnErr result ((self.new ≡ self.old) × (folder.new ≡ folder.old)) }
         ensures unwritten { OnErr result ((J.events journal.new ≡ J.events journal.old) × (J.noted journal.new ≡ J.noted journal.old)) }
-        ensures after { OnOk result (Adds (event.User channel msg moment ∷ []) (λ run. Unit {0}) self.old self.new (F.files folder.old) (F.files folder.new)) }
-        ensures event { OnOk result (notes.Adds (J.events journal.old) (J.events journal.new) (event.User channel msg moment)) }
+        ensures later { OnErr result (J.spare journal.old ≤ J.spare journal.new) }
+        ensures notes { OnOk result
+            (NotesMessage moment channel msg self.old self.new (F.told folder.old) (F.told folder.new) (J.events journal.old) (J.events journal.new)) }
         ensures noted { OnOk result (J.noted journal.new ≡ one_more (J.noted journal.old)) }
         ensures spare { OnOk result (has_frames msg ≡ true → J.spare journal.new + 1 ≡ J.spare journal.old) }
         ensures reserved { OnOk result (has_frames msg ≡ false → J.spare journal.old + waiting self.new.registry ≤ J.spare journal.new) }
-        ensures later { OnErr result (J.spare journal.old ≤ J.spare journal.new) }
-        ensures stored { OnOk result (StoresEach (map (stored self.old.ecu moment) (user_frames self.old.ecu msg)) self.old.trace self.new.trace (F.files folder.old) (F.files folder.new) (F.faults folder.old) (F.faults folder.new)) }
-        ensures others { ChangesTraceAlone self.old.trace (F.files folder.old) (F.files folder.new) }
         ensures registry { OnOk result (has_frames msg ≡ true → self.new.registry ≡ self.old.registry) }
         ensures rest { self.new ≡ record self.old { registry = self.new.registry; hub = self.new.hub; trace = self.new.trace } }
-        ensures admitted { OnOk result (self.new.hub.admitted ≡ self.old.hub.admitted + length (user_frames self.old.ecu msg)) }
     {
         let refusal = self.take_in(channel, &msg, moment, folder, journal)?;
         journal.note(Event::User {
@@ -78,20 +73,15 @@ impl Core {
         requires fit { IsFit msg.now }
         requires settled { owed_change self.old.registry ≡ None }
         requires room { EachHasRoom (size_of (user_frames self.old.ecu msg.now)) self.old.hub }
-        requires few { self.old.hub.admitted + length (user_frames self.old.ecu msg.now) ≤ 2 ^ 40 }
-        ensures refusal { IfOk result (λ refusal. refusal ≡ result_err (applied (slots self.old.registry) self.old.registry.registry channel msg.now)) }
+        requires few { self.old.hub.admitted + length (user_frames self.old.ecu msg.now) ≤ admitted_limit }
+        ensures refusal { IfOk result (λ refusal. refusal ≡ result_err (applied_now self.old channel msg.now)) }
         ensures no_memory { result ≢ Ok (Some fault.OutOfMemory) }
         ensures memory { OnErr result (has_frames msg.now ≡ false) }
         ensures unchanged { OnErr result ((self.new ≡ self.old) × (folder.new ≡ folder.old)) }
-        ensures registry { OnOk result (Applies (applied (slots self.old.registry) self.old.registry.registry channel msg.now) self.old.registry (applied (slots self.old.registry) self.old.registry.registry channel msg.now) self.new.registry) }
+        ensures registry { OnOk result (Registers channel msg.now self.old self.new.registry) }
         ensures untouched { has_frames msg.now ≡ true → self.new.registry ≡ self.old.registry }
-        ensures hub { Admits (user_frames self.old.ecu msg.now) self.old.hub self.new.hub }
-        ensures same { IsSameHub self.old.hub self.new.hub }
-        ensures admitted { self.new.hub.admitted ≡ self.old.hub.admitted + length (user_frames self.old.ecu msg.now) }
-        ensures stored { StoresEach (map (stored self.old.ecu moment) (user_frames self.old.ecu msg.now)) self.old.trace self.new.trace (F.files folder.old) (F.files folder.new) (F.faults folder.old) (F.faults folder.new) }
-        ensures others { ChangesTraceAlone self.old.trace (F.files folder.old) (F.files folder.new) }
-        ensures events { J.events journal.new ≡ J.events journal.old }
-        ensures noted { J.noted journal.new ≡ J.noted journal.old }
+        ensures admits { AdmitsFrames moment (user_frames self.old.ecu msg.now) self.old self.new (F.told folder.old) (F.told folder.new) }
+        ensures unwritten { (J.events journal.new ≡ J.events journal.old) × (J.noted journal.new ≡ J.noted journal.old) }
         ensures spare { has_frames msg.now ≡ true → J.spare journal.new ≡ J.spare journal.old }
         ensures reserved { OnOk result (has_frames msg.now ≡ false → J.spare journal.old + 1 + waiting self.new.registry ≤ J.spare journal.new) }
         ensures later { J.spare journal.old ≤ J.spare journal.new }
@@ -133,12 +123,8 @@ impl Core {
     fn admit_message<F: Folder>(&mut self, msg: &UserMsg, moment: Moment, folder: &mut F)
         requires fit { IsFit msg.now }
         requires room { EachHasRoom (size_of (user_frames self.old.ecu msg.now)) self.old.hub }
-        requires few { self.old.hub.admitted + length (user_frames self.old.ecu msg.now) ≤ 2 ^ 40 }
-        ensures hub { Admits (user_frames self.old.ecu msg.now) self.old.hub self.new.hub }
-        ensures same { IsSameHub self.old.hub self.new.hub }
-        ensures admitted { self.new.hub.admitted ≡ self.old.hub.admitted + length (user_frames self.old.ecu msg.now) }
-        ensures stored { StoresEach (map (stored self.old.ecu moment) (user_frames self.old.ecu msg.now)) self.old.trace self.new.trace (F.files folder.old) (F.files folder.new) (F.faults folder.old) (F.faults folder.new) }
-        ensures others { ChangesTraceAlone self.old.trace (F.files folder.old) (F.files folder.new) }
+        requires few { self.old.hub.admitted + length (user_frames self.old.ecu msg.now) ≤ admitted_limit }
+        ensures admits { AdmitsFrames moment (user_frames self.old.ecu msg.now) self.old self.new (F.told folder.old) (F.told folder.new) }
         ensures rest { self.new ≡ record self.old { hub = self.new.hub; trace = self.new.trace } }
     {
         match msg {
@@ -166,14 +152,10 @@ impl Core {
     /// Admits a message as it is, at most 1984 bytes.
     fn admit_bytes<F: Folder>(&mut self, message: &[u8], moment: Moment, folder: &mut F)
         requires some { 0 < length message.now }
-        requires size { length message.now ≤ 1984 }
+        requires size { length message.now ≤ frame_limit }
         requires room { EachHasRoom (length message.now) self.old.hub }
-        requires few { self.old.hub.admitted < 2 ^ 40 }
-        ensures hub { Admits (message.now ∷ []) self.old.hub self.new.hub }
-        ensures same { IsSameHub self.old.hub self.new.hub }
-        ensures admitted { self.new.hub.admitted ≡ self.old.hub.admitted + 1 }
-        ensures stored { StoresIn (stored self.old.ecu moment message.now ∷ []) self.old.trace self.new.trace (F.files folder.old) (F.files folder.new) (F.faults folder.old) (F.faults folder.new) }
-        ensures others { ChangesTraceAlone self.old.trace (F.files folder.old) (F.files folder.new) }
+        requires few { self.old.hub.admitted < admitted_limit }
+        ensures admits { AdmitsFrames moment (message.now ∷ []) self.old self.new (F.told folder.old) (F.told folder.new) }
         ensures rest { self.new ≡ record self.old { hub = self.new.hub; trace = self.new.trace } }
     {
         let mut frame = Frame::new();
@@ -196,14 +178,13 @@ impl Core {
         journal: &mut J,
     ) -> Result<Option<RegistryFault>, OutOfMemory>
         requires settled { owed_change self.old.registry ≡ None }
-        ensures applies { IfOk result (λ refusal. refusal ≡ result_err (applied (slots self.old.registry) self.old.registry.registry channel msg.now)) }
+        ensures refusal { IfOk result (λ refusal. refusal ≡ result_err (applied_now self.old channel msg.now)) }
         ensures no_memory { result ≢ Ok (Some fault.OutOfMemory) }
-        ensures registry { OnOk result (Applies (applied (slots self.old.registry) self.old.registry.registry channel msg.now) self.old.registry (applied (slots self.old.registry) self.old.registry.registry channel msg.now) self.new.registry) }
+        ensures registry { OnOk result (Registers channel msg.now self.old self.new.registry) }
         ensures unchanged { OnErr result (self.new ≡ self.old) }
+        ensures unwritten { (J.events journal.new ≡ J.events journal.old) × (J.noted journal.new ≡ J.noted journal.old) }
         ensures reserved { OnOk result (J.spare journal.old + 1 + waiting self.new.registry ≤ J.spare journal.new) }
         ensures later { J.spare journal.old ≤ J.spare journal.new }
-        ensures events { J.events journal.new ≡ J.events journal.old }
-        ensures noted { J.noted journal.new ≡ J.noted journal.old }
         ensures rest { self.new ≡ record self.old { registry = self.new.registry } }
     {
         self.registry.slots_are_apart();

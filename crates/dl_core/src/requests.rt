@@ -1,21 +1,17 @@
 //! Requests of clients: what a request needs is got ready first, so that serving it takes no memory.
 
-ghost use Rattle.std.specs.Prelude.{◌≡◌, ◌≤◌, ◌<◌, ◌+◌, ◌⊎◌, ◌∷◌, [], ℕ, true, Ok, Some, None, Option, length, is_some, IfOk, OnErr, IsSome, IsSomeAnd, IfSome};
-ghost use Rattle.dl_bytes.specs.Htyp.{htyp_of};
+ghost use Rattle.std.specs.Prelude.{◌≡◌, ◌≤◌, ◌<◌, ◌+◌, [], None, length, is_some, IfOk, OnErr, IsSome, IsSomeAnd, IfSome};
+ghost use Rattle.dl_bytes.specs.Limits.{request_limit};
 ghost use Rattle.dl_bytes.specs.declared.outcome.Done.{Done};
-ghost use Rattle.dl_bytes.specs.declared.outcome.Done.TheVariants as done;
 ghost use Rattle.dl_control.specs.Reply.{control_reply};
-ghost use Rattle.dl_events.specs.Journal as notes;
 ghost use Rattle.dl_events.specs.Journal.{one_more};
-ghost use Rattle.dl_events.specs.declared.event.Event.TheVariants as event;
-ghost use Rattle.dl_model.specs.Reply.{apid_of, asked, ctid_of, info_reply, reply_to, served};
+ghost use Rattle.dl_model.specs.Reply.{apid_of, asked, ctid_of, info_reply};
 ghost use Rattle.dl_model.specs.Traffic as traffic;
 ghost use Rattle.dl_hub.specs.Follows as hub;
-ghost use Rattle.dl_services.specs.Wish.{wanted};
-ghost use Rattle.dl_registry.specs.Kept.{owed_change, slots, with_registry};
+ghost use Rattle.dl_registry.specs.Kept.{owed_change};
 ghost use Rattle.dl_hub.specs.State.{changed, client_of, outbox_of, with_reply, HasRoom};
-ghost use Rattle.dl_core.specs.Settings.{seen};
-ghost use Rattle.dl_core.specs.Serving.{Answers, Asks, Serves, IsReady, IsRequest, injection_in, reply_now, served_now, wanted_now, stored_name};
+ghost use Rattle.dl_core.specs.Serving.{Answers, Asks, Serves, IsReady, IsReplyFor, IsRequest, injection_in};
+ghost use Rattle.dl_core.specs.Serving.{frame_for, reply_for, reply_now, served_for, served_now, wanted_for};
 ghost use Rattle.dl_core.specs.Waiting.{waiting};
 ghost use Rattle.dl_core.specs.Serving as serving;
 
@@ -33,7 +29,7 @@ use dl_services::{Want, serve, wish_of};
 use std::marker::Model;
 
 /// The file that has the stored configuration.
-const STORED_NAME: &str = "dlt_stored.cfg";
+pub const STORED_NAME: &str = "dlt_stored.cfg";
 
 /// How many bytes a reply without a body has.
 const BARE_REPLY: u64 = 23;
@@ -93,7 +89,7 @@ impl Core {
     ) -> Result<Ready, OutOfMemory>
         requires request { IsRequest frame }
         requires open { IsSome (outbox_of self.old.hub client) }
-        requires few { IsSomeAnd (client_of self.old.hub client) (λ c. c.replies < 1000) }
+        requires few { IsSomeAnd (client_of self.old.hub client) (λ c. c.replies < request_limit) }
         requires settled { owed_change self.old.registry ≡ None }
         ensures ready { IfOk result (λ ready. IsReady self.old ready) }
         ensures client { IfOk result (λ ready. (ready.client ≡ client) × (ready.frame ≡ frame)) }
@@ -138,12 +134,12 @@ impl Core {
     )
         requires ready { IsReady self.old ready }
         requires open { IsSome (outbox_of self.old.hub ready.client) }
-        requires few { IsSomeAnd (client_of self.old.hub ready.client) (λ c. c.replies < 1000) }
+        requires few { IsSomeAnd (client_of self.old.hub ready.client) (λ c. c.replies < request_limit) }
         requires room { (answer : Done) → HasRoom (length (reply_now self.old ready.frame answer)) self.old.hub ready.client }
         requires spare { 1 ≤ J.spare journal.old }
         requires settled { owed_change self.old.registry ≡ None }
-        ensures served { Serves ready pushed self.old self.new (F.files folder.old) (F.files folder.new) (F.faults folder.old) (F.faults folder.new) (J.events journal.old) (J.events journal.new) }
-        ensures asked { Asks ready.want (F.changes folder.old) (F.changes folder.new) }
+        ensures served { Serves ready pushed self.old self.new (F.told folder.old) (F.told folder.new) (J.events journal.old) (J.events journal.new) }
+        ensures asked { Asks ready.want (F.told folder.old) (F.told folder.new) }
         ensures noted { J.noted journal.new ≡ one_more (J.noted journal.old) }
         ensures spare { J.spare journal.new + 1 ≡ J.spare journal.old }
         ensures rest { self.new ≡ record self.old { registry = self.new.registry; hub = self.new.hub } }
@@ -182,7 +178,7 @@ impl Core {
         request: &Result<Request, RequestFault>,
         target: (Id, Id),
     ) -> Result<u64, OutOfMemory>
-        ensures { IfOk result (λ need. (answer : Done) → need ≡ 23 + length (reply_to (seen self.now) (slots self.now.registry) self.now.registry.registry target.0 target.1 request.now answer).body) }
+        ensures { IfOk result (λ need. (answer : Done) → need ≡ 23 + length (reply_for self.now request.now target answer).body) }
     {
         match request {
             Ok(
@@ -227,7 +223,8 @@ impl Core {
         target: (Id, Id),
     ) -> Result<Option<Bytes>, OutOfMemory>
         ensures unchanged { self.new ≡ self.old }
-        ensures long { IfOk result (λ reply. IfSome reply (λ bytes. (answer : Done) → (bytes ≡ control_reply self.old.ecu (reply_to (seen self.old) (slots self.old.registry) self.old.registry.registry target.0 target.1 request.now answer)) × (length bytes ≤ 65535))) }
+        ensures long { IfOk result (λ reply. IfSome reply (λ bytes. (answer : Done) →
+            (bytes ≡ frame_for self.old request.now target answer) × (length bytes ≤ 65535))) }
         ensures kind { IfOk result (λ reply. is_some reply ≡ serving.has_body request.now) }
     {
         if !has_body(request) {
@@ -250,15 +247,15 @@ impl Core {
         reply: Option<Bytes>,
         done: Done,
     )
-        requires want { want ≡ wanted (seen self.old) (slots self.old.registry) self.old.registry.registry target.0 target.1 request.now }
-        requires long { IfSome reply (λ bytes. (bytes ≡ control_reply self.old.ecu (reply_to (seen self.old) (slots self.old.registry) self.old.registry.registry target.0 target.1 request.now done)) × (length bytes ≤ 65535)) }
+        requires want { want ≡ wanted_for self.old request.now target }
+        requires long { IsReplyFor self.old request.now target done reply }
         requires kind { is_some reply ≡ serving.has_body request.now }
         requires open { IsSome (outbox_of self.old.hub client) }
-        requires few { IsSomeAnd (client_of self.old.hub client) (λ c. c.replies < 1000) }
-        requires room { HasRoom (length (control_reply self.old.ecu (reply_to (seen self.old) (slots self.old.registry) self.old.registry.registry target.0 target.1 request.now done))) self.old.hub client }
-        ensures registry { self.new.registry ≡ with_registry self.old.registry (served (seen self.old) (slots self.old.registry) self.old.registry.registry request.now done) }
-        ensures reply { hub.Adds (traffic.Reply client (control_reply self.old.ecu (reply_to (seen self.old) (slots self.old.registry) self.old.registry.registry target.0 target.1 request.now done))) self.old.hub self.new.hub }
-        ensures value { self.new.hub ≡ changed client (with_reply (control_reply self.old.ecu (reply_to (seen self.old) (slots self.old.registry) self.old.registry.registry target.0 target.1 request.now done))) self.old.hub }
+        requires few { IsSomeAnd (client_of self.old.hub client) (λ c. c.replies < request_limit) }
+        requires room { HasRoom (length (frame_for self.old request.now target done)) self.old.hub client }
+        ensures registry { self.new.registry ≡ served_for self.old request.now done }
+        ensures reply { hub.Adds (traffic.Reply client (frame_for self.old request.now target done)) self.old.hub self.new.hub }
+        ensures value { self.new.hub ≡ changed client (with_reply (frame_for self.old request.now target done)) self.old.hub }
         ensures rest { self.new ≡ record self.old { registry = self.new.registry; hub = self.new.hub } }
     {
         match reply {
@@ -276,14 +273,14 @@ impl Core {
         want: Want,
         done: Done,
     )
-        requires want { want ≡ wanted (seen self.old) (slots self.old.registry) self.old.registry.registry target.0 target.1 request.now }
-        requires bare { (reply_to (seen self.old) (slots self.old.registry) self.old.registry.registry target.0 target.1 request.now done).body ≡ [] }
+        requires want { want ≡ wanted_for self.old request.now target }
+        requires bare { (reply_for self.old request.now target done).body ≡ [] }
         requires open { IsSome (outbox_of self.old.hub client) }
-        requires few { IsSomeAnd (client_of self.old.hub client) (λ c. c.replies < 1000) }
-        requires room { HasRoom (length (control_reply self.old.ecu (reply_to (seen self.old) (slots self.old.registry) self.old.registry.registry target.0 target.1 request.now done))) self.old.hub client }
-        ensures registry { self.new.registry ≡ with_registry self.old.registry (served (seen self.old) (slots self.old.registry) self.old.registry.registry request.now done) }
-        ensures reply { hub.Adds (traffic.Reply client (control_reply self.old.ecu (reply_to (seen self.old) (slots self.old.registry) self.old.registry.registry target.0 target.1 request.now done))) self.old.hub self.new.hub }
-        ensures value { self.new.hub ≡ changed client (with_reply (control_reply self.old.ecu (reply_to (seen self.old) (slots self.old.registry) self.old.registry.registry target.0 target.1 request.now done))) self.old.hub }
+        requires few { IsSomeAnd (client_of self.old.hub client) (λ c. c.replies < request_limit) }
+        requires room { HasRoom (length (frame_for self.old request.now target done)) self.old.hub client }
+        ensures registry { self.new.registry ≡ served_for self.old request.now done }
+        ensures reply { hub.Adds (traffic.Reply client (frame_for self.old request.now target done)) self.old.hub self.new.hub }
+        ensures value { self.new.hub ≡ changed client (with_reply (frame_for self.old request.now target done)) self.old.hub }
         ensures rest { self.new ≡ record self.old { registry = self.new.registry; hub = self.new.hub } }
     {
         match self.serve(request, target, want, done) {
@@ -303,10 +300,10 @@ impl Core {
         want: Want,
         done: Done,
     ) -> Result<Reply, OutOfMemory>
-        requires { want ≡ wanted (seen self.old) (slots self.old.registry) self.old.registry.registry target.0 target.1 request.now }
-        ensures reply { IfOk result (λ reply. reply ≡ reply_to (seen self.old) (slots self.old.registry) self.old.registry.registry target.0 target.1 request.now done) }
-        ensures memory { OnErr result (0 < length (reply_to (seen self.old) (slots self.old.registry) self.old.registry.registry target.0 target.1 request.now done).body) }
-        ensures registry { self.new.registry ≡ with_registry self.old.registry (served (seen self.old) (slots self.old.registry) self.old.registry.registry request.now done) }
+        requires { want ≡ wanted_for self.old request.now target }
+        ensures reply { IfOk result (λ reply. reply ≡ reply_for self.old request.now target done) }
+        ensures memory { OnErr result (0 < length (reply_for self.old request.now target done).body) }
+        ensures registry { self.new.registry ≡ served_for self.old request.now done }
         ensures rest { self.new ≡ record self.old { registry = self.new.registry } }
     {
         serve(
@@ -362,8 +359,8 @@ fn changes_of(request: &Result<Request, RequestFault>) -> u64
 
 /// Has the folder do what a request wants of it, and tells what came of it.
 fn carry_out<F: Folder>(want: &Want, pushed: bool, folder: &mut F) -> Done
-    ensures answers { Answers want.now pushed result (F.files folder.old) (F.files folder.new) (F.faults folder.old) (F.faults folder.new) }
-    ensures asked { Asks want.now (F.changes folder.old) (F.changes folder.new) }
+    ensures answers { Answers want.now pushed result (F.told folder.old) (F.told folder.new) }
+    ensures asked { Asks want.now (F.told folder.old) (F.told folder.new) }
 {
     match want {
         Want::Nothing => Done::Yes,

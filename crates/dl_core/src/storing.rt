@@ -1,9 +1,9 @@
 //! Frames on their way into the trace files.
 
 ghost use Rattle.std.specs.Prelude.{◌≡◌, ◌≤◌, ◌<◌, ◌++◌, ◌∷◌, [], IfOk, IfSome, None, option_map, length, List, ℕ};
-ghost use Rattle.dl_bytes.specs.Limits.{frame_limit};
 ghost use Rattle.dl_model.specs.Frames.{stored};
 ghost use Rattle.dl_core.specs.Storing.{StoresIn, ChangesTraceAlone};
+ghost use Rattle.dl_core.specs.Writer.{HasBatch, trace_in};
 
 use dl_bytes::{Frame, Id, Moment, OutOfMemory, TraceState};
 use dl_headers::storage_header;
@@ -47,8 +47,8 @@ pub fn store<F: Folder>(
     folder: &mut F,
 )
     requires some { 0 < length frame.now }
-    ensures stored { StoresIn (stored ecu moment frame.now ∷ []) (option_map (λ w. w.trace) writer.old) (option_map (λ w. w.trace) writer.new) (F.files folder.old) (F.files folder.new) (F.faults folder.old) (F.faults folder.new) }
-    ensures others { ChangesTraceAlone (option_map (λ w. w.trace) writer.old) (F.files folder.old) (F.files folder.new) }
+    ensures stored { StoresIn (stored ecu moment frame.now ∷ []) (trace_in writer.old) (trace_in writer.new) (F.told folder.old) (F.told folder.new) }
+    ensures others { ChangesTraceAlone (trace_in writer.old) (F.told folder.old) (F.told folder.new) }
 {
     begin_batch(writer);
     add_to_batch(writer, ecu, moment, frame);
@@ -57,8 +57,8 @@ pub fn store<F: Folder>(
 
 /// Begins a batch.
 pub fn begin_batch(writer: &mut Option<TraceWriter>)
-    ensures trace { option_map (λ w. w.trace) writer.new ≡ option_map (λ w. w.trace) writer.old }
-    ensures batch { IfSome writer.new (λ w. w.batch ≡ []) }
+    ensures trace { trace_in writer.new ≡ trace_in writer.old }
+    ensures batch { HasBatch [] writer.new }
 {
     if let Some(writer) = writer {
         writer.batch.clear();
@@ -69,7 +69,7 @@ pub fn begin_batch(writer: &mut Option<TraceWriter>)
 pub fn add_to_batch(writer: &mut Option<TraceWriter>, ecu: Id, moment: Moment, frame: &Frame)
     requires some { 0 < length frame.now }
     requires few { IfSome writer.old (λ w. length w.batch < 64) }
-    ensures trace { option_map (λ w. w.trace) writer.new ≡ option_map (λ w. w.trace) writer.old }
+    ensures trace { trace_in writer.new ≡ trace_in writer.old }
     ensures batch { option_map (λ w. w.batch) writer.new ≡ option_map (λ w. w.batch ++ stored ecu moment frame.now ∷ []) writer.old }
 {
     if let Some(writer) = writer {
@@ -79,8 +79,9 @@ pub fn add_to_batch(writer: &mut Option<TraceWriter>, ecu: Id, moment: Moment, f
 
 /// Stores the frames of the batch, where a trace is kept: each piece by one append.
 pub fn store_batch<F: Folder>(writer: &mut Option<TraceWriter>, folder: &mut F)
-    ensures stored { (frames : List (List ℕ)) → IfSome writer.old (λ w. w.batch ≡ frames) → StoresIn frames (option_map (λ w. w.trace) writer.old) (option_map (λ w. w.trace) writer.new) (F.files folder.old) (F.files folder.new) (F.faults folder.old) (F.faults folder.new) }
-    ensures others { ChangesTraceAlone (option_map (λ w. w.trace) writer.old) (F.files folder.old) (F.files folder.new) }
+    ensures stored { (frames : List (List ℕ)) → HasBatch frames writer.old
+        → StoresIn frames (trace_in writer.old) (trace_in writer.new) (F.told folder.old) (F.told folder.new) }
+    ensures others { ChangesTraceAlone (trace_in writer.old) (F.told folder.old) (F.told folder.new) }
 {
     if let Some(writer) = writer {
         let _ = writer.trace.write_all(folder, &writer.batch);

@@ -7,18 +7,18 @@ use Rattle.dl_ring.specs.State as ring
 use Rattle.dl_injections.specs.State as injections
 use Rattle.dl_levels.specs.States.{ReaderState}
 use Rattle.dl_losses.specs.States as losses
-use Rattle.dl_desk.specs.declared.app_ends.AppEnds.{AppEnds}
-use Rattle.dl_desk.specs.declared.app_ends.FirstEnds.{FirstEnds}
+use Rattle.dl_desk.specs.declared.app_handles.AppHandles.{AppHandles}
+use Rattle.dl_desk.specs.declared.app_handles.FirstHandles.{FirstHandles}
 use Rattle.dl_desk.specs.Apps.{declared_app, declared_apps}
 use Rattle.dl_desk.specs.Assembly.{AreUnused, AreUnusedOf}
 use Rattle.dl_desk.specs.DeskInside.{AreFirst, IsDesk}
-use Rattle.dl_desk.specs.EndsInside.{words_for}
+use Rattle.dl_desk.specs.HandlesInside.{words_for}
 use Rattle.dl_desk.specs.Made.{IsNew}
 use Rattle.dl_desk.specs.State.{DeskState}
 
 -- ---- one application more
 
-pub ends_more : (specs : List AppSpec) (es : List AppEnds) (fs : List FirstEnds) (spec : AppSpec) (e : AppEnds) (f : FirstEnds) → AreUnusedOf specs es fs → AreUnused spec e f → AreUnusedOf (specs ++ spec ∷ []) (es ++ e ∷ []) (fs ++ f ∷ [])
+pub ends_more : (specs : List AppSpec) (es : List AppHandles) (fs : List FirstHandles) (spec : AppSpec) (e : AppHandles) (f : FirstHandles) → AreUnusedOf specs es fs → AreUnused spec e f → AreUnusedOf (specs ++ spec ∷ []) (es ++ e ∷ []) (fs ++ f ∷ [])
 ends_more [] [] [] spec e f all one = (one, tt)
 ends_more [] [] (x ∷ fs) spec e f all one = absurd all
 ends_more [] (x ∷ es) fs spec e f all one = absurd all
@@ -38,7 +38,7 @@ length-apps from (s ∷ specs) = ap (λ n. suc n) (length-apps (from + 1) specs)
 
 -- ---- all of them
 
-pub lengths : (specs : List AppSpec) (es : List AppEnds) (fs : List FirstEnds) → AreUnusedOf specs es fs → (length es ≡ length specs) × (length fs ≡ length specs)
+pub lengths : (specs : List AppSpec) (es : List AppHandles) (fs : List FirstHandles) → AreUnusedOf specs es fs → (length es ≡ length specs) × (length fs ≡ length specs)
 lengths [] [] [] all = (refl, refl)
 lengths [] [] (y ∷ fs) all = absurd all
 lengths [] (x ∷ es) fs all = absurd all
@@ -46,7 +46,7 @@ lengths (s ∷ specs) [] fs all = absurd all
 lengths (s ∷ specs) (x ∷ es) [] all = absurd all
 lengths (s ∷ specs) (x ∷ es) (y ∷ fs) all = let rest = lengths specs es fs all.1 in (ap (λ n. suc n) rest.0, ap (λ n. suc n) rest.1)
 
-pub mapped : {B : Type 0} (g : AppEnds → B) (h : AppSpec → B) → ((s : AppSpec) (e : AppEnds) (f : FirstEnds) → AreUnused s e f → g e ≡ h s) → (specs : List AppSpec) (es : List AppEnds) (fs : List FirstEnds) → AreUnusedOf specs es fs → map g es ≡ map h specs
+pub mapped : {B : Type 0} (g : AppHandles → B) (h : AppSpec → B) → ((s : AppSpec) (e : AppHandles) (f : FirstHandles) → AreUnused s e f → g e ≡ h s) → (specs : List AppSpec) (es : List AppHandles) (fs : List FirstHandles) → AreUnusedOf specs es fs → map g es ≡ map h specs
 mapped g h same [] [] [] all = refl
 mapped g h same [] [] (y ∷ fs) all = absurd all
 mapped g h same [] (x ∷ es) fs all = absurd all
@@ -54,7 +54,7 @@ mapped g h same (s ∷ specs) [] fs all = absurd all
 mapped g h same (s ∷ specs) (x ∷ es) [] all = absurd all
 mapped g h same (s ∷ specs) (x ∷ es) (y ∷ fs) all = ap (λ z. z ∷ map g es) (same s x y all.0) ∙ ap (λ zs. h s ∷ zs) (mapped g h same specs es fs all.1)
 
-pub place_of : (specs : List AppSpec) (es : List AppEnds) (fs : List FirstEnds) → AreUnusedOf specs es fs → (n : ℕ) (s : AppSpec) (e : AppEnds) (f : FirstEnds) → slice_get specs n ≡ Some s → slice_get es n ≡ Some e → slice_get fs n ≡ Some f → AreUnused s e f
+pub place_of : (specs : List AppSpec) (es : List AppHandles) (fs : List FirstHandles) → AreUnusedOf specs es fs → (n : ℕ) (s : AppSpec) (e : AppHandles) (f : FirstHandles) → slice_get specs n ≡ Some s → slice_get es n ≡ Some e → slice_get fs n ≡ Some f → AreUnused s e f
 place_of [] es fs all n s e f is_s is_e is_f = absurd cc
 place_of (z ∷ specs) [] fs all n s e f is_s is_e is_f = absurd all
 place_of (z ∷ specs) (x ∷ es) [] all n s e f is_s is_e is_f = absurd all
@@ -62,11 +62,11 @@ place_of (z ∷ specs) (x ∷ es) (y ∷ fs) all zero s e f is_s is_e is_f =
     let a : z ≡ s = cc in
     let b : x ≡ e = cc in
     let c : y ≡ f = cc in
-    subst (λ (k : AppSpec). AreUnused k e f) a (subst (λ (k : AppEnds). AreUnused z k f) b (subst (λ (k : FirstEnds). AreUnused z x k) c all.0))
+    subst (λ (k : AppSpec). AreUnused k e f) a (subst (λ (k : AppHandles). AreUnused z k f) b (subst (λ (k : FirstHandles). AreUnused z x k) c all.0))
 place_of (z ∷ specs) (x ∷ es) (y ∷ fs) all (suc n) s e f is_s is_e is_f = place_of specs es fs all.1 n s e f is_s is_e is_f
 
 -- no writer was made of them
-pub firsts : (app : ℕ) (s : AppSpec) (e : AppEnds) (f : FirstEnds) → AreUnused s e f → AreFirst app [] s e f
+pub firsts : (app : ℕ) (s : AppSpec) (e : AppHandles) (f : FirstHandles) → AreUnused s e f → AreFirst app [] s e f
 firsts app s e f a = record {
   push = a.push;
   takes = a.takes;
@@ -79,25 +79,25 @@ firsts app s e f a = record {
 -- ---- the desk
 
 -- it is what a desk has to be
-pub begins : (d : DeskState) → length d.apps ≤ 16 → AreUnusedOf d.apps d.ends.apps d.firsts → d.owners ≡ []
-    → d.readers ≡ (record { table = d.ends.levels.table; slots = 64 * words_for (length d.apps); reads = []; splits_left = 64 })
-    → d.counters ≡ (record { table = d.ends.losses.table; apps = words_for (length d.apps); counted = []; splits_left = 64 })
-    → d.ends.losses.counted ≡ [] → d.ends.losses.shares ≡ 0 → IsDesk d
+pub begins : (d : DeskState) → length d.apps ≤ 16 → AreUnusedOf d.apps d.handles.apps d.firsts → d.owners ≡ []
+    → d.readers ≡ (record { table = d.handles.levels.table; slots = 64 * words_for (length d.apps); reads = []; splits_left = 64 })
+    → d.counters ≡ (record { table = d.handles.losses.table; apps = words_for (length d.apps); counted = []; splits_left = 64 })
+    → d.handles.losses.counted ≡ [] → d.handles.losses.shares ≡ 0 → IsDesk d
 begins d few unused owners readers counters counted shares =
-    let long = lengths d.apps d.ends.apps d.firsts unused in
+    let long = lengths d.apps d.handles.apps d.firsts unused in
     let none : length d.owners ≡ 0 = ap length owners in
     let readers_left : d.readers.splits_left ≡ 64 = ap (λ (r : ReaderState). r.splits_left) readers in
     let counters_left : d.counters.splits_left ≡ 64 = ap (λ (r : losses.WriterState). r.splits_left) counters in
     record {
       few = few;
-      ends = long.0;
+      handles = long.0;
       firsts = long.1;
-      each = λ n s e f is_s is_e is_f. subst (λ (os : List ℕ). AreFirst n os s e f) (sym owners) (firsts n s e f (place_of d.apps d.ends.apps d.firsts unused n s e f is_s is_e is_f));
+      each = λ n s e f is_s is_e is_f. subst (λ (os : List ℕ). AreFirst n os s e f) (sym owners) (firsts n s e f (place_of d.apps d.handles.apps d.firsts unused n s e f is_s is_e is_f));
       owned = subst (λ (os : List ℕ). All (λ owner. owner < length d.apps) os) (sym owners) (All-nil (length d.apps));
       writers = omega (arith, none);
-      readers = readers ∙ ap (λ (k : ℕ). let r : ReaderState = record { table = d.ends.levels.table; slots = 64 * words_for (length d.apps); reads = []; splits_left = k } in r) (sym readers_left);
+      readers = readers ∙ ap (λ (k : ℕ). let r : ReaderState = record { table = d.handles.levels.table; slots = 64 * words_for (length d.apps); reads = []; splits_left = k } in r) (sym readers_left);
       readers_left = omega (arith, none, readers_left);
-      counters = counters ∙ ap (λ (k : ℕ). let r : losses.WriterState = record { table = d.ends.losses.table; apps = words_for (length d.apps); counted = []; splits_left = k } in r) (sym counters_left);
+      counters = counters ∙ ap (λ (k : ℕ). let r : losses.WriterState = record { table = d.handles.losses.table; apps = words_for (length d.apps); counted = []; splits_left = k } in r) (sym counters_left);
       counters_left = omega (arith, none, counters_left);
       counted = counted;
       shares = shares;
@@ -106,15 +106,15 @@ begins d few unused owners readers counters counted shares =
       All-nil n = search rules
 
 -- and nothing was done with it
-pub new : (d : DeskState) (specs : List AppSpec) → d.apps ≡ specs → AreUnusedOf specs d.ends.apps d.firsts → d.owners ≡ []
-    → d.ends.levels.sets ≡ [] → d.ends.levels.first ≡ 0 → d.ends.losses.reported ≡ [] → IsNew d specs
+pub new : (d : DeskState) (specs : List AppSpec) → d.apps ≡ specs → AreUnusedOf specs d.handles.apps d.firsts → d.owners ≡ []
+    → d.handles.levels.sets ≡ [] → d.handles.levels.first ≡ 0 → d.handles.losses.reported ≡ [] → IsNew d specs
 new d specs apps unused owners sets first reported = record {
   apps = apps;
-  rings = mapped (λ e. e.ring.taken) (λ _. []) (λ s e f a. ap (λ (t : ring.TakeState). t.taken) a.take) specs d.ends.apps d.firsts unused;
-  empties = mapped (λ e. e.ring.empties) (λ _. 0) (λ s e f a. ap (λ (t : ring.TakeState). t.empties) a.take) specs d.ends.apps d.firsts unused;
-  capacities = mapped (λ e. e.ring.capacity) (λ s. s.capacity) (λ s e f a. ap (λ (t : ring.TakeState). t.capacity) a.take) specs d.ends.apps d.firsts unused;
-  injected = mapped (λ e. e.queue.pushed) (λ _. []) (λ s e f a. ap (λ (t : injections.PushState). t.pushed) a.queue) specs d.ends.apps d.firsts unused;
-  refused = mapped (λ e. e.queue.refusals) (λ _. 0) (λ s e f a. ap (λ (t : injections.PushState). t.refusals) a.queue) specs d.ends.apps d.firsts unused;
+  rings = mapped (λ e. e.ring.taken) (λ _. []) (λ s e f a. ap (λ (t : ring.TakeState). t.taken) a.take) specs d.handles.apps d.firsts unused;
+  empties = mapped (λ e. e.ring.empties) (λ _. 0) (λ s e f a. ap (λ (t : ring.TakeState). t.empties) a.take) specs d.handles.apps d.firsts unused;
+  capacities = mapped (λ e. e.ring.capacity) (λ s. s.capacity) (λ s e f a. ap (λ (t : ring.TakeState). t.capacity) a.take) specs d.handles.apps d.firsts unused;
+  injected = mapped (λ e. e.queue.pushed) (λ _. []) (λ s e f a. ap (λ (t : injections.PushState). t.pushed) a.queue) specs d.handles.apps d.firsts unused;
+  refused = mapped (λ e. e.queue.refusals) (λ _. 0) (λ s e f a. ap (λ (t : injections.PushState). t.refusals) a.queue) specs d.handles.apps d.firsts unused;
   sets = sets;
   first = first;
   reported = reported;
@@ -129,7 +129,7 @@ few_taken (x ∷ xs) zero below = omega arith
 few_taken (x ∷ xs) (suc i) below = let rest = few_taken xs i (omega (arith, below)) in omega (arith, rest)
 
 -- those that were just made
-pub unused_ends : (spec : AppSpec) (e : AppEnds) (f : FirstEnds)
+pub unused_ends : (spec : AppSpec) (e : AppHandles) (f : FirstHandles)
     → f.push ≡ ring.unused_push f.push.ring spec.capacity 0 true → e.ring ≡ ring.unused_take f.push.ring spec.capacity
     → e.queue ≡ injections.unused_push e.queue.queue → f.injections ≡ injections.unused_take e.queue.queue true → AreUnused spec e f
 unused_ends spec e f push take queue takes =

@@ -4,36 +4,36 @@ use Rattle.std.specs.Prelude.{Result, Ok, Err, IfSome, IfNone, OnOk, OnErr}
 use Rattle.dl_bytes.specs.declared.conf.AppSpec.{AppSpec}
 use Rattle.dl_bytes.specs.declared.item.Item.{Item}
 use Rattle.dl_bytes.specs.declared.item.Injection.{Injection}
-use Rattle.dl_desk.specs.declared.app_ends.AppEnds.{AppEnds}
-use Rattle.dl_desk.specs.declared.app_ends.FirstEnds.{FirstEnds}
+use Rattle.dl_desk.specs.declared.app_handles.AppHandles.{AppHandles}
+use Rattle.dl_desk.specs.declared.app_handles.FirstHandles.{FirstHandles}
 use Rattle.dl_desk.specs.DeskInside.{AreFirst, IsDesk}
-use Rattle.dl_desk.specs.Ends.{EndsState, with_item, with_empty_take, with_injected, with_refusal}
+use Rattle.dl_desk.specs.Handles.{HandlesState, with_item, with_empty_take, with_injected, with_refusal}
 use Rattle.dl_desk.specs.Lists.{changed_at}
 use Rattle.dl_desk.specs.Made.{IsLater}
 use Rattle.dl_desk.specs.State.{DeskState}
 use Rattle.dl_desk.proofs.Places.{length-changed_at, map-changed_at, changed_keeps}
 
 module _ (d : DeskState) (i : IsDesk d) (app : ℕ) where
-  abbrev pub with_ends : EndsState → DeskState
-  with_ends ends = record d { ends = ends }
+  abbrev pub with_handles : HandlesState → DeskState
+  with_handles handles = record d { handles = handles }
 
-  abbrev pub changed : (AppEnds → AppEnds) → EndsState
-  changed f = record d.ends { apps = changed_at app f d.ends.apps }
+  abbrev pub changed : (AppHandles → AppHandles) → HandlesState
+  changed f = record d.handles { apps = changed_at app f d.handles.apps }
 
   -- the desk is what it has to be, and is later
-  abbrev pub Goes : EndsState → Type 0
-  Goes ends = IsDesk (with_ends ends) × IsLater d (with_ends ends)
+  abbrev pub Goes : HandlesState → Type 0
+  Goes handles = IsDesk (with_handles handles) × IsLater d (with_handles handles)
 
-  goes : (f : AppEnds → AppEnds)
-      → ((n : ℕ) (s : AppSpec) (e : AppEnds) (g : FirstEnds) → AreFirst n d.owners s e g → AreFirst n d.owners s (f e) g)
-      → ((e : AppEnds) → (f e).ring.ring ≡ e.ring.ring) → ((e : AppEnds) → (f e).queue.queue ≡ e.queue.queue)
+  goes : (f : AppHandles → AppHandles)
+      → ((n : ℕ) (s : AppSpec) (e : AppHandles) (g : FirstHandles) → AreFirst n d.owners s e g → AreFirst n d.owners s (f e) g)
+      → ((e : AppHandles) → (f e).ring.ring ≡ e.ring.ring) → ((e : AppHandles) → (f e).queue.queue ≡ e.queue.queue)
       → Goes (changed f)
   goes f keeps ring queue = (
     record {
       few = i.few;
-      ends = length-changed_at app f d.ends.apps ∙ i.ends;
+      handles = length-changed_at app f d.handles.apps ∙ i.handles;
       firsts = i.firsts;
-      each = λ n s e g is_s is_e is_g. changed_keeps (λ (e : AppEnds). AreFirst n d.owners s e g) app n f d.ends.apps
+      each = λ n s e g is_s is_e is_g. changed_keeps (λ (e : AppHandles). AreFirst n d.owners s e g) app n f d.handles.apps
           (λ e a. keeps n s e g a) (λ e is_e. i.each n s e g is_s is_e is_g) e is_e;
       owned = i.owned;
       writers = i.writers;
@@ -46,8 +46,8 @@ module _ (d : DeskState) (i : IsDesk d) (app : ℕ) where
     },
     record {
       apps = refl;
-      rings = map-changed_at (λ (e : AppEnds). e.ring.ring) app f d.ends.apps ring;
-      queues = map-changed_at (λ (e : AppEnds). e.queue.queue) app f d.ends.apps queue;
+      rings = map-changed_at (λ (e : AppHandles). e.ring.ring) app f d.handles.apps ring;
+      queues = map-changed_at (λ (e : AppHandles). e.queue.queue) app f d.handles.apps queue;
       levels = refl;
       losses = refl;
       more = [];
@@ -55,7 +55,7 @@ module _ (d : DeskState) (i : IsDesk d) (app : ℕ) where
     },
   )
 
-  same : (n : ℕ) (s : AppSpec) (old new : AppEnds) (g : FirstEnds) → AreFirst n d.owners s old g
+  same : (n : ℕ) (s : AppSpec) (old new : AppHandles) (g : FirstHandles) → AreFirst n d.owners s old g
       → new.ring.ring ≡ old.ring.ring → new.ring.joined ≡ old.ring.joined → new.ring.first ≡ old.ring.first
       → new.queue.queue ≡ old.queue.queue → new.queue.joined ≡ old.queue.joined → new.queue.first ≡ old.queue.first
       → AreFirst n d.owners s new g
@@ -68,7 +68,7 @@ module _ (d : DeskState) (i : IsDesk d) (app : ℕ) where
     queue_first = queue_first ∙ a.queue_first;
   }
 
-  pub took : (o : Option Item) (new : EndsState) → IfSome o (λ item. new ≡ with_item d.ends app item) → IfNone o (new ≡ with_empty_take d.ends app) → Goes new
+  pub took : (o : Option Item) (new : HandlesState) → IfSome o (λ item. new ≡ with_item d.handles app item) → IfNone o (new ≡ with_empty_take d.handles app) → Goes new
   took (Some item) new is none = subst Goes (sym is)
       (goes (λ e. record e { ring = record e.ring { taken = e.ring.taken ++ item ∷ [] } })
       (λ n s e g a. same n s e (record e { ring = record e.ring { taken = e.ring.taken ++ item ∷ [] } }) g a refl refl refl refl refl refl) (λ e. refl) (λ e. refl))
@@ -76,7 +76,7 @@ module _ (d : DeskState) (i : IsDesk d) (app : ℕ) where
       (goes (λ e. record e { ring = record e.ring { empties = e.ring.empties + 1 } })
       (λ n s e g a. same n s e (record e { ring = record e.ring { empties = e.ring.empties + 1 } }) g a refl refl refl refl refl refl) (λ e. refl) (λ e. refl))
 
-  pub injected : {A E : Type 0} (r : Result A E) (item : Injection) (new : EndsState) → OnOk r (new ≡ with_injected d.ends app item) → OnErr r (new ≡ with_refusal d.ends app) → Goes new
+  pub injected : {A E : Type 0} (r : Result A E) (item : Injection) (new : HandlesState) → OnOk r (new ≡ with_injected d.handles app item) → OnErr r (new ≡ with_refusal d.handles app) → Goes new
   injected (Ok x) item new is refused = subst Goes (sym is)
       (goes (λ e. record e { queue = record e.queue { pushed = e.queue.pushed ++ item ∷ [] } })
       (λ n s e g a. same n s e (record e { queue = record e.queue { pushed = e.queue.pushed ++ item ∷ [] } }) g a refl refl refl refl refl refl) (λ e. refl) (λ e. refl))

@@ -9,13 +9,13 @@ use Rattle.dl_ring.specs.State as ring
 use Rattle.dl_injections.specs.State as injections
 use Rattle.dl_levels.specs.States.{ReaderState}
 use Rattle.dl_losses.specs.States as losses
-use Rattle.dl_views.specs.Views.{bit, times}
-use Rattle.dl_views.proofs.Totals.{times_more, times_else}
+use Rattle.dl_thread_rules.specs.Views.{bit, times}
+use Rattle.dl_thread_rules.proofs.Totals.{times_more, times_else}
 use Rattle.dl_writer.specs.State.{WriterState}
-use Rattle.dl_desk.specs.declared.app_ends.AppEnds.{AppEnds}
-use Rattle.dl_desk.specs.declared.app_ends.FirstEnds.{FirstEnds}
+use Rattle.dl_desk.specs.declared.app_handles.AppHandles.{AppHandles}
+use Rattle.dl_desk.specs.declared.app_handles.FirstHandles.{FirstHandles}
 use Rattle.dl_desk.specs.DeskInside.{numbers_of, AreFirst, IsDesk}
-use Rattle.dl_desk.specs.Ends.{EndsState}
+use Rattle.dl_desk.specs.Handles.{HandlesState}
 use Rattle.dl_desk.specs.Made.{IsMadeWith}
 use Rattle.dl_desk.specs.State.{DeskState}
 use Rattle.dl_desk.proofs.Places.{there, at_set}
@@ -72,19 +72,19 @@ module _ {A : Type 0} where
 
 -- ---- a writer more
 
-module _ (d : DeskState) (i : IsDesk d) (app at : ℕ) (first : FirstEnds) (here : at ≡ app) (within : app < length d.apps) (is : first ≡ get_or d.firsts at first) where
+module _ (d : DeskState) (i : IsDesk d) (app at : ℕ) (first : FirstHandles) (here : at ≡ app) (within : app < length d.apps) (is : first ≡ get_or d.firsts at first) where
   first_there : slice_get d.firsts app ≡ Some first
   first_there = there d.firsts at app first here (let same = i.firsts in omega (arith, within)) ∙ ap Some (sym is)
 
-  pub ends : (e : AppEnds) × (slice_get d.ends.apps app ≡ Some e)
-  ends = is_there d.ends.apps app (let same = i.ends in omega (arith, within))
+  pub handles : (e : AppHandles) × (slice_get d.handles.apps app ≡ Some e)
+  handles = is_there d.handles.apps app (let same = i.handles in omega (arith, within))
 
   pub spec : (s : AppSpec) × (slice_get d.apps app ≡ Some s)
   spec = is_there d.apps app within
 
   -- what its first ends are
-  pub known : AreFirst app d.owners spec.0 ends.0 first
-  known = i.each app spec.0 ends.0 first spec.1 ends.1 first_there
+  pub known : AreFirst app d.owners spec.0 handles.0 first
+  known = i.each app spec.0 handles.0 first spec.1 handles.1 first_there
 
   pub gives : first.push.first ≡ true
   gives = ap (λ (p : ring.PushState). p.first) known.push
@@ -98,13 +98,13 @@ module _ (d : DeskState) (i : IsDesk d) (app at : ℕ) (first : FirstEnds) (here
   pub has_room : length d.owners < 32 → first.injections.splits < 32
   has_room few = let is : first.injections.splits ≡ times app d.owners = ap (λ (p : injections.TakeState). p.splits) known.takes in let most = few_times app d.owners in omega (arith, few)
 
-  abbrev pub with_writer : (number : ℕ) → FirstEnds
+  abbrev pub with_writer : (number : ℕ) → FirstHandles
   with_writer number = record {
     push = record first.push { given = first.push.given ++ number ∷ [] };
     injections = record first.injections { splits = first.injections.splits + 1 };
   }
 
-  one_more : (number : ℕ) → number ≡ length d.owners + 1 → (s : AppSpec) (e : AppEnds) → AreFirst app d.owners s e first → AreFirst app (d.owners ++ app ∷ []) s e (with_writer number)
+  one_more : (number : ℕ) → number ≡ length d.owners + 1 → (s : AppSpec) (e : AppHandles) → AreFirst app d.owners s e first → AreFirst app (d.owners ++ app ∷ []) s e (with_writer number)
   one_more number is s e a = record {
     push = ap (λ (p : ring.PushState). record p { given = p.given ++ number ∷ [] }) a.push
         ∙ ap (λ (ns : List ℕ). record (ring.unused_push e.ring.ring s.capacity 0 true) { given = ns }) (ap (λ (n : ℕ). numbers_of app 1 d.owners ++ n ∷ []) is ∙ sym (numbers_of-own app 1 d.owners));
@@ -116,7 +116,7 @@ module _ (d : DeskState) (i : IsDesk d) (app at : ℕ) (first : FirstEnds) (here
     queue_first = a.queue_first;
   }
 
-  other_more : (n : ℕ) → n ≢ app → (s : AppSpec) (e : AppEnds) (f : FirstEnds) → AreFirst n d.owners s e f → AreFirst n (d.owners ++ app ∷ []) s e f
+  other_more : (n : ℕ) → n ≢ app → (s : AppSpec) (e : AppHandles) (f : FirstHandles) → AreFirst n d.owners s e f → AreFirst n (d.owners ++ app ∷ []) s e f
   other_more n apart s e f a = record {
     push = a.push ∙ ap (λ (ns : List ℕ). record (ring.unused_push e.ring.ring s.capacity 0 true) { given = ns }) (sym (numbers_of-other n app 1 d.owners (λ same. apart (sym same))));
     takes = a.takes ∙ ap (λ (k : ℕ). record (injections.unused_take e.queue.queue true) { splits = k }) (sym (times_else n app d.owners (λ same. apart (sym same))));
@@ -138,10 +138,10 @@ module _ (d : DeskState) (i : IsDesk d) (app at : ℕ) (first : FirstEnds) (here
       let longer : length (d.owners ++ app ∷ []) ≡ length d.owners + 1 = length-append d.owners (app ∷ []) in
       record {
         few = i.few;
-        ends = i.ends;
+        handles = i.handles;
         firsts = length_set d.firsts at (with_writer number) ∙ i.firsts;
         each = λ n s e f is_spec is_ends is_first. at_set
-            (λ (n : ℕ) (f : FirstEnds). (s : AppSpec) (e : AppEnds) → slice_get d.apps n ≡ Some s → slice_get d.ends.apps n ≡ Some e → AreFirst n (d.owners ++ app ∷ []) s e f)
+            (λ (n : ℕ) (f : FirstHandles). (s : AppSpec) (e : AppHandles) → slice_get d.apps n ≡ Some s → slice_get d.handles.apps n ≡ Some e → AreFirst n (d.owners ++ app ∷ []) s e f)
             d.firsts at app (with_writer number) here
             (λ s e is_s is_e. one_more number is s e (i.each app s e first is_s is_e first_there))
             (λ n apart f is_f s e is_s is_e. other_more n apart s e f (i.each n s e f is_s is_e is_f))
@@ -162,7 +162,7 @@ module _ (d : DeskState) (i : IsDesk d) (app at : ℕ) (first : FirstEnds) (here
 
   -- which is made with it
   pub made : (number : ℕ) (new : DeskState) (w : WriterState) → number ≡ length d.owners + 1
-      → new.apps ≡ d.apps → new.ends ≡ d.ends → new.owners ≡ d.owners ++ app ∷ []
+      → new.apps ≡ d.apps → new.handles ≡ d.handles → new.owners ≡ d.owners ++ app ∷ []
       → w.app ≡ app → w.push ≡ ring.unused_push first.push.ring first.push.capacity number false
       → w.injections ≡ injections.unused_take first.injections.queue false
       → w.reader.table ≡ d.readers.table → w.losses.table ≡ d.counters.table → w.losses.splits_left ≡ 0
@@ -173,22 +173,22 @@ module _ (d : DeskState) (i : IsDesk d) (app at : ℕ) (first : FirstEnds) (here
       record {
         from_one = omega (arith, one);
         owner = ap (λ (k : ℕ). slice_get new.owners k) before ∙ ap (λ (os : List ℕ). slice_get os (length d.owners)) owners ∙ at_end d.owners app ∙ ap Some (sym is_app);
-        ring = ap (λ (k : ℕ). slice_get (map (λ e. e.ring.ring) new.ends.apps) k) is_app
-            ∙ ap (λ (es : EndsState). slice_get (map (λ (e : AppEnds). e.ring.ring) es.apps) app) ends_same
-            ∙ slice_get-map (λ (e : AppEnds). e.ring.ring) d.ends.apps app
-            ∙ ap (option_map (λ (e : AppEnds). e.ring.ring)) ends.1
+        ring = ap (λ (k : ℕ). slice_get (map (λ e. e.ring.ring) new.handles.apps) k) is_app
+            ∙ ap (λ (es : HandlesState). slice_get (map (λ (e : AppHandles). e.ring.ring) es.apps) app) ends_same
+            ∙ slice_get-map (λ (e : AppHandles). e.ring.ring) d.handles.apps app
+            ∙ ap (option_map (λ (e : AppHandles). e.ring.ring)) handles.1
             ∙ ap Some (sym (ap (λ (p : ring.PushState). p.ring) push ∙ ap (λ (p : ring.PushState). p.ring) known.push));
-        queue = ap (λ (k : ℕ). slice_get (map (λ e. e.queue.queue) new.ends.apps) k) is_app
-            ∙ ap (λ (es : EndsState). slice_get (map (λ (e : AppEnds). e.queue.queue) es.apps) app) ends_same
-            ∙ slice_get-map (λ (e : AppEnds). e.queue.queue) d.ends.apps app
-            ∙ ap (option_map (λ (e : AppEnds). e.queue.queue)) ends.1
+        queue = ap (λ (k : ℕ). slice_get (map (λ e. e.queue.queue) new.handles.apps) k) is_app
+            ∙ ap (λ (es : HandlesState). slice_get (map (λ (e : AppHandles). e.queue.queue) es.apps) app) ends_same
+            ∙ slice_get-map (λ (e : AppHandles). e.queue.queue) d.handles.apps app
+            ∙ ap (option_map (λ (e : AppHandles). e.queue.queue)) handles.1
             ∙ ap Some (sym (ap (λ (p : injections.TakeState). p.queue) takes_so ∙ ap (λ (p : injections.TakeState). p.queue) known.takes));
         capacity = ap (λ (k : ℕ). slice_get (map (λ s. s.capacity) new.apps) k) is_app
             ∙ ap (λ (apps : List AppSpec). slice_get (map (λ s. s.capacity) apps) app) apps
             ∙ slice_get-map (λ (s : AppSpec). s.capacity) d.apps app
             ∙ ap (option_map (λ (s : AppSpec). s.capacity)) spec.1
             ∙ ap Some (sym (ap (λ (p : ring.PushState). p.capacity) push ∙ ap (λ (p : ring.PushState). p.capacity) known.push));
-        levels = reader ∙ ap (λ (r : ReaderState). r.table) i.readers ∙ sym (ap (λ (es : EndsState). es.levels.table) ends_same);
-        losses = losses_same ∙ ap (λ (r : losses.WriterState). r.table) i.counters ∙ sym (ap (λ (es : EndsState). es.losses.table) ends_same);
+        levels = reader ∙ ap (λ (r : ReaderState). r.table) i.readers ∙ sym (ap (λ (es : HandlesState). es.levels.table) ends_same);
+        losses = losses_same ∙ ap (λ (r : losses.WriterState). r.table) i.counters ∙ sym (ap (λ (es : HandlesState). es.losses.table) ends_same);
         split = (ap (λ (p : ring.PushState). p.first) push, ap (λ (p : injections.TakeState). p.first) takes_so, none);
       }

@@ -1,11 +1,12 @@
 pub mod Lists
 pub mod Apps
 pub mod AppInside
-pub mod Ends
-pub mod EndsInside
+pub mod Handles
+pub mod HandlesInside
 pub mod State
 pub mod Lending
 pub mod Posting
+pub mod Told
 pub mod Made
 pub mod Assembly
 pub mod DeskInside

@@ -20,14 +20,14 @@ pub record AreFit (specs : List AppSpec) : Type 0 where
 -- nothing was taken, reported, set or injected, and no writer was made
 pub record IsNew (desk : DeskState) (specs : List AppSpec) : Type 0 where
   pub apps : desk.apps ≡ specs
-  pub rings : map (λ e. e.ring.taken) desk.ends.apps ≡ map (λ _. []) specs
-  pub empties : map (λ e. e.ring.empties) desk.ends.apps ≡ map (λ _. 0) specs
-  pub capacities : map (λ e. e.ring.capacity) desk.ends.apps ≡ map (λ s. s.capacity) specs
-  pub injected : map (λ e. e.queue.pushed) desk.ends.apps ≡ map (λ _. []) specs
-  pub refused : map (λ e. e.queue.refusals) desk.ends.apps ≡ map (λ _. 0) specs
-  pub sets : desk.ends.levels.sets ≡ []
-  pub first : desk.ends.levels.first ≡ 0
-  pub reported : desk.ends.losses.reported ≡ []
+  pub rings : map (λ e. e.ring.taken) desk.handles.apps ≡ map (λ _. []) specs
+  pub empties : map (λ e. e.ring.empties) desk.handles.apps ≡ map (λ _. 0) specs
+  pub capacities : map (λ e. e.ring.capacity) desk.handles.apps ≡ map (λ s. s.capacity) specs
+  pub injected : map (λ e. e.queue.pushed) desk.handles.apps ≡ map (λ _. []) specs
+  pub refused : map (λ e. e.queue.refusals) desk.handles.apps ≡ map (λ _. 0) specs
+  pub sets : desk.handles.levels.sets ≡ []
+  pub first : desk.handles.levels.first ≡ 0
+  pub reported : desk.handles.losses.reported ≡ []
   pub owners : desk.owners ≡ []
 
 -- ---- a writer
@@ -52,16 +52,16 @@ pub record IsUnused (w : WriterState) : Type 0 where
   pub taken : w.injections.taken ≡ []
   pub empties : w.injections.empties ≡ 0
 
--- The desk's application of this number is the writer's, and the writer's ends are of the rings, queues and words of the
--- desk. They are no first ends.
+-- The desk's application of this number is the writer's, and the writer's handles are of the rings, queues and words of the
+-- desk. They are no first handles.
 pub record IsMadeWith (desk : DeskState) (w : WriterState) : Type 0 where
   pub from_one : 1 ≤ w.push.number
   pub owner : slice_get desk.owners (w.push.number - 1) ≡ Some w.app
-  pub ring : slice_get (map (λ e. e.ring.ring) desk.ends.apps) w.app ≡ Some w.push.ring
-  pub queue : slice_get (map (λ e. e.queue.queue) desk.ends.apps) w.app ≡ Some w.injections.queue
+  pub ring : slice_get (map (λ e. e.ring.ring) desk.handles.apps) w.app ≡ Some w.push.ring
+  pub queue : slice_get (map (λ e. e.queue.queue) desk.handles.apps) w.app ≡ Some w.injections.queue
   pub capacity : slice_get (map (λ s. s.capacity) desk.apps) w.app ≡ Some w.push.capacity
-  pub levels : w.reader.table ≡ desk.ends.levels.table
-  pub losses : w.losses.table ≡ desk.ends.losses.table
+  pub levels : w.reader.table ≡ desk.handles.levels.table
+  pub losses : w.losses.table ≡ desk.handles.losses.table
   pub split : (w.push.first ≡ false) × (w.injections.first ≡ false) × (w.losses.splits_left ≡ 0)
 
 -- ---- a desk later
@@ -69,15 +69,15 @@ pub record IsMadeWith (desk : DeskState) (w : WriterState) : Type 0 where
 -- the desk has the same applications, rings, queues and words, and the writers that it had and some more
 pub record IsLater (old new : DeskState) : Type 0 where
   pub apps : new.apps ≡ old.apps
-  pub rings : map (λ e. e.ring.ring) new.ends.apps ≡ map (λ e. e.ring.ring) old.ends.apps
-  pub queues : map (λ e. e.queue.queue) new.ends.apps ≡ map (λ e. e.queue.queue) old.ends.apps
-  pub levels : new.ends.levels.table ≡ old.ends.levels.table
-  pub losses : new.ends.losses.table ≡ old.ends.losses.table
+  pub rings : map (λ e. e.ring.ring) new.handles.apps ≡ map (λ e. e.ring.ring) old.handles.apps
+  pub queues : map (λ e. e.queue.queue) new.handles.apps ≡ map (λ e. e.queue.queue) old.handles.apps
+  pub levels : new.handles.levels.table ≡ old.handles.levels.table
+  pub losses : new.handles.losses.table ≡ old.handles.losses.table
   pub more : List ℕ
   pub owners : new.owners ≡ old.owners ++ more
 
 -- one writer more, of this application: nothing else that the daemon does or did is another
 pub record MakesWriter (app : ℕ) (old new : DeskState) : Type 0 where
   pub apps : new.apps ≡ old.apps
-  pub ends : new.ends ≡ old.ends
+  pub handles : new.handles ≡ old.handles
   pub owners : new.owners ≡ old.owners ++ app ∷ []

@@ -2,21 +2,21 @@
 use Rattle.std.specs.Prelude.{ℕ, List, [], map, slice_get, unwrap_or}
 use Rattle.std.specs.Option.{option_map}
 use Rattle.dl_bytes.specs.declared.item.Injection.{Injection}
-use Rattle.dl_desk.specs.declared.app_ends.AppEnds.{AppEnds}
-use Rattle.dl_desk.specs.Ends.{EndsState}
+use Rattle.dl_desk.specs.declared.app_handles.AppHandles.{AppHandles}
+use Rattle.dl_desk.specs.Handles.{HandlesState}
 
 -- the injections that the queue of an application took, in order
-abbrev pub pushed_of : EndsState → ℕ → List Injection
+abbrev pub pushed_of : HandlesState → ℕ → List Injection
 pushed_of s app = unwrap_or (option_map (λ e. e.queue.pushed) (slice_get s.apps app)) []
 
 -- how many it refused
-abbrev pub refusals_of : EndsState → ℕ → ℕ
+abbrev pub refusals_of : HandlesState → ℕ → ℕ
 refusals_of s app = unwrap_or (option_map (λ e. e.queue.refusals) (slice_get s.apps app)) 0
 
 -- all but what the queue took and refused
-abbrev pub without_pushes : AppEnds → AppEnds
+abbrev pub without_pushes : AppHandles → AppHandles
 without_pushes e = record e { queue = record e.queue { pushed = []; refusals = 0 } }
 
 -- all but the levels that were set, and what the queues took and refused
-abbrev pub rest_of : EndsState → EndsState
+abbrev pub rest_of : HandlesState → HandlesState
 rest_of s = record s { apps = map without_pushes s.apps; levels = record s.levels { sets = [] } }

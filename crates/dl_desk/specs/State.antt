@@ -3,15 +3,15 @@ use Rattle.std.specs.Prelude.{ℕ, List}
 use Rattle.dl_bytes.specs.declared.conf.AppSpec.{AppSpec}
 use Rattle.dl_levels.specs.States.{ReaderState}
 use Rattle.dl_losses.specs.States as losses
-use Rattle.dl_desk.specs.declared.app_ends.FirstEnds.{FirstEnds}
-use Rattle.dl_desk.specs.Ends.{EndsState}
+use Rattle.dl_desk.specs.declared.app_handles.FirstHandles.{FirstHandles}
+use Rattle.dl_desk.specs.Handles.{HandlesState}
 
--- The desk: the applications that it was made of, its ends, the first ends of which those of the writers are split, and
+-- The desk: the applications that it was made of, its handles, the first handles of which those of the writers are split, and
 -- the application of each writer that was made, by the writers' numbers from 1.
 pub record DeskState : Type 0 where
   pub apps : List AppSpec
-  pub ends : EndsState
-  pub firsts : List FirstEnds
+  pub handles : HandlesState
+  pub firsts : List FirstHandles
   pub readers : ReaderState
   pub counters : losses.WriterState
   pub owners : List ℕ

@@ -12,13 +12,12 @@ ghost use Rattle.dl_desk.specs.declared.fault.AppFault.{AppFault};
 
 use crate::desk::Desk;
 use crate::fault::{AppFault, WriterFault};
-use dl_bytes::{AppSpec, Bytes, Ctx, Id, OutOfMemory, OwnLevel, TEXT_LIMIT, UserMsg};
+use dl_bytes::{
+    AppSpec, Bytes, CONTEXT_LIMIT, Ctx, Id, OutOfMemory, OwnLevel, TEXT_LIMIT, UserMsg,
+};
 use dl_writer::Writer;
 use std::alloc::Global;
 use std::marker::Model;
-
-// The most contexts of an application.
-const CONTEXT_LIMIT: usize = 64;
 
 // The process id of an application of this process.
 const NO_PROCESS: u32 = 0;

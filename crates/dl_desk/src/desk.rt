@@ -3,39 +3,37 @@
 ghost use Rattle.std.specs.Prelude.{◌≡◌, ◌+◌, ◌-◌, ◌*◌, ◌^◌, ◌<◌, ◌≤◌, ◌↔◌, ℕ, List, [], length, IfOk, IfErr, IfSome, IfNone, IsErr, OnOk, OnErr, OnSome};
 ghost use Rattle.std.specs.Result.{result_err};
 ghost use Rattle.dl_bytes.specs.declared.item.Item.{Item as item_type};
-ghost use Rattle.dl_levels.specs.History.{last_version};
+ghost use Rattle.dl_levels.specs.History.{current_version};
+ghost use Rattle.dl_losses.specs.Losses.{reported_of};
 ghost use Rattle.dl_desk.specs.Lists.{At};
 ghost use Rattle.dl_desk.specs.Apps.{declared_apps};
 ghost use Rattle.dl_desk.specs.DeskInside.{IsDesk};
-ghost use Rattle.dl_desk.specs.Ends.{RingHolds, with_empty_take, with_injected, with_item, with_level, with_refusal, with_report};
+ghost use Rattle.dl_desk.specs.Handles.{RingHolds, with_empty_take, with_injected, with_item, with_level, with_refusal, with_report};
 ghost use Rattle.dl_desk.specs.Made.{AreFit, IsLater, IsMadeWith, IsNew, IsUnused, MakesWriter, writer_fault};
 
 use crate::app::AppList;
-use crate::app_ends::FirstEnds;
-use crate::ends::DaemonEnds;
+use crate::app_handles::FirstHandles;
 use crate::fault::WriterFault;
+use crate::handles::DaemonHandles;
 use crate::parts::Parts;
 use arrayvec::ArrayVec;
-use dl_bytes::{AppSpec, Injection, Item, Level, OutOfMemory, Sequence};
+use dl_bytes::{AppSpec, Injection, Item, Level, OutOfMemory, Sequence, WRITER_LIMIT};
 use dl_levels::{LevelReader, Worn};
 use dl_losses::LossWriter;
-use dl_writer::{Writer, WriterEnds};
+use dl_writer::{Writer, WriterHandles};
 use std::alloc::Global;
 use std::marker::Model;
 use std::sync::Wait;
-
-/// The most writers of a desk.
-pub const WRITER_LIMIT: usize = 32;
 
 /// A desk taken apart, for whoever gathers the writers.
 #[derive(Drop)]
 pub struct DeskParts {
     /// The applications that the desk was made of.
     pub apps: Sequence<AppSpec>,
-    /// The daemon's ends of all that it shares with the writers.
-    pub ends: DaemonEnds,
-    /// The ends from which those of the writers were split.
-    pub firsts: Vec<FirstEnds>,
+    /// The daemon's handles of all that it shares with the writers.
+    pub handles: DaemonHandles,
+    /// The handles from which those of the writers were split.
+    pub firsts: Vec<FirstHandles>,
     /// The reader of the levels from which those of the writers were split.
     pub readers: LevelReader,
     /// The counter of the losses from which those of the writers were split.
@@ -48,8 +46,8 @@ pub struct DeskParts {
 #[derive(Drop)]
 pub struct Desk {
     pub(crate) apps: Sequence<AppSpec>,
-    pub(crate) ends: DaemonEnds,
-    pub(crate) firsts: Vec<FirstEnds>,
+    pub(crate) handles: DaemonHandles,
+    pub(crate) firsts: Vec<FirstHandles>,
     pub(crate) readers: LevelReader,
     pub(crate) counters: LossWriter,
     // the application of each writer that was made
@@ -85,47 +83,48 @@ impl Desk {
     /// The oldest call in the ring of an application. None comes only where the ring was empty at that step.
     pub fn take<R: Wait>(&mut self, rt: &R, app: u8) -> Option<Item>
         requires { app < length self.old.apps }
-        ensures taken { IfSome result (λ item. self.new ≡ record self.old { ends = with_item self.old.ends app item }) }
-        ensures rest { OnSome result ((contents : List item_type) × RingHolds self.new.ends app contents) }
-        ensures none { IfNone result (self.new ≡ record self.old { ends = with_empty_take self.old.ends app }) }
-        ensures empty { IfNone result (RingHolds self.new.ends app []) }
+        ensures taken { IfSome result (λ item. self.new ≡ record self.old { handles = with_item self.old.handles app item }) }
+        ensures rest { OnSome result ((contents : List item_type) × RingHolds self.new.handles app contents) }
+        ensures none { IfNone result (self.new ≡ record self.old { handles = with_empty_take self.old.handles app }) }
+        ensures empty { IfNone result (RingHolds self.new.handles app []) }
         ensures later { IsLater self.old self.new }
     {
-        self.ends.take(rt, app)
+        self.handles.take(rt, app)
     }
 
     /// How many calls of an application were lost since the last call of this kind: one swap of its loss word.
     pub fn losses(&mut self, app: u8) -> u64
         requires { app < length self.old.apps }
-        ensures reported { self.new ≡ record self.old { ends = with_report self.old.ends app result } }
+        ensures reported { self.new ≡ record self.old { handles = with_report self.old.handles app result } }
+        ensures small { reported_of app self.new.handles.losses.reported < 2 ^ 47 }
         ensures later { IsLater self.old self.new }
     {
-        self.ends.losses(app)
+        self.handles.losses(app)
     }
 
     /// Sets the level of a slot, 64 times the application's number and the context's place, at the slot's next version.
     /// `Worn` at version 2^56 - 1.
     pub fn set(&mut self, slot: u16, level: Level) -> Result<(), Worn>
         requires { slot < 64 * length self.old.apps }
-        ensures worn { IsErr result ↔ (last_version self.old.ends.levels.first slot self.old.ends.levels.sets ≡ 2 ^ 56 - 1) }
-        ensures set { OnOk result (self.new ≡ record self.old { ends = with_level self.old.ends slot level }) }
+        ensures worn { IsErr result ↔ (current_version self.old.handles.levels.first slot self.old.handles.levels.sets ≡ 2 ^ 56 - 1) }
+        ensures set { OnOk result (self.new ≡ record self.old { handles = with_level self.old.handles slot level }) }
         ensures kept { OnErr result (self.new ≡ self.old) }
         ensures later { IsLater self.old self.new }
     {
-        self.ends.set(slot, level)
+        self.handles.set(slot, level)
     }
 
     /// Puts an injection into the queue of an application, or gives it back. It comes back only where the queue held 16 at
     /// that step, so at least 16 were put before.
     pub fn inject<R: Wait>(&mut self, rt: &R, app: u8, item: Injection) -> Result<(), Injection>
         requires { app < length self.old.apps }
-        ensures pushed { OnOk result (self.new ≡ record self.old { ends = with_injected self.old.ends app item }) }
-        ensures refused { OnErr result (self.new ≡ record self.old { ends = with_refusal self.old.ends app }) }
+        ensures pushed { OnOk result (self.new ≡ record self.old { handles = with_injected self.old.handles app item }) }
+        ensures refused { OnErr result (self.new ≡ record self.old { handles = with_refusal self.old.handles app }) }
         ensures back { IfErr result (λ back. back ≡ item) }
-        ensures full { OnErr result (At self.old.ends.apps app (λ e. 16 ≤ length e.queue.pushed)) }
+        ensures full { OnErr result (At self.old.handles.apps app (λ e. 16 ≤ length e.queue.pushed)) }
         ensures later { IsLater self.old self.new }
     {
-        self.ends.inject(rt, app, item)
+        self.handles.inject(rt, app, item)
     }
 
     /// The applications that the desk was made of.
@@ -133,6 +132,13 @@ impl Desk {
         ensures { result.now ≡ self.now.apps }
     {
         self.apps.all()
+    }
+
+    /// Each application has its handles. It does nothing: its clause is what callers of `take` and of others learn.
+    pub fn have_handles(&self)
+        ensures { length self.now.handles.apps ≡ length self.now.apps }
+    {
+        let _ = &self.apps;
     }
 
     /// How many writers were made.
@@ -147,7 +153,7 @@ impl Desk {
     pub fn into_parts(self) -> DeskParts
         ensures kept { IsDesk self }
         ensures apps { result.apps ≡ self.apps }
-        ensures ends { result.ends ≡ self.ends }
+        ensures handles { result.handles ≡ self.handles }
         ensures firsts { result.firsts.items ≡ self.firsts }
         ensures readers { result.readers ≡ self.readers }
         ensures counters { result.counters ≡ self.counters }
@@ -155,7 +161,7 @@ impl Desk {
     {
         let Desk {
             apps,
-            ends,
+            handles,
             firsts,
             readers,
             counters,
@@ -163,7 +169,7 @@ impl Desk {
         } = self;
         DeskParts {
             apps,
-            ends,
+            handles,
             firsts,
             readers,
             counters,
@@ -173,13 +179,6 @@ impl Desk {
 }
 
 impl Desk {
-    // Each application has its ends.
-    pub(crate) fn have_ends(&self)
-        ensures { length self.now.ends.apps ≡ length self.now.apps }
-    {
-        let _ = &self.apps;
-    }
-
     // The next writer, of this application.
     pub(crate) fn make_writer(&mut self, app: u8) -> Result<Writer, WriterFault>
         requires { app < length self.old.apps }
@@ -196,13 +195,13 @@ impl Desk {
         }
         let number = self.owners.len() as u8 + 1;
         let first = &mut self.firsts[usize::from(app)];
-        let ends = WriterEnds {
+        let handles = WriterHandles {
             push: first.push.split(number),
             reader: self.readers.split(),
             losses: self.counters.split(),
             injections: first.injections.split(),
         };
         self.owners.push(app);
-        Ok(Writer::of(app, number, ends))
+        Ok(Writer::of(app, number, handles))
     }
 }

@@ -17,27 +17,27 @@
 //! ```
 //!
 //! The daemon takes the calls of each ring from the desk, and takes and tells the losses. Once the threads have ended, whoever
-//! gathers them takes the desk apart (`Desk::into_parts`) and joins the writers' ends with the daemon's (`DaemonEnds`).
+//! gathers them takes the desk apart (`Desk::into_parts`) and joins the writers' handles with the daemon's (`DaemonHandles`).
 #![tactic(auto)]
 
 mod app;
-mod app_ends;
+mod app_handles;
 mod counted_take;
 mod desk;
-mod ends;
 mod fault;
+mod handles;
 pub mod laws;
 mod parts;
 mod post;
 
 pub use app::{App, AppList};
-pub use app_ends::{AppEnds, FirstEnds};
+pub use app_handles::{AppHandles, FirstHandles};
 pub use counted_take::CountedTake;
 pub use desk::{Desk, DeskParts};
 pub use dl_bytes::{AppSpec, Ctx};
 pub use dl_events::{Answer, Record};
 pub use dl_levels::Worn;
-pub use dl_writer::{Book, BookFault, BookList, CALL_LIMIT, LogFault, Writer};
-pub use ends::DaemonEnds;
+pub use dl_writer::{Book, BookFault, BookList, LogFault, WRITER_CALL_LIMIT, Writer};
 pub use fault::{AppFault, WriterFault};
+pub use handles::DaemonHandles;
 pub use post::Post;

@@ -4,14 +4,14 @@ ghost use Rattle.std.specs.Prelude.{◌≡◌, ◌<◌, ◌≤◌, ◌∷◌, �
 ghost use Rattle.dl_bytes.specs.declared.conf.AppSpec.{AppSpec as spec_type};
 ghost use Rattle.dl_desk.specs.Apps.{declared_apps};
 ghost use Rattle.dl_desk.specs.Assembly.{ArePartsOf};
-ghost use Rattle.dl_desk.specs.EndsInside.{words_for};
+ghost use Rattle.dl_desk.specs.HandlesInside.{words_for};
 ghost use Rattle.dl_desk.specs.Made.{IsNew};
 
 use crate::app::{App, AppList, copied};
-use crate::app_ends::{AppEnds, FirstEnds};
+use crate::app_handles::{AppHandles, FirstHandles};
 use crate::counted_take::CountedTake;
 use crate::desk::Desk;
-use crate::ends::DaemonEnds;
+use crate::handles::DaemonHandles;
 use arrayvec::ArrayVec;
 use dl_bytes::{AppSpec, OutOfMemory, Sequence};
 use dl_levels::make_levels;
@@ -22,12 +22,12 @@ use std::alloc::Global;
 // The version at which each slot begins.
 const FIRST_VERSION: u64 = 0;
 
-/// The ends of each application, which the daemon and its writers will share, and the applications.
+/// The handles of each application, which the daemon and its writers will share, and the applications.
 #[derive(Drop)]
 pub struct Parts {
     apps: Vec<AppSpec>,
-    ends: Vec<AppEnds>,
-    firsts: Vec<FirstEnds>,
+    handles: Vec<AppHandles>,
+    firsts: Vec<FirstHandles>,
     list: Vec<App>,
 }
 
@@ -38,7 +38,7 @@ impl Parts {
     {
         Parts {
             apps: Vec::new(alloc),
-            ends: Vec::new(alloc),
+            handles: Vec::new(alloc),
             firsts: Vec::new(alloc),
             list: Vec::new(alloc),
         }
@@ -61,8 +61,8 @@ impl Parts {
             capacity: spec.capacity,
             text: copied(alloc, spec.text.all())?,
         })?;
-        self.ends.push(AppEnds { ring, queue })?;
-        self.firsts.push(FirstEnds { push, injections })?;
+        self.handles.push(AppHandles { ring, queue })?;
+        self.firsts.push(FirstHandles { push, injections })?;
         self.list.push(app)?;
         Ok(())
     }
@@ -76,7 +76,7 @@ impl Parts {
     {
         let Parts {
             apps,
-            ends,
+            handles,
             firsts,
             list,
         } = self;
@@ -85,8 +85,8 @@ impl Parts {
         let (losses, counters) = make_losses(alloc, count)?;
         let desk = Desk {
             apps: Sequence::over(apps),
-            ends: DaemonEnds {
-                apps: ends,
+            handles: DaemonHandles {
+                apps: handles,
                 levels,
                 losses,
             },

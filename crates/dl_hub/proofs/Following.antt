@@ -2,6 +2,7 @@
 use Rattle.std.proofs.Common.{◌≡◌, ◌≢◌, ℕ, ◌+◌, ◌-◌, ◌≤◌, ◌<◌, ◌⊎◌, inl, inr, Bool, true, false, cond, eqb, leb, take, drop, List, [], ◌∷◌, ◌++◌, length, map, Option, Some, None, refl, sym, ap, ◌∙◌, append_assoc, length-append, subst, suc, zero, arith}
 use Rattle.std.specs.Prelude.{count_by, slice_get, slice_set, option_map, is_some, IfSome, IsSomeAnd, ◌||◌, ◌&&◌}
 use Rattle.std.specs.List.{concat, list_any, range_with_len, after_last}
+use Rattle.std.specs.Option.{option_map_or}
 use Rattle.std.proofs.lemmas.List.{append-nil, length-map, length-set, take-append-drop}
 use Rattle.std.proofs.lemmas.List.Elements.{filter_map-append}
 use Rattle.std.proofs.lemmas.List.Folds.{concat-append}
@@ -12,8 +13,8 @@ use Rattle.std.proofs.lemmas.Bool.Decides.{nat_tests, leb_tells, eqb_tells}
 use Rattle.circular_buffer.proofs.Places.{slice_get-set_same, slice_get-set_other, slice_get-append_left, slice_get-append_right}
 use Rattle.dl_model.specs.Along.{along_from}
 use Rattle.dl_model.specs.Traffic as traffic
-use Rattle.dl_model.specs.Traffic.{Traffic, Comes, Admit, Reply, Goes, comer_of, frame_of, comes_or_goes, is_coming, is_going, clients, admitted_in}
-use Rattle.dl_model.specs.Backlog.{size_of, waiting, fitting, refused, handed_over}
+use Rattle.dl_model.specs.Traffic.{Traffic, Connected, Admitted, Reply, Closed, comer_of, frame_of, comes_or_goes, is_coming, is_going, clients, admitted_in}
+use Rattle.dl_model.specs.Backlog.{size_of, waiting, fitting, refused, due_backlog}
 use Rattle.dl_model.specs.ClientStream.{put, sent}
 use Rattle.dl_laws.proofs.Lists.{along-one}
 use Rattle.std.proofs.Math.Nat.{eq-zero-or-pos}
@@ -57,8 +58,9 @@ stream-of : {ecu : List ℕ} {buffer : ℕ} {ts : List Traffic} {taken : List �
     → client.bytes + size_of frames ≡ now.bytes
     → count_by (is_reply_to number) (ts ++ t ∷ []) ≡ now.replies
     → IfSome now.outbox (λ new. IsSomeAnd client.outbox (λ old. old.bytes ++ concat frames ≡ new.bytes))
+    → (now.outbox ≡ None → (rest : List ℕ) × (concat (sent ecu buffer number ts ++ frames) ≡ taken ++ rest) × (length rest ≡ now.left))
     → IsStream ecu buffer (ts ++ t ∷ []) taken number now
-stream-of {ecu} {buffer} {ts} {taken} {number} {client} t frames now is puts there more_frames more_bytes replies left =
+stream-of {ecu} {buffer} {ts} {taken} {number} {client} t frames now is puts there more_frames more_bytes replies left gone =
     let all : sent ecu buffer number (ts ++ t ∷ []) ≡ sent ecu buffer number ts ++ frames = along-one (put ecu buffer number) ts t ∙ ap (λ fs. sent ecu buffer number ts ++ fs) puts in
     record {
       is_there = there;
@@ -66,6 +68,7 @@ stream-of {ecu} {buffer} {ts} {taken} {number} {client} t frames now is puts the
       bytes = rw (all, sum_by-append length (sent ecu buffer number ts) frames, is.bytes) more_bytes;
       replies = replies;
       left = rw all (joined now.outbox client.outbox left is.left);
+      gone = λ none. let it = gone none in (it.0, ap concat all ∙ it.1, it.2);
     } where
       joined : (new old : Option Waiting) → IfSome new (λ n. IsSomeAnd old (λ o. o.bytes ++ concat frames ≡ n.bytes))
           → IfSome old (λ o. concat (sent ecu buffer number ts) ≡ taken ++ o.bytes)
@@ -95,8 +98,8 @@ same_clients ts t none = filter_map-append comer_of ts (t ∷ []) ∙ rw none (a
 same_admissions : (ts : List Traffic) (t : Traffic) → frame_of t ≡ None → admitted_in (ts ++ t ∷ []) ≡ admitted_in ts
 same_admissions ts t none = filter_map-append frame_of ts (t ∷ []) ∙ rw none (append-nil (admitted_in ts))
 
-more_admissions : (ts : List Traffic) (frame : List ℕ) → length (admitted_in (ts ++ Admit frame ∷ [])) ≡ length (admitted_in ts) + 1
-more_admissions ts frame = ap length (filter_map-append frame_of ts (Admit frame ∷ [])) ∙ length-append (admitted_in ts) (frame ∷ [])
+more_admissions : (ts : List Traffic) (frame : List ℕ) → length (admitted_in (ts ++ Admitted frame ∷ [])) ≡ length (admitted_in ts) + 1
+more_admissions ts frame = ap length (filter_map-append frame_of ts (Admitted frame ∷ [])) ∙ length-append (admitted_in ts) (frame ∷ [])
 
 -- replies to a client, with one entry more
 same_replies : (number : ℕ) (ts : List Traffic) (t : Traffic) → is_reply_to number t ≡ false → count_by (is_reply_to number) (ts ++ t ∷ []) ≡ count_by (is_reply_to number) ts
@@ -114,7 +117,8 @@ untouched {ecu} {buffer} {ts} {taken} {number} {client} t is puts quiet silent =
     (is_open-one number ts t ∙ rw quiet is.is_there)
     (omega arith) (omega arith)
     (same_replies number ts t silent ∙ is.replies)
-    (itself client.outbox) where
+    (itself client.outbox)
+    (λ none. let it = is.gone none in (it.0, ap concat (append-nil (sent ecu buffer number ts)) ∙ it.1, it.2)) where
       itself : (o : Option Waiting) → IfSome o (λ new. IsSomeAnd o (λ old. old.bytes ++ concat [] ≡ new.bytes))
       itself None = tt {0}
       itself (Some w) = append-nil w.bytes
@@ -122,30 +126,31 @@ untouched {ecu} {buffer} {ts} {taken} {number} {client} t is puts quiet silent =
 -- ---- a frame is admitted
 
 admit_stream : {ecu : List ℕ} {buffer : ℕ} {ts : List Traffic} {taken : List ℕ} {number : ℕ} {client : Client} (frame : List ℕ)
-    → IsStream ecu buffer ts taken number client → IsStream ecu buffer (ts ++ Admit frame ∷ []) taken number (with_frame frame client)
+    → IsStream ecu buffer ts taken number client → IsStream ecu buffer (ts ++ Admitted frame ∷ []) taken number (with_frame frame client)
 admit_stream {ecu} {buffer} {ts} {taken} {number} {client} frame is = by_outbox client.outbox is where
-  by_outbox : (o : Option Waiting) → IsStream ecu buffer ts taken number (record { outbox = o; frames = client.frames; bytes = client.bytes; replies = client.replies })
-      → IsStream ecu buffer (ts ++ Admit frame ∷ []) taken number (with_frame frame (record { outbox = o; frames = client.frames; bytes = client.bytes; replies = client.replies }))
-  by_outbox None is = untouched (Admit frame) is (rw is.is_there refl) refl refl
+  by_outbox : (o : Option Waiting) → IsStream ecu buffer ts taken number (record client { outbox = o })
+      → IsStream ecu buffer (ts ++ Admitted frame ∷ []) taken number (with_frame frame (record client { outbox = o }))
+  by_outbox None is = untouched (Admitted frame) is (rw is.is_there refl) refl refl
   by_outbox (Some w) is =
-      stream-of (Admit frame) (frame ∷ []) (with_frame frame (record { outbox = Some w; frames = client.frames; bytes = client.bytes; replies = client.replies })) is
-      (rw is.is_there refl) (is_open-one number ts (Admit frame) ∙ is.is_there) refl (omega arith)
-      (same_replies number ts (Admit frame) refl ∙ is.replies)
+      stream-of (Admitted frame) (frame ∷ []) (with_frame frame (record client { outbox = Some w })) is
+      (rw is.is_there refl) (is_open-one number ts (Admitted frame) ∙ is.is_there) refl (omega arith)
+      (same_replies number ts (Admitted frame) refl ∙ is.replies)
       (ap (λ xs. w.bytes ++ xs) (append-nil frame))
+      (λ none. absurd cc)
 
 -- where a client is open, each open one is sent it
 pub admit-open : (frame : List ℕ) (ts : List Traffic) (taken : ℕ → List ℕ) (hub : Hub) → IsAfter ts taken hub → state.is_any_open hub ≡ true
-    → IsAfter (ts ++ Admit frame ∷ []) taken (record hub { clients = map (with_frame frame) hub.clients; admitted = hub.admitted + 1 })
+    → IsAfter (ts ++ Admitted frame ∷ []) taken (record hub { clients = map (with_frame frame) hub.clients; admitted = hub.admitted + 1 })
 admit-open frame ts taken hub is any = record {
-  came = same_clients ts (Admit frame) refl ∙ is.came ∙ ap (range_with_len 1) (sym (length-map hub.clients (with_frame frame)));
+  came = same_clients ts (Admitted frame) refl ∙ is.came ∙ ap (range_with_len 1) (sym (length-map hub.clients (with_frame frame)));
   admissions = more_admissions ts frame ∙ ap (λ n. n + 1) is.admissions;
   streams = λ place client there.
       let old = mapped (with_frame frame) (slice_get hub.clients place) client (sym (slice_get-map (with_frame frame) hub.clients place) ∙ there) in
-      subst (λ c. IsStream hub.ecu hub.buffer (ts ++ Admit frame ∷ []) (taken (place + 1)) (place + 1) c) old.2 (admit_stream frame (is.streams place old.0 old.1));
+      subst (λ c. IsStream hub.ecu hub.buffer (ts ++ Admitted frame ∷ []) (taken (place + 1)) (place + 1) c) old.2 (admit_stream frame (is.streams place old.0 old.1));
   untaken = λ number above. is.untaken number (rw (length-map hub.clients (with_frame frame)) at above);
-  unanswered = λ number above. same_replies number ts (Admit frame) refl ∙ is.unanswered number (rw (length-map hub.clients (with_frame frame)) at above);
+  unanswered = λ number above. same_replies number ts (Admitted frame) refl ∙ is.unanswered number (rw (length-map hub.clients (with_frame frame)) at above);
   waits =
-      let still : waiting (ts ++ Admit frame ∷ []) ≡ waiting ts =
+      let still : waiting (ts ++ Admitted frame ∷ []) ≡ waiting ts =
       waiting-admit frame ts ∙ ap (λ b. cond b [] (waiting ts ++ frame ∷ [])) (any_open ts taken hub is ∙ any) ∙ sym (nothing_waits ts taken hub is any) in
       rw still (record { bytes = is.waits.bytes; frames_kept = is.waits.frames_kept; refusals = is.waits.refusals });
 }
@@ -186,19 +191,19 @@ size_behind : (frames : List (List ℕ)) (f : List ℕ) → size_of (frames ++ f
 size_behind frames f = sum_by-append length frames (f ∷ []) ∙ omega arith
 
 -- a frame that comes to the backlog
-pub backlog-one : (f : List ℕ) (frames : List (List ℕ)) (ecu : List ℕ) (store : Stored) (some later : List Client) (n m : ℕ)
-    → IsBacklog store.ring.capacity frames (state.hub_of ecu store some n)
-    → IsBacklog store.ring.capacity (frames ++ f ∷ []) (state.hub_of ecu (stored f store) later m)
-backlog-one f frames ecu store some later n m is = by_refused (eq-zero-or-pos store.refused) where
+pub backlog-one : (f : List ℕ) (frames : List (List ℕ)) (ecu : List ℕ) (store : Stored) (limit : ℕ) (some later : List Client) (n m : ℕ)
+    → IsBacklog store.ring.capacity frames (state.hub_of ecu store limit some n)
+    → IsBacklog store.ring.capacity (frames ++ f ∷ []) (state.hub_of ecu (stored f store) limit later m)
+backlog-one f frames ecu store limit some later n m is = by_refused (eq-zero-or-pos store.refused) where
   refuses : keeps f store ≡ false
       → refused store.ring.capacity (frames ++ f ∷ []) ≡ store.refused + 1
       → fitting store.ring.capacity (frames ++ f ∷ []) ≡ fitting store.ring.capacity frames
-      → IsBacklog store.ring.capacity (frames ++ f ∷ []) (state.hub_of ecu (stored f store) later m)
+      → IsBacklog store.ring.capacity (frames ++ f ∷ []) (state.hub_of ecu (stored f store) limit later m)
   refuses is_so more same = rw is_so (record { bytes = ap concat same ∙ is.bytes; frames_kept = ap length same ∙ is.frames_kept; refusals = more })
 
   by_size : (store.refused ≡ 0) → ((leb (length store.ring.bytes + length f) store.ring.capacity ≡ true) × (length store.ring.bytes + length f ≤ store.ring.capacity))
       ⊎ ((leb (length store.ring.bytes + length f) store.ring.capacity ≡ false) × (store.ring.capacity < length store.ring.bytes + length f))
-      → IsBacklog store.ring.capacity (frames ++ f ∷ []) (state.hub_of ecu (stored f store) later m)
+      → IsBacklog store.ring.capacity (frames ++ f ∷ []) (state.hub_of ecu (stored f store) limit later m)
   by_size none (inl fits) =
       let all = kept_all store.ring.capacity frames (is.refusals ∙ none) in
       let bytes : length store.ring.bytes ≡ size_of frames = ap length (sym is.bytes ∙ ap concat all.0) ∙ bytes_of frames in
@@ -219,7 +224,7 @@ backlog-one f frames ecu store some later n m is = by_refused (eq-zero-or-pos st
       (ap (λ fs. length (frames ++ f ∷ []) - length fs) same ∙ omega (arith, none, is.refusals, length-append frames (f ∷ []), ap length all.0))
       same
 
-  by_refused : (store.refused ≡ 0) ⊎ (0 < store.refused) → IsBacklog store.ring.capacity (frames ++ f ∷ []) (state.hub_of ecu (stored f store) later m)
+  by_refused : (store.refused ≡ 0) ⊎ (0 < store.refused) → IsBacklog store.ring.capacity (frames ++ f ∷ []) (state.hub_of ecu (stored f store) limit later m)
   by_refused (inl none) = by_size none (leb_tells (length store.ring.bytes + length f) store.ring.capacity)
   by_refused (inr some_were) =
       let many = too_many store.ring.capacity frames (subst (λ k. 0 < k) (sym is.refusals) some_were) in
@@ -244,23 +249,23 @@ shut_each (c ∷ cs) none zero client there = subst (λ x. state.is_open x ≡ f
 shut_each (c ∷ cs) none (suc place) client there = shut_each cs (neither (state.is_open c) (list_any state.is_open cs) none).1 place client there
 
 closed_stream : {ecu : List ℕ} {buffer : ℕ} {ts : List Traffic} {taken : List ℕ} {number : ℕ} {client : Client} (frame : List ℕ)
-    → IsStream ecu buffer ts taken number client → state.is_open client ≡ false → IsStream ecu buffer (ts ++ Admit frame ∷ []) taken number client
-closed_stream frame is shut = untouched (Admit frame) is (rw (is.is_there, shut) refl) refl refl
+    → IsStream ecu buffer ts taken number client → state.is_open client ≡ false → IsStream ecu buffer (ts ++ Admitted frame ∷ []) taken number client
+closed_stream frame is shut = untouched (Admitted frame) is (rw (is.is_there, shut) refl) refl refl
 
 -- where no client is open, it waits
-pub admit-waits : (frame : List ℕ) (ts : List Traffic) (taken : ℕ → List ℕ) (ecu : List ℕ) (store : Stored) (all : List Client) (n : ℕ)
-    → IsAfter ts taken (state.hub_of ecu store all n) → state.is_any_open (state.hub_of ecu store all n) ≡ false
-    → IsAfter (ts ++ Admit frame ∷ []) taken (state.hub_of ecu (stored frame store) all (n + 1))
-admit-waits frame ts taken ecu store all n is none =
-    let hub = state.hub_of ecu store all n in
+pub admit-waits : (frame : List ℕ) (ts : List Traffic) (taken : ℕ → List ℕ) (ecu : List ℕ) (store : Stored) (limit : ℕ) (all : List Client) (n : ℕ)
+    → IsAfter ts taken (state.hub_of ecu store limit all n) → state.is_any_open (state.hub_of ecu store limit all n) ≡ false
+    → IsAfter (ts ++ Admitted frame ∷ []) taken (state.hub_of ecu (stored frame store) limit all (n + 1))
+admit-waits frame ts taken ecu store limit all n is none =
+    let hub = state.hub_of ecu store limit all n in
     let nobody : traffic.is_any_open ts ≡ false = any_open ts taken hub is ∙ none in
     record {
-      came = same_clients ts (Admit frame) refl ∙ is.came;
+      came = same_clients ts (Admitted frame) refl ∙ is.came;
       admissions = more_admissions ts frame ∙ ap (λ k. k + 1) is.admissions;
       streams = λ place client there. closed_stream frame (is.streams place client there) (shut_each all none place client there);
       untaken = is.untaken;
-      unanswered = λ number above. same_replies number ts (Admit frame) refl ∙ is.unanswered number above;
-      waits = rw (waiting-admit frame ts ∙ ap (λ b. cond b [] (waiting ts ++ frame ∷ [])) nobody) (backlog-one frame (waiting ts) ecu store all all n (n + 1) is.waits);
+      unanswered = λ number above. same_replies number ts (Admitted frame) refl ∙ is.unanswered number above;
+      waits = rw (waiting-admit frame ts ∙ ap (λ b. cond b [] (waiting ts ++ frame ∷ [])) nobody) (backlog-one frame (waiting ts) ecu store limit all all n (n + 1) is.waits);
     }
 
 -- ---- one client changes
@@ -313,8 +318,13 @@ reply-follows frame number old ts taken hub is found there =
     (is_open-one (number + 1) ts t ∙ stream.is_there ∙ there ∙ sym (still_open old.outbox there))
     refl (omega arith)
     (more_replies (number + 1) ts t (same_number (number + 1)) ∙ ap (λ n. n + 1) stream.replies)
-    (longer old.outbox))
+    (longer old.outbox)
+    (λ none. absurd (still_there old.outbox there none)))
     (rw same is.waits) where
+      still_there : (o : Option Waiting) → is_some o ≡ true → option_map (added frame) o ≡ None → ⊥
+      still_there None e none = absurd cc
+      still_there (Some w) e none = absurd cc
+
       still_open : (o : Option Waiting) → is_some o ≡ true → is_some (option_map (added frame) o) ≡ true
       still_open None e = absurd cc
       still_open (Some w) e = refl
@@ -326,9 +336,9 @@ reply-follows frame number old ts taken hub is found there =
 -- a client goes
 pub goes-follows : (number : ℕ) (old : Client) (ts : List Traffic) (taken : ℕ → List ℕ) (hub : Hub)
     → IsAfter ts taken hub → slice_get hub.clients number ≡ Some old → state.is_open old ≡ true → state.is_any_open hub ≡ true
-    → IsAfter (ts ++ Goes (number + 1) ∷ []) taken (record hub { clients = slice_set hub.clients number (shut old) })
+    → IsAfter (ts ++ Closed (number + 1) ∷ []) taken (record hub { clients = slice_set hub.clients number (shut old) })
 goes-follows number old ts taken hub is found there any =
-    let t = Goes (number + 1) in
+    let t = Closed (number + 1) in
     let stream = is.streams number old found in
     let same : waiting (ts ++ t ∷ []) ≡ waiting ts = waiting-goes (number + 1) ts ∙ sym (nothing_waits ts taken hub is any) in
     one_changes t number shut old ts taken hub is found refl refl
@@ -337,8 +347,15 @@ goes-follows number old ts taken hub is found there any =
     (is_open-one (number + 1) ts t ∙ ap (λ b. cond b false (traffic.is_open (number + 1) ts)) (same_number (number + 1)))
     (omega arith) (omega arith)
     (same_replies (number + 1) ts t refl ∙ stream.replies)
-    (tt {0}))
-    (rw same is.waits)
+    (tt {0})
+    (λ none. what_is_left old.outbox there stream.left))
+    (rw same is.waits) where
+      what_is_left : (o : Option Waiting) → is_some o ≡ true
+          → IfSome o (λ w. concat (sent hub.ecu hub.buffer (number + 1) ts) ≡ taken (number + 1) ++ w.bytes)
+          → (rest : List ℕ) × (concat (sent hub.ecu hub.buffer (number + 1) ts ++ []) ≡ taken (number + 1) ++ rest)
+          × (length rest ≡ option_map_or (λ w. length w.bytes) o old.left)
+      what_is_left None e was = absurd cc
+      what_is_left (Some w) e was = (w.bytes, ap concat (append-nil (sent hub.ecu hub.buffer (number + 1) ts)) ∙ was, refl)
 
 -- ---- a client comes
 
@@ -354,33 +371,33 @@ cond_same false x = refl
 never_came : (ecu : List ℕ) (buffer number : ℕ) (before ts : List Traffic) → traffic.is_open number before ≡ false → list_any (λ m. eqb m number) (clients ts) ≡ false
     → (along_from (put ecu buffer number) before ts ≡ []) × (traffic.is_open number (before ++ ts) ≡ false)
 never_came ecu buffer number before [] closed none = (refl, ap (traffic.is_open number) (append-nil before) ∙ closed)
-never_came ecu buffer number before (Comes m ∷ ts) closed none =
+never_came ecu buffer number before (Connected m ∷ ts) closed none =
     let other = neither (eqb m number) (list_any (λ k. eqb k number) (clients ts)) none in
-    let still : traffic.is_open number (before ++ Comes m ∷ []) ≡ false = is_open-one number before (Comes m) ∙ rw other.0 closed in
-    let rest = never_came ecu buffer number (before ++ Comes m ∷ []) ts still other.1 in
-    (rw (other.0, rest.0) refl, ap (traffic.is_open number) (sym (append_assoc before (Comes m ∷ []) ts)) ∙ rest.1)
-never_came ecu buffer number before (Admit frame ∷ ts) closed none =
-    let still : traffic.is_open number (before ++ Admit frame ∷ []) ≡ false = is_open-one number before (Admit frame) ∙ closed in
-    let rest = never_came ecu buffer number (before ++ Admit frame ∷ []) ts still none in
-    (rw (closed, rest.0) refl, ap (traffic.is_open number) (sym (append_assoc before (Admit frame ∷ []) ts)) ∙ rest.1)
+    let still : traffic.is_open number (before ++ Connected m ∷ []) ≡ false = is_open-one number before (Connected m) ∙ rw other.0 closed in
+    let rest = never_came ecu buffer number (before ++ Connected m ∷ []) ts still other.1 in
+    (rw (other.0, rest.0) refl, ap (traffic.is_open number) (sym (append_assoc before (Connected m ∷ []) ts)) ∙ rest.1)
+never_came ecu buffer number before (Admitted frame ∷ ts) closed none =
+    let still : traffic.is_open number (before ++ Admitted frame ∷ []) ≡ false = is_open-one number before (Admitted frame) ∙ closed in
+    let rest = never_came ecu buffer number (before ++ Admitted frame ∷ []) ts still none in
+    (rw (closed, rest.0) refl, ap (traffic.is_open number) (sym (append_assoc before (Admitted frame ∷ []) ts)) ∙ rest.1)
 never_came ecu buffer number before (Reply m frame ∷ ts) closed none =
     let still : traffic.is_open number (before ++ Reply m frame ∷ []) ≡ false = is_open-one number before (Reply m frame) ∙ closed in
     let rest = never_came ecu buffer number (before ++ Reply m frame ∷ []) ts still none in
     (rw (closed, and_false (eqb m number), rest.0) refl, ap (traffic.is_open number) (sym (append_assoc before (Reply m frame ∷ []) ts)) ∙ rest.1)
-never_came ecu buffer number before (Goes m ∷ ts) closed none =
-    let still : traffic.is_open number (before ++ Goes m ∷ []) ≡ false = is_open-one number before (Goes m) ∙ rw closed (cond_same (eqb m number) false) in
-    let rest = never_came ecu buffer number (before ++ Goes m ∷ []) ts still none in
-    (rest.0, ap (traffic.is_open number) (sym (append_assoc before (Goes m ∷ []) ts)) ∙ rest.1)
+never_came ecu buffer number before (Closed m ∷ ts) closed none =
+    let still : traffic.is_open number (before ++ Closed m ∷ []) ≡ false = is_open-one number before (Closed m) ∙ rw closed (cond_same (eqb m number) false) in
+    let rest = never_came ecu buffer number (before ++ Closed m ∷ []) ts still none in
+    (rest.0, ap (traffic.is_open number) (sym (append_assoc before (Closed m ∷ []) ts)) ∙ rest.1)
 
 -- a new client, that is handed what waits
 pub comes-follows : (new : Client) (number : ℕ) (ts : List Traffic) (taken : ℕ → List ℕ) (hub : Hub)
     → IsAfter ts taken hub
     → number ≡ length hub.clients + 1
-    → IsSomeAnd new.outbox (λ outbox. concat (handed_over hub.ecu hub.buffer (waiting ts)) ≡ outbox.bytes)
-    → length (handed_over hub.ecu hub.buffer (waiting ts)) ≡ new.frames
-    → size_of (handed_over hub.ecu hub.buffer (waiting ts)) ≡ new.bytes
+    → IsSomeAnd new.outbox (λ outbox. concat (due_backlog hub.ecu hub.buffer (waiting ts)) ≡ outbox.bytes)
+    → length (due_backlog hub.ecu hub.buffer (waiting ts)) ≡ new.frames
+    → size_of (due_backlog hub.ecu hub.buffer (waiting ts)) ≡ new.bytes
     → new.replies ≡ 0
-    → IsAfter (ts ++ Comes number ∷ []) taken (record { ecu = hub.ecu; buffer = hub.buffer; clients = hub.clients ++ new ∷ []; admitted = hub.admitted; backlog = []; frames = 0; refused = 0 })
+    → IsAfter (ts ++ Connected number ∷ []) taken (record hub { clients = hub.clients ++ new ∷ []; backlog = []; frames = 0; refused = 0 })
 comes-follows new number ts taken hub is numbered outbox frames bytes replies = record {
   came = filter_map-append comer_of ts (t ∷ []) ∙ ap (λ xs. xs ++ number ∷ []) is.came
       ∙ rw (numbered) (ap (λ n. range_with_len 1 (length hub.clients) ++ n ∷ []) (omega arith) ∙ one_more_number 1 (length hub.clients)) ∙ ap (range_with_len 1) (sym longer);
@@ -391,7 +408,7 @@ comes-follows new number ts taken hub is numbered outbox frames bytes replies = 
   waits = rw (waiting-comes number ts) (record { bytes = refl; frames_kept = refl; refusals = refl });
 } where
   t : Traffic
-  t = Comes number
+  t = Connected number
 
   longer : length (hub.clients ++ new ∷ []) ≡ suc (length hub.clients)
   longer = length-append hub.clients (new ∷ []) ∙ omega arith
@@ -403,7 +420,7 @@ comes-follows new number ts taken hub is numbered outbox frames bytes replies = 
   nothing = never_came hub.ecu hub.buffer number [] ts refl nobody
 
   due : List (List ℕ)
-  due = handed_over hub.ecu hub.buffer (waiting ts)
+  due = due_backlog hub.ecu hub.buffer (waiting ts)
 
   all : sent hub.ecu hub.buffer number (ts ++ t ∷ []) ≡ due
   all = along-one (put hub.ecu hub.buffer number) ts t ∙ rw (nothing.0, same_number number) refl
@@ -415,6 +432,10 @@ comes-follows new number ts taken hub is numbered outbox frames bytes replies = 
   is_new None h = absurd h
   is_new (Some w) h = (refl, rw (all, first) h)
 
+  is_there_now : (o : Option Waiting) → IsSomeAnd o (λ outbox. concat due ≡ outbox.bytes) → o ≡ None → ⊥
+  is_there_now None h none = absurd h
+  is_there_now (Some w) h none = absurd cc
+
   new_stream : IsStream hub.ecu hub.buffer (ts ++ t ∷ []) (taken number) number new
   new_stream = record {
     is_there = is_open-one number ts t ∙ rw (same_number number) (sym (is_new new.outbox outbox).0);
@@ -422,6 +443,7 @@ comes-follows new number ts taken hub is numbered outbox frames bytes replies = 
     bytes = ap size_of all ∙ bytes;
     replies = same_replies number ts t refl ∙ is.unanswered number (omega (arith, numbered)) ∙ sym replies;
     left = (is_new new.outbox outbox).1;
+    gone = λ none. absurd (is_there_now new.outbox outbox none);
   }
 
   by_place : (place : ℕ) (client : Client) → slice_get (hub.clients ++ new ∷ []) place ≡ Some client → ((leb (length hub.clients) place ≡ true) × (length hub.clients ≤ place)) ⊎ ((leb (length hub.clients) place ≡ false) × (place < length hub.clients))
@@ -465,6 +487,10 @@ took-follows count number old ts taken hub is found fits = record {
   shorter None h was = absurd h
   shorter (Some w) h was = (refl, was ∙ ap (λ xs. taken (number + 1) ++ xs) (sym (take-append-drop count w.bytes)) ∙ sym (append_assoc (taken (number + 1)) (take count w.bytes) (drop count w.bytes)))
 
+  still_there : (o : Option Waiting) → IsSomeAnd o (λ outbox. count ≤ length outbox.bytes) → option_map (consumed count) o ≡ None → ⊥
+  still_there None h none = absurd h
+  still_there (Some w) h none = absurd cc
+
   stream : IsStream hub.ecu hub.buffer ts (more (number + 1)) (number + 1) (without count old)
   stream =
       let was = is.streams number old found in
@@ -475,6 +501,7 @@ took-follows count number old ts taken hub is found fits = record {
         bytes = was.bytes;
         replies = was.replies;
         left = its.1;
+        gone = λ none. absurd (still_there old.outbox fits none);
       })
 
   by_place : (place : ℕ) (client : Client) → slice_get (slice_set hub.clients number (without count old)) place ≡ Some client

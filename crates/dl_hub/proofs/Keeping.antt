@@ -1,6 +1,6 @@
 -- What keeps the hub within its bounds.
-use Rattle.std.proofs.Common.{◌≡◌, ℕ, ◌+◌, ◌-◌, ◌^◌, ◌≤◌, ◌<◌, ◌⊎◌, inl, inr, Bool, true, false, cond, eqb, leb, get_or, List, [], ◌∷◌, ◌++◌, length, map, Option, Some, None, refl, sym, ◌∙◌, length-append, subst, suc, zero, arith}
-use Rattle.std.specs.Prelude.{count_by, slice_get, slice_set, option_map, is_some, IfSome, IsSome, IsTrue, nat_lt, nat_le, ◌||◌, ◌&&◌}
+use Rattle.std.proofs.Common.{◌≡◌, ℕ, ◌+◌, ◌-◌, ◌^◌, ◌≤◌, ◌<◌, ◌⊎◌, inl, inr, Bool, true, false, cond, eqb, leb, get_or, List, [], ◌∷◌, ◌++◌, length, map, Option, Some, None, refl, sym, ◌∙◌, length-append, length-drop, subst, suc, zero, arith}
+use Rattle.std.specs.Prelude.{count_by, slice_get, slice_set, IfSome, IsSome, IsTrue, nat_lt, nat_le, ◌||◌, ◌&&◌}
 use Rattle.std.specs.List.{All, list_any, list_all}
 use Rattle.std.specs.Option.{option_and_then, option_map_or}
 use Rattle.std.proofs.lemmas.List.{length-map, length-set}
@@ -9,8 +9,10 @@ use Rattle.std.proofs.lemmas.List.Elements.{All-set, All-map, All-append, All-co
 use Rattle.std.proofs.lemmas.List.Sums.{sum_by-cons}
 use Rattle.std.proofs.lemmas.Bool.{le-leb}
 use Rattle.std.proofs.lemmas.Bool.Decides.{nat_tests, leb_tells}
-use Rattle.dl_hub.specs.State.{Client, Waiting, Stored, Hub, hub_of, stored, keeps, added, emptied, with_frame, with_reply, shut, is_open, takes, outbox_limit, client_of, outbox_of, EachHasRoom, changed}
+use Rattle.dl_model.specs.Backlog.{outbox_limit}
+use Rattle.dl_hub.specs.State.{Client, Waiting, Stored, Hub, hub_of, stored, keeps, emptied, with_frame, with_reply, without, shut, is_open, takes, outbox_of, EachHasRoom, changed}
 use Rattle.dl_hub.specs.Kept.{Fits, IsBounded, IsFree}
+use Rattle.dl_hub.proofs.Places.{slice_get_or, still_open}
 
 -- ---- counts
 
@@ -30,9 +32,6 @@ count-set p (z ∷ zs) zero x y e = let same : z ≡ x = cc in rw same (omega (a
 count-set p (z ∷ zs) (suc i) x y e = omega (arith, count-set p zs i x y e, count-cons p z zs, count-cons p z (slice_set zs i y))
 
 -- ---- a client by its number
-
-pub client_at : (clients : List Client) (ecu : List ℕ) (store : Stored) (n number : ℕ) (c : Client) → 0 < number → client_of (hub_of ecu store clients n) number ≡ slice_get clients (number - 1)
-client_at clients ecu store n number c some = let not_zero : eqb number 0 ≡ false = grind (arith, nat_tests) in rw not_zero refl
 
 -- an open client's number is above 0, and it is there
 no_outbox : {A : Type 0} → IsSome {T = Waiting} None → A
@@ -62,10 +61,10 @@ changed_at hub number change c some is = let not_zero : eqb number 0 ≡ false =
 -- ---- bounds
 
 -- one client changes, and is open or not as before
-pub fits-change : (ecu : List ℕ) (store : Stored) (clients : List Client) (n : ℕ) (free : List Waiting) (place : ℕ) (old new : Client)
-    → Fits (hub_of ecu store clients n) free → slice_get clients place ≡ Some old → IsBounded store.ring.capacity n new → is_open new ≡ is_open old
-    → Fits (hub_of ecu store (slice_set clients place new) n) free
-fits-change ecu store clients n free place old new fits is bounded same = record {
+pub fits-change : (ecu : List ℕ) (store : Stored) (limit : ℕ) (clients : List Client) (n : ℕ) (free : List Waiting) (place : ℕ) (old new : Client)
+    → Fits (hub_of ecu store limit clients n) free → slice_get clients place ≡ Some old → IsBounded store.ring.capacity n new → is_open new ≡ is_open old
+    → Fits (hub_of ecu store limit (slice_set clients place new) n) free
+fits-change ecu store limit clients n free place old new fits is bounded same = record {
   ecu = fits.ecu;
   came = rw (length-set clients place new) fits.came;
   outboxes = let counted = count-set is_open clients place old new is in omega (arith, fits.outboxes, rw same at counted);
@@ -79,10 +78,10 @@ fits-change ecu store clients n free place old new fits is bounded same = record
 }
 
 -- one client goes, and its outbox is free
-pub fits-close : (ecu : List ℕ) (store : Stored) (clients : List Client) (n : ℕ) (free : List Waiting) (place : ℕ) (old : Client) (w : Waiting)
-    → Fits (hub_of ecu store clients n) free → slice_get clients place ≡ Some old → old.outbox ≡ Some w → IsBounded store.ring.capacity n old
-    → Fits (hub_of ecu store (slice_set clients place (shut old)) n) (free ++ emptied w ∷ [])
-fits-close ecu store clients n free place old w fits is there bounded = record {
+pub fits-close : (ecu : List ℕ) (store : Stored) (limit : ℕ) (clients : List Client) (n : ℕ) (free : List Waiting) (place : ℕ) (old : Client) (w : Waiting)
+    → Fits (hub_of ecu store limit clients n) free → slice_get clients place ≡ Some old → old.outbox ≡ Some w → IsBounded store.ring.capacity n old
+    → Fits (hub_of ecu store limit (slice_set clients place (shut old)) n) (free ++ emptied w ∷ [])
+fits-close ecu store limit clients n free place old w fits is there bounded = record {
   ecu = fits.ecu;
   came = rw (length-set clients place (shut old)) fits.came;
   outboxes =
@@ -100,9 +99,9 @@ fits-close ecu store clients n free place old w fits is there bounded = record {
 
 -- ---- what the bounds of the hub say of one client
 
-pub bounded-at : (ecu : List ℕ) (store : Stored) (clients : List Client) (n : ℕ) (free : List Waiting) (place : ℕ) (c : Client)
-    → Fits (hub_of ecu store clients n) free → slice_get clients place ≡ Some c → IsBounded store.ring.capacity n c
-bounded-at ecu store clients n free place c fits is =
+pub bounded-at : (ecu : List ℕ) (store : Stored) (limit : ℕ) (clients : List Client) (n : ℕ) (free : List Waiting) (place : ℕ) (c : Client)
+    → Fits (hub_of ecu store limit clients n) free → slice_get clients place ≡ Some c → IsBounded store.ring.capacity n c
+bounded-at ecu store limit clients n free place c fits is =
     subst (IsBounded store.ring.capacity n) (get_or_from_slice_get clients place c c is) (fits.each place c (slice_get_within clients place c is))
 
 -- a reply keeps a client within its bounds
@@ -117,12 +116,23 @@ bounded-reply buffer n frame c w bounded there room size few =
       replies = omega (arith, few);
     }
 
+-- and so do bytes that its link takes
+pub bounded-took : (buffer n count : ℕ) (c : Client) (w : Waiting) → IsBounded buffer n c → c.outbox ≡ Some w → IsBounded buffer n (without count c)
+bounded-took buffer n count c w bounded there =
+    let old : (w.capacity ≡ outbox_limit buffer) × (length w.bytes ≤ outbox_limit buffer) = rw there at bounded.outbox in
+    record {
+      outbox = rw there ((old.0, omega (arith, length-drop count w.bytes, old.1)));
+      frames = bounded.frames;
+      bytes = bounded.bytes;
+      replies = bounded.replies;
+    }
+
 -- a frame that is admitted keeps each client within its bounds
 pub bounded-frame : (buffer n : ℕ) (frame : List ℕ) (c : Client) → IsBounded buffer n c → IfSome c.outbox (λ w. length w.bytes + length frame ≤ w.capacity)
     → length frame ≤ 1984 → IsBounded buffer (n + 1) (with_frame frame c)
 bounded-frame buffer n frame c bounded room size = by_outbox c.outbox bounded room where
-  by_outbox : (o : Option Waiting) → IsBounded buffer n (record { outbox = o; frames = c.frames; bytes = c.bytes; replies = c.replies })
-      → IfSome o (λ w. length w.bytes + length frame ≤ w.capacity) → IsBounded buffer (n + 1) (with_frame frame (record { outbox = o; frames = c.frames; bytes = c.bytes; replies = c.replies }))
+  by_outbox : (o : Option Waiting) → IsBounded buffer n (record c { outbox = o })
+      → IfSome o (λ w. length w.bytes + length frame ≤ w.capacity) → IsBounded buffer (n + 1) (with_frame frame (record c { outbox = o }))
   by_outbox None b h = record { outbox = tt {0}; frames = omega (arith, b.frames); bytes = b.bytes; replies = b.replies }
   by_outbox (Some w) b h = record {
     outbox = (b.outbox.0, rw (length-append w.bytes frame) (omega (arith, h, b.outbox.0)));
@@ -131,22 +141,16 @@ bounded-frame buffer n frame c bounded room size = by_outbox c.outbox bounded ro
     replies = b.replies;
   }
 
-still_open : (frame : List ℕ) (c : Client) → is_open (with_frame frame c) ≡ is_open c
-still_open frame c = by_outbox c.outbox where
-  by_outbox : (o : Option Waiting) → is_some (option_map (added frame) o) ≡ is_some o
-  by_outbox None = refl
-  by_outbox (Some w) = refl
-
 count-frames : (frame : List ℕ) (clients : List Client) → count_by is_open (map (with_frame frame) clients) ≡ count_by is_open clients
 count-frames frame [] = refl
 count-frames frame (c ∷ cs) =
     count-cons is_open (with_frame frame c) (map (with_frame frame) cs) ∙ rw (still_open frame c, count-frames frame cs) (sym (count-cons is_open c cs))
 
 -- where a client is open, each open one is sent the frame
-pub fits-admit-open : (ecu : List ℕ) (store : Stored) (clients : List Client) (n : ℕ) (free : List Waiting) (frame : List ℕ)
-    → Fits (hub_of ecu store clients n) free → All (λ c. IfSome c.outbox (λ w. length w.bytes + length frame ≤ w.capacity)) clients → length frame ≤ 1984 → n < 2 ^ 40
-    → Fits (hub_of ecu store (map (with_frame frame) clients) (n + 1)) free
-fits-admit-open ecu store clients n free frame fits rooms size few = record {
+pub fits-admit-open : (ecu : List ℕ) (store : Stored) (limit : ℕ) (clients : List Client) (n : ℕ) (free : List Waiting) (frame : List ℕ)
+    → Fits (hub_of ecu store limit clients n) free → All (λ c. IfSome c.outbox (λ w. length w.bytes + length frame ≤ w.capacity)) clients → length frame ≤ 1984 → n < 2 ^ 40
+    → Fits (hub_of ecu store limit (map (with_frame frame) clients) (n + 1)) free
+fits-admit-open ecu store limit clients n free frame fits rooms size few = record {
   ecu = fits.ecu;
   came = rw (length-map clients (with_frame frame)) fits.came;
   outboxes = rw (count-frames frame clients) fits.outboxes;
@@ -165,13 +169,13 @@ leb_true_is true x y e = grind (arith, nat_tests, leb_tells)
 leb_true_is false x y e = absurd cc
 
 -- where none is, it waits or is refused
-pub fits-admit-waits : (ecu : List ℕ) (store : Stored) (clients : List Client) (n : ℕ) (free : List Waiting) (frame : List ℕ)
-    → Fits (hub_of ecu store clients n) free → length frame ≤ 1984 → n < 2 ^ 40 → Fits (hub_of ecu (stored frame store) clients (n + 1)) free
-fits-admit-waits ecu store clients n free frame fits size few = by_test (keeps frame store) refl where
+pub fits-admit-waits : (ecu : List ℕ) (store : Stored) (limit : ℕ) (clients : List Client) (n : ℕ) (free : List Waiting) (frame : List ℕ)
+    → Fits (hub_of ecu store limit clients n) free → length frame ≤ 1984 → n < 2 ^ 40 → Fits (hub_of ecu (stored frame store) limit clients (n + 1)) free
+fits-admit-waits ecu store limit clients n free frame fits size few = by_test (keeps frame store) refl where
   each : All (IsBounded store.ring.capacity (n + 1)) clients
   each = λ k d below. let b = fits.each k d below in record { outbox = b.outbox; frames = omega (arith, b.frames); bytes = b.bytes; replies = b.replies }
 
-  by_test : (b : Bool) → keeps frame store ≡ b → Fits (hub_of ecu (stored frame store) clients (n + 1)) free
+  by_test : (b : Bool) → keeps frame store ≡ b → Fits (hub_of ecu (stored frame store) limit clients (n + 1)) free
   by_test true is =
       let within : length store.ring.bytes + length frame ≤ store.ring.capacity = leb_true_is (eqb store.refused 0) (length store.ring.bytes + length frame) store.ring.capacity is in
       record {
@@ -221,11 +225,6 @@ each_room more hub place c rooms is =
     let before : suc place - 1 ≡ place = omega arith in
     let its : outbox_of hub (suc place) ≡ c.outbox = rw (not_zero, before, is) refl in
     subst (λ o. IfSome o (λ w. length w.bytes + more ≤ w.capacity)) its (rooms (suc place))
-
-pub slice_get_or : {A : Type 0} (xs : List A) (k : ℕ) (d : A) → k < length xs → slice_get xs k ≡ Some (get_or xs k d)
-slice_get_or [] k d below = absurd (omega (arith, below))
-slice_get_or (x ∷ xs) zero d below = refl
-slice_get_or (x ∷ xs) (suc k) d below = slice_get_or xs k d (omega (arith, below))
 
 -- what is said of each client by its number, as a list
 pub all_room : (more : ℕ) (hub : Hub) → EachHasRoom more hub → All (λ c. IfSome c.outbox (λ w. length w.bytes + more ≤ w.capacity)) hub.clients

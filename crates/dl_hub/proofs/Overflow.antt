@@ -36,8 +36,8 @@ frames-step ecu apid ctid n counter some is = rw is (ap (map (overflow_record ec
 
 -- ---- a frame, and then the others
 
-abbrev client_is : (o : Option Waiting) (frames bytes replies : ℕ) → Client
-client_is o frames bytes replies = record { outbox = o; frames = frames; bytes = bytes; replies = replies }
+abbrev client_is : (o : Option Waiting) (frames bytes replies left : ℕ) → Client
+client_is o frames bytes replies left = record { outbox = o; frames = frames; bytes = bytes; replies = replies; left = left }
 
 both_added : (xs ys : List ℕ) (o : Option Waiting) → option_map (added ys) (option_map (added xs) o) ≡ option_map (added (xs ++ ys)) o
 both_added xs ys None = refl
@@ -47,7 +47,7 @@ pub one-more : (f : List ℕ) (fs : List (List ℕ)) (c : Client) → IsSomeAnd 
     with_frames fs (with_frame f c) ≡ with_frames (f ∷ fs) c
 one-more f fs c can = more c.outbox can where
   more : (o : Option Waiting) → IsSomeAnd o (λ outbox. length outbox.bytes + size_of (f ∷ fs) ≤ outbox.capacity) →
-      with_frames fs (with_frame f (client_is o c.frames c.bytes c.replies)) ≡ with_frames (f ∷ fs) (client_is o c.frames c.bytes c.replies)
+      with_frames fs (with_frame f (client_is o c.frames c.bytes c.replies c.left)) ≡ with_frames (f ∷ fs) (client_is o c.frames c.bytes c.replies c.left)
   more None h = absurd h
   more (Some w) h =
       let count : c.frames + 1 + length fs ≡ c.frames + length (f ∷ fs) = omega arith in
@@ -57,7 +57,7 @@ one-more f fs c can = more c.outbox can where
 pub still : (f : List ℕ) (fs : List (List ℕ)) (c : Client) → CanTake (f ∷ fs) c → CanTake fs (with_frame f c)
 still f fs c can = more c.outbox can.room can.count can.bytes where
   more : (o : Option Waiting) → IsSomeAnd o (λ outbox. length outbox.bytes + size_of (f ∷ fs) ≤ outbox.capacity) → c.frames + length (f ∷ fs) < 2 ^ 63 → c.bytes + size_of (f ∷ fs) < 2 ^ 63 →
-      CanTake fs (with_frame f (client_is o c.frames c.bytes c.replies))
+      CanTake fs (with_frame f (client_is o c.frames c.bytes c.replies c.left))
   more None h count bytes = absurd h
   more (Some w) h count bytes =
       let size = sum_by-cons length f fs in

@@ -9,7 +9,8 @@ use Rattle.std.proofs.Math.Seq.{take-add}
 use Rattle.circular_buffer.proofs.Places.{slice_get-set_same}
 use Rattle.dl_outside.specs.Outside.{Grows, Stays}
 use Rattle.dl_hub.specs.State.{Client, Waiting, Hub, outbox_of, changed, without, consumed}
-use Rattle.dl_hub.specs.Pumping.{Pumps}
+use Rattle.dl_outside.specs.Told.{LinkTold}
+use Rattle.dl_hub.specs.Pumping.{Pumps, IsOnlySent}
 use Rattle.dl_hub.proofs.Keeping.{found, changed_at}
 use Rattle.dl_hub.proofs.Following.{one_of}
 use Rattle.dl_hub.proofs.Calls.{some_and}
@@ -34,23 +35,23 @@ drop_again (suc n) m (x ∷ xs) = let next : suc n + m ≡ suc (n + m) = omega a
 
 again : (a b : ℕ) (c : Client) → without b (without a c) ≡ without (a + b) c
 again a b c = by_outbox c.outbox where
-  by_outbox : (o : Option Waiting) → without b (without a (record { outbox = o; frames = c.frames; bytes = c.bytes; replies = c.replies })) ≡ without (a + b) (record { outbox = o; frames = c.frames; bytes = c.bytes; replies = c.replies })
+  by_outbox : (o : Option Waiting) → without b (without a (record c { outbox = o })) ≡ without (a + b) (record c { outbox = o })
   by_outbox None = refl
   by_outbox (Some w) = rw (drop_again a b w.bytes) refl
 
 nothing : (c : Client) → without 0 c ≡ c
 nothing c = by_outbox c.outbox where
-  by_outbox : (o : Option Waiting) → without 0 (record { outbox = o; frames = c.frames; bytes = c.bytes; replies = c.replies }) ≡ record { outbox = o; frames = c.frames; bytes = c.bytes; replies = c.replies }
+  by_outbox : (o : Option Waiting) → without 0 (record c { outbox = o }) ≡ record c { outbox = o }
   by_outbox None = refl
   by_outbox (Some w) = refl
 
 -- before anything is sent
-pub nothing-sent : (number : ℕ) (hub : Hub) (taken : Option (List ℕ)) → IsSome (outbox_of hub number) → Pumps number hub hub taken taken
-nothing-sent number hub taken there =
+pub nothing-sent : (number : ℕ) (hub : Hub) (link : LinkTold) → IsSome (outbox_of hub number) → Pumps number hub hub link link
+nothing-sent number hub link there =
     let it = found hub number there in
     record {
       count = 0;
-      sent = rw it.5 (omega arith, stays taken);
+      sent = rw it.5 (omega arith, stays link.taken);
       left = sym (changed_at hub number (without 0) it.0 it.4 it.2 ∙ ap (λ cs. record hub { clients = cs }) (ap (slice_set hub.clients (number - 1)) (nothing it.0) ∙ set_same hub.clients (number - 1) it.0 it.2));
     } where
       stays : (o : Option (List ℕ)) → Grows o o []
@@ -79,16 +80,16 @@ outbox-after number count hub w is =
     ∙ ap (look false) (slice_get-set_same hub.clients (number - 1) (without count it.0) (slice_get_within hub.clients (number - 1) it.0 it.2)) ∙ its
 
 -- one piece more
-pub more-sent : (number n : ℕ) (old mid new : Hub) (t0 t1 t2 : Option (List ℕ)) (piece : List ℕ)
-    → Pumps number old mid t0 t1 → IsSome (outbox_of old number)
+pub more-sent : (number n : ℕ) (old mid new : Hub) (l0 l1 l2 : LinkTold) (piece : List ℕ)
+    → Pumps number old mid l0 l1 → IsSome (outbox_of old number)
     → IsSomeAnd (outbox_of mid number) (λ w. piece ≡ take (length piece) w.bytes)
-    → n ≤ length piece → 1 ≤ n → Grows t1 t2 (take n piece) → new ≡ changed number (without n) mid
-    → Pumps number old new t0 t2 × IsSome (outbox_of new number)
+    → n ≤ length piece → 1 ≤ n → Grows l1.taken l2.taken (take n piece) → new ≡ changed number (without n) mid
+    → Pumps number old new l0 l2 × IsSome (outbox_of new number)
     × (option_map_or (λ w. length w.bytes) (outbox_of new number) 0 < option_map_or (λ w. length w.bytes) (outbox_of mid number) 0)
-more-sent number n old mid new t0 t1 t2 piece pumped there front fits some grown is =
+more-sent number n old mid new l0 l1 l2 piece pumped there front fits some grown is =
     let it = found old number there in
     let a = pumped.count in
-    let was = some_and (λ w. (a ≤ length w.bytes) × Grows t0 t1 (take a w.bytes)) (outbox_of old number) it.1 it.5 pumped.sent in
+    let was = some_and (λ w. (a ≤ length w.bytes) × Grows l0.taken l1.taken (take a w.bytes)) (outbox_of old number) it.1 it.5 pumped.sent in
     let now : outbox_of mid number ≡ Some (consumed a it.1) = ap (λ hub. outbox_of hub number) pumped.left ∙ outbox-after number a old it.1 it.5 in
     let front_is : piece ≡ take (length piece) (drop a it.1.bytes) = some_and (λ w. piece ≡ take (length piece) w.bytes) (outbox_of mid number) (consumed a it.1) now front in
     let left : length (drop a it.1.bytes) ≡ length it.1.bytes - a = length-drop a it.1.bytes in
@@ -103,7 +104,7 @@ more-sent number n old mid new t0 t1 t2 piece pumped there front fits some grown
     ∙ sym (changed_at old number (without (a + n)) it.0 it.4 it.2) in (
       record {
         count = a + n;
-        sent = rw it.5 (omega (arith, was.0, fits, shorter, left), rw (take-add a n it.1.bytes) (grow t0 t1 t2 (take a it.1.bytes) (take n (drop a it.1.bytes)) was.1 (rw part at grown)));
+        sent = rw it.5 (omega (arith, was.0, fits, shorter, left), rw (take-add a n it.1.bytes) (grow l0.taken l1.taken l2.taken (take a it.1.bytes) (take n (drop a it.1.bytes)) was.1 (rw part at grown)));
         left = all;
       },
       some_of (outbox_of new number) (consumed n (consumed a it.1)) after,
@@ -112,10 +113,24 @@ more-sent number n old mid new t0 t1 t2 piece pumped there front fits some grown
       at_most : (xs ys : List ℕ) → xs ≡ take (length xs) ys → length xs ≤ length ys
       at_most xs ys e = omega (arith, ap length e, length-take (length xs) ys)
 
-pub stays : {A : Type 0} (o : Option A) → Stays o o
+still_stays : {A : Type 0} (a b c : Option A) → Stays a b → Stays b c → Stays a c
+still_stays None b c h k = tt {0}
+still_stays (Some x) b c h k = subst (λ o. Stays o c) h k
+
+stays : {A : Type 0} (o : Option A) → Stays o o
 stays None = tt {0}
 stays (Some x) = refl
 
-pub still_stays : {A : Type 0} (a b c : Option A) → Stays a b → Stays b c → Stays a c
-still_stays None b c h k = tt {0}
-still_stays (Some x) b c h k = subst (λ o. Stays o c) h k
+-- ---- what else a link tells
+
+pub only_sent : (link : LinkTold) → IsOnlySent link link
+only_sent link = record { left = stays link.left; over = λ is_over. is_over; given = stays link.given; idles = refl; shut = refl }
+
+pub only_sent-later : (a b c : LinkTold) → IsOnlySent a b → IsOnlySent b c → IsOnlySent a c
+only_sent-later a b c first later = record {
+  left = still_stays a.left b.left c.left first.left later.left;
+  over = λ is_over. later.over (first.over is_over);
+  given = still_stays a.given b.given c.given first.given later.given;
+  idles = later.idles ∙ first.idles;
+  shut = later.shut ∙ first.shut;
+}

@@ -1,6 +1,6 @@
 -- What the hub is after a list of traffic: each client's outbox is its stream less what its link took, and the backlog
 -- is what waits.
-use Rattle.std.specs.Prelude.{◌≡◌, ℕ, ◌<◌, ◌+◌, ◌==◌, Bool, false, List, [], ◌∷◌, ◌++◌, length, count_by, slice_get, Some, IfSome, if◌then◌else◌}
+use Rattle.std.specs.Prelude.{◌≡◌, ℕ, ◌<◌, ◌+◌, ◌==◌, Bool, false, List, [], ◌∷◌, ◌++◌, length, count_by, slice_get, None, Some, IfSome, if◌then◌else◌}
 use Rattle.std.specs.List.{concat}
 use Rattle.std.specs.List.{range_with_len}
 use Rattle.dl_model.specs.Traffic.{Traffic, Reply, clients, admitted_in, is_open}
@@ -15,13 +15,14 @@ is_reply_to client (Reply other frame) = other == client
 is_reply_to client _ = false
 
 -- A client stands as the traffic has it: it is open where it came and has not gone, its counts are those of its
--- stream, and its outbox is its stream less what its link took.
+-- stream, and its outbox is its stream less what its link took. Of one that has gone it is known how much was left.
 pub record IsStream (ecu : List ℕ) (buffer : ℕ) (traffic : List Traffic) (taken : List ℕ) (number : ℕ) (client : Client) : Type 0 where
   pub is_there : is_open number traffic ≡ state.is_open client
   pub frames : length (sent ecu buffer number traffic) ≡ client.frames
   pub bytes : size_of (sent ecu buffer number traffic) ≡ client.bytes
   pub replies : count_by (is_reply_to number) traffic ≡ client.replies
   pub left : IfSome client.outbox (λ outbox. concat (sent ecu buffer number traffic) ≡ taken ++ outbox.bytes)
+  pub gone : client.outbox ≡ None → (rest : List ℕ) × (concat (sent ecu buffer number traffic) ≡ taken ++ rest) × (length rest ≡ client.left)
 
 -- the backlog is what the buffer keeps of the frames that wait, with how many it refused
 pub record IsBacklog (buffer : ℕ) (frames : List (List ℕ)) (hub : Hub) : Type 0 where

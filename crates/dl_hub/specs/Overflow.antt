@@ -8,11 +8,10 @@ use Rattle.dl_hub.specs.State.{Client, Stored, added, emptied, handed}
 
 -- an open client into whose stream frames were put
 abbrev pub with_frames : List (List ℕ) → Client → Client
-with_frames frames client = record {
+with_frames frames client = record client {
   outbox = option_map (added (concat frames)) client.outbox;
   frames = client.frames + length frames;
   bytes = client.bytes + size_of frames;
-  replies = client.replies;
 }
 
 -- a client is open and can take these frames
@@ -24,7 +23,7 @@ pub record CanTake (frames : List (List ℕ)) (client : Client) : Type 0 where
 -- a client that comes: where it is the first that is open, it is handed what waits, and told how many frames were refused
 abbrev pub came : Bool → List ℕ → ℕ → Stored → Client
 came true ecu capacity store = with_frames (overflow_frames ecu daemon_apid daemon_ctid store.refused) (handed capacity store)
-came false ecu capacity store = record { outbox = Some (record { bytes = []; capacity = capacity }); frames = 0; bytes = 0; replies = 0 }
+came false ecu capacity store = record { outbox = Some (record { bytes = []; capacity = capacity }); frames = 0; bytes = 0; replies = 0; left = 0 }
 
 -- what waits then
 abbrev pub left_over : Bool → Stored → Stored

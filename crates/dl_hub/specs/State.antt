@@ -1,7 +1,9 @@
 -- What contracts see of the hub and its clients.
-use Rattle.std.specs.Prelude.{◌≡◌, ℕ, ◌+◌, ◌-◌, ◌≤◌, ◌==◌, ◌&&◌, nat_le, Bool, true, List, [], ◌++◌, length, take, drop, slice_get, slice_set, Option, Some, None, is_some, option_map, IfSome, IsSomeAnd, if◌then◌else◌}
+use Rattle.std.specs.Prelude.{◌≡◌, ℕ, ◌+◌, ◌-◌, ◌≤◌, ◌<◌, ◌==◌, ◌&&◌, nat_le, Bool, true, List, [], ◌++◌, length, count_by, take, drop, slice_get, slice_set}
+use Rattle.std.specs.Prelude.{Option, Some, None, is_some, option_map, IfSome, IsSome, IsSomeAnd, if◌then◌else◌}
 use Rattle.std.specs.Option.{option_and_then, option_map_or}
 use Rattle.std.specs.List.{list_any}
+use Rattle.dl_bytes.specs.Limits.{open_client_limit, request_limit}
 
 -- bytes that wait, and how many may wait at most
 pub record Waiting : Type 0 where
@@ -9,12 +11,13 @@ pub record Waiting : Type 0 where
   pub capacity : ℕ
 
 -- A client that came. It has an outbox while it is open; the frames and bytes are those put into its stream so far, the
--- replies those among them.
+-- replies those among them. Of one that has gone there is how many bytes its link had not taken then.
 pub record Client : Type 0 where
   pub outbox : Option Waiting
   pub frames : ℕ
   pub bytes : ℕ
   pub replies : ℕ
+  pub left : ℕ
 
 -- The backlog: the bytes of the frames that wait, how many they are, and how many were refused.
 pub record Stored : Type 0 where
@@ -22,11 +25,13 @@ pub record Stored : Type 0 where
   pub frames : ℕ
   pub refused : ℕ
 
--- The hub: the control unit that its overflow records name, the size of its backlog, the clients by their numbers from
--- 1, how many frames were admitted, and the backlog with how many frames it holds and how many it refused.
+-- The hub: the control unit that its overflow records name, the size of its backlog, the most clients that may come, the
+-- clients by their numbers from 1, how many frames were admitted, and the backlog with how many frames it holds and how
+-- many it refused.
 pub record Hub : Type 0 where
   pub ecu : List ℕ
   pub buffer : ℕ
+  pub limit : ℕ
   pub clients : List Client
   pub admitted : ℕ
   pub backlog : List ℕ
@@ -44,10 +49,6 @@ takes more client = option_map_or (λ outbox. nat_le (length outbox.bytes + more
 abbrev pub is_any_open : Hub → Bool
 is_any_open hub = list_any is_open hub.clients
 
--- how many bytes an outbox can hold
-abbrev pub outbox_limit : ℕ → ℕ
-outbox_limit buffer = buffer + 131072
-
 -- what waits, with more at its end
 abbrev pub added : List ℕ → Waiting → Waiting
 added more waiting = record { bytes = waiting.bytes ++ more; capacity = waiting.capacity }
@@ -62,16 +63,15 @@ emptied waiting = record { bytes = []; capacity = waiting.capacity }
 
 -- a client that had a frame put into its stream; a client that is gone has none
 abbrev pub with_frame : List ℕ → Client → Client
-with_frame frame client = record {
+with_frame frame client = record client {
   outbox = option_map (added frame) client.outbox;
   frames = if is_open client then client.frames + 1 else client.frames;
   bytes = if is_open client then client.bytes + length frame else client.bytes;
-  replies = client.replies;
 }
 
 -- a client that had a reply put into its stream
 abbrev pub with_reply : List ℕ → Client → Client
-with_reply frame client = record {
+with_reply frame client = record client {
   outbox = option_map (added frame) client.outbox;
   frames = client.frames + 1;
   bytes = client.bytes + length frame;
@@ -80,20 +80,15 @@ with_reply frame client = record {
 
 -- a client whose link took so many bytes
 abbrev pub without : ℕ → Client → Client
-without count client = record {
-  outbox = option_map (consumed count) client.outbox;
-  frames = client.frames;
-  bytes = client.bytes;
-  replies = client.replies;
-}
+without count client = record client { outbox = option_map (consumed count) client.outbox }
 
 -- the first bytes of an outbox
 abbrev pub bytes_before : ℕ → Option Waiting → List ℕ
 bytes_before count outbox = option_map_or (λ waiting. take count waiting.bytes) outbox []
 
--- a client that is open no longer
+-- a client that is open no longer: what its link has not taken is dropped
 abbrev pub shut : Client → Client
-shut client = record { outbox = None; frames = client.frames; bytes = client.bytes; replies = client.replies }
+shut client = record client { outbox = None; left = option_map_or (λ outbox. length outbox.bytes) client.outbox client.left }
 
 -- a backlog keeps a frame: it refused none so far, and the frame fits
 abbrev pub keeps : List ℕ → Stored → Bool
@@ -114,15 +109,17 @@ handed capacity store = record {
   frames = store.frames;
   bytes = length store.ring.bytes;
   replies = 0;
+  left = 0;
 }
 
 -- ---- the hub
 
 -- the hub of these parts
-abbrev pub hub_of : List ℕ → Stored → List Client → ℕ → Hub
-hub_of ecu store clients admitted = record {
+abbrev pub hub_of : List ℕ → Stored → ℕ → List Client → ℕ → Hub
+hub_of ecu store limit clients admitted = record {
   ecu = ecu;
   buffer = store.ring.capacity;
+  limit = limit;
   clients = clients;
   admitted = admitted;
   backlog = store.ring.bytes;
@@ -131,8 +128,8 @@ hub_of ecu store clients admitted = record {
 }
 
 -- a hub to which nobody came
-abbrev pub fresh : List ℕ → ℕ → Hub
-fresh ecu buffer = record { ecu = ecu; buffer = buffer; clients = []; admitted = 0; backlog = []; frames = 0; refused = 0 }
+abbrev pub fresh : List ℕ → ℕ → ℕ → Hub
+fresh ecu buffer limit = record { ecu = ecu; buffer = buffer; limit = limit; clients = []; admitted = 0; backlog = []; frames = 0; refused = 0 }
 
 -- the client of a number from 1, where it came
 abbrev pub client_of : Hub → ℕ → Option Client
@@ -156,7 +153,30 @@ changed number change hub = record hub {
   clients = option_map_or (λ client. slice_set hub.clients (number - 1) (change client)) (client_of hub number) hub.clients;
 }
 
--- what doesn't change of a hub: the control unit, and the size of its backlog
+-- as many clients came as may come
+abbrev pub IsSpent : Hub → Type 0
+IsSpent hub = length hub.clients ≡ hub.limit
+
+-- more may come, but as many are open as may be at once
+abbrev pub IsFull : Hub → Type 0
+IsFull hub = (length hub.clients < hub.limit) × (count_by is_open hub.clients ≡ open_client_limit)
+
+-- one more client may connect
+abbrev pub HasPlace : Hub → Type 0
+HasPlace hub = (length hub.clients < hub.limit) × (count_by is_open hub.clients < open_client_limit)
+
+-- a client is open, and was put fewer replies than it may be
+abbrev pub MayAsk : Hub → ℕ → Type 0
+MayAsk hub number = IsSome (outbox_of hub number) × IsSomeAnd (client_of hub number) (λ client. client.replies < request_limit)
+
+-- what doesn't change of a hub: the control unit, the size of its backlog, and the most clients that may come
 pub record IsSameHub (old new : Hub) : Type 0 where
   pub ecu : new.ecu ≡ old.ecu
   pub buffer : new.buffer ≡ old.buffer
+  pub limit : new.limit ≡ old.limit
+
+-- the open client with the least number above this one, or none where none above it is open
+abbrev pub IsNextOpen : Hub → ℕ → Option ℕ → Type 0
+IsNextOpen hub after None = (client : ℕ) → after < client → outbox_of hub client ≡ None
+IsNextOpen hub after (Some next) =
+    (after < next) × IsSome (outbox_of hub next) × ((client : ℕ) → after < client → client < next → outbox_of hub client ≡ None)

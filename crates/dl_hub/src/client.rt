@@ -1,18 +1,20 @@
 //! A client that came: what was put into its stream, and what of it its link has not taken yet.
 
 ghost use Rattle.std.specs.Prelude.{◌≡◌, ◌≤◌, ◌<◌, ◌^◌, ◌+◌, [], Some, IfSome, IsSomeAnd, option_map, length};
+ghost use Rattle.dl_bytes.specs.Limits.{request_limit};
 ghost use Rattle.dl_hub.specs.State.{is_open, takes, emptied, with_frame, with_reply, without, shut};
 
 use crate::ring::Ring;
 use std::marker::Model;
 
-/// A client that came. It has an outbox while it is open.
+/// A client that came. It has an outbox while it is open; of one that has gone there is how many bytes were left in it.
 #[derive(Drop)]
 pub struct Client {
     outbox: Option<Ring>,
     frames: u64,
     bytes: u64,
     replies: u32,
+    left: u64,
 }
 
 impl Model for Client {
@@ -20,19 +22,20 @@ impl Model for Client {
 
     ghost Value = { Client };
 
-    ghost view = { λ c. record { outbox = c.outbox; frames = c.frames; bytes = c.bytes; replies = c.replies } };
+    ghost view = { λ c. record { outbox = c.outbox; frames = c.frames; bytes = c.bytes; replies = c.replies; left = c.left } };
 }
 
 impl Client {
     /// A client with nothing in its stream yet.
     pub fn new(outbox: Ring) -> Client
-        ensures { result ≡ record { outbox = Some outbox; frames = 0; bytes = 0; replies = 0 } }
+        ensures { result ≡ record { outbox = Some outbox; frames = 0; bytes = 0; replies = 0; left = 0 } }
     {
         Client {
             outbox: Some(outbox),
             frames: 0,
             bytes: 0,
             replies: 0,
+            left: 0,
         }
     }
 
@@ -45,6 +48,7 @@ impl Client {
           frames = frames;
           bytes = length backlog.old.bytes;
           replies = 0;
+          left = 0;
         } }
         ensures emptied { backlog.new ≡ record { bytes = []; capacity = backlog.old.capacity } }
     {
@@ -55,6 +59,7 @@ impl Client {
             frames,
             bytes,
             replies: 0,
+            left: 0,
         }
     }
 
@@ -96,6 +101,13 @@ impl Client {
         self.replies
     }
 
+    /// How many bytes were left in its outbox when it went.
+    pub fn left(&self) -> u64
+        ensures { result ≡ self.now.left }
+    {
+        self.left
+    }
+
     /// Puts a frame into its stream, where it is open.
     pub fn add(&mut self, frame: &[u8])
         requires room { IfSome self.old.outbox (λ r. length r.bytes + length frame.now ≤ r.capacity) }
@@ -115,7 +127,7 @@ impl Client {
         requires room { IsSomeAnd self.old.outbox (λ r. length r.bytes + length frame.now ≤ r.capacity) }
         requires frames { self.old.frames < 2 ^ 63 }
         requires bytes { self.old.bytes + length frame.now < 2 ^ 63 }
-        requires replies { self.old.replies < 1000 }
+        requires replies { self.old.replies < request_limit }
         ensures { self.new ≡ with_reply frame.now self.old }
     {
         self.add(frame);
@@ -138,6 +150,7 @@ impl Client {
         ensures closed { self.new ≡ shut self.old }
     {
         let mut outbox = self.outbox.take()?;
+        self.left = outbox.len() as u64;
         outbox.clear();
         Some(outbox)
     }

@@ -1,42 +1,40 @@
 //! The hub: all clients, and the backlog.
 
-ghost use Rattle.std.specs.Prelude.{◌≡◌, ◌≤◌, ◌<◌, ◌↔◌, ◌^◌, ◌+◌, ℕ, true, false, [], Err, IfOk, OnErr, IfSome, count_by, IsTrue, IsSome, IsSomeAnd, length, take, map, option_map, vec_capacity};
+ghost use Rattle.std.specs.Prelude.{◌≡◌, ◌≤◌, ◌<◌, ◌↔◌, ◌^◌, ◌+◌, ℕ, true, false, [], Err, IfOk, OnErr, IfSome};
+ghost use Rattle.std.specs.Prelude.{IsTrue, IsSome, IsSomeAnd, find, length, nat_le, take, map, option_map, vec_capacity};
 ghost use Rattle.std.specs.List.{All, list_all};
-ghost use Rattle.dl_model.specs.Traffic.{Comes, Admit, Reply, Goes};
-ghost use Rattle.dl_hub.specs.State.{client_of, outbox_of, outbox_limit, takes, HasRoom, EachHasRoom, changed, without, with_frame, with_reply, shut, is_open, is_any_open, fresh, IsSameHub};
-ghost use Rattle.dl_model.specs.Backlog.{size_of};
+ghost use Rattle.dl_bytes.specs.Limits.{admitted_limit, client_limit, open_client_limit, request_limit};
+ghost use Rattle.dl_model.specs.Traffic.{Connected, Admitted, Reply, Closed};
+ghost use Rattle.dl_hub.specs.State.{client_of, outbox_of, fresh, changed, without, with_frame, with_reply, shut, is_open, is_any_open};
+ghost use Rattle.dl_hub.specs.State.{HasPlace, HasRoom, EachHasRoom, IsFull, IsNextOpen, IsSameHub, IsSpent, MayAsk};
+ghost use Rattle.dl_model.specs.Backlog.{outbox_limit, size_of};
 ghost use Rattle.dl_model.specs.Overflow.{overflow_frames};
 ghost use Rattle.dl_control.specs.Reply.{daemon_apid, daemon_ctid};
 ghost use Rattle.dl_hub.specs.Overflow.{came, left_over};
+ghost use Rattle.dl_hub.specs.Kept.{places_of, takes_at};
 ghost use Rattle.dl_hub.specs.Follows.{Adds, IsAfter};
-ghost use Rattle.dl_outside.specs.Outside.{Stays};
-ghost use Rattle.dl_hub.specs.Pumping.{Pumps, HasFailed, HasWaited};
+ghost use Rattle.dl_hub.specs.Pumping.{Pumps, HasFailed, HasWaited, IsOnlySent};
 ghost use Rattle.dl_hub.specs.declared.hub.HubFault.TheVariants as HubFault;
 ghost use Rattle.dl_hub.specs.declared.hub.Pumped.TheVariants as Pumped;
 
 use crate::client::Client;
 use crate::ring::Ring;
 use crate::store::Store;
-use dl_bytes::{Backlog, Frame, Id, OutOfMemory};
+use arrayvec::ArrayVec;
+use dl_bytes::{Backlog, CLIENT_LIMIT, Frame, Id, OPEN_CLIENT_LIMIT, OutOfMemory, REQUEST_LIMIT};
 use dl_outside::{Link, Sends};
 use std::alloc::Global;
 use std::marker::Model;
 
-/// The most clients that are open at once.
-pub const CLIENTS_AT_ONCE: usize = 8;
-
-/// The most clients that come in one run.
-pub const CLIENT_LIMIT: usize = 32;
-
 /// How many bytes more than the backlog an outbox can hold.
-pub const OUTBOX_EXTRA: usize = 131_072;
+const OUTBOX_EXTRA: usize = 131_072;
 
 /// Why a client can't connect.
 #[derive(Clone, Copy, Debug, PartialEq, Eq)]
 pub enum HubFault {
-    /// 32 clients have connected in this run.
+    /// As many clients have connected as may in this run.
     Spent,
-    /// Eight clients are open.
+    /// As many clients are open as may be at once.
     Full,
 }
 
@@ -51,40 +49,56 @@ pub enum Pumped {
     Failed,
 }
 
-/// The clients of the daemon, and the frames that wait for one.
+/// The clients of the daemon, and the frames that wait for one. What is sent to all goes by the places of those that are
+/// open, so it costs nothing for those that have gone.
 #[derive(Drop)]
 pub struct Hub {
     ecu: Id,
     store: Store,
+    limit: u32,
     clients: Vec<Client>,
+    places: ArrayVec<u32, OPEN_CLIENT_LIMIT>,
     free: Vec<Ring>,
     admitted: u64,
 }
 
 impl Model for Hub {
-    ghost use Rattle.std.specs.Prelude.{◌≤◌, vec_capacity};
+    ghost use Rattle.std.specs.Prelude.{◌≡◌, ◌≤◌, map, vec_capacity};
+    ghost use Rattle.dl_bytes.specs.Limits.{open_client_limit};
     ghost use Rattle.dl_hub.specs.State as state;
-    ghost use Rattle.dl_hub.specs.Kept.{Fits};
+    ghost use Rattle.dl_hub.specs.Kept.{Fits, places_of};
 
     ghost Value = { state.Hub };
 
-    ghost view = { λ h. state.hub_of h.ecu h.store h.clients.items h.admitted };
+    ghost view = { λ h. state.hub_of h.ecu h.store h.limit h.clients.items h.admitted };
 
-    ghost invariant = { λ h. Fits (state.hub_of h.ecu h.store h.clients.items h.admitted) h.free.items
-        × (32 ≤ vec_capacity h.clients) × (8 ≤ vec_capacity h.free) };
+    ghost invariant = { λ h. Fits (state.hub_of h.ecu h.store h.limit h.clients.items h.admitted) h.free.items
+        × (h.limit ≤ vec_capacity h.clients) × (open_client_limit ≤ vec_capacity h.free)
+        × (h.places.items ≡ places_of 0 (map state.is_open h.clients.items)) };
 }
 
 impl Hub {
-    /// A hub without clients, of a control unit, with a backlog of at most `buffer` bytes. It takes all its memory here.
+    /// A hub without clients, of a control unit, with a backlog of at most `buffer` bytes, for a run that ends. It takes all
+    /// its memory here.
     pub fn make(alloc: Global, ecu: Id, buffer: u32) -> Result<Hub, OutOfMemory>
-        ensures value { IfOk result (λ hub. hub ≡ fresh ecu buffer) }
+        ensures value { IfOk result (λ hub. hub ≡ fresh ecu buffer client_limit) }
+        ensures after { IfOk result (λ hub. IsAfter [] (λ _. []) hub) }
+    {
+        Hub::make_for(alloc, ecu, buffer, CLIENT_LIMIT)
+    }
+
+    /// The same for a run to which at most this many clients come.
+    pub fn make_for(alloc: Global, ecu: Id, buffer: u32, clients: u32) -> Result<Hub, OutOfMemory>
+        ensures value { IfOk result (λ hub. hub ≡ fresh ecu buffer clients) }
         ensures after { IfOk result (λ hub. IsAfter [] (λ _. []) hub) }
     {
         let buffer = buffer as usize;
         Ok(Hub {
             ecu,
             store: Store::make(alloc, buffer)?,
-            clients: Vec::with_capacity(alloc, CLIENT_LIMIT)?,
+            limit: clients,
+            clients: Vec::with_capacity(alloc, clients as usize)?,
+            places: ArrayVec::new(),
             free: outboxes(alloc, buffer + OUTBOX_EXTRA)?,
             admitted: 0,
         })
@@ -122,7 +136,20 @@ impl Hub {
     pub fn any_open(&self) -> bool
         ensures { result ≡ is_any_open self.now }
     {
-        self.free.len() < CLIENTS_AT_ONCE
+        self.free.len() < OPEN_CLIENT_LIMIT
+    }
+
+    /// The open client with the least number above this one, if there is one: with it the open clients are gone through in
+    /// order, whatever becomes of them meanwhile.
+    pub fn next_open(&self, after: u32) -> Option<u32>
+        ensures { IsNextOpen self.now after result }
+    {
+        // each place is below it, so that its number fits
+        let _limit = self.limit;
+        match first_from(&self.places, after) {
+            Some(place) => Some(place + 1),
+            None => None,
+        }
     }
 
     /// A client's outbox, where it is open.
@@ -167,7 +194,7 @@ impl Hub {
     pub fn each_has_room(&self, more: u64) -> bool
         ensures { IsTrue result ↔ EachHasRoom more self.now }
     {
-        all_take(&self.clients, more)
+        all_take(&self.clients, self.places.as_slice(), more)
     }
 
     /// Bytes from the front of a client's outbox, as many as stand together; none only where it is empty.
@@ -191,35 +218,45 @@ impl Hub {
         self.clients[client as usize - 1].consume(count);
     }
 
+    /// Whether one more client may connect: fewer came than may, and fewer are open than may be at once.
+    pub fn has_place(&self) -> bool
+        ensures { IsTrue result ↔ HasPlace self.now }
+    {
+        self.clients.len() < self.limit as usize && !self.free.is_empty()
+    }
+
     /// Connects a client, and answers its number, from 1. Where no client is open it is handed the backlog.
     pub fn connect(&mut self) -> Result<u32, HubFault>
-        ensures spent { (result ≡ Err HubFault.Spent) ↔ (length self.old.clients ≡ 32) }
-        ensures full { (result ≡ Err HubFault.Full) ↔ ((length self.old.clients < 32) × (count_by is_open self.old.clients ≡ 8)) }
+        ensures spent { (result ≡ Err HubFault.Spent) ↔ IsSpent self.old }
+        ensures full { (result ≡ Err HubFault.Full) ↔ IsFull self.old }
         ensures refused { OnErr result (self.new ≡ self.old) }
         ensures number { IfOk result (λ number. number ≡ length self.old.clients + 1) }
         ensures admitted { self.new.admitted ≡ self.old.admitted }
         ensures same { IsSameHub self.old self.new }
-        ensures adds { IfOk result (λ number. Adds (Comes number) self.old self.new) }
+        ensures adds { IfOk result (λ number. Adds (Connected number) self.old self.new) }
     {
-        if self.clients.len() == CLIENT_LIMIT {
+        let place = self.clients.len() as u32;
+        if place == self.limit {
             return Err(HubFault::Spent);
         }
-        let is_first = self.free.len() == CLIENTS_AT_ONCE;
+        let is_first = self.free.len() == OPEN_CLIENT_LIMIT;
         let Some(outbox) = self.free.pop() else {
             return Err(HubFault::Full);
         };
         let client = comer(&mut self.store, self.ecu, outbox, is_first);
         self.clients.push(client).unwrap();
-        Ok(self.clients.len() as u32)
+        self.places.push(place);
+        Ok(place + 1)
     }
 
     /// Admits a frame: each open client is sent it, and where none is open it waits in the backlog, or is refused there.
     pub fn admit(&mut self, frame: &Frame)
         requires room { EachHasRoom (length frame.now) self.old }
-        requires few { self.old.admitted < 2 ^ 40 }
-        ensures adds { Adds (Admit frame.now) self.old self.new }
+        requires few { self.old.admitted < admitted_limit }
+        ensures adds { Adds (Admitted frame.now) self.old self.new }
         ensures rooms { (more : ℕ) → EachHasRoom (length frame.now + more) self.old → EachHasRoom more self.new }
         ensures count { self.new.admitted ≡ self.old.admitted + 1 }
+        ensures open { map is_open self.new.clients ≡ map is_open self.old.clients }
         ensures same { IsSameHub self.old self.new }
     {
         if self.any_open() {
@@ -233,23 +270,25 @@ impl Hub {
     fn send_each(&mut self, frame: &Frame)
         requires open { is_any_open self.old ≡ true }
         requires room { EachHasRoom (length frame.now) self.old }
-        requires few { self.old.admitted < 2 ^ 40 }
-        ensures adds { Adds (Admit frame.now) self.old self.new }
+        requires few { self.old.admitted < admitted_limit }
+        ensures adds { Adds (Admitted frame.now) self.old self.new }
         ensures rooms { (more : ℕ) → EachHasRoom (length frame.now + more) self.old → EachHasRoom more self.new }
         ensures count { self.new.admitted ≡ self.old.admitted + 1 }
+        ensures open { map is_open self.new.clients ≡ map is_open self.old.clients }
         ensures same { IsSameHub self.old self.new }
     {
-        put_each(&mut self.clients, frame.bytes());
+        put_each(&mut self.clients, self.places.as_slice(), frame.bytes());
         self.admitted += 1;
     }
 
     /// Admits a frame where no client is open: it waits in the backlog, or is refused there.
     fn keep(&mut self, frame: &Frame)
         requires closed { is_any_open self.old ≡ false }
-        requires few { self.old.admitted < 2 ^ 40 }
-        ensures adds { Adds (Admit frame.now) self.old self.new }
+        requires few { self.old.admitted < admitted_limit }
+        ensures adds { Adds (Admitted frame.now) self.old self.new }
         ensures rooms { (more : ℕ) → EachHasRoom (length frame.now + more) self.old → EachHasRoom more self.new }
         ensures count { self.new.admitted ≡ self.old.admitted + 1 }
+        ensures open { map is_open self.new.clients ≡ map is_open self.old.clients }
         ensures same { IsSameHub self.old self.new }
     {
         self.store.admit(frame.bytes());
@@ -260,7 +299,7 @@ impl Hub {
     pub fn reply(&mut self, client: u32, frame: &[u8])
         requires room { HasRoom (length frame.now) self.old client }
         requires size { length frame.now ≤ 65535 }
-        requires few { IsSomeAnd (client_of self.old client) (λ c. c.replies < 1000) }
+        requires few { IsSomeAnd (client_of self.old client) (λ c. c.replies < request_limit) }
         ensures adds { Adds (Reply client frame.now) self.old self.new }
         ensures value { self.new ≡ changed client (with_reply frame.now) self.old }
     {
@@ -270,10 +309,13 @@ impl Hub {
     /// Ends a client's connection: what its link has not taken is dropped.
     pub fn close(&mut self, client: u32)
         requires { IsSome (outbox_of self.old client) }
-        ensures adds { Adds (Goes client) self.old self.new }
+        ensures adds { Adds (Closed client) self.old self.new }
         ensures value { self.new ≡ changed client shut self.old }
+        ensures limit { IsSomeAnd (outbox_of self.old client) (λ outbox. outbox.capacity ≡ outbox_limit self.old.buffer) }
     {
-        if let Some(outbox) = self.clients[client as usize - 1].close() {
+        let place = client - 1;
+        self.places.retain(|other| *other != place);
+        if let Some(outbox) = self.clients[place as usize].close() {
             self.free.push(outbox).unwrap();
         }
     }
@@ -281,15 +323,13 @@ impl Hub {
     /// Sends a client's outbox through its link, until nothing is left or the link takes nothing more.
     pub fn pump<L: Link>(&mut self, client: u32, link: &mut L) -> Pumped
         requires { IsSome (outbox_of self.old client) }
-        ensures sent { Pumps client self.old self.new (L.taken link.old) (L.taken link.new) }
+        ensures sent { Pumps client self.old self.new (L.told link.old) (L.told link.new) }
         ensures all { result ≡ Pumped.All → IsSomeAnd (outbox_of self.new client) (λ outbox. outbox.bytes ≡ []) }
         ensures some { result ≡ Pumped.Busy → IsSomeAnd (outbox_of self.new client) (λ outbox. 0 < length outbox.bytes) }
-        ensures faults { HasFailed result (L.faults link.old) (L.faults link.new) }
-        ensures waits { HasWaited result (L.waits link.old) (L.waits link.new) }
-        ensures idles { L.idles link.new ≡ L.idles link.old }
-        ensures left { Stays (L.left link.old) (L.left link.new) }
-        ensures given { Stays (L.given link.old) (L.given link.new) }
-        ensures shut { L.is_shut link.new ≡ L.is_shut link.old }
+        ensures failed { result ≡ Pumped.Failed → IsSomeAnd (outbox_of self.new client) (λ outbox. 0 < length outbox.bytes) }
+        ensures faults { HasFailed result (L.told link.old) (L.told link.new) }
+        ensures waits { HasWaited result (L.told link.old) (L.told link.new) }
+        ensures link { IsOnlySent (L.told link.old) (L.told link.new) }
     {
         loop {
             let piece = self.front(client);
@@ -320,6 +360,24 @@ impl Hub {
         self.clients[client as usize - 1].replies()
     }
 
+    /// Whether a client may ask something: it is open, and was put fewer replies than it may be.
+    pub fn may_ask(&self, client: u32) -> bool
+        ensures { IsTrue result ↔ MayAsk self.now client }
+    {
+        match self.client(client) {
+            Some(client) => client.is_open() && client.replies() < REQUEST_LIMIT,
+            None => false,
+        }
+    }
+
+    /// How many bytes a client's link had not taken when the client went.
+    pub fn left(&self, client: u32) -> u64
+        requires { (1 ≤ client) × (client ≤ length self.now.clients) }
+        ensures { IsSomeAnd (client_of self.now client) (λ c. result ≡ c.left) }
+    {
+        self.clients[client as usize - 1].left()
+    }
+
     /// What waits for a client.
     pub fn backlog(&self) -> Backlog
         ensures { result ≡ record { frames = self.now.frames; bytes = length self.now.backlog; refused = self.now.refused } }
@@ -332,19 +390,31 @@ impl Hub {
     }
 }
 
-/// Whether all of them can take this many bytes more.
-fn all_take(clients: &[Client], more: u64) -> bool
-    ensures { result ≡ list_all (takes more) clients.now }
+/// Whether the clients at all these places can take this many bytes more.
+fn all_take(clients: &[Client], places: &[u32], more: u64) -> bool
+    ensures { result ≡ list_all (takes_at clients.now more) places.now }
 {
-    clients.iter().all(|client| client.has_room(more))
+    places.iter().all(|place| takes_at(clients, *place, more))
+}
+
+/// Whether the client at a place can take this many bytes more, or there is none.
+fn takes_at(clients: &[Client], place: u32, more: u64) -> bool
+    ensures { result ≡ takes_at clients.now more place }
+{
+    match clients.get(place as usize) {
+        Some(client) => client.has_room(more),
+        None => true,
+    }
 }
 
 /// An empty outbox for each client that may be open at once.
 fn outboxes(alloc: Global, capacity: usize) -> Result<Vec<Ring>, OutOfMemory>
-    ensures { IfOk result (λ free. (length free.items ≡ 8) × (8 ≤ vec_capacity free) × All (λ r. (r.bytes ≡ []) × (r.capacity ≡ capacity)) free.items) }
+    ensures many { IfOk result (λ free. length free.items ≡ open_client_limit) }
+    ensures room { IfOk result (λ free. open_client_limit ≤ vec_capacity free) }
+    ensures empty { IfOk result (λ free. All (λ r. (r.bytes ≡ []) × (r.capacity ≡ capacity)) free.items) }
 {
-    let mut free = Vec::with_capacity(alloc, CLIENTS_AT_ONCE)?;
-    for _i in 0..CLIENTS_AT_ONCE {
+    let mut free = Vec::with_capacity(alloc, OPEN_CLIENT_LIMIT)?;
+    for _i in 0..OPEN_CLIENT_LIMIT {
         free.push(Ring::make(alloc, capacity)?)?;
     }
     Ok(free)
@@ -353,8 +423,8 @@ fn outboxes(alloc: Global, capacity: usize) -> Result<Vec<Ring>, OutOfMemory>
 /// A new client. The first of those that are open is handed what waits.
 fn comer(store: &mut Store, ecu: Id, outbox: Ring, is_first: bool) -> Client
     requires empty { outbox.bytes ≡ [] }
-    requires refused { store.old.refused ≤ 2 ^ 40 }
-    requires frames { store.old.frames ≤ 2 ^ 40 }
+    requires refused { store.old.refused ≤ admitted_limit }
+    requires frames { store.old.frames ≤ admitted_limit }
     requires room { length store.old.ring.bytes + size_of (overflow_frames ecu daemon_apid daemon_ctid store.old.refused) ≤ outbox.capacity }
     ensures client { result ≡ came is_first ecu outbox.capacity store.old }
     ensures left { store.new ≡ left_over is_first store.old }
@@ -366,13 +436,21 @@ fn comer(store: &mut Store, ecu: Id, outbox: Ring, is_first: bool) -> Client
     }
 }
 
-/// Puts a frame into the stream of each client that is open.
-fn put_each(clients: &mut [Client], frame: &[u8])
+/// Puts a frame into the stream of each client that is open. These are the places of those.
+fn put_each(clients: &mut [Client], places: &[u32], frame: &[u8])
+    requires open { places.now ≡ places_of 0 (map is_open clients.old) }
     requires room { All (λ c. IfSome c.outbox (λ r. length r.bytes + length frame.now ≤ r.capacity)) clients.old }
     requires counts { All (λ c. (c.frames < 2 ^ 63) × (c.bytes + length frame.now < 2 ^ 63)) clients.old }
     ensures { clients.new ≡ map (with_frame frame.now) clients.old }
 {
-    for client in clients.iter_mut() {
-        client.add(frame);
+    for place in places {
+        clients[*place as usize].add(frame);
     }
+}
+
+/// The first of these places that is not below this one.
+fn first_from(places: &[u32], least: u32) -> Option<u32>
+    ensures { result ≡ find (λ place. nat_le least place) places.now }
+{
+    places.iter().copied().find(|place| least <= *place)
 }

@@ -12,4 +12,4 @@ mod store;
 
 pub use client::Client;
 pub use dl_bytes::Backlog;
-pub use hub::{CLIENT_LIMIT, CLIENTS_AT_ONCE, Hub, HubFault, OUTBOX_EXTRA, Pumped};
+pub use hub::{Hub, HubFault, Pumped};

@@ -1,6 +1,7 @@
 //! The backlog: frames that wait for a client.
 
 ghost use Rattle.std.specs.Prelude.{◌≡◌, ◌≤◌, ◌<◌, ◌^◌, ◌+◌, ◌++◌, ◌∷◌, [], Some, IfOk, length};
+ghost use Rattle.dl_bytes.specs.Limits.{admitted_limit};
 ghost use Rattle.dl_model.specs.Backlog.{size_of};
 ghost use Rattle.dl_model.specs.Overflow.{overflow_frames};
 ghost use Rattle.dl_control.specs.Reply.{daemon_apid, daemon_ctid};
@@ -82,8 +83,8 @@ impl Store {
     /// A client that is handed what waits, and told how many frames were refused. Nothing waits afterwards.
     pub fn hand_over(&mut self, ecu: Id, outbox: Ring) -> Client
         requires empty { outbox.bytes ≡ [] }
-        requires refused { self.old.refused ≤ 2 ^ 40 }
-        requires frames { self.old.frames ≤ 2 ^ 40 }
+        requires refused { self.old.refused ≤ admitted_limit }
+        requires frames { self.old.frames ≤ admitted_limit }
         requires room { length self.old.ring.bytes + size_of (overflow_frames ecu daemon_apid daemon_ctid self.old.refused) ≤ outbox.capacity }
         ensures client { result ≡ with_frames (overflow_frames ecu daemon_apid daemon_ctid self.old.refused) (handed outbox.capacity self.old) }
         ensures emptied { self.new ≡ record { ring = record { bytes = []; capacity = self.old.ring.capacity }; frames = 0; refused = 0 } }

@@ -11,9 +11,9 @@ use lib.ListN.{get_elem?}
 use Rattle.crossbeam_queue.specs.Fifo.{Pushes, Pops, Forks, Merges, Learns}
 use Rattle.crossbeam_queue.proofs.Lists.{at_set}
 use Rattle.dl_bytes.specs.declared.item.Injection.{Injection}
-use Rattle.dl_views.specs.Views.{Each, total, bit}
-use Rattle.dl_views.proofs.Each.{each_set, each_put, each_snoc, each_end, each_one}
-use Rattle.dl_views.proofs.Totals.{total-set, total-append, total-snoc, total_at, total_alone}
+use Rattle.dl_thread_rules.specs.Views.{Each, total, bit}
+use Rattle.dl_thread_rules.proofs.Each.{each_set, each_put, each_snoc, each_end, each_one}
+use Rattle.dl_thread_rules.proofs.Totals.{total-set, total-append, total-snoc, total_at, total_alone}
 use Rattle.dl_injections.specs.declared.view.View.{View}
 use Rattle.dl_injections.specs.declared.view.Entry.{Entry}
 use Rattle.dl_injections.specs.Order.{Rises, IsPart, times, times_in, MetEmpty, Rest}

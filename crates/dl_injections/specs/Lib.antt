@@ -1,4 +1,4 @@
 pub mod State
 pub mod Order
 pub mod Rule
-pub mod Ends
+pub mod Passes

@@ -2,7 +2,7 @@
 use Rattle.std.specs.Prelude.{◌≡◌, ℕ, ◌+◌, ◌<◌, ◌≤◌, ◌==◌, nat_lt, Bool, true, List, [], ◌∷◌, length, Some, slice_get}
 use Rattle.std.specs.List.{All}
 use Rattle.dl_bytes.specs.declared.item.Injection.{Injection}
-use Rattle.dl_views.specs.Views.{total, bit}
+use Rattle.dl_thread_rules.specs.Views.{total, bit}
 use Rattle.dl_injections.specs.declared.view.Entry.{Entry}
 use Rattle.dl_injections.specs.State.{PushState}
 

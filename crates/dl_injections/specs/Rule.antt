@@ -2,7 +2,7 @@
 use Rattle.std.specs.Prelude.{◌≡◌, ℕ, suc, ◌+◌, ◌<◌, ◌≤◌, nat_lt, true, false, List, [], ◌∷◌, ◌++◌, length, if◌then◌else◌}
 use Rattle.std.specs.List.{All}
 use Rattle.dl_bytes.specs.declared.item.Injection.{Injection}
-use Rattle.dl_views.specs.Views.{Each, total, bit}
+use Rattle.dl_thread_rules.specs.Views.{Each, total, bit}
 use Rattle.dl_injections.specs.declared.view.View.{View}
 use Rattle.dl_injections.specs.declared.view.Entry.{Entry}
 use Rattle.dl_injections.specs.Order.{IsPart, times, times_in}

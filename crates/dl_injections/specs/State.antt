@@ -1,4 +1,4 @@
--- What contracts see of the ends of a queue of injections.
+-- What contracts see of the passes of a queue of injections.
 use Rattle.std.specs.Prelude.{ℕ, Bool, true, false, List, [], ◌∷◌, ◌++◌, if◌then◌else◌}
 use Rattle.atomic_table.specs.Seated.{TableId}
 use Rattle.dl_bytes.specs.declared.item.Injection.{Injection}

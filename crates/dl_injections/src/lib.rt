@@ -7,6 +7,6 @@ mod take;
 mod view;
 
 pub use push::InjectPush;
-pub use queue::{CAPACITY, SPLITS, make_injections};
+pub use queue::make_injections;
 pub use take::InjectTake;
 pub use view::Entry;

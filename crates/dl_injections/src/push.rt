@@ -8,7 +8,7 @@ use crate::queue::{Gather, Look, Push, Queue, QueuePass};
 use crate::take::InjectTake;
 use crate::view::Entry;
 use dl_bytes::Injection;
-use dl_views::one_more;
+use dl_thread_rules::one_more;
 use std::marker::Model;
 use std::sync::{Arc, Wait};
 
@@ -28,7 +28,7 @@ impl Model for InjectPush {
     ghost use Rattle.std.specs.Arc.{arc_value};
     ghost use Rattle.crossbeam_queue.specs.Passes.{view as knows, IsPassOf, ruled_capacity};
     ghost use Rattle.dl_injections.specs.State.{PushState};
-    ghost use Rattle.dl_injections.specs.Ends.{IsPusher};
+    ghost use Rattle.dl_injections.specs.Passes.{IsPusher};
 
     ghost Value = { PushState };
 

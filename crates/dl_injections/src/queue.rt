@@ -8,16 +8,10 @@ use crate::take::InjectTake;
 use crate::view::{Entry, View};
 use crossbeam_queue::protocol::{Join, Lesson, Outcome, Protocol, Split};
 use crossbeam_queue::{Pass, RuledArrayQueue};
-use dl_bytes::OutOfMemory;
-use dl_views::owners;
+use dl_bytes::{INJECTION_LIMIT, OutOfMemory, WRITER_LIMIT};
+use dl_thread_rules::owners;
 use std::alloc::Global;
 use std::sync::Arc;
-
-/// How many injections a queue holds.
-pub const CAPACITY: usize = 16;
-
-/// How many passes that take the first of them makes.
-pub const SPLITS: usize = 32;
 
 /// The rule of a queue: each injection is taken by one pass, once, or is left.
 pub struct OneEach;
@@ -79,9 +73,9 @@ impl Lesson<Entry, View> for Look {
 }
 
 /// The pass with which a queue is made becomes the one that pushes and the first that takes.
-struct Ends;
+struct Passes;
 
-impl Split<View> for Ends {
+impl Split<View> for Passes {
     ghost use Rattle.dl_injections.specs.Rule.{pusher, first_taker};
 
     ghost left = { λ _. pusher };
@@ -113,14 +107,15 @@ impl Join<View> for Gather {
 
 /// A queue of at most 16 injections: the one pass that pushes, and the first that takes.
 pub fn make_injections(alloc: Global) -> Result<(InjectPush, InjectTake), OutOfMemory>
-    ensures { IfOk result (λ ends. (ends.0 ≡ unused_push ends.0.queue) × (ends.1 ≡ unused_take ends.0.queue true)) }
+    ensures { IfOk result (λ passes. (passes.0 ≡ unused_push passes.0.queue) × (passes.1 ≡ unused_take passes.0.queue true)) }
 {
-    let (made, mut pass) = Queue::ruled(alloc, CAPACITY)?;
-    let taker = made.another::<Ends>(&mut pass);
+    let (made, mut pass) = Queue::ruled(alloc, INJECTION_LIMIT)?;
+    let taker = made.another::<Passes>(&mut pass);
     let Ok(queue) = Arc::new(alloc, made) else {
         return Err(OutOfMemory);
     };
-    let spare = owners(alloc, &queue, SPLITS)?;
+    // one pass that takes for each writer
+    let spare = owners(alloc, &queue, WRITER_LIMIT)?;
     let shared = Arc::try_clone(&queue)?;
     let push = InjectPush {
         queue,

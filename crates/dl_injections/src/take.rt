@@ -6,7 +6,7 @@ ghost use Rattle.dl_injections.specs.State.{unused_take};
 
 use crate::queue::{Queue, QueuePass, Share, Take};
 use dl_bytes::Injection;
-use dl_views::one_more;
+use dl_thread_rules::one_more;
 use std::marker::Model;
 use std::sync::{Arc, Wait};
 
@@ -26,7 +26,7 @@ impl Model for InjectTake {
     ghost use Rattle.std.specs.Arc.{arc_value};
     ghost use Rattle.crossbeam_queue.specs.Passes.{view as knows, IsPassOf, ruled_capacity};
     ghost use Rattle.dl_injections.specs.State.{TakeState};
-    ghost use Rattle.dl_injections.specs.Ends.{IsTaker, HasOwners};
+    ghost use Rattle.dl_injections.specs.Passes.{IsTaker, HasOwners};
 
     ghost Value = { TakeState };
 

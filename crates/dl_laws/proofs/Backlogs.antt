@@ -1,11 +1,12 @@
 -- What a buffer keeps of the frames that wait, and the counters of the frames that it refuses.
-use Rattle.std.proofs.Common.{eqb, ◌≡◌, ℕ, ◌+◌, ◌-◌, ◌/◌, ◌%◌, ◌≤◌, ◌<◌, Bool, true, false, cond, leb, List, [], ◌∷◌, ◌++◌, length, refl, sym, ap, ◌∙◌, length-append, arith, inl, inr}
+use Rattle.std.proofs.Common.{eqb, ◌≡◌, ℕ, ◌+◌, ◌-◌, ◌/◌, ◌%◌, ◌≤◌, ◌<◌, Bool, true, false, cond, leb, List, [], ◌∷◌, ◌++◌, length, refl, sym, ap, ◌∙◌, length-append, append-nil, arith, inl, inr}
 use Rattle.std.specs.Prelude.{◌⊎◌, sum, sum_by, replicate, drop, slice_index_or}
 use Rattle.std.proofs.lemmas.Bool.Decides.{leb_tells, nat_tests}
 use Rattle.std.proofs.lemmas.List.Sums.{sum_by-cons, sum_by-append}
 use Rattle.std.proofs.lemmas.List.Folds.{sum_by-replicate}
-use Rattle.dl_model.specs.Overflow.{counters, counter_limit}
-use Rattle.dl_model.specs.Backlog.{size_of, fitting, refused}
+use Rattle.dl_control.specs.Reply.{daemon_apid, daemon_ctid}
+use Rattle.dl_model.specs.Overflow.{counters, counter_limit, overflow_frames}
+use Rattle.dl_model.specs.Backlog.{size_of, due_backlog, fitting, refused}
 
 pub prefix : (limit : ℕ) (frames : List (List ℕ)) → (others : List (List ℕ)) × (frames ≡ fitting limit frames ++ others)
 prefix limit [] = ([], refl)
@@ -57,3 +58,22 @@ sum_of_counters n =
     let first = sum_by-replicate (λ (x : ℕ). x) (n / counter_limit) counter_limit in
     let rest = last_counter (n % counter_limit) (eqb (n % counter_limit) 0) refl in
     both ∙ rw (first, rest) (omega arith)
+
+-- ---- while there is room
+
+pub all_fit : (limit : ℕ) (frames : List (List ℕ)) → size_of frames ≤ limit → fitting limit frames ≡ frames
+all_fit limit [] le = refl
+all_fit limit (frame ∷ frames) le =
+    let size = sum_by-cons length frame frames in
+    by_test (leb_tells (length frame) limit) (all_fit (limit - length frame) frames (omega (arith, le, size))) where
+      by_test : ((leb (length frame) limit ≡ true) × (length frame ≤ limit)) ⊎ ((leb (length frame) limit ≡ false) × (limit < length frame)) → fitting (limit - length frame) frames ≡ frames → fitting limit (frame ∷ frames) ≡ frame ∷ frames
+      by_test (inl within) later = rw within.0 (ap (λ (xs : List (List ℕ)). frame ∷ xs) later)
+      by_test (inr above) later = absurd (omega (arith, above.1, le, sum_by-cons length frame frames))
+
+pub none_refused : (limit : ℕ) (frames : List (List ℕ)) → size_of frames ≤ limit → refused limit frames ≡ 0
+none_refused limit frames le = omega (arith, ap length (all_fit limit frames le))
+
+pub all_due : (ecu : List ℕ) (limit : ℕ) (frames : List (List ℕ)) → size_of frames ≤ limit → due_backlog ecu limit frames ≡ frames
+all_due ecu limit frames le =
+    ap (λ (fs : List (List ℕ)). fs ++ overflow_frames ecu daemon_apid daemon_ctid (refused limit frames)) (all_fit limit frames le)
+    ∙ ap (λ (n : ℕ). frames ++ overflow_frames ecu daemon_apid daemon_ctid n) (none_refused limit frames le) ∙ append-nil frames

@@ -16,8 +16,8 @@ use Rattle.dl_events.specs.declared.event.Event.{Event}
 use Rattle.dl_events.specs.declared.event.Event.TheVariants as event
 use Rattle.dl_model.specs.Frames.{FrameSource, frames_of, admitted}
 use Rattle.dl_model.specs.Along.{along_from, last_that}
-use Rattle.dl_model.specs.Traffic.{Traffic, Comes, Admit, Reply, Goes, is_coming, is_going, comes_or_goes, comer_of, frame_of, clients, admitted_in, meant_for, is_open, is_any_open}
-use Rattle.dl_model.specs.Backlog.{size_of, waiting, fitting, handed_over}
+use Rattle.dl_model.specs.Traffic.{Traffic, Connected, Admitted, Reply, Closed, is_coming, is_going, comes_or_goes, comer_of, frame_of, clients, admitted_in, meant_for, is_open, is_any_open}
+use Rattle.dl_model.specs.Backlog.{size_of, waiting, fitting, due_backlog}
 use Rattle.dl_model.specs.ClientStream.{put, sent, traffic_of, traffic}
 use Rattle.dl_laws.proofs.Lists.{along_from-append, last_that-one, after_last-one}
 
@@ -45,20 +45,20 @@ cond_same false x = refl
 pub same_number : (n : ℕ) → eqb n n ≡ true
 same_number n = grind (arith, nat_tests)
 
-pub any_open-comes : (client : ℕ) (ts : List Traffic) → is_any_open (ts ++ Comes client ∷ []) ≡ true
+pub any_open-comes : (client : ℕ) (ts : List Traffic) → is_any_open (ts ++ Connected client ∷ []) ≡ true
 any_open-comes client ts =
-    let all = ts ++ Comes client ∷ [] in
-    let comes : is_open client all ≡ true = is_open-one client ts (Comes client) ∙ ap (λ b. cond b true (is_open client ts)) (same_number client) in
-    ap (list_any (λ c. is_open c all)) (filter_map-append comer_of ts (Comes client ∷ []))
+    let all = ts ++ Connected client ∷ [] in
+    let comes : is_open client all ≡ true = is_open-one client ts (Connected client) ∙ ap (λ b. cond b true (is_open client ts)) (same_number client) in
+    ap (list_any (λ c. is_open c all)) (filter_map-append comer_of ts (Connected client ∷ []))
     ∙ list_any-append (λ c. is_open c all) (clients ts) (client ∷ [])
     ∙ or_last (list_any (λ c. is_open c all) (clients ts)) (is_open client all) comes
 
 -- a frame and a reply change nobody's being open
-pub any_open-admit : (frame : List ℕ) (ts : List Traffic) → is_any_open (ts ++ Admit frame ∷ []) ≡ is_any_open ts
+pub any_open-admit : (frame : List ℕ) (ts : List Traffic) → is_any_open (ts ++ Admitted frame ∷ []) ≡ is_any_open ts
 any_open-admit frame ts =
-    let all = ts ++ Admit frame ∷ [] in
-    ap (list_any (λ c. is_open c all)) (filter_map-append comer_of ts (Admit frame ∷ []) ∙ append-nil (clients ts))
-    ∙ any_same (λ c. is_open c all) (λ c. is_open c ts) (λ c. is_open-one c ts (Admit frame)) (clients ts)
+    let all = ts ++ Admitted frame ∷ [] in
+    ap (list_any (λ c. is_open c all)) (filter_map-append comer_of ts (Admitted frame ∷ []) ∙ append-nil (clients ts))
+    ∙ any_same (λ c. is_open c all) (λ c. is_open c ts) (λ c. is_open-one c ts (Admitted frame)) (clients ts)
 
 pub any_open-reply : (client : ℕ) (frame : List ℕ) (ts : List Traffic) → is_any_open (ts ++ Reply client frame ∷ []) ≡ is_any_open ts
 any_open-reply client frame ts =
@@ -68,19 +68,19 @@ any_open-reply client frame ts =
 
 -- ---- what waits
 
-pub waiting-comes : (client : ℕ) (ts : List Traffic) → waiting (ts ++ Comes client ∷ []) ≡ []
-waiting-comes client ts = ap (λ b. cond b [] (admitted_in (after_last is_going (ts ++ Comes client ∷ [])))) (any_open-comes client ts)
+pub waiting-comes : (client : ℕ) (ts : List Traffic) → waiting (ts ++ Connected client ∷ []) ≡ []
+waiting-comes client ts = ap (λ b. cond b [] (admitted_in (after_last is_going (ts ++ Connected client ∷ [])))) (any_open-comes client ts)
 
-pub waiting-goes : (client : ℕ) (ts : List Traffic) → waiting (ts ++ Goes client ∷ []) ≡ []
+pub waiting-goes : (client : ℕ) (ts : List Traffic) → waiting (ts ++ Closed client ∷ []) ≡ []
 waiting-goes client ts =
-    ap (λ xs. cond (is_any_open (ts ++ Goes client ∷ [])) [] (admitted_in xs)) (after_last-one is_going ts (Goes client)) ∙ cond_same (is_any_open (ts ++ Goes client ∷ [])) []
+    ap (λ xs. cond (is_any_open (ts ++ Closed client ∷ [])) [] (admitted_in xs)) (after_last-one is_going ts (Closed client)) ∙ cond_same (is_any_open (ts ++ Closed client ∷ [])) []
 
-pub waiting-admit : (frame : List ℕ) (ts : List Traffic) → waiting (ts ++ Admit frame ∷ []) ≡ cond (is_any_open ts) [] (waiting ts ++ frame ∷ [])
+pub waiting-admit : (frame : List ℕ) (ts : List Traffic) → waiting (ts ++ Admitted frame ∷ []) ≡ cond (is_any_open ts) [] (waiting ts ++ frame ∷ [])
 waiting-admit frame ts =
-    rw (any_open-admit frame ts, after_last-one is_going ts (Admit frame)) (by_test (is_any_open ts)) where
-      by_test : (b : Bool) → cond b [] (admitted_in (after_last is_going ts ++ Admit frame ∷ [])) ≡ cond b [] (cond b [] (admitted_in (after_last is_going ts)) ++ frame ∷ [])
+    rw (any_open-admit frame ts, after_last-one is_going ts (Admitted frame)) (by_test (is_any_open ts)) where
+      by_test : (b : Bool) → cond b [] (admitted_in (after_last is_going ts ++ Admitted frame ∷ [])) ≡ cond b [] (cond b [] (admitted_in (after_last is_going ts)) ++ frame ∷ [])
       by_test true = refl
-      by_test false = filter_map-append frame_of (after_last is_going ts) (Admit frame ∷ [])
+      by_test false = filter_map-append frame_of (after_last is_going ts) (Admitted frame ∷ [])
 
 pub waiting-reply : (client : ℕ) (frame : List ℕ) (ts : List Traffic) → waiting (ts ++ Reply client frame ∷ []) ≡ waiting ts
 waiting-reply client frame ts =
@@ -138,20 +138,20 @@ and_false true = refl
 and_false false = refl
 
 puts_nothing : (ecu : List ℕ) (buffer client : ℕ) (before : List Traffic) (t : Traffic) → is_open client before ≡ false → comes_or_goes client t ≡ false → put ecu buffer client before t ≡ []
-puts_nothing ecu buffer client before (Comes other) shut none = rw none refl
-puts_nothing ecu buffer client before (Admit frame) shut none = rw shut refl
+puts_nothing ecu buffer client before (Connected other) shut none = rw none refl
+puts_nothing ecu buffer client before (Admitted frame) shut none = rw shut refl
 puts_nothing ecu buffer client before (Reply other frame) shut none = rw (shut, and_false (eqb other client)) refl
-puts_nothing ecu buffer client before (Goes other) shut none = refl
+puts_nothing ecu buffer client before (Closed other) shut none = refl
 
 puts_meant : (ecu : List ℕ) (buffer client : ℕ) (before : List Traffic) (t : Traffic) → is_open client before ≡ true → comes_or_goes client t ≡ false →
     put ecu buffer client before t ≡ filter_map (meant_for client) (t ∷ [])
-puts_meant ecu buffer client before (Comes other) there none = rw none refl
-puts_meant ecu buffer client before (Admit frame) there none = rw there refl
+puts_meant ecu buffer client before (Connected other) there none = rw none refl
+puts_meant ecu buffer client before (Admitted frame) there none = rw there refl
 puts_meant ecu buffer client before (Reply other frame) there none = rw there (by_test (eqb other client)) where
   by_test : (b : Bool) → cond (b && true) (frame ∷ []) [] ≡ filter_map (λ (o : Option (List ℕ)). o) (cond b (Some frame) None ∷ [])
   by_test true = refl
   by_test false = refl
-puts_meant ecu buffer client before (Goes other) there none = refl
+puts_meant ecu buffer client before (Closed other) there none = refl
 
 -- from where it is closed on, until it comes: nothing
 quiet : (ecu : List ℕ) (buffer client : ℕ) (before ts : List Traffic) → is_open client before ≡ false → list_any (comes_or_goes client) ts ≡ false →
@@ -181,24 +181,24 @@ shut_before client ts none = ap (λ o. option_map_or is_coming o false) (find_no
 -- a whole stay: what waited, and then all that was meant for it until it went
 pub unbroken : (ecu : List ℕ) (buffer client : ℕ) (before middle after : List Traffic) → list_any (comes_or_goes client) before ≡ false
     → list_any (comes_or_goes client) middle ≡ false → list_any (comes_or_goes client) after ≡ false →
-    sent ecu buffer client (before ++ Comes client ∷ (middle ++ Goes client ∷ after)) ≡ handed_over ecu buffer (waiting before) ++ filter_map (meant_for client) middle
+    sent ecu buffer client (before ++ Connected client ∷ (middle ++ Closed client ∷ after)) ≡ due_backlog ecu buffer (waiting before) ++ filter_map (meant_for client) middle
 unbroken ecu buffer client before middle after none_before none_middle none_after =
     let f = put ecu buffer client in
-    let came = before ++ Comes client ∷ [] in
-    let gone = (came ++ middle) ++ Goes client ∷ [] in
+    let came = before ++ Connected client ∷ [] in
+    let gone = (came ++ middle) ++ Closed client ∷ [] in
     let shut : is_open client before ≡ false = shut_before client before none_before in
-    let there : is_open client came ≡ true = is_open-one client before (Comes client) ∙ ap (λ b. cond b true (is_open client before)) (same_number client) in
-    let left : is_open client gone ≡ false = is_open-one client (came ++ middle) (Goes client) ∙ ap (λ b. cond b false (is_open client (came ++ middle))) (same_number client) in
+    let there : is_open client came ≡ true = is_open-one client before (Connected client) ∙ ap (λ b. cond b true (is_open client before)) (same_number client) in
+    let left : is_open client gone ≡ false = is_open-one client (came ++ middle) (Closed client) ∙ ap (λ b. cond b false (is_open client (came ++ middle))) (same_number client) in
     let start : along_from f [] before ≡ [] = quiet ecu buffer client [] before refl none_before in
     let stay = during ecu buffer client came middle there none_middle in
     let end : along_from f gone after ≡ [] = quiet ecu buffer client gone after left none_after in
-    let first : put ecu buffer client before (Comes client) ≡ handed_over ecu buffer (waiting before) = ap (λ b. cond b (handed_over ecu buffer (waiting before)) []) (same_number client) in
-    along_from-append f [] before (Comes client ∷ (middle ++ Goes client ∷ after))
-    ∙ rw (start, first, along_from-append f came middle (Goes client ∷ after), stay, end, append-nil (filter_map (meant_for client) middle)) refl
+    let first : put ecu buffer client before (Connected client) ≡ due_backlog ecu buffer (waiting before) = ap (λ b. cond b (due_backlog ecu buffer (waiting before)) []) (same_number client) in
+    along_from-append f [] before (Connected client ∷ (middle ++ Closed client ∷ after))
+    ∙ rw (start, first, along_from-append f came middle (Closed client ∷ after), stay, end, append-nil (filter_map (meant_for client) middle)) refl
 
 -- ---- the traffic of a journal
 
-admits_all : (frames : List (List ℕ)) → filter_map frame_of (map Admit frames) ≡ frames
+admits_all : (frames : List (List ℕ)) → filter_map frame_of (map Admitted frames) ≡ frames
 admits_all [] = refl
 admits_all (frame ∷ frames) = ap (λ (fs : List (List ℕ)). frame ∷ fs) (admits_all frames)
 
@@ -253,15 +253,15 @@ Came client ts = list_any (λ d. eqb d client) (clients ts) ≡ true
 
 came_by : (client : ℕ) (ts : List Traffic) (t : Traffic) → (is_open client ts ≡ true → Came client ts) → cond (comes_or_goes client t) (is_coming t) (is_open client ts) ≡ true →
     list_any (λ d. eqb d client) (clients ts ++ filter_map comer_of (t ∷ [])) ≡ true
-came_by client ts (Comes other) came there = list_any-append (λ d. eqb d client) (clients ts) (other ∷ []) ∙ by_test (eqb other client) there where
+came_by client ts (Connected other) came there = list_any-append (λ d. eqb d client) (clients ts) (other ∷ []) ∙ by_test (eqb other client) there where
   by_test : (b : Bool) → cond b true (is_open client ts) ≡ true → (list_any (λ d. eqb d client) (clients ts) || (b || false)) ≡ true
   by_test true e = or_last (list_any (λ d. eqb d client) (clients ts)) true refl
   by_test false e = or_first (list_any (λ d. eqb d client) (clients ts)) (false || false) (came e)
-came_by client ts (Goes other) came there = ap (list_any (λ d. eqb d client)) (append-nil (clients ts)) ∙ by_test (eqb other client) there where
+came_by client ts (Closed other) came there = ap (list_any (λ d. eqb d client)) (append-nil (clients ts)) ∙ by_test (eqb other client) there where
   by_test : (b : Bool) → cond b false (is_open client ts) ≡ true → Came client ts
   by_test true e = absurd cc
   by_test false e = came e
-came_by client ts (Admit frame) came there = ap (list_any (λ d. eqb d client)) (append-nil (clients ts)) ∙ came there
+came_by client ts (Admitted frame) came there = ap (list_any (λ d. eqb d client)) (append-nil (clients ts)) ∙ came there
 came_by client ts (Reply other frame) came there = ap (list_any (λ d. eqb d client)) (append-nil (clients ts)) ∙ came there
 
 came_from : (client : ℕ) (before ts : List Traffic) → (is_open client before ≡ true → Came client before) → is_open client (before ++ ts) ≡ true → Came client (before ++ ts)

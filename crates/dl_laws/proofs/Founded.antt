@@ -6,6 +6,7 @@ use Rattle.std.specs.Option.{option_and_then}
 use Rattle.std.proofs.lemmas.List.{append-nil}
 use Rattle.std.proofs.lemmas.List.Elements.{filter_map-append}
 use Rattle.std.proofs.lemmas.Bool.Decides.{nat_tests}
+use Rattle.dl_bytes.specs.Limits.{message_limit}
 use Rattle.dl_bytes.specs.Level.{passes}
 use Rattle.dl_events.specs.declared.event.Event.{Event}
 use Rattle.dl_events.specs.declared.event.Event.TheVariants as event
@@ -15,23 +16,22 @@ use Rattle.dl_model.specs.Setting.{Setting}
 use Rattle.dl_model.specs.Marks.{HasApp, HasContext, Fed, Heard, Injected, Handed, injections, fed, held_by, writer_numbers, apps, Call, Mark, Filtered, Counted, app_of_writer, number_of, place_of, calls_of, passed_of, moment, Passed, Refused, Queued, Noted, journal, event_of, is_step_of, passed, refused, to_push, to_count, queued, queued_of, taken, is_log_of, is_full, is_later, pending, is_lost_of, is_counted_of}
 use Rattle.dl_model.specs.Runs.{IsLoaded, EventRestsOn, RestsOn, AreFounded}
 use Rattle.dl_bytes.specs.Number.{◌>>=◌}
-use Rattle.dl_steps.specs.declared.line.CallLine.{CallLine}
+use Rattle.dl_script_lines.specs.declared.line.CallLine.{CallLine}
 use Rattle.dl_model.specs.declared.registry.Slot.{Slot}
 use Rattle.dl_model.specs.Registry.{slot_of}
-use Rattle.dl_model.specs.Journal.{slots_of, is_connect, is_close, is_request_of}
+use Rattle.dl_model.specs.Journal.{slots_of, is_connect, is_close, is_request_of, need_after}
 use Rattle.dl_bytes.specs.declared.outcome.Done.{Done}
 use Rattle.dl_bytes.specs.declared.outcome.Done.TheVariants as did
 use Rattle.dl_bytes.specs.declared.user.UserMsg.{UserMsg}
 use Rattle.dl_bytes.specs.declared.user.UserMsg.TheVariants as user
 use Rattle.dl_message.specs.Cut.{rest_fault, rest_of}
-use Rattle.dl_message.specs.declared.cutter.TheConstants.{CLIENT_LIMIT}
 use Rattle.dl_events.specs.declared.event.Why.{Why}
 use Rattle.dl_events.specs.declared.event.Why.TheVariants as why
-use Rattle.dl_steps.specs.declared.step.LevelEvents.TheVariants as levels
-use Rattle.dl_steps.specs.declared.step.Step.{Step}
-use Rattle.dl_steps.specs.declared.step.Step.TheVariants as line
-use Rattle.dl_model.specs.Reply.{asked}
-use Rattle.dl_model.specs.Steps.{Need, Nothing, Folder, Queue, need_of, is_open, close, connect, served, request_now, ask, close_malformed, new_requests, receive, new_messages, tell, hear, on_app, take_injection, act_of, drain, end_of, after_lines, run, loaded, load, push, count, finish, begin_call, whole_call, take_log, take_losses, Act, in_turn, just, for_some, when, level_noted, hand_out, hand_out_now, changes, note}
+use Rattle.dl_script_lines.specs.declared.step.LevelEvents.TheVariants as levels
+use Rattle.dl_script_lines.specs.declared.step.Step.{Step}
+use Rattle.dl_script_lines.specs.declared.step.Step.TheVariants as line
+use Rattle.dl_model.specs.Reply.{Need, Nothing, Folder, Queue}
+use Rattle.dl_model.specs.Steps.{is_open, close, connect, served, request_now, ask, close_malformed, new_requests, receive, new_messages, tell, hear, on_app, take_injection, act_of, drain, end_of, after_lines, run, loaded, load, push, count, finish, begin_call, whole_call, take_log, take_losses, Act, in_sequence, just, for_some, when, level_noted, note_levels, note_levels_now, changes, note}
 use Rattle.dl_laws.proofs.Lists.{last_that-one, after_last-one, count_by-append, find-passes}
 
 -- ---- acts in turn
@@ -45,9 +45,9 @@ both setting before (x ∷ xs) ys first second =
 abbrev pub IsFounded : Setting → Act → Type 0
 IsFounded setting act = (done : List Mark) → AreFounded setting done (act done)
 
-pub turns : (setting : Setting) (acts : List Act) → AllByRecursion (IsFounded setting) acts → IsFounded setting (in_turn acts)
+pub turns : (setting : Setting) (acts : List Act) → AllByRecursion (IsFounded setting) acts → IsFounded setting (in_sequence acts)
 turns setting [] all done = tt
-turns setting (act ∷ acts) all done = both setting done (act done) (in_turn acts (done ++ act done)) (all.0 done) (turns setting acts all.1 (done ++ act done))
+turns setting (act ∷ acts) all done = both setting done (act done) (in_sequence acts (done ++ act done)) (all.0 done) (turns setting acts all.1 (done ++ act done))
 
 pub each : {A : Type 0} (setting : Setting) (f : A → Act) → ((x : A) → IsFounded setting (f x)) → (xs : List A) → AllByRecursion (IsFounded setting) (map f xs)
 each setting f all [] = tt
@@ -68,12 +68,12 @@ levels_founded : (setting : Setting) (done : List Mark) (cs : List LevelChange) 
 levels_founded setting done [] = tt
 levels_founded setting done (c ∷ cs) = (tt, levels_founded setting (done ++ level_noted c ∷ []) cs)
 
-pub hand_out_founded : (setting : Setting) → IsFounded setting (hand_out setting)
+pub hand_out_founded : (setting : Setting) → IsFounded setting (note_levels setting)
 hand_out_founded setting done = levels_founded setting done (changes setting (journal done))
 
-pub hand_out_now_founded : (setting : Setting) → IsFounded setting (hand_out_now setting)
+pub hand_out_now_founded : (setting : Setting) → IsFounded setting (note_levels_now setting)
 hand_out_now_founded setting done = by_test (is_later done) where
-  by_test : (b : Bool) → AreFounded setting done (cond b [] (hand_out setting done))
+  by_test : (b : Bool) → AreFounded setting done (cond b [] (note_levels setting done))
   by_test true = tt
   by_test false = hand_out_founded setting done
 
@@ -102,13 +102,13 @@ pending-levels done (c ∷ cs) app =
 -- ---- an event with its Level events
 
 abbrev ready : Setting → List Mark → List Mark
-ready setting done = done ++ hand_out setting done
+ready setting done = done ++ note_levels setting done
 
 pub note_founded : (setting : Setting) (make : List Mark → Event) (done : List Mark) → EventRestsOn (ready setting done) (make (ready setting done)) → AreFounded setting done (note setting make done)
 note_founded setting make done rests =
-    both setting done (hand_out setting done) (in_turn ((λ now. Noted (make now) ∷ []) ∷ hand_out_now setting ∷ []) (ready setting done)) (hand_out_founded setting done)
-    (both setting (ready setting done) (Noted (make (ready setting done)) ∷ []) (in_turn (hand_out_now setting ∷ []) (ready setting done ++ Noted (make (ready setting done)) ∷ []))
-    (rests, tt) (turns setting (hand_out_now setting ∷ []) (hand_out_now_founded setting, tt) (ready setting done ++ Noted (make (ready setting done)) ∷ [])))
+    both setting done (note_levels setting done) (in_sequence ((λ now. Noted (make now) ∷ []) ∷ note_levels_now setting ∷ []) (ready setting done)) (hand_out_founded setting done)
+    (both setting (ready setting done) (Noted (make (ready setting done)) ∷ []) (in_sequence (note_levels_now setting ∷ []) (ready setting done ++ Noted (make (ready setting done)) ∷ []))
+    (rests, tt) (turns setting (note_levels_now setting ∷ []) (hand_out_now_founded setting, tt) (ready setting done ++ Noted (make (ready setting done)) ∷ [])))
 
 -- ---- the steps of a call
 
@@ -283,7 +283,7 @@ close_founded setting client why done =
 connect_founded : (setting : Setting) → IsFounded setting (connect setting)
 connect_founded setting done =
     let came = count_by is_connect (journal done) in
-    where_so setting (ltb came 32 && ltb came (count_by is_close (journal done) + 8)) (note setting (λ _. event.Connect (came + 1))) done
+    where_so setting (ltb came setting.clients && ltb came (count_by is_close (journal done) + 8)) (note setting (λ _. event.Connect (came + 1))) done
     (λ _. plain_event setting (λ _. event.Connect (came + 1)) (λ _. tt) done)
 
 served_founded : (setting : Setting) (answers : List Done) (client : ℕ) (frame : List ℕ) (need : Need) → IsFounded setting (served answers client frame need)
@@ -296,20 +296,20 @@ served_founded setting answers client frame (Queue app) done = by_test (ltb (inj
 
 request_now_founded : (setting : Setting) (answers : List Done) (client : ℕ) (frame : List ℕ) → IsFounded setting (request_now setting answers client frame)
 request_now_founded setting answers client frame done =
-    served_founded setting answers client frame (need_of setting (journal done) frame (asked frame)) done
+    served_founded setting answers client frame (need_after setting (journal done) frame) done
 
 ask_founded : (setting : Setting) (answers : List Done) (client : ℕ) (frame : List ℕ) → IsFounded setting (ask setting answers client frame)
 ask_founded setting answers client frame done = by_test (ltb (count_by (is_request_of client) (journal done)) 1000) where
-  by_test : (b : Bool) → AreFounded setting done (cond b (when (is_open client done) (in_turn (hand_out setting ∷ request_now setting answers client frame ∷ hand_out_now setting ∷ [])) done) (close setting client why.TooMany done))
+  by_test : (b : Bool) → AreFounded setting done (cond b (when (is_open client done) (in_sequence (note_levels setting ∷ request_now setting answers client frame ∷ note_levels_now setting ∷ [])) done) (close setting client why.TooMany done))
   by_test true =
-      where_so setting (is_open client done) (in_turn (hand_out setting ∷ request_now setting answers client frame ∷ hand_out_now setting ∷ [])) done
-      (λ _. turns setting (hand_out setting ∷ request_now setting answers client frame ∷ hand_out_now setting ∷ [])
+      where_so setting (is_open client done) (in_sequence (note_levels setting ∷ request_now setting answers client frame ∷ note_levels_now setting ∷ [])) done
+      (λ _. turns setting (note_levels setting ∷ request_now setting answers client frame ∷ note_levels_now setting ∷ [])
       (hand_out_founded setting, (request_now_founded setting answers client frame, (hand_out_now_founded setting, tt))) done)
   by_test false = close_founded setting client why.TooMany done
 
 close_malformed_founded : (setting : Setting) (client : ℕ) → IsFounded setting (close_malformed setting client)
 close_malformed_founded setting client done =
-    where_so setting (is_some (rest_fault CLIENT_LIMIT (rest_of CLIENT_LIMIT (fed client done)))) (close setting client why.Malformed) done
+    where_so setting (is_some (rest_fault message_limit (rest_of message_limit (fed client done)))) (close setting client why.Malformed) done
     (λ _. close_founded setting client why.Malformed done)
 
 -- acts and one more
@@ -320,7 +320,7 @@ and_one setting (a ∷ acts) act all one = (all.0, and_one setting acts act all.
 receive_founded : (setting : Setting) (answers : List Done) (client : ℕ) (bytes : List ℕ) → IsFounded setting (receive setting answers client bytes)
 receive_founded setting answers client bytes done =
     let asks = map (ask setting answers client) (new_requests client bytes done) in
-    where_so setting (is_open client done) (in_turn (just (Fed client bytes) ∷ (asks ++ close_malformed setting client ∷ []))) done
+    where_so setting (is_open client done) (in_sequence (just (Fed client bytes) ∷ (asks ++ close_malformed setting client ∷ []))) done
     (λ _. turns setting (just (Fed client bytes) ∷ (asks ++ close_malformed setting client ∷ [])) (
       (λ _. (tt, tt)),
       and_one setting asks (close_malformed setting client)
@@ -387,7 +387,7 @@ repeated setting (suc n) act one = (one, repeated setting n act one)
 
 drain_founded : (setting : Setting) (app : ℕ) → IsFounded setting (drain setting app)
 drain_founded setting app =
-    turns setting ((λ done. in_turn (replicate (held_by app done) (take_log setting app)) done) ∷ take_losses setting app ∷ []) (
+    turns setting ((λ done. in_sequence (replicate (held_by app done) (take_log setting app)) done) ∷ take_losses setting app ∷ []) (
       (λ done. turns setting (replicate (held_by app done) (take_log setting app)) (repeated setting (held_by app done) (take_log setting app) (take_log_founded setting app)) done),
       (take_losses_founded setting app, tt),
     )
@@ -396,10 +396,10 @@ end_founded : (setting : Setting) → IsFounded setting (end_of setting)
 end_founded setting =
     let stop = λ (client : ℕ). close setting client why.Stopped in
     turns setting (
-    (λ done. in_turn (map finish (writer_numbers done)) done)
-    ∷ (λ done. in_turn (map (drain setting) (range_with_len 0 (length (apps done)))) done)
-    ∷ hand_out setting
-    ∷ (λ done. in_turn (map stop (range_with_len 1 (count_by is_connect (journal done)))) done)
+    (λ done. in_sequence (map finish (writer_numbers done)) done)
+    ∷ (λ done. in_sequence (map (drain setting) (range_with_len 0 (length (apps done)))) done)
+    ∷ note_levels setting
+    ∷ (λ done. in_sequence (map stop (range_with_len 1 (count_by is_connect (journal done)))) done)
     ∷ []) (
       (λ done. turns setting (map finish (writer_numbers done)) (each setting finish (finish_founded setting) (writer_numbers done)) done),
       (

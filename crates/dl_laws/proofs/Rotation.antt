@@ -301,3 +301,47 @@ files_within size last (s ∷ segs) all = (omega (arith, length-concat s, all.0)
 pub within_size : (size : ℕ) (old : List StoredFile) (frames : List (List ℕ)) → AllByRecursion (λ (f : List ℕ). length f ≤ size) frames → AllByRecursion (λ (f : StoredFile). length f.bytes ≤ size) (made size old frames)
 within_size size old [] all = tt
 within_size size old (x ∷ frames) all = files_within size (greatest old) (segments size (x ∷ frames)) (within_from size (x ∷ []) frames (omega (arith, all.0)) all.1)
+
+-- ---- each segment but the last
+
+-- a segment begins with the frame that began it
+begins_with : (size : ℕ) (x : List ℕ) (xs frames : List (List ℕ)) (segment : List (List ℕ)) (more : List (List (List ℕ))) → segments_from size (x ∷ xs) frames ≡ segment ∷ more → (rest : List (List ℕ)) × (segment ≡ x ∷ rest)
+begins_with size x xs [] segment more e =
+    let same : x ∷ xs ≡ segment = cc in
+    (xs, sym same)
+begins_with size x xs (y ∷ frames) segment more e = by_test (leb (size_of (x ∷ xs) + length y) size) e (begins_with size x (xs ++ y ∷ []) frames segment more) where
+  by_test : (b : Bool) → cond b (segments_from size (x ∷ (xs ++ y ∷ [])) frames) ((x ∷ xs) ∷ segments_from size (y ∷ []) frames) ≡ segment ∷ more →
+      (segments_from size (x ∷ (xs ++ y ∷ [])) frames ≡ segment ∷ more → (rest : List (List ℕ)) × (segment ≡ x ∷ rest)) → (rest : List (List ℕ)) × (segment ≡ x ∷ rest)
+  by_test true is later = later is
+  by_test false is later =
+      let same : x ∷ xs ≡ segment = cc in
+      (xs, sym same)
+
+abbrev HadNoRoom : ℕ → List (List ℕ) → List (List ℕ) → Type 0
+HadNoRoom size segment next = (first : List ℕ) × (rest : List (List ℕ)) × (next ≡ first ∷ rest) × (size < size_of segment + length first)
+
+module _ (size : ℕ) (segment next : List (List ℕ)) (after : List (List (List ℕ))) where
+  had_no_room : (begun frames : List (List ℕ)) (before : List (List (List ℕ))) → segments_from size begun frames ≡ before ++ segment ∷ next ∷ after → HadNoRoom size segment next
+  had_no_room begun [] before e = absurd (omega (arith, ap length e, length-append before (segment ∷ next ∷ after)))
+  had_no_room begun (x ∷ frames) before e =
+      by_test (leb_tells (size_of begun + length x) size) before e (had_no_room (begun ++ x ∷ []) frames) (had_no_room (x ∷ []) frames) where
+        by_test : ((leb (size_of begun + length x) size ≡ true) × (size_of begun + length x ≤ size)) ⊎ ((leb (size_of begun + length x) size ≡ false) × (size < size_of begun + length x)) →
+            (before : List (List (List ℕ))) → segments_from size begun (x ∷ frames) ≡ before ++ segment ∷ next ∷ after →
+            ((before : List (List (List ℕ))) → segments_from size (begun ++ x ∷ []) frames ≡ before ++ segment ∷ next ∷ after → HadNoRoom size segment next) →
+            ((before : List (List (List ℕ))) → segments_from size (x ∷ []) frames ≡ before ++ segment ∷ next ∷ after → HadNoRoom size segment next) → HadNoRoom size segment next
+        by_test (inl within) before e same_file next_file =
+            let same : segments_from size (begun ++ x ∷ []) frames ≡ before ++ segment ∷ next ∷ after = rw within.0 at e in
+            same_file before same
+        by_test (inr above) [] e same_file next_file =
+            let same : begun ∷ segments_from size (x ∷ []) frames ≡ segment ∷ next ∷ after = rw above.0 at e in
+            let this : begun ≡ segment = cc in
+            let behind : segments_from size (x ∷ []) frames ≡ next ∷ after = ap (drop 1) same in
+            let front = begins_with size x [] frames next after behind in
+            (x, front.0, front.1, omega (arith, above.1, ap size_of this))
+        by_test (inr above) (b ∷ bs) e same_file next_file =
+            let same : begun ∷ segments_from size (x ∷ []) frames ≡ b ∷ (bs ++ segment ∷ next ∷ after) = rw above.0 at e in
+            next_file bs (ap (drop 1) same)
+
+pub next_had_no_room : (size : ℕ) (frames : List (List ℕ)) (before after : List (List (List ℕ))) (segment next : List (List ℕ)) → segments size frames ≡ before ++ segment ∷ next ∷ after → HadNoRoom size segment next
+next_had_no_room size [] before after segment next e = absurd (omega (arith, ap length e, length-append before (segment ∷ next ∷ after)))
+next_had_no_room size (x ∷ frames) before after segment next e = had_no_room size segment next after (x ∷ []) frames before e

@@ -4,14 +4,17 @@ use Rattle.byteorder.specs.Endian.{little_bytes}
 use Rattle.dl_bytes.specs.Id.{zero_id}
 use Rattle.dl_bytes.specs.Payload.{Arguments}
 use Rattle.dl_bytes.specs.declared.level.Severity.{Severity}
-use Rattle.dl_bytes.specs.declared.level.Severity.TheVariants.{Info}
+use Rattle.dl_bytes.specs.declared.level.Severity.TheVariants.{Debug, Info}
 use Rattle.dl_events.specs.declared.record.Record.{Record}
 use Rattle.dl_events.specs.declared.record.Answer.{Answer}
-use Rattle.dl_steps.specs.declared.line.CallLine.{CallLine}
-use Rattle.dl_steps.specs.declared.step.LevelEvents.TheVariants.{Later}
-use Rattle.dl_steps.specs.declared.step.Step.{Step}
-use Rattle.dl_steps.specs.declared.step.Step.TheVariants.{App, Context, Levels, Writer, Call, Log, Load, Push, Take, Connect, Bytes}
+use Rattle.dl_script_lines.specs.declared.line.CallLine.{CallLine}
+use Rattle.dl_script_lines.specs.declared.step.LevelEvents.TheVariants.{Later}
+use Rattle.dl_script_lines.specs.declared.step.Step.{Step}
+use Rattle.dl_script_lines.specs.declared.step.Step.TheVariants.{App, Clock, Context, Levels, Writer, Call, Log, Load, Push, Take, Connect, Bytes}
+use Rattle.dl_model.specs.Marks.{Mark, Passed}
+use Rattle.dl_model.specs.Marks as marks
 use Rattle.dl_model.specs.Setting.{Setting}
+use Rattle.dl_model.specs.Steps.{after_lines}
 use Rattle.dl_model.specs.TraceFiles.{StoredFile}
 use Rattle.dl_model.specs.RegistryExamples.{id, control, query, defaults}
 
@@ -108,3 +111,26 @@ injection = Bytes 1 (control (codes "LOG1") (codes "TEST") (0xff ∷ 0x0f ∷ 0 
 
 abbrev pub injections_script : List Step
 injections_script = one_writer 16 ++ Connect ∷ []
+
+-- two contexts of one application, at levels 2 and 5, and the same call in the second and in the first
+abbrev pub two_levels_script : List Step
+two_levels_script =
+    app (codes "LOG1") 16 ∷ context (codes "LOG1") (codes "TEST") (Some 2) ∷ context (codes "LOG1") (codes "FULL") (Some 5) ∷ writer (codes "LOG1")
+    ∷ Call (record (call_line Debug 1 (text [])) { ctid = id (codes "FULL") }) ∷ Call (call_line Debug 1 (text [])) ∷ []
+
+-- a call whose take has a moment
+abbrev pub clocked_script : List Step
+clocked_script = one_writer 16 ++ Clock 1 258 ∷ log_info 1 (codes "a") ∷ []
+
+-- a call of writer 1 that passed its level
+abbrev pub passed_call : marks.Call
+passed_call = record {
+  item = record { app = 0; writer = 1; call = 1; apid = id (codes "LOG1"); ctid = id (codes "TEST"); severity = Info; at = 1; mcnt = 0; payload = text [] };
+  slot = 0;
+  version = 1;
+  held = 4;
+}
+
+-- the marks of one writer's declaration, and so many calls of it that passed
+abbrev pub calls_that_passed : ℕ → List Mark
+calls_that_passed n = after_lines defaults [] (one_writer 16) ++ replicate n (Passed passed_call)

@@ -1,17 +1,24 @@
 //! Examples of whole runs: what the definitions give for small scripts.
 #![tactic(auto, unfolding(dl_model::specs::Steps::changes, dl_control::specs::Reading::request_of, dl_control::specs::Reading::log_level_at, dl_control::specs::Reading::default_level_at, dl_control::specs::Reading::injection_of, dl_control::specs::Reading::body_at))]
 
-ghost use Rattle.std.specs.Prelude.{◌≡◌, ℕ, List, [], ◌∷◌, ◌++◌, codes, map, drop, replicate, count_by, true, false};
-ghost use Rattle.dl_steps.specs.declared.step.Step.TheVariants.{Connect, Close, Level, Levels, Bytes, User, Inject};
-ghost use Rattle.dl_steps.specs.declared.step.LevelEvents.TheVariants.{Now};
+ghost use Rattle.std.specs.Prelude.{◌≡◌, ℕ, List, [], ◌∷◌, ◌++◌, codes, map, drop, replicate, count_by, Option, Some, true, false};
+ghost use Rattle.std.specs.Option.{option_map};
+ghost use Rattle.dl_bytes.specs.declared.level.Severity.TheVariants.{Debug, Fatal, Info};
+ghost use Rattle.dl_bytes.specs.declared.moment.Moment.{Moment};
+ghost use Rattle.dl_bytes.specs.declared.user.UserMsg.TheVariants.{Overflow};
+ghost use Rattle.dl_events.specs.declared.event.Event.TheVariants as event;
+ghost use Rattle.dl_script_lines.specs.declared.step.Step.TheVariants.{Call, Connect, Close, Level, Levels, Bytes, User, Inject};
+ghost use Rattle.dl_script_lines.specs.declared.step.LevelEvents.TheVariants.{Later, Now};
 ghost use Rattle.dl_model.specs.RegistryExamples.{hex, defaults, query, store, reset_all, id};
 ghost use Rattle.dl_model.specs.Journal.{is_connect};
-ghost use Rattle.dl_model.specs.Steps.{run};
-ghost use Rattle.dl_model.specs.Replay.{stream_of, printed};
+ghost use Rattle.dl_model.specs.Steps.{loaded, run};
+ghost use Rattle.dl_model.specs.Replay.{printed, source_of, stream_of};
+ghost use Rattle.dl_model.specs.Frames.{frames_of, stored_frames};
+ghost use Rattle.dl_model.specs.Overflow.{counters};
 ghost use Rattle.dl_model.specs.Marks.{records_of, journal};
 ghost use Rattle.dl_bytes.specs.declared.outcome.Done.TheVariants.{Yes, Failed};
 ghost use Rattle.dl_events.specs.declared.record.Answer.TheVariants.{Filtered, Queued, Lost};
-ghost use Rattle.dl_laws.specs.Scripts.{log_info, one_writer, log_filled, small_files, file_four, version, injection, injections_script, ask, call_info, later_script, two_clients_script, full_ring_script, between_script, with_level, loaded_level};
+ghost use Rattle.dl_laws.specs.Scripts.{log_info, one_writer, log_filled, small_files, file_four, version, injection, injections_script, ask, call_info, later_script, two_clients_script, full_ring_script, between_script, with_level, loaded_level, text, call_line, two_levels_script, calls_that_passed, clocked_script};
 
 /// A client that is there hears a call, and leaves.
 pub fn one_call()
@@ -116,4 +123,50 @@ pub fn injections_wait()
         ≡ hex (codes "25 00 00 17 45 43 55 31 26 01 44 41 31 00 44 43 31 00 FF 0F 00 00 02") ∷ [] }
     ensures taken { drop 16 (stream_of defaults (run defaults [] (injections_script ++ replicate 16 injection ++ Inject (id (codes "LOG1")) ∷ injection ∷ [])) 1)
         ≡ hex (codes "25 00 00 17 45 43 55 31 26 01 44 41 31 00 44 43 31 00 FF 0F 00 00 00") ∷ [] }
+{}
+
+/// Two contexts of one application have slots and levels of their own: the same call passes in the one and is filtered in the other.
+pub fn two_levels_of_one_application()
+    ensures levels { map loaded_level (records_of 1 (run defaults [] two_levels_script)) ≡ with_level Queued 1 5 ∷ with_level Filtered 1 2 ∷ [] }
+    ensures slots { map (λ r. r.slot) (records_of 1 (run defaults [] two_levels_script)) ≡ 1 ∷ 0 ∷ [] }
+{}
+
+/// Before the first Level event of its slot a call holds level 0, of version 0, which lets nothing through.
+pub fn before_the_first_level()
+    ensures { map loaded_level (records_of 1 (run defaults [] (Levels Later ∷ one_writer 16 ++ Call (call_line Fatal 1 (text [])) ∷ Level ∷ call_info 1 [] ∷ [])))
+        ≡ with_level Filtered 0 0 ∷ with_level Queued 1 4 ∷ [] }
+{}
+
+/// The message counter of a call has one byte: behind 256 calls that passed their level it is 0 again, and the call's number is 257.
+pub fn counters_begin_again()
+    ensures last { option_map (λ c. c.item.mcnt) (loaded defaults (call_line Info 1 (text [])) (calls_that_passed 255)) ≡ Some 255 }
+    ensures again { option_map (λ c. c.item.mcnt) (loaded defaults (call_line Info 1 (text [])) (calls_that_passed 256)) ≡ Some 0 }
+    ensures number { option_map (λ c. c.item.call) (loaded defaults (call_line Info 1 (text [])) (calls_that_passed 256)) ≡ Some 257 }
+{}
+
+/// A call that is filtered, one that a ring of one call takes, and two that are lost: the report adds them up.
+pub fn a_report_adds_up()
+    ensures { printed defaults [] [] false (one_writer 1 ++ Call (call_line Debug 1 (text [])) ∷ call_info 1 (codes "a") ∷ call_info 2 (codes "b") ∷ call_info 3 (codes "c") ∷ [])
+        ≡ codes "backlog 2 62 0\napp LOG1 calls 4 queued 1 filtered 1 lost 2 reported 2\n" }
+{}
+
+/// A buffer of 70 bytes that keeps two frames of 34 and refuses a third, and nobody who comes: what is left says so.
+pub fn nobody_comes()
+    ensures { printed (record defaults { buffer = 70 }) [] [] false (one_writer 16 ++ log_info 1 (codes "a") ∷ log_info 2 (codes "b") ∷ log_info 3 (codes "c") ∷ [])
+        ≡ codes "backlog 2 68 1\napp LOG1 calls 3 queued 3 filtered 0 lost 0 reported 0\n" }
+{}
+
+/// A stored frame: the pattern, the moment with the lowest bytes first, the control unit, and the message.
+pub fn one_stored_frame()
+    ensures { stored_frames (source_of defaults (run defaults [] clocked_script)) (journal (run defaults [] clocked_script))
+        ≡ hex (codes "44 4C 54 01 01 00 00 00 02 01 00 00 45 43 55 31 3D 00 00 22 45 43 55 31 00 00 00 01 00 00 00 01 41 01 4C 4F 47 31 54 45 53 54 00 82 00 00 02 00 61 00") ∷ [] }
+{}
+
+/// What an application on a channel of its own tells of lost messages is an overflow record with its APID. One record counts up to
+/// 4,294,967,295; one more makes two records.
+pub fn overflow_records()
+    ensures user { (at : Moment) → frames_of (source_of defaults []) (event.User 1 (Overflow 5 (id (codes "LOG2"))) at)
+        ≡ hex (codes "25 00 00 1C 45 43 55 31 26 01 4C 4F 47 32 00 00 00 00 14 00 00 00 00 01 05 00 00 00") ∷ [] }
+    ensures two { counters 4294967296 ≡ 4294967295 ∷ 1 ∷ [] }
+    ensures most { counters 4294967295 ≡ 4294967295 ∷ [] }
 {}

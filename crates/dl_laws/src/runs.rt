@@ -7,7 +7,7 @@ ghost use Rattle.dl_bytes.specs.declared.outcome.Done.{Done};
 ghost use Rattle.dl_events.specs.declared.record.Record.{Record};
 ghost use Rattle.dl_events.specs.declared.record.Answer.TheVariants.{Filtered};
 ghost use Rattle.dl_events.specs.declared.event.Event.{Event};
-ghost use Rattle.dl_steps.specs.declared.step.Step.{Step};
+ghost use Rattle.dl_script_lines.specs.declared.step.Step.{Step};
 ghost use Rattle.dl_model.specs.Along.{last_that};
 ghost use Rattle.dl_model.specs.Journal.{owed};
 ghost use Rattle.dl_model.specs.Setting.{Setting};

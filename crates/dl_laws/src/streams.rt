@@ -5,8 +5,8 @@ ghost use Rattle.std.specs.List.{list_any, filter_map};
 ghost use Rattle.dl_events.specs.declared.event.Event.{Event};
 ghost use Rattle.dl_model.specs.Frames.{FrameSource, admitted};
 ghost use Rattle.dl_model.specs.Overflow.{counters};
-ghost use Rattle.dl_model.specs.Traffic.{Traffic, Comes, Admit, Reply, Goes, is_coming, comes_or_goes, meant_for, admitted_in, is_open, is_any_open};
-ghost use Rattle.dl_model.specs.Backlog.{size_of, waiting, fitting, refused, handed_over};
+ghost use Rattle.dl_model.specs.Traffic.{Traffic, Connected, Admitted, Reply, Closed, is_coming, comes_or_goes, meant_for, admitted_in, is_open, is_any_open};
+ghost use Rattle.dl_model.specs.Backlog.{size_of, waiting, fitting, refused, due_backlog};
 ghost use Rattle.dl_model.specs.ClientStream.{put, sent, traffic_of, traffic};
 
 /// With one entry of traffic more, a client's stream goes on with what the entry puts, and nothing in it changes.
@@ -37,11 +37,11 @@ pub fn traffic_of_journals()
 
 /// What waits after one entry more: nothing where a client came or went, one frame more where nobody is open.
 pub fn waiting_after_one_more()
-    ensures comes { (client : ℕ) (traffic : List Traffic) → waiting (traffic ++ Comes client ∷ []) ≡ [] }
-    ensures goes { (client : ℕ) (traffic : List Traffic) → waiting (traffic ++ Goes client ∷ []) ≡ [] }
+    ensures comes { (client : ℕ) (traffic : List Traffic) → waiting (traffic ++ Connected client ∷ []) ≡ [] }
+    ensures goes { (client : ℕ) (traffic : List Traffic) → waiting (traffic ++ Closed client ∷ []) ≡ [] }
     ensures reply { (client : ℕ) (frame : List ℕ) (traffic : List Traffic) → waiting (traffic ++ Reply client frame ∷ []) ≡ waiting traffic }
     ensures admit { (frame : List ℕ) (traffic : List Traffic) →
-        waiting (traffic ++ Admit frame ∷ []) ≡ (if is_any_open traffic then [] else waiting traffic ++ frame ∷ []) }
+        waiting (traffic ++ Admitted frame ∷ []) ≡ (if is_any_open traffic then [] else waiting traffic ++ frame ∷ []) }
 {}
 
 /// What a buffer keeps of one frame more: that too where all of it fits, else what it kept before.
@@ -61,11 +61,18 @@ pub fn backlog_accounts()
     ensures counters { (n : ℕ) → sum (counters n) ≡ n }
 {}
 
+/// Nothing is refused while there is room: frames that have room together are all kept, and a client is handed just these.
+pub fn nothing_is_refused_while_there_is_room()
+    ensures kept { (limit : ℕ) (frames : List (List ℕ)) → size_of frames ≤ limit → fitting limit frames ≡ frames }
+    ensures none { (limit : ℕ) (frames : List (List ℕ)) → size_of frames ≤ limit → refused limit frames ≡ 0 }
+    ensures due { (ecu : List ℕ) (limit : ℕ) (frames : List (List ℕ)) → size_of frames ≤ limit → due_backlog ecu limit frames ≡ frames }
+{}
+
 /// A whole stay of a client, which comes once: its stream is what waited, and then all that was admitted until it went,
 /// with its replies where they were put. Nothing is left out.
 pub fn unbroken()
     ensures { (ecu : List ℕ) (buffer client : ℕ) (before middle after : List Traffic) →
         list_any (comes_or_goes client) before ≡ false → list_any (comes_or_goes client) middle ≡ false → list_any (comes_or_goes client) after ≡ false →
-        sent ecu buffer client (before ++ Comes client ∷ (middle ++ Goes client ∷ after))
-        ≡ handed_over ecu buffer (waiting before) ++ filter_map (meant_for client) middle }
+        sent ecu buffer client (before ++ Connected client ∷ (middle ++ Closed client ∷ after))
+        ≡ due_backlog ecu buffer (waiting before) ++ filter_map (meant_for client) middle }
 {}

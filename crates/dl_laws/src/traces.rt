@@ -2,7 +2,8 @@
 
 ghost use Rattle.std.specs.Prelude.{◌≡◌, ◌≤◌, ◌<◌, ◌+◌, ◌-◌, ℕ, List, length, [], ◌∷◌, ◌++◌};
 ghost use Rattle.std.specs.List.{flat_map, concat, AllByRecursion};
-ghost use Rattle.dl_model.specs.TraceFiles.{StoredFile, greatest, total_size, kept, closed, made, trace_files, grown};
+ghost use Rattle.dl_model.specs.Backlog.{size_of};
+ghost use Rattle.dl_model.specs.TraceFiles.{StoredFile, greatest, total_size, kept, closed, made, segments, trace_files, grown};
 
 /// The trace files after frames were stored. The files that were made hold the frames in order, and no others; those
 /// that stand are the newest of the old ones and these. None is longer than a file may be, where no frame is.
@@ -33,4 +34,10 @@ pub fn trace_goes_on()
         → trace_files size max_size old (first ∷ (frames ++ frame ∷ [])) ≡ grown size max_size before newest frame }
     ensures newest { (size max_size : ℕ) (old : List StoredFile) (first : List ℕ) (frames : List (List ℕ)) →
         (before : List StoredFile) × (newest : StoredFile) × (trace_files size max_size old (first ∷ frames) ≡ before ++ newest ∷ []) }
+{}
+
+/// A file is as full as it can be: each segment but the last could not take the frame that the next one begins with.
+pub fn a_file_is_full_before_the_next()
+    ensures { (size : ℕ) (frames : List (List ℕ)) (before after : List (List (List ℕ))) (segment next : List (List ℕ)) → segments size frames ≡ before ++ segment ∷ next ∷ after →
+        (first : List ℕ) × (rest : List (List ℕ)) × (next ≡ first ∷ rest) × (size < size_of segment + length first) }
 {}

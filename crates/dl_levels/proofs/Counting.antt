@@ -4,19 +4,19 @@ use Rattle.std.proofs.lemmas.Grind.{get_or_default_zero}
 use mathlib.Core.Logic.{dite}
 use native.Mathlib.Decide.{ℕ_discrete}
 use Rattle.dl_levels.specs.declared.history.Change.{Change}
-use Rattle.dl_levels.specs.History.{change, last_version}
-use Rattle.dl_levels.specs.Ends.{AreLast}
-use Rattle.dl_levels.proofs.Histories.{last_version-same, last_version-other}
+use Rattle.dl_levels.specs.History.{change, current_version}
+use Rattle.dl_levels.specs.Passes.{AreLast}
+use Rattle.dl_levels.proofs.Histories.{current_version-same, current_version-other}
 
 -- after a slot is set
 pub counts_next : (first slots slot level version : ℕ) (sets : List Change) (versions : List ℕ) → length versions ≡ slots → slot < slots → version ≡ get_or versions slot 0 → version + 1 < 2 ^ 56
     → AreLast first sets slots versions → AreLast first (sets ++ change slot level ∷ []) slots (set versions slot (version + 1))
 counts_next first slots slot level version sets versions long within is fits before k lt = dite (ℕ_discrete k slot)
-    (λ same. subst (λ j. (get_or (set versions slot (version + 1)) j 0 ≡ last_version first j (sets ++ change slot level ∷ [])) × (get_or (set versions slot (version + 1)) j 0 < 2 ^ 56)) (sym same)
+    (λ same. subst (λ j. (get_or (set versions slot (version + 1)) j 0 ≡ current_version first j (sets ++ change slot level ∷ [])) × (get_or (set versions slot (version + 1)) j 0 < 2 ^ 56)) (sym same)
     (let here : get_or (set versions slot (version + 1)) slot 0 ≡ version + 1 = get_or-set_same versions slot (version + 1) 0 (subst (λ n. slot < n) (sym long) within) in
-    let next = last_version-same first slot level sets in let last = (before slot within).0 in (omega arith, subst (λ n. n < 2 ^ 56) (sym here) fits)))
+    let next = current_version-same first slot level sets in let last = (before slot within).0 in (omega arith, subst (λ n. n < 2 ^ 56) (sym here) fits)))
     (λ apart. let there : get_or (set versions slot (version + 1)) k 0 ≡ get_or versions k 0 = get_or-set_other versions slot k (version + 1) 0 (λ e. apart e) in
-    (there ∙ (before k lt).0 ∙ sym (last_version-other first k slot level sets (λ e. apart (sym e))), subst (λ n. n < 2 ^ 56) (sym there) (before k lt).1))
+    (there ∙ (before k lt).0 ∙ sym (current_version-other first k slot level sets (λ e. apart (sym e))), subst (λ n. n < 2 ^ 56) (sym there) (before k lt).1))
 
 -- what is read of a slot
 pub version_at : (slots slot version : ℕ) (versions : List ℕ) → length versions ≡ slots → slot < slots → version ≡ get_or versions slot version → version ≡ get_or versions slot 0

@@ -5,7 +5,7 @@ use Rattle.std.proofs.lemmas.List.{map-append}
 use Rattle.std.proofs.lemmas.Option.{slice_get_within}
 use Rattle.dl_levels.specs.declared.history.Change.{Change}
 use Rattle.dl_levels.specs.declared.history.Read.{Read}
-use Rattle.dl_levels.specs.History.{change, read, levels_set, history, last_version, IsEntry}
+use Rattle.dl_levels.specs.History.{change, read, levels_set, history, current_version, IsEntry}
 
 module _ {A : Type 0} where
   slice_get_longer : (xs ys : List A) (i : ℕ) (a : A) → slice_get xs i ≡ Some a → slice_get (xs ++ ys) i ≡ Some a
@@ -44,18 +44,18 @@ pub entries_stay : (first : ℕ) (sets more : List Change) (reads : List Read) �
 entries_stay first sets more reads h = All-weaker (IsEntry first sets) (IsEntry first (sets ++ more)) (entry_stays first sets more) reads h
 
 -- no entry is above the last one
-pub entry_within : (first : ℕ) (sets : List Change) (r : Read) → IsEntry first sets r → r.version ≤ last_version first r.slot sets
+pub entry_within : (first : ℕ) (sets : List Change) (r : Read) → IsEntry first sets r → r.version ≤ current_version first r.slot sets
 entry_within first sets r h = let within = slice_get_within (history r.slot sets) (r.version - first) r.level h.1 in let after = h.0 in omega arith
 
 -- what is set is the next entry
-pub entry_next : (first slot level : ℕ) (sets : List Change) → IsEntry first (sets ++ change slot level ∷ []) (read slot (last_version first slot sets + 1) level)
+pub entry_next : (first slot level : ℕ) (sets : List Change) → IsEntry first (sets ++ change slot level ∷ []) (read slot (current_version first slot sets + 1) level)
 entry_next first slot level sets = let levels : List ℕ = levels_set slot sets in let place : first + length levels + 1 - first ≡ suc (length levels) = omega arith in (
   omega arith,
   subst (λ (z : List ℕ × ℕ). slice_get (0 ∷ z.0) z.1 ≡ Some level) (λ i. (sym (levels_set-same slot level sets) i, sym place i)) (slice_get_end levels level),
 )
 
-pub last_version-same : (first slot level : ℕ) (sets : List Change) → last_version first slot (sets ++ change slot level ∷ []) ≡ last_version first slot sets + 1
-last_version-same first slot level sets = ap (λ (ls : List ℕ). first + length ls) (levels_set-same slot level sets) ∙ (let longer = length-append (levels_set slot sets) (level ∷ []) in omega arith)
+pub current_version-same : (first slot level : ℕ) (sets : List Change) → current_version first slot (sets ++ change slot level ∷ []) ≡ current_version first slot sets + 1
+current_version-same first slot level sets = ap (λ (ls : List ℕ). first + length ls) (levels_set-same slot level sets) ∙ (let longer = length-append (levels_set slot sets) (level ∷ []) in omega arith)
 
-pub last_version-other : (first slot other level : ℕ) (sets : List Change) → other ≢ slot → last_version first slot (sets ++ change other level ∷ []) ≡ last_version first slot sets
-last_version-other first slot other level sets apart = ap (λ (ls : List ℕ). first + length ls) (levels_set-other slot other level sets apart)
+pub current_version-other : (first slot other level : ℕ) (sets : List Change) → other ≢ slot → current_version first slot (sets ++ change other level ∷ []) ≡ current_version first slot sets
+current_version-other first slot other level sets apart = ap (λ (ls : List ℕ). first + length ls) (levels_set-other slot other level sets apart)

@@ -9,31 +9,31 @@ use native.Mathlib.Decide.{ℕ_discrete}
 use lib.ListN.{get_elem?}
 use Rattle.atomic_table.specs.Table.{Me, step, keeps, opening, Allows, Splits, Joins}
 use Rattle.atomic_table.proofs.Lists.{at_set}
-use Rattle.dl_views.proofs.Each.{each_set, each_put, each_snoc, each_one}
+use Rattle.dl_thread_rules.proofs.Each.{each_set, each_put, each_snoc, each_one}
 use Rattle.dl_levels.specs.declared.history.Change.{Change}
 use Rattle.dl_levels.specs.declared.history.Read.{Read}
 use Rattle.dl_levels.specs.declared.words.View.{View}
 use Rattle.dl_levels.specs.declared.words.Shape.{Shape}
-use Rattle.dl_levels.specs.History.{change, read, last_version, IsEntry, NoneAbove}
+use Rattle.dl_levels.specs.History.{change, read, current_version, IsEntry, NoneAbove}
 use Rattle.dl_levels.specs.Rule.{read_of, IsWord, Fits, Keeps, opening_view, reader_view, joined_view, spent_view, with_read, with_change, loaded, swapped}
-use Rattle.dl_levels.proofs.Histories.{entry_stays, entries_stay, entry_within, entry_next, last_version-same, last_version-other}
+use Rattle.dl_levels.proofs.Histories.{entry_stays, entries_stay, entry_within, entry_next, current_version-same, current_version-other}
 
 -- a word of another slot is as before
 word_else : (first slot other level word : ℕ) (sets : List Change) → other ≢ slot → IsWord first sets slot word → IsWord first (sets ++ change other level ∷ []) slot word
-word_else first slot other level word sets apart h = (entry_stays first sets (change other level ∷ []) (read_of slot word) h.0, h.1 ∙ sym (last_version-other first slot other level sets apart), h.2)
+word_else first slot other level word sets apart h = (entry_stays first sets (change other level ∷ []) (read_of slot word) h.0, h.1 ∙ sym (current_version-other first slot other level sets apart), h.2)
 
 -- the word of the slot that is set
-word_next : (first slot word : ℕ) (sets : List Change) → word / 16 ≡ last_version first slot sets + 1 → word % 16 ≤ 6 → IsWord first (sets ++ change slot (word % 16) ∷ []) slot word
+word_next : (first slot word : ℕ) (sets : List Change) → word / 16 ≡ current_version first slot sets + 1 → word % 16 ≤ 6 → IsWord first (sets ++ change slot (word % 16) ∷ []) slot word
 word_next first slot word sets next level = (
   subst (λ version. IsEntry first (sets ++ change slot (word % 16) ∷ []) (read slot version (word % 16))) (sym next) (entry_next first slot (word % 16) sets),
-  next ∙ sym (last_version-same first slot (word % 16) sets),
+  next ∙ sym (current_version-same first slot (word % 16) sets),
   level,
 )
 
 -- no entry is above what the slot's word holds
-none_above : (first slot word : ℕ) (sets : List Change) (reads : List Read) → word / 16 ≡ last_version first slot sets → All (IsEntry first sets) reads → NoneAbove slot (word / 16) reads
+none_above : (first slot word : ℕ) (sets : List Change) (reads : List Read) → word / 16 ≡ current_version first slot sets → All (IsEntry first sets) reads → NoneAbove slot (word / 16) reads
 none_above first slot word sets reads is entries = All-weaker (IsEntry first sets) (λ r. r.slot ≡ slot → r.version ≤ word / 16)
-    (λ (r : Read) entry (same : r.slot ≡ slot). let within = entry_within first sets r entry in let at : last_version first r.slot sets ≡ last_version first slot sets = ap (λ s. last_version first s sets) same in omega arith)
+    (λ (r : Read) entry (same : r.slot ≡ slot). let within = entry_within first sets r entry in let at : current_version first r.slot sets ≡ current_version first slot sets = ap (λ s. current_version first s sets) same in omega arith)
     reads entries
 
 module _ (shape : Shape) where
@@ -72,10 +72,10 @@ module _ (shape : Shape) where
         ),
       )
 
-  pub swaps : (slots id : ℕ) (me : M) (slot new : ℕ) → slot < shape.slots → me.0.keeps ≡ true → new / 16 ≡ last_version me.0.first slot me.0.sets + 1 → new % 16 ≤ 6
+  pub swaps : (slots id : ℕ) (me : M) (slot new : ℕ) → slot < shape.slots → me.0.keeps ≡ true → new / 16 ≡ current_version me.0.first slot me.0.sets + 1 → new % 16 ≤ 6
       → Allows (Keeps shape) slots id me slot (λ _. new) (swapped (step slots slot new 0 none) me)
   swaps slots id me slot new within keeper next level s r _ at _ = let c : Change = change slot (new % 16) in let w : View = with_change me.0 c in let mine = r.fits id me.0 at in let sets : List Change = r.sets ++ c ∷ [] in
-      let known = mine.0 keeper in let next' : new / 16 ≡ last_version shape.first slot r.sets + 1 = next ∙ (λ i. last_version (known.1 i) slot (known.2 i) + 1) in (
+      let known = mine.0 keeper in let next' : new / 16 ≡ current_version shape.first slot r.sets + 1 = next ∙ (λ i. current_version (known.1 i) slot (known.2 i) + 1) in (
         w,
         keeps,
         tt,

@@ -19,8 +19,8 @@ abbrev pub history : ℕ → List Change → List ℕ
 history slot sets = 0 ∷ levels_set slot sets
 
 -- the version of the last of them
-abbrev pub last_version : ℕ → ℕ → List Change → ℕ
-last_version first slot sets = first + length (levels_set slot sets)
+abbrev pub current_version : ℕ → ℕ → List Change → ℕ
+current_version first slot sets = first + length (levels_set slot sets)
 
 -- the read found an entry of its slot's history
 abbrev pub IsEntry : ℕ → List Change → Read → Type 0

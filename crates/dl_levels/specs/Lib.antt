@@ -1,4 +1,4 @@
 pub mod History
 pub mod States
 pub mod Rule
-pub mod Ends
+pub mod Passes

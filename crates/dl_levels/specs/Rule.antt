@@ -1,12 +1,12 @@
 -- The rule of the level words, and what each step on them tells.
 use Rattle.std.specs.Prelude.{◌≡◌, ℕ, ◌/◌, ◌%◌, ◌<◌, ◌≤◌, true, false, List, [], ◌∷◌, ◌++◌, length, slice_index, All}
 use Rattle.atomic_table.specs.Table.{State, Me, Step}
-use Rattle.dl_views.specs.Views.{Each}
+use Rattle.dl_thread_rules.specs.Views.{Each}
 use Rattle.dl_levels.specs.declared.history.Change.{Change}
 use Rattle.dl_levels.specs.declared.history.Read.{Read}
 use Rattle.dl_levels.specs.declared.words.View.{View}
 use Rattle.dl_levels.specs.declared.words.Shape.{Shape}
-use Rattle.dl_levels.specs.History.{change, read, last_version, IsEntry, NoneAbove}
+use Rattle.dl_levels.specs.History.{change, read, current_version, IsEntry, NoneAbove}
 
 -- what is read of a word, which is 16 * version + level
 abbrev pub read_of : ℕ → ℕ → Read
@@ -14,7 +14,7 @@ read_of slot word = read slot (word / 16) (word % 16)
 
 -- a word has the version and the level of the last entry of its slot's history
 abbrev pub IsWord : ℕ → List Change → ℕ → ℕ → Type 0
-IsWord first sets slot word = IsEntry first sets (read_of slot word) × (word / 16 ≡ last_version first slot sets) × (word % 16 ≤ 6)
+IsWord first sets slot word = IsEntry first sets (read_of slot word) × (word / 16 ≡ current_version first slot sets) × (word % 16 ≤ 6)
 
 -- the keeper knows what was set, and each read in a view is an entry
 abbrev pub Fits : ℕ → ℕ → List Change → ℕ → View → Type 0

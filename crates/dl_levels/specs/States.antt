@@ -1,4 +1,4 @@
--- What contracts see of the two ends of the level words.
+-- What contracts see of the keeper and the readers of the level words.
 use Rattle.std.specs.Prelude.{ℕ, List}
 use Rattle.atomic_table.specs.Seated.{TableId}
 use Rattle.dl_levels.specs.declared.history.Change.{Change}

@@ -2,19 +2,16 @@
 
 ghost use Rattle.std.specs.Prelude.{◌≡◌, ◌-◌, ◌^◌, ◌<◌, ◌≤◌, ◌↔◌, [], ◌∷◌, ◌++◌, IfOk, IsErr, OnOk, OnErr, All};
 ghost use Rattle.dl_levels.specs.declared.history.Read.{Read};
-ghost use Rattle.dl_levels.specs.History.{change, last_version, IsEntry};
+ghost use Rattle.dl_levels.specs.History.{change, current_version, IsEntry};
 
 use crate::reader::LevelReader;
 use crate::words::{Load, Seats, Shape, Swap, View, Words};
 use atomic_table::Seat;
-use dl_bytes::{Level, OutOfMemory};
-use dl_views::owners;
+use dl_bytes::{LAST_VERSION, Level, OutOfMemory};
+use dl_thread_rules::owners;
 use std::alloc::Global;
 use std::marker::Model;
 use std::sync::Arc;
-
-// The version at which a slot can't be set again: a version has 56 bits.
-const LAST_VERSION: u64 = 0xff_ffff_ffff_ffff;
 
 // How often the first reader can be split.
 const SPLITS: usize = 64;
@@ -37,7 +34,7 @@ impl Model for LevelKeeper {
 
     ghost Value = { KeeperState };
 
-    ghost use Rattle.dl_levels.specs.Ends.{keeper_state, IsKeeper};
+    ghost use Rattle.dl_levels.specs.Passes.{keeper_state, IsKeeper};
 
     ghost view = { keeper_state };
 
@@ -48,7 +45,7 @@ impl LevelKeeper {
     /// Sets a slot to a level, at the slot's next version: one swap. `Worn` where the version can't rise.
     pub fn set(&mut self, slot: u16, level: Level) -> Result<(), Worn>
         requires { slot < self.old.slots }
-        ensures worn { IsErr result ↔ (last_version self.old.first slot self.old.sets ≡ 2 ^ 56 - 1) }
+        ensures worn { IsErr result ↔ (current_version self.old.first slot self.old.sets ≡ 2 ^ 56 - 1) }
         ensures set { OnOk result (self.new ≡ record self.old { sets = self.old.sets ++ change slot level ∷ [] }) }
         ensures kept { OnErr result (self.new ≡ self.old) }
     {
@@ -67,7 +64,7 @@ impl LevelKeeper {
     /// The version that a slot has.
     pub fn version(&self, slot: u16) -> u64
         requires { slot < self.now.slots }
-        ensures { result ≡ last_version self.now.first slot self.now.sets }
+        ensures { result ≡ current_version self.now.first slot self.now.sets }
     {
         self.versions[usize::from(slot)]
     }
@@ -104,8 +101,8 @@ pub fn make_levels(
 ) -> Result<(LevelKeeper, LevelReader), OutOfMemory>
     requires slots { 1 ≤ slots }
     requires first { first < 2 ^ 56 }
-    ensures keeper { IfOk result (λ ends. ends.0 ≡ record { table = ends.0.table; slots = slots; first = first; sets = []; reads = [] }) }
-    ensures reader { IfOk result (λ ends. ends.1 ≡ record { table = ends.0.table; slots = slots; reads = []; splits_left = 64 }) }
+    ensures keeper { IfOk result (λ made. made.0 ≡ record { table = made.0.table; slots = slots; first = first; sets = []; reads = [] }) }
+    ensures reader { IfOk result (λ made. made.1 ≡ record { table = made.0.table; slots = slots; reads = []; splits_left = 64 }) }
 {
     let count = usize::from(slots);
     let row = Vec::from_elem(alloc, 16 * first, count)?;

@@ -4,8 +4,6 @@
 mod history;
 mod keeper;
 mod reader;
-#[cfg(test)]
-mod tests;
 mod words;
 
 pub use history::{Change, Read, Seen};

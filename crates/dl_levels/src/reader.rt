@@ -25,7 +25,7 @@ impl Model for LevelReader {
 
     ghost Value = { ReaderState };
 
-    ghost use Rattle.dl_levels.specs.Ends.{reader_state, IsReader};
+    ghost use Rattle.dl_levels.specs.Passes.{reader_state, IsReader};
 
     ghost view = { reader_state };
 

@@ -74,5 +74,5 @@ impl Join<View> for Seats {
     ghost spent = { spent_view };
 }
 
-/// The words of all slots, which the two ends share.
+/// The words of all slots, which the keeper and the readers share.
 pub type Words = Table<(), View, Shape, LevelRule, Global>;

@@ -1,6 +1,6 @@
 -- The account of all that was logged.
 use Rattle.std.proofs.Common.{◌≡◌, ℕ, ◌+◌, ◌-◌, ◌<◌, ◌==◌, Bool, true, false, cond, eqb, List, [], ◌∷◌, ◌++◌, length, map, get_or, slice_get, append-nil, refl, sym, ap, ◌∙◌, subst, eq-eqb, length-append, arith}
-use Rattle.std.specs.Prelude.{All}
+use Rattle.std.specs.Prelude.{◌^◌, All}
 use Rattle.std.specs.List.{filter, flat_map}
 use Rattle.std.proofs.lemmas.Bool.{eqb-true}
 use Rattle.std.proofs.lemmas.List.{nil_from_length}
@@ -14,7 +14,7 @@ use Rattle.dl_events.specs.declared.record.Answer.TheVariants as answer
 use Rattle.dl_events.specs.declared.record.Record.{Record}
 use Rattle.dl_levels.specs.declared.history.Read.{Read}
 use Rattle.dl_levels.specs.History as levels
-use Rattle.dl_losses.specs.Losses.{counted_of}
+use Rattle.dl_losses.specs.Losses.{counted_of, reported_of}
 use Rattle.dl_model.specs.Accounts.{order, of_writer, name_of, with_answer}
 use Rattle.dl_model.specs.Report.{is_answer}
 use Rattle.dl_ring.specs.Order.{of}
@@ -22,7 +22,7 @@ use Rattle.dl_writer.specs.Records.{IsHeld, IsOf, TellAll}
 use Rattle.dl_writer.specs.State.{BookState, IsWhole, WriterState}
 use Rattle.dl_writer.proofs.Accounting.{account, losses}
 use Rattle.dl_lib.specs.Books.{books_of, lost_of, queued_of, records_of}
-use Rattle.dl_lib.specs.ClosingInside.{HaveBooks, HaveEnds}
+use Rattle.dl_lib.specs.ClosingInside.{HaveBooks, HaveHandles}
 use Rattle.dl_lib.specs.Known.{IsAllOf, IsDrained, taken_of}
 use Rattle.dl_lib.specs.Settled.{IsAccountOf, IsJournalOf, IsSettled, TellsLosses, TellsQueued, account_of}
 use Rattle.dl_lib.specs.State.{AccountState, ClosingState}
@@ -38,14 +38,16 @@ all_taken app books taken contents all empty =
     let none : contents ≡ [] = nil_from_length contents (omega (arith, empty, c, length-append taken contents)) in
     subst (IsAllOf app books) (ap (λ (l : List Item). taken ++ l) none ∙ append-nil taken) all
 
-pub settled : (s : ClosingState) (events : List Event) (outcome : Ends) → HaveBooks (length s.apps) s.books → HaveEnds s → IsDrained s → IsSettled (account_of s events outcome)
-settled s events outcome books ends drained = record {
+pub settled : (s : ClosingState) (events : List Event) (outcome : Ends) → HaveBooks (length s.apps) s.books → HaveHandles s → IsDrained s
+    → ((app : ℕ) → reported_of app s.handles.losses.reported < 2 ^ 47) → IsSettled (account_of s events outcome)
+settled s events outcome books handles drained small = record {
   numbered = books.numbered;
   owned = books.owned;
-  taken = λ app within. (let held = ring_of s ends app within in all_taken app s.books (taken_of s.ends app) held.0 held.1 (drained app within).0);
+  taken = λ app within. (let held = ring_of s handles app within in all_taken app s.books (taken_of s.handles app) held.0 held.1 (drained app within).0);
   reported = λ app within. (drained app within).1;
-  held = ends.levels;
-  given = queue_of s ends;
+  small = small;
+  held = handles.levels;
+  given = queue_of s handles;
   told = books.told;
 }
 
@@ -87,7 +89,7 @@ lost_calls app (b ∷ books) told = by_test (lost_calls app books (All-tail (λ 
       omega (arith, none, rest)
 
 -- where all books are whole, their records tell all
-all_tell : (books : List BookState) → All IsWhole books → All (λ (b : BookState). IsWhole b → TellAll b.writer b.records) books → All (λ (b : BookState). TellAll b.writer b.records) books
+pub all_tell : (books : List BookState) → All IsWhole books → All (λ (b : BookState). IsWhole b → TellAll b.writer b.records) books → All (λ (b : BookState). TellAll b.writer b.records) books
 all_tell books whole told = λ k d lt. told k d lt (whole k d lt)
 
 module _ (s : AccountState) (is : IsSettled s) (whole : All IsWhole s.books) where
@@ -98,11 +100,11 @@ module _ (s : AccountState) (is : IsSettled s) (whole : All IsWhole s.books) whe
   losses_told app within = is.reported app within ∙ lost_calls app s.books told
 
   -- what was taken of a writer is what it pushed
-  taken_pushed : All (λ (b : BookState). of b.writer.push.number (taken_of s.ends b.writer.app) ≡ b.writer.push.pushed) s.books
+  taken_pushed : All (λ (b : BookState). of b.writer.push.number (taken_of s.handles b.writer.app) ≡ b.writer.push.pushed) s.books
   taken_pushed = λ k d lt.
       (let b : BookState = get_or s.books k d in
       let app : ℕ = b.writer.app in
-      let taken : List Item = taken_of s.ends app in
+      let taken : List Item = taken_of s.handles app in
       let theirs = all_passing (λ (b : BookState). of b.writer.push.number taken ≡ b.writer.push.pushed) (λ (b : BookState). b.writer.app == app) s.books (is.taken app (is.owned k d lt)).each in
       theirs k d lt (eq-eqb app app refl))
 
@@ -113,20 +115,20 @@ module _ (s : AccountState) (is : IsSettled s) (whole : All IsWhole s.books) whe
 
   module _ (events : List Event) (j : IsJournalOf events s) where
     -- what was admitted of a writer is what was taken of it
-    admitted : (app writer : ℕ) → app < length s.apps → filter (of_writer writer) (order app events) ≡ map name_of (of writer (taken_of s.ends app))
-    admitted app writer within = ap (filter (of_writer writer)) (j.admitted app within) ∙ filter-map (of_writer writer) name_of (taken_of s.ends app)
+    admitted : (app writer : ℕ) → app < length s.apps → filter (of_writer writer) (order app events) ≡ map name_of (of writer (taken_of s.handles app))
+    admitted app writer within = ap (filter (of_writer writer)) (j.admitted app within) ∙ filter-map (of_writer writer) name_of (taken_of s.handles app)
 
-    held : All (λ (b : BookState). All (IsHeld s.ends.levels.first events) b.writer.reader.reads) s.books
+    held : All (λ (b : BookState). All (IsHeld s.handles.levels.first events) b.writer.reader.reads) s.books
     held = λ k d lt.
         (let b : BookState = get_or s.books k d in
-        All-weaker (levels.IsEntry s.ends.levels.first s.ends.levels.sets) (IsHeld s.ends.levels.first events)
-        (λ (q : Read) entry. (entry.0, ap (λ (l : List ℕ). slice_get l (q.version - s.ends.levels.first)) (j.set q.slot) ∙ entry.1)) b.writer.reader.reads (is.held k d lt))
+        All-weaker (levels.IsEntry s.handles.levels.first s.handles.levels.sets) (IsHeld s.handles.levels.first events)
+        (λ (q : Read) entry. (entry.0, ap (λ (l : List ℕ). slice_get l (q.version - s.handles.levels.first)) (j.set q.slot) ∙ entry.1)) b.writer.reader.reads (is.held k d lt))
 
     pub is_account : IsAccountOf events s
     is_account = record {
       each = λ k d lt.
           (let b : BookState = get_or s.books k d in
-          account s.ends.levels.first events b.writer b.records (told k d lt) (held k d lt)
+          account s.handles.levels.first events b.writer b.records (told k d lt) (held k d lt)
           (admitted b.writer.app b.writer.push.number (is.owned k d lt) ∙ ap (map name_of) (taken_pushed k d lt)));
       no_others = λ app writer within none. admitted app writer within ∙ ap (map name_of) ((is.taken app within).no_others writer none);
       told = λ app within. (let a = j.losses app within in let l = losses_told app within in omega (arith, a, l));

@@ -3,8 +3,8 @@ use Rattle.std.proofs.Common.{◌≡◌, ◌≢◌, ℕ, ◌+◌, ◌-◌, ◌�
 use Rattle.std.proofs.lemmas.List.{take_more, take_all}
 use Rattle.std.proofs.lemmas.List.Elements.{filter-append}
 use Rattle.std.proofs.lemmas.List.FromFn.{length-map-range_with_len, map-range_with_len_more}
-use Rattle.dl_views.specs.Views.{total}
-use Rattle.dl_views.proofs.Totals.{total-append}
+use Rattle.dl_thread_rules.specs.Views.{total}
+use Rattle.dl_thread_rules.proofs.Totals.{total-append}
 use Rattle.dl_writer.specs.State.{BookState}
 use Rattle.dl_lib.specs.Books.{books_of, given_by, injected_of}
 use Rattle.dl_lib.proofs.InOrder.{within}

@@ -16,9 +16,9 @@ use Rattle.dl_losses.specs.States as losses
 use Rattle.dl_ring.specs.Order.{Holds}
 use Rattle.dl_writer.specs.Records.{TellAll}
 use Rattle.dl_writer.specs.State.{BookState, IsWhole}
-use Rattle.dl_desk.specs.declared.app_ends.AppEnds.{AppEnds}
-use Rattle.dl_desk.specs.declared.app_ends.FirstEnds.{FirstEnds}
-use Rattle.dl_desk.specs.Ends.{EndsState, QueueHolds, RingHolds, with_words}
+use Rattle.dl_desk.specs.declared.app_handles.AppHandles.{AppHandles}
+use Rattle.dl_desk.specs.declared.app_handles.FirstHandles.{FirstHandles}
+use Rattle.dl_desk.specs.Handles.{HandlesState, QueueHolds, RingHolds, with_words}
 use Rattle.dl_desk.specs.Lists.{At}
 use Rattle.dl_desk.specs.Made.{IsMadeWith}
 use Rattle.dl_desk.specs.State.{DeskState}
@@ -26,7 +26,7 @@ use Rattle.dl_desk.proofs.Making.{is_there}
 use Rattle.dl_desk.proofs.Places.{mapped_at, mapped_within}
 use Rattle.dl_lib.specs.Books.{given_by, queued_of}
 use Rattle.dl_lib.specs.ClosingInside.{IsClosing}
-use Rattle.dl_lib.specs.Joining.{FitFirsts, FitsEnds, join_books, join_firsts}
+use Rattle.dl_lib.specs.Joining.{FitFirsts, FitsHandles, join_books, join_firsts}
 use Rattle.dl_lib.specs.Making.{KeepsDesk}
 use Rattle.dl_lib.specs.State.{ClosingState}
 use Rattle.dl_lib.proofs.InOrder.{all_front, within}
@@ -34,51 +34,51 @@ use Rattle.dl_lib.proofs.Joined.{AreJoined, AreReady, gathered_is_joined, ready_
 use Rattle.dl_lib.proofs.Knowing.{ring_known}
 
 -- with one level more read
-abbrev pub looked : EndsState → Read → EndsState
+abbrev pub looked : HandlesState → Read → HandlesState
 looked s r = record s { levels = record s.levels { reads = s.levels.reads ++ r ∷ [] } }
 
 -- what holds of each place that is there holds of each
 at_each : {A : Type 0} (P : ℕ → A → Type 0) (xs : List A) (count : ℕ) → count ≡ length xs → ((n : ℕ) → n < count → At xs n (P n)) → (n : ℕ) → At xs n (P n)
 at_each P xs count long each n x is = let there = within xs n x is in each n (omega (arith, there, long)) x is
 
-module _ (desk : DeskState) (books : List BookState) (ready : AreReady desk books) (s : EndsState) (joined : AreJoined desk books s) (r : Read) (count : ℕ) (counts : count ≡ length desk.apps) where
-  abbrev ends : EndsState
-  ends = looked s r
+module _ (desk : DeskState) (books : List BookState) (ready : AreReady desk books) (s : HandlesState) (joined : AreJoined desk books s) (r : Read) (count : ℕ) (counts : count ≡ length desk.apps) where
+  abbrev handles : HandlesState
+  handles = looked s r
 
   abbrev pub made_of : ClosingState
-  made_of = record { apps = desk.apps; ends = ends; books = books }
+  made_of = record { apps = desk.apps; handles = handles; books = books }
 
-  long : count ≡ length ends.apps
+  long : count ≡ length handles.apps
   long = counts ∙ sym joined.long
 
   -- what was taken of a ring, before and after
-  taken_before : (app : ℕ) (e : AppEnds) → slice_get ends.apps app ≡ Some e → At desk.ends.apps app (λ (old : AppEnds). e.ring.taken ≡ old.ring.taken)
+  taken_before : (app : ℕ) (e : AppHandles) → slice_get handles.apps app ≡ Some e → At desk.handles.apps app (λ (old : AppHandles). e.ring.taken ≡ old.ring.taken)
   taken_before app e is =
-      let here : slice_get (map (λ (e : AppEnds). e.ring.taken) desk.ends.apps) app ≡ Some e.ring.taken =
-      ap (λ (l : List (List Item)). slice_get l app) (sym joined.taken) ∙ slice_get-map (λ (e : AppEnds). e.ring.taken) s.apps app ∙ ap (option_map (λ (e : AppEnds). e.ring.taken)) is
+      let here : slice_get (map (λ (e : AppHandles). e.ring.taken) desk.handles.apps) app ≡ Some e.ring.taken =
+      ap (λ (l : List (List Item)). slice_get l app) (sym joined.taken) ∙ slice_get-map (λ (e : AppHandles). e.ring.taken) s.apps app ∙ ap (option_map (λ (e : AppHandles). e.ring.taken)) is
       in
-      mapped_at (λ (e : AppEnds). e.ring.taken) desk.ends.apps app e.ring.taken here
+      mapped_at (λ (e : AppHandles). e.ring.taken) desk.handles.apps app e.ring.taken here
 
   owned : All (λ (b : BookState). b.writer.app < length desk.apps) books
   owned = All-weaker (λ (b : BookState). IsMadeWith desk b.writer) (λ (b : BookState). b.writer.app < length desk.apps)
       (λ b made. mapped_within (λ (spec : AppSpec). spec.capacity) desk.apps b.writer.app b.writer.push.capacity made.capacity) books ready.made
 
   module _ (calls losses injected : List ℕ) (records : List (List Record))
-      (waiting : (app : ℕ) → app < count → At desk.ends.apps app (λ e. length e.ring.taken ≤ queued_of app books → length e.ring.taken + slice_index calls app ≡ queued_of app books))
-      (untold : (app : ℕ) → app < count → reported_of app ends.losses.reported + slice_index losses app ≡ counted_of app ends.losses.counted)
+      (waiting : (app : ℕ) → app < count → At desk.handles.apps app (λ e. length e.ring.taken ≤ queued_of app books → length e.ring.taken + slice_index calls app ≡ queued_of app books))
+      (untold : (app : ℕ) → app < count → reported_of app handles.losses.reported + slice_index losses app ≡ counted_of app handles.losses.counted)
       (given : injected ≡ given_by count books) (kept : records ≡ map (λ b. b.records) books)
       (told : All (λ b. IsWhole b → TellAll b.writer b.records) books)
-      (entries : All (IsEntry s.levels.first s.levels.sets) ends.levels.reads)
-      (rings : (app : ℕ) → app < count → (contents : List Item) × RingHolds ends app contents)
-      (queues : (app : ℕ) → app < count → (left : ℕ) × QueueHolds ends app left)
-      (range : (app : ℕ) → app < count → At ends.apps app (λ e. length e.queue.pushed < 2 ^ 64)) where
+      (entries : All (IsEntry s.levels.first s.levels.sets) handles.levels.reads)
+      (rings : (app : ℕ) → app < count → (contents : List Item) × RingHolds handles app contents)
+      (queues : (app : ℕ) → app < count → (left : ℕ) × QueueHolds handles app left)
+      (range : (app : ℕ) → app < count → At handles.apps app (λ e. length e.queue.pushed < 2 ^ 64)) where
     -- so many waited as weren't taken
-    waits : (app : ℕ) → app < count → At ends.apps app (λ e. length e.ring.taken + slice_index calls app ≡ queued_of app books)
+    waits : (app : ℕ) → app < count → At handles.apps app (λ e. length e.ring.taken + slice_index calls app ≡ queued_of app books)
     waits app below e is =
         let holds = rings app below in
         let all = (ring_known app books e (joined.back app e is) holds.0 (holds.1 e is)).count in
-        let old = is_there desk.ends.apps app (mapped_within (λ (e : AppEnds). e.ring.taken) desk.ends.apps app e.ring.taken
-        (ap (λ (l : List (List Item)). slice_get l app) (sym joined.taken) ∙ slice_get-map (λ (e : AppEnds). e.ring.taken) s.apps app ∙ ap (option_map (λ (e : AppEnds). e.ring.taken)) is)) in
+        let old = is_there desk.handles.apps app (mapped_within (λ (e : AppHandles). e.ring.taken) desk.handles.apps app e.ring.taken
+        (ap (λ (l : List (List Item)). slice_get l app) (sym joined.taken) ∙ slice_get-map (λ (e : AppHandles). e.ring.taken) s.apps app ∙ ap (option_map (λ (e : AppHandles). e.ring.taken)) is)) in
         let same : length e.ring.taken ≡ length old.0.ring.taken = ap length (taken_before app e is old.0 old.1) in
         let so = waiting app below old.0 old.1 (omega (arith, all, same, length-append e.ring.taken holds.0)) in
         omega (arith, same, so)
@@ -91,13 +91,13 @@ module _ (desk : DeskState) (books : List BookState) (ready : AreReady desk book
         owned = owned;
         told = told;
       };
-      ends = record {
+      handles = record {
         few = ready.kept.few;
-        ends = joined.long;
+        handles = joined.long;
         back = joined.back;
-        rings = at_each (λ _ (e : AppEnds). (contents : List Item) × Holds e.ring contents) ends.apps count long (λ app below e is. (let holds = rings app below in (holds.0, holds.1 e is)));
-        queues = at_each (λ _ (e : AppEnds). (left : ℕ) × queue.Holds e.queue left) ends.apps count long (λ app below e is. (let holds = queues app below in (holds.0, holds.1 e is)));
-        range = at_each (λ _ (e : AppEnds). length e.queue.pushed < 2 ^ 64) ends.apps count long range;
+        rings = at_each (λ _ (e : AppHandles). (contents : List Item) × Holds e.ring contents) handles.apps count long (λ app below e is. (let holds = rings app below in (holds.0, holds.1 e is)));
+        queues = at_each (λ _ (e : AppHandles). (left : ℕ) × queue.Holds e.queue left) handles.apps count long (λ app below e is. (let holds = queues app below in (holds.0, holds.1 e is)));
+        range = at_each (λ _ (e : AppHandles). length e.queue.pushed < 2 ^ 64) handles.apps count long range;
         levels = λ k d lt. All-weaker (Contains s.levels.reads) (IsEntry s.levels.first s.levels.sets)
             (λ q there. All-contains (IsEntry s.levels.first s.levels.sets) s.levels.reads q (all_front (IsEntry s.levels.first s.levels.sets) s.levels.reads (r ∷ []) entries) there)
             (get_or books k d).writer.reader.reads (joined.reads k d lt);
@@ -105,7 +105,7 @@ module _ (desk : DeskState) (books : List BookState) (ready : AreReady desk book
         counted = joined.counted;
       };
       counts = record {
-        waiting = at_each (λ app (e : AppEnds). length e.ring.taken + slice_index calls app ≡ queued_of app books) ends.apps count long waits;
+        waiting = at_each (λ app (e : AppHandles). length e.ring.taken + slice_index calls app ≡ queued_of app books) handles.apps count long waits;
         untold = λ app below. (let u = untold app (omega (arith, below, counts)) in let c = joined.counted app in omega (arith, u, c));
         given = given ∙ ap (λ (n : ℕ). given_by n books) counts;
       };
@@ -126,53 +126,53 @@ module _ (desk : DeskState) (books : List BookState) (ready : AreReady desk book
 
 -- ---- step by step
 
-module _ (desk : DeskState) (books : List BookState) (ready : AreReady desk books) (e0 e1 e2 e3 e4 e5 e6 : EndsState)
-    (firsts : List FirstEnds) (readers : ReaderState) (counters : losses.WriterState)
-    (is0 : e0 ≡ desk.ends) (firsts_are : firsts ≡ desk.firsts) (readers_are : readers ≡ desk.readers) (counters_are : counters ≡ desk.counters) where
-  pub books_fit : All (λ b. FitsEnds e0 b.writer) books
-  books_fit = subst (λ (e : EndsState). All (λ b. FitsEnds e b.writer) books) (sym is0) (ready_fits desk books ready)
+module _ (desk : DeskState) (books : List BookState) (ready : AreReady desk books) (e0 e1 e2 e3 e4 e5 e6 : HandlesState)
+    (firsts : List FirstHandles) (readers : ReaderState) (counters : losses.WriterState)
+    (is0 : e0 ≡ desk.handles) (firsts_are : firsts ≡ desk.firsts) (readers_are : readers ≡ desk.readers) (counters_are : counters ≡ desk.counters) where
+  pub books_fit : All (λ b. FitsHandles e0 b.writer) books
+  books_fit = subst (λ (e : HandlesState). All (λ b. FitsHandles e b.writer) books) (sym is0) (ready_fits desk books ready)
 
   module _ (is1 : e1 ≡ join_books e0 books) where
-    with_all : e1 ≡ join_books desk.ends books
-    with_all = is1 ∙ ap (λ (e : EndsState). join_books e books) is0
+    with_all : e1 ≡ join_books desk.handles books
+    with_all = is1 ∙ ap (λ (e : HandlesState). join_books e books) is0
 
     pub firsts_fit : FitFirsts e1 firsts
-    firsts_fit = subst (λ (e : EndsState). FitFirsts e firsts) (sym with_all) (subst (FitFirsts (join_books desk.ends books)) (sym firsts_are) (ready_fits_firsts desk books ready))
+    firsts_fit = subst (λ (e : HandlesState). FitFirsts e firsts) (sym with_all) (subst (FitFirsts (join_books desk.handles books)) (sym firsts_are) (ready_fits_firsts desk books ready))
 
     module _ (is2 : e2 ≡ join_firsts 0 firsts e1) where
-      with_firsts : e2 ≡ join_firsts 0 desk.firsts (join_books desk.ends books)
-      with_firsts = is2 ∙ ap (λ (f : List FirstEnds). join_firsts 0 f e1) firsts_are ∙ ap (join_firsts 0 desk.firsts) with_all
+      with_firsts : e2 ≡ join_firsts 0 desk.firsts (join_books desk.handles books)
+      with_firsts = is2 ∙ ap (λ (f : List FirstHandles). join_firsts 0 f e1) firsts_are ∙ ap (join_firsts 0 desk.firsts) with_all
 
       pub words_fit : (readers.table ≡ e2.levels.table) × (counters.table ≡ e2.losses.table)
       words_fit =
           let fit = ready_fits_words desk books ready in (
-            ap (λ (r : ReaderState). r.table) readers_are ∙ fit.0 ∙ sym (ap (λ (e : EndsState). e.levels.table) with_firsts),
-            ap (λ (w : losses.WriterState). w.table) counters_are ∙ fit.1 ∙ sym (ap (λ (e : EndsState). e.losses.table) with_firsts),
+            ap (λ (r : ReaderState). r.table) readers_are ∙ fit.0 ∙ sym (ap (λ (e : HandlesState). e.levels.table) with_firsts),
+            ap (λ (w : losses.WriterState). w.table) counters_are ∙ fit.1 ∙ sym (ap (λ (e : HandlesState). e.losses.table) with_firsts),
           )
 
       module _ (is3 : e3 ≡ with_words e2 readers counters) where
         pub joined : AreJoined desk books e3
         joined = subst (AreJoined desk books)
             (sym (is3 ∙ ap (λ (r : ReaderState). with_words e2 r counters) readers_are ∙ ap (λ (w : losses.WriterState). with_words e2 desk.readers w) counters_are
-            ∙ ap (λ (e : EndsState). with_words e desk.readers desk.counters) with_firsts))
+            ∙ ap (λ (e : HandlesState). with_words e desk.readers desk.counters) with_firsts))
             (gathered_is_joined desk books ready)
 
         module _ (r : Read) (is4 : e4 ≡ looked e3 r) (count : ℕ) (counts : count ≡ length desk.apps) where
           pub long_settled : count ≡ length e4.apps
-          long_settled = counts ∙ sym (joined.long) ∙ ap (λ (e : EndsState). length e.apps) (sym is4)
+          long_settled = counts ∙ sym (joined.long) ∙ ap (λ (e : HandlesState). length e.apps) (sym is4)
 
           pub all_shared : e4.losses.shares ≡ all_shares
-          all_shared = ap (λ (e : EndsState). e.losses.shares) is4 ∙ joined.shares
+          all_shared = ap (λ (e : HandlesState). e.losses.shares) is4 ∙ joined.shares
 
           module _ (is5 : e5 ≡ e4) (is6 : e6 ≡ e5) (apps : List AppSpec) (seen : List BookState) (apps_are : apps ≡ desk.apps) (seen_is : seen ≡ books) where
             -- what is there at the end
             last : e6 ≡ looked e3 r
             last = is6 ∙ is5 ∙ is4
 
-            whole : made_of desk books ready e3 joined r count counts ≡ record { apps = apps; ends = e6; books = seen }
-            whole = λ i. record { apps = sym apps_are i; ends = sym last i; books = sym seen_is i }
+            whole : made_of desk books ready e3 joined r count counts ≡ record { apps = apps; handles = e6; books = seen }
+            whole = λ i. record { apps = sym apps_are i; handles = sym last i; books = sym seen_is i }
 
-            pub keeps : KeepsDesk desk (record { apps = apps; ends = e6; books = seen })
+            pub keeps : KeepsDesk desk (record { apps = apps; handles = e6; books = seen })
             keeps = subst (KeepsDesk desk) whole (keeps_desk desk books ready e3 joined r count counts)
 
             pub closes : (calls untold injected : List ℕ) (records : List (List Record))
@@ -184,15 +184,15 @@ module _ (desk : DeskState) (books : List BookState) (ready : AreReady desk book
                 → ((app : ℕ) → app < count → (contents : List Item) × RingHolds e5 app contents)
                 → ((app : ℕ) → app < count → (left : ℕ) × QueueHolds e5 app left)
                 → ((app : ℕ) → app < count → At e5.apps app (λ e. length e.queue.pushed < 2 ^ 64))
-                → IsClosing (record { apps = apps; ends = e6; books = seen }) calls untold injected records
+                → IsClosing (record { apps = apps; handles = e6; books = seen }) calls untold injected records
             closes calls untold injected records waiting each given kept told entries rings queues range =
                 let settled : e5 ≡ looked e3 r = is5 ∙ is4 in
                 subst (λ (s : ClosingState). IsClosing s calls untold injected records) whole
                 (is_closing desk books ready e3 joined r count counts calls untold injected records
-                (subst (λ (e : EndsState). (app : ℕ) → app < count → At e.apps app (λ e. length e.ring.taken ≤ queued_of app books → length e.ring.taken + slice_index calls app ≡ queued_of app books)) is0 waiting)
-                (subst (λ (e : EndsState). (app : ℕ) → app < count → reported_of app e.losses.reported + slice_index untold app ≡ counted_of app e.losses.counted) last each)
+                (subst (λ (e : HandlesState). (app : ℕ) → app < count → At e.apps app (λ e. length e.ring.taken ≤ queued_of app books → length e.ring.taken + slice_index calls app ≡ queued_of app books)) is0 waiting)
+                (subst (λ (e : HandlesState). (app : ℕ) → app < count → reported_of app e.losses.reported + slice_index untold app ≡ counted_of app e.losses.counted) last each)
                 given kept told
-                (subst (λ (e : EndsState). All (IsEntry e3.levels.first e3.levels.sets) e.levels.reads) is4 entries)
-                (subst (λ (e : EndsState). (app : ℕ) → app < count → (contents : List Item) × RingHolds e app contents) settled rings)
-                (subst (λ (e : EndsState). (app : ℕ) → app < count → (left : ℕ) × QueueHolds e app left) settled queues)
-                (subst (λ (e : EndsState). (app : ℕ) → app < count → At e.apps app (λ e. length e.queue.pushed < 2 ^ 64)) settled range))
+                (subst (λ (e : HandlesState). All (IsEntry e3.levels.first e3.levels.sets) e.levels.reads) is4 entries)
+                (subst (λ (e : HandlesState). (app : ℕ) → app < count → (contents : List Item) × RingHolds e app contents) settled rings)
+                (subst (λ (e : HandlesState). (app : ℕ) → app < count → (left : ℕ) × QueueHolds e app left) settled queues)
+                (subst (λ (e : HandlesState). (app : ℕ) → app < count → At e.apps app (λ e. length e.queue.pushed < 2 ^ 64)) settled range))

@@ -6,8 +6,8 @@ use Rattle.std.proofs.lemmas.Bool.{cases_eq}
 use Rattle.std.proofs.lemmas.List.{length-map, map-append}
 use Rattle.std.proofs.lemmas.List.Elements.{All-nil, All-cons, All-head, All-tail, All-append, All-push, All-weaker, All-contains, All-contains_itself, Contains-append_left, Contains-append_right, Contains-append_cases}
 use Rattle.std.proofs.lemmas.List.FromFn.{length-range_with_len}
-use Rattle.dl_views.specs.Views.{bit, times}
-use Rattle.dl_views.proofs.Totals.{times-append}
+use Rattle.dl_thread_rules.specs.Views.{bit, times}
+use Rattle.dl_thread_rules.proofs.Totals.{times-append}
 use Rattle.dl_writer.specs.State.{BookState, numbers}
 use Rattle.dl_desk.specs.Made.{IsMadeWith}
 use Rattle.dl_desk.specs.State.{DeskState}

@@ -17,26 +17,26 @@ use Rattle.dl_losses.specs.Losses.{all_shares, counted_of}
 use Rattle.dl_losses.specs.States as losses
 use Rattle.dl_ring.specs.declared.view.Sent.{Sent}
 use Rattle.dl_ring.specs.State as ring
-use Rattle.dl_views.specs.Views.{bit, times}
+use Rattle.dl_thread_rules.specs.Views.{bit, times}
 use Rattle.dl_writer.specs.State.{BookState, WriterState, numbers}
-use Rattle.dl_desk.specs.declared.app_ends.AppEnds.{AppEnds}
-use Rattle.dl_desk.specs.declared.app_ends.FirstEnds.{FirstEnds}
+use Rattle.dl_desk.specs.declared.app_handles.AppHandles.{AppHandles}
+use Rattle.dl_desk.specs.declared.app_handles.FirstHandles.{FirstHandles}
 use Rattle.dl_desk.specs.DeskInside.{AreFirst, IsDesk, numbers_of}
-use Rattle.dl_desk.specs.Ends.{EndsState, joined_app, with_words}
+use Rattle.dl_desk.specs.Handles.{HandlesState, joined_app, with_words}
 use Rattle.dl_desk.specs.Lists.{At, changed_at}
 use Rattle.dl_desk.specs.Made.{IsMadeWith}
 use Rattle.dl_desk.specs.State.{DeskState}
 use Rattle.dl_desk.proofs.Making.{is_there}
 use Rattle.dl_desk.proofs.Places.{changed_keeps, length-changed_at, map-changed_at, mapped_at, mapped_within}
 use Rattle.dl_lib.specs.Books.{books_of, lost_of}
-use Rattle.dl_lib.specs.Joining.{AreBack, FitFirsts, FitsEnds, join_books, join_firsts, join_writer, sent_of}
+use Rattle.dl_lib.specs.Joining.{AreBack, FitFirsts, FitsHandles, join_books, join_firsts, join_writer, sent_of}
 use Rattle.dl_lib.proofs.InOrder.{within}
 
 -- ---- what is to be shown
 
 -- the desk, once all is taken back but the last look at the levels
-abbrev pub gathered : DeskState → List BookState → EndsState
-gathered desk books = with_words (join_firsts 0 desk.firsts (join_books desk.ends books)) desk.readers desk.counters
+abbrev pub gathered : DeskState → List BookState → HandlesState
+gathered desk books = with_words (join_firsts 0 desk.firsts (join_books desk.handles books)) desk.readers desk.counters
 
 -- what a desk and the books of all its writers, in order, are
 pub record AreReady (desk : DeskState) (books : List BookState) : Type 0 where
@@ -46,19 +46,19 @@ pub record AreReady (desk : DeskState) (books : List BookState) : Type 0 where
   pub all : length books ≡ length desk.owners
 
 -- what is there of them then
-pub record AreJoined (desk : DeskState) (books : List BookState) (s : EndsState) : Type 0 where
+pub record AreJoined (desk : DeskState) (books : List BookState) (s : HandlesState) : Type 0 where
   pub long : length s.apps ≡ length desk.apps
   pub back : (app : ℕ) → At s.apps app (AreBack (books_of app books))
-  pub taken : map (λ (e : AppEnds). e.ring.taken) s.apps ≡ map (λ (e : AppEnds). e.ring.taken) desk.ends.apps
-  pub empties : map (λ (e : AppEnds). e.ring.empties) s.apps ≡ map (λ (e : AppEnds). e.ring.empties) desk.ends.apps
-  pub pushed : map (λ (e : AppEnds). e.queue.pushed) s.apps ≡ map (λ (e : AppEnds). e.queue.pushed) desk.ends.apps
-  pub refusals : map (λ (e : AppEnds). e.queue.refusals) s.apps ≡ map (λ (e : AppEnds). e.queue.refusals) desk.ends.apps
-  pub first : s.levels.first ≡ desk.ends.levels.first
-  pub sets : s.levels.sets ≡ desk.ends.levels.sets
+  pub taken : map (λ (e : AppHandles). e.ring.taken) s.apps ≡ map (λ (e : AppHandles). e.ring.taken) desk.handles.apps
+  pub empties : map (λ (e : AppHandles). e.ring.empties) s.apps ≡ map (λ (e : AppHandles). e.ring.empties) desk.handles.apps
+  pub pushed : map (λ (e : AppHandles). e.queue.pushed) s.apps ≡ map (λ (e : AppHandles). e.queue.pushed) desk.handles.apps
+  pub refusals : map (λ (e : AppHandles). e.queue.refusals) s.apps ≡ map (λ (e : AppHandles). e.queue.refusals) desk.handles.apps
+  pub first : s.levels.first ≡ desk.handles.levels.first
+  pub sets : s.levels.sets ≡ desk.handles.levels.sets
   pub reads : All (λ b. All (Contains s.levels.reads) b.writer.reader.reads) books
   pub shares : s.losses.shares ≡ all_shares
   pub counted : (app : ℕ) → counted_of app s.losses.counted ≡ lost_of app books
-  pub reported : s.losses.reported ≡ desk.ends.losses.reported
+  pub reported : s.losses.reported ≡ desk.handles.losses.reported
 
 -- ---- places
 
@@ -98,53 +98,53 @@ module _ {A : Type 0} where
 
 -- ---- books, one at a time
 
-fits_still : (s : EndsState) (w v : WriterState) → FitsEnds s v → FitsEnds (join_writer s w) v
+fits_still : (s : HandlesState) (w v : WriterState) → FitsHandles s v → FitsHandles (join_writer s w) v
 fits_still s w v fits =
     let long = length-changed_at w.app (joined_app w.push w.injections) s.apps in
     record {
       app = omega (arith, fits.app, long);
-      ring = changed_keeps (λ (e : AppEnds). v.push.ring ≡ e.ring.ring) w.app v.app (joined_app w.push w.injections) s.apps (λ e same. same) fits.ring;
-      queue = changed_keeps (λ (e : AppEnds). v.injections.queue ≡ e.queue.queue) w.app v.app (joined_app w.push w.injections) s.apps (λ e same. same) fits.queue;
+      ring = changed_keeps (λ (e : AppHandles). v.push.ring ≡ e.ring.ring) w.app v.app (joined_app w.push w.injections) s.apps (λ e same. same) fits.ring;
+      queue = changed_keeps (λ (e : AppHandles). v.injections.queue ≡ e.queue.queue) w.app v.app (joined_app w.push w.injections) s.apps (λ e same. same) fits.queue;
       levels = fits.levels;
       losses = fits.losses;
     }
 
-pub fit_stays : (s : EndsState) (b : BookState) (books : List BookState) → All (λ c. FitsEnds s c.writer) (b ∷ books) → All (λ c. FitsEnds (join_writer s b.writer) c.writer) books
-fit_stays s b books fit = All-weaker (λ (c : BookState). FitsEnds s c.writer) (λ (c : BookState). FitsEnds (join_writer s b.writer) c.writer)
-    (λ c fits. fits_still s b.writer c.writer fits) books (All-tail (λ (c : BookState). FitsEnds s c.writer) b books fit)
+pub fit_stays : (s : HandlesState) (b : BookState) (books : List BookState) → All (λ c. FitsHandles s c.writer) (b ∷ books) → All (λ c. FitsHandles (join_writer s b.writer) c.writer) books
+fit_stays s b books fit = All-weaker (λ (c : BookState). FitsHandles s c.writer) (λ (c : BookState). FitsHandles (join_writer s b.writer) c.writer)
+    (λ c fits. fits_still s b.writer c.writer fits) books (All-tail (λ (c : BookState). FitsHandles s c.writer) b books fit)
 
-length-join_books : (s : EndsState) (books : List BookState) → length (join_books s books).apps ≡ length s.apps
+length-join_books : (s : HandlesState) (books : List BookState) → length (join_books s books).apps ≡ length s.apps
 length-join_books s [] = refl
 length-join_books s (b ∷ books) = length-join_books (join_writer s b.writer) books ∙ length-changed_at b.writer.app (joined_app b.writer.push b.writer.injections) s.apps
 
 -- a part of each that no join changes
-module _ {B : Type 0} (q : AppEnds → B) (same : (push : ring.PushState) (takes : injections.TakeState) (e : AppEnds) → q (joined_app push takes e) ≡ q e) where
-  map-join_books : (s : EndsState) (books : List BookState) → map q (join_books s books).apps ≡ map q s.apps
+module _ {B : Type 0} (q : AppHandles → B) (same : (push : ring.PushState) (takes : injections.TakeState) (e : AppHandles) → q (joined_app push takes e) ≡ q e) where
+  map-join_books : (s : HandlesState) (books : List BookState) → map q (join_books s books).apps ≡ map q s.apps
   map-join_books s [] = refl
   map-join_books s (b ∷ books) = map-join_books (join_writer s b.writer) books
       ∙ map-changed_at q b.writer.app (joined_app b.writer.push b.writer.injections) s.apps (same b.writer.push b.writer.injections)
 
-  map-join_firsts : (from : ℕ) (firsts : List FirstEnds) (s : EndsState) → map q (join_firsts from firsts s).apps ≡ map q s.apps
+  map-join_firsts : (from : ℕ) (firsts : List FirstHandles) (s : HandlesState) → map q (join_firsts from firsts s).apps ≡ map q s.apps
   map-join_firsts from [] s = refl
   map-join_firsts from (f ∷ firsts) s = map-changed_at q from (joined_app f.push f.injections) (join_firsts (from + 1) firsts s).apps (same f.push f.injections)
       ∙ map-join_firsts (from + 1) firsts s
 
 -- the levels keep all but their reads, and the losses their table and what was reported
-levels-join_books : (s : EndsState) (books : List BookState) →
+levels-join_books : (s : HandlesState) (books : List BookState) →
     ((join_books s books).levels.table ≡ s.levels.table) × ((join_books s books).levels.first ≡ s.levels.first) × ((join_books s books).levels.sets ≡ s.levels.sets)
 levels-join_books s [] = (refl, refl, refl)
 levels-join_books s (b ∷ books) = levels-join_books (join_writer s b.writer) books
 
-losses-join_books : (s : EndsState) (books : List BookState) → ((join_books s books).losses.table ≡ s.losses.table) × ((join_books s books).losses.reported ≡ s.losses.reported)
+losses-join_books : (s : HandlesState) (books : List BookState) → ((join_books s books).losses.table ≡ s.losses.table) × ((join_books s books).losses.reported ≡ s.losses.reported)
 losses-join_books s [] = (refl, refl)
 losses-join_books s (b ∷ books) = losses-join_books (join_writer s b.writer) books
 
 -- the reads of all are there
-keeps_read : (s : EndsState) (books : List BookState) (r : Read) → Contains s.levels.reads r → Contains (join_books s books).levels.reads r
+keeps_read : (s : HandlesState) (books : List BookState) (r : Read) → Contains s.levels.reads r → Contains (join_books s books).levels.reads r
 keeps_read s [] r at = at
 keeps_read s (b ∷ books) r at = keeps_read (join_writer s b.writer) books r (Contains-append_left s.levels.reads b.writer.reader.reads r at)
 
-reads_there : (s : EndsState) (books : List BookState) → All (λ b. All (Contains (join_books s books).levels.reads) b.writer.reader.reads) books
+reads_there : (s : HandlesState) (books : List BookState) → All (λ b. All (Contains (join_books s books).levels.reads) b.writer.reader.reads) books
 reads_there s [] = All-nil (λ (b : BookState). All (Contains s.levels.reads) b.writer.reader.reads)
 reads_there s (b ∷ books) =
     let new = join_writer s b.writer in
@@ -155,7 +155,7 @@ reads_there s (b ∷ books) =
     (reads_there new books)
 
 -- each has one share, and what they counted adds up
-shares-join_books : (s : EndsState) (books : List BookState) → All (λ b. b.writer.losses.splits_left ≡ 0) books → (join_books s books).losses.shares ≡ s.losses.shares + length books
+shares-join_books : (s : HandlesState) (books : List BookState) → All (λ b. b.writer.losses.splits_left ≡ 0) books → (join_books s books).losses.shares ≡ s.losses.shares + length books
 shares-join_books s [] none = omega arith
 shares-join_books s (b ∷ books) none =
     let own = All-head (λ (c : BookState). c.writer.losses.splits_left ≡ 0) b books none in
@@ -165,7 +165,7 @@ shares-join_books s (b ∷ books) none =
 counted-append : (app : ℕ) (xs ys : List ℕ) → counted_of app (xs ++ ys) ≡ counted_of app xs + counted_of app ys
 counted-append app xs ys = sum_by-append (λ (a : ℕ). cond (a == app) 1 0) xs ys
 
-counted-join_books : (app : ℕ) (s : EndsState) (books : List BookState) → counted_of app (join_books s books).losses.counted ≡ counted_of app s.losses.counted + lost_of app books
+counted-join_books : (app : ℕ) (s : HandlesState) (books : List BookState) → counted_of app (join_books s books).losses.counted ≡ counted_of app s.losses.counted + lost_of app books
 counted-join_books app s [] = omega arith
 counted-join_books app s (b ∷ books) =
     let rest = counted-join_books app (join_writer s b.writer) books in
@@ -173,7 +173,7 @@ counted-join_books app s (b ∷ books) =
     omega (arith, rest, one)
 
 -- what the ends of one application got back of the books, and kept
-record IsAfter (app : ℕ) (books : List BookState) (old new : AppEnds) : Type 0 where
+record IsAfter (app : ℕ) (books : List BookState) (old new : AppHandles) : Type 0 where
   pub ring_is : new.ring.ring ≡ old.ring.ring
   pub queue_is : new.queue.queue ≡ old.queue.queue
   pub ring : new.ring.joined ≡ old.ring.joined ++ map sent_of (books_of app books)
@@ -185,7 +185,7 @@ own_book app b books same = ap (λ (t : Bool). cond t (b ∷ books_of app books)
 pub other_book : (app : ℕ) (b : BookState) (books : List BookState) → b.writer.app ≢ app → books_of app (b ∷ books) ≡ books_of app books
 other_book app b books apart = ap (λ (t : Bool). cond t (b ∷ books_of app books) (books_of app books)) (ne_eqb b.writer.app app apart)
 
-after_own : (app : ℕ) (b : BookState) (books : List BookState) (old new : AppEnds) → b.writer.app ≡ app → IsAfter app books (joined_app b.writer.push b.writer.injections old) new → IsAfter app (b ∷ books) old new
+after_own : (app : ℕ) (b : BookState) (books : List BookState) (old new : AppHandles) → b.writer.app ≡ app → IsAfter app books (joined_app b.writer.push b.writer.injections old) new → IsAfter app (b ∷ books) old new
 after_own app b books old new same a = record {
   ring_is = a.ring_is;
   queue_is = a.queue_is;
@@ -195,7 +195,7 @@ after_own app b books old new same a = record {
       ∙ ap (λ (bs : List BookState). old.queue.joined ++ map (λ (c : BookState). c.writer.injections.taken) bs) (sym (own_book app b books same));
 }
 
-after_other : (app : ℕ) (b : BookState) (books : List BookState) (old new : AppEnds) → b.writer.app ≢ app → IsAfter app books old new → IsAfter app (b ∷ books) old new
+after_other : (app : ℕ) (b : BookState) (books : List BookState) (old new : AppHandles) → b.writer.app ≢ app → IsAfter app books old new → IsAfter app (b ∷ books) old new
 after_other app b books old new apart a = record {
   ring_is = a.ring_is;
   queue_is = a.queue_is;
@@ -203,14 +203,14 @@ after_other app b books old new apart a = record {
   queue = a.queue ∙ ap (λ (bs : List BookState). old.queue.joined ++ map (λ (c : BookState). c.writer.injections.taken) bs) (sym (other_book app b books apart));
 }
 
-after_books : (app : ℕ) (s : EndsState) (books : List BookState) (old new : AppEnds) → slice_get s.apps app ≡ Some old → slice_get (join_books s books).apps app ≡ Some new → IsAfter app books old new
+after_books : (app : ℕ) (s : HandlesState) (books : List BookState) (old new : AppHandles) → slice_get s.apps app ≡ Some old → slice_get (join_books s books).apps app ≡ Some new → IsAfter app books old new
 after_books app s [] old new before after =
     let same = same_read (slice_get s.apps app) old new before after in
     record {
-      ring_is = ap (λ (e : AppEnds). e.ring.ring) (sym same);
-      queue_is = ap (λ (e : AppEnds). e.queue.queue) (sym same);
-      ring = ap (λ (e : AppEnds). e.ring.joined) (sym same) ∙ sym (append-nil old.ring.joined);
-      queue = ap (λ (e : AppEnds). e.queue.joined) (sym same) ∙ sym (append-nil old.queue.joined);
+      ring_is = ap (λ (e : AppHandles). e.ring.ring) (sym same);
+      queue_is = ap (λ (e : AppHandles). e.queue.queue) (sym same);
+      ring = ap (λ (e : AppHandles). e.ring.joined) (sym same) ∙ sym (append-nil old.ring.joined);
+      queue = ap (λ (e : AppHandles). e.queue.joined) (sym same) ∙ sym (append-nil old.queue.joined);
     }
 after_books app s (b ∷ books) old new before after = elim (cases_eq b.writer.app app) [
   | inl same ↦ after_own app b books old new same (after_books app (join_writer s b.writer) books (joined_app b.writer.push b.writer.injections old) new
@@ -222,24 +222,24 @@ after_books app s (b ∷ books) old new before after = elim (cases_eq b.writer.a
 
 -- ---- the first ends
 
-length-join_firsts : (from : ℕ) (firsts : List FirstEnds) (s : EndsState) → length (join_firsts from firsts s).apps ≡ length s.apps
+length-join_firsts : (from : ℕ) (firsts : List FirstHandles) (s : HandlesState) → length (join_firsts from firsts s).apps ≡ length s.apps
 length-join_firsts from [] s = refl
 length-join_firsts from (f ∷ firsts) s = length-changed_at from (joined_app f.push f.injections) (join_firsts (from + 1) firsts s).apps ∙ length-join_firsts (from + 1) firsts s
 
-levels-join_firsts : (from : ℕ) (firsts : List FirstEnds) (s : EndsState) → (join_firsts from firsts s).levels ≡ s.levels
+levels-join_firsts : (from : ℕ) (firsts : List FirstHandles) (s : HandlesState) → (join_firsts from firsts s).levels ≡ s.levels
 levels-join_firsts from [] s = refl
 levels-join_firsts from (f ∷ firsts) s = levels-join_firsts (from + 1) firsts s
 
-losses-join_firsts : (from : ℕ) (firsts : List FirstEnds) (s : EndsState) → (join_firsts from firsts s).losses ≡ s.losses
+losses-join_firsts : (from : ℕ) (firsts : List FirstHandles) (s : HandlesState) → (join_firsts from firsts s).losses ≡ s.losses
 losses-join_firsts from [] s = refl
 losses-join_firsts from (f ∷ firsts) s = losses-join_firsts (from + 1) firsts s
 
-get_below : (from app : ℕ) (firsts : List FirstEnds) (s : EndsState) → app < from → slice_get (join_firsts from firsts s).apps app ≡ slice_get s.apps app
+get_below : (from app : ℕ) (firsts : List FirstHandles) (s : HandlesState) → app < from → slice_get (join_firsts from firsts s).apps app ≡ slice_get s.apps app
 get_below from app [] s low = refl
 get_below from app (f ∷ firsts) s low = get_other from app (joined_app f.push f.injections) (join_firsts (from + 1) firsts s).apps (λ same. omega (arith, low, same))
     ∙ get_below (from + 1) app firsts s (omega (arith, low))
 
-get_first : (from k app : ℕ) (firsts : List FirstEnds) (s : EndsState) (f : FirstEnds) → app ≡ from + k → slice_get firsts k ≡ Some f
+get_first : (from k app : ℕ) (firsts : List FirstHandles) (s : HandlesState) (f : FirstHandles) → app ≡ from + k → slice_get firsts k ≡ Some f
     → slice_get (join_firsts from firsts s).apps app ≡ option_map (joined_app f.push f.injections) (slice_get s.apps app)
 get_first from k app [] s f is at = absurd cc
 get_first from zero app (g ∷ firsts) s f is at =
@@ -248,7 +248,7 @@ get_first from zero app (g ∷ firsts) s f is at =
     subst (λ (n : ℕ). slice_get (changed_at n (joined_app g.push g.injections) (join_firsts (from + 1) firsts s).apps) app ≡ option_map (joined_app g.push g.injections) (slice_get (join_firsts (from + 1) firsts s).apps app))
     here (get_changed app (joined_app g.push g.injections) (join_firsts (from + 1) firsts s).apps)
     ∙ ap (option_map (joined_app g.push g.injections)) (get_below (from + 1) app firsts s (omega (arith, is)))
-    ∙ ap (λ (h : FirstEnds). option_map (joined_app h.push h.injections) (slice_get s.apps app)) same
+    ∙ ap (λ (h : FirstHandles). option_map (joined_app h.push h.injections) (slice_get s.apps app)) same
 get_first from (suc k) app (g ∷ firsts) s f is at = get_other from app (joined_app g.push g.injections) (join_firsts (from + 1) firsts s).apps (λ same. omega (arith, is, same))
     ∙ get_first (from + 1) k app firsts s f (omega (arith, is)) at
 
@@ -303,61 +303,61 @@ given_are_theirs desk books r app = ap (numbers_of app 1) (owners_are desk books
 
 -- ---- what can be taken back
 
-pub ready_fits : (desk : DeskState) (books : List BookState) → AreReady desk books → All (λ b. FitsEnds desk.ends b.writer) books
-ready_fits desk books r = All-weaker (λ (b : BookState). IsMadeWith desk b.writer) (λ (b : BookState). FitsEnds desk.ends b.writer) (λ b made. record {
-  app = mapped_within (λ (e : AppEnds). e.ring.ring) desk.ends.apps b.writer.app b.writer.push.ring made.ring;
-  ring = mapped_at (λ (e : AppEnds). e.ring.ring) desk.ends.apps b.writer.app b.writer.push.ring made.ring;
-  queue = mapped_at (λ (e : AppEnds). e.queue.queue) desk.ends.apps b.writer.app b.writer.injections.queue made.queue;
+pub ready_fits : (desk : DeskState) (books : List BookState) → AreReady desk books → All (λ b. FitsHandles desk.handles b.writer) books
+ready_fits desk books r = All-weaker (λ (b : BookState). IsMadeWith desk b.writer) (λ (b : BookState). FitsHandles desk.handles b.writer) (λ b made. record {
+  app = mapped_within (λ (e : AppHandles). e.ring.ring) desk.handles.apps b.writer.app b.writer.push.ring made.ring;
+  ring = mapped_at (λ (e : AppHandles). e.ring.ring) desk.handles.apps b.writer.app b.writer.push.ring made.ring;
+  queue = mapped_at (λ (e : AppHandles). e.queue.queue) desk.handles.apps b.writer.app b.writer.injections.queue made.queue;
   levels = made.levels;
   losses = made.losses;
 }) books r.made
 
 module _ (desk : DeskState) (books : List BookState) (r : AreReady desk books) where
   -- an application that is there, with what it was before, what its writers left, and its first ends
-  record IsThere (app : ℕ) (now : AppEnds) : Type 0 where
+  record IsThere (app : ℕ) (now : AppHandles) : Type 0 where
     pub spec : AppSpec
-    pub before : AppEnds
-    pub firsts : FirstEnds
+    pub before : AppHandles
+    pub firsts : FirstHandles
     pub first : AreFirst app desk.owners spec before firsts
     pub after : IsAfter app books before now
     pub place : slice_get desk.firsts app ≡ Some firsts
 
-  is_known : (app : ℕ) (now : AppEnds) → slice_get (join_books desk.ends books).apps app ≡ Some now → IsThere app now
+  is_known : (app : ℕ) (now : AppHandles) → slice_get (join_books desk.handles books).apps app ≡ Some now → IsThere app now
   is_known app now at =
       let kept = r.kept in
-      let long = length-join_books desk.ends books in
-      let below = within (join_books desk.ends books).apps app now at in
-      let ends = kept.ends in
+      let long = length-join_books desk.handles books in
+      let below = within (join_books desk.handles books).apps app now at in
+      let handles = kept.handles in
       let firsts = kept.firsts in
-      let spec = is_there desk.apps app (omega (arith, below, long, ends)) in
-      let before = is_there desk.ends.apps app (omega (arith, below, long)) in
-      let first = is_there desk.firsts app (omega (arith, below, long, ends, firsts)) in
+      let spec = is_there desk.apps app (omega (arith, below, long, handles)) in
+      let before = is_there desk.handles.apps app (omega (arith, below, long)) in
+      let first = is_there desk.firsts app (omega (arith, below, long, handles, firsts)) in
       record {
         spec = spec.0;
         before = before.0;
         firsts = first.0;
         first = kept.each app spec.0 before.0 first.0 spec.1 before.1 first.1;
-        after = after_books app desk.ends books before.0 now before.1 at;
+        after = after_books app desk.handles books before.0 now before.1 at;
         place = first.1;
       }
 
-  fits_first : (app : ℕ) (f : FirstEnds) (now : AppEnds) → slice_get desk.firsts app ≡ Some f → IsThere app now → (f.push.ring ≡ now.ring.ring) × (f.injections.queue ≡ now.queue.queue)
+  fits_first : (app : ℕ) (f : FirstHandles) (now : AppHandles) → slice_get desk.firsts app ≡ Some f → IsThere app now → (f.push.ring ≡ now.ring.ring) × (f.injections.queue ≡ now.queue.queue)
   fits_first app f now at is =
       let same = same_read (slice_get desk.firsts app) f is.firsts at is.place in (
-        ap (λ (g : FirstEnds). g.push.ring) same ∙ ap (λ (p : ring.PushState). p.ring) is.first.push ∙ sym is.after.ring_is,
-        ap (λ (g : FirstEnds). g.injections.queue) same ∙ ap (λ (t : injections.TakeState). t.queue) is.first.takes ∙ sym is.after.queue_is,
+        ap (λ (g : FirstHandles). g.push.ring) same ∙ ap (λ (p : ring.PushState). p.ring) is.first.push ∙ sym is.after.ring_is,
+        ap (λ (g : FirstHandles). g.injections.queue) same ∙ ap (λ (t : injections.TakeState). t.queue) is.first.takes ∙ sym is.after.queue_is,
       )
 
-  tables : (desk.readers.table ≡ (join_firsts 0 desk.firsts (join_books desk.ends books)).levels.table) × (desk.counters.table ≡ (join_firsts 0 desk.firsts (join_books desk.ends books)).losses.table)
+  tables : (desk.readers.table ≡ (join_firsts 0 desk.firsts (join_books desk.handles books)).levels.table) × (desk.counters.table ≡ (join_firsts 0 desk.firsts (join_books desk.handles books)).losses.table)
   tables = (
-    ap (λ (k : levels.ReaderState). k.table) r.kept.readers ∙ sym (ap (λ (k : levels.KeeperState). k.table) (levels-join_firsts 0 desk.firsts (join_books desk.ends books)) ∙ (levels-join_books desk.ends books).0),
-    ap (λ (k : losses.WriterState). k.table) r.kept.counters ∙ sym (ap (λ (k : losses.KeeperState). k.table) (losses-join_firsts 0 desk.firsts (join_books desk.ends books)) ∙ (losses-join_books desk.ends books).0),
+    ap (λ (k : levels.ReaderState). k.table) r.kept.readers ∙ sym (ap (λ (k : levels.KeeperState). k.table) (levels-join_firsts 0 desk.firsts (join_books desk.handles books)) ∙ (levels-join_books desk.handles books).0),
+    ap (λ (k : losses.WriterState). k.table) r.kept.counters ∙ sym (ap (λ (k : losses.KeeperState). k.table) (losses-join_firsts 0 desk.firsts (join_books desk.handles books)) ∙ (losses-join_books desk.handles books).0),
   )
 
   -- ---- what is there then
 
-  are_back : (app : ℕ) (old new : AppEnds) → IsThere app old → (f : FirstEnds) → slice_get desk.firsts app ≡ Some f → new ≡ joined_app f.push f.injections old → AreBack (books_of app books) new
-  are_back app old new is f at made = subst (AreBack (books_of app books)) (sym (made ∙ ap (λ (g : FirstEnds). joined_app g.push g.injections old) same)) (record {
+  are_back : (app : ℕ) (old new : AppHandles) → IsThere app old → (f : FirstHandles) → slice_get desk.firsts app ≡ Some f → new ≡ joined_app f.push f.injections old → AreBack (books_of app books) new
+  are_back app old new is f at made = subst (AreBack (books_of app books)) (sym (made ∙ ap (λ (g : FirstHandles). joined_app g.push g.injections old) same)) (record {
     ring = ap (λ (xs : List Sent). xs ++ last is.firsts.push ∷ []) (is.after.ring ∙ ap (λ (xs : List Sent). xs ++ map sent_of (books_of app books)) is.first.ring_joined)
         ∙ ap (λ (p : ring.PushState). map sent_of (books_of app books) ++ last p ∷ []) is.first.push;
     ring_first = ap (λ (p : ring.PushState). if p.first then true else old.ring.first) is.first.push;
@@ -374,37 +374,37 @@ module _ (desk : DeskState) (books : List BookState) (r : AreReady desk books) w
     last : ring.PushState → Sent
     last p = record { number = p.number; items = p.pushed }
 
-  back : (app : ℕ) → At (join_firsts 0 desk.firsts (join_books desk.ends books)).apps app (AreBack (books_of app books))
+  back : (app : ℕ) → At (join_firsts 0 desk.firsts (join_books desk.handles books)).apps app (AreBack (books_of app books))
   back app new at =
-      let below = within (join_firsts 0 desk.firsts (join_books desk.ends books)).apps app new at in
-      let long = length-join_firsts 0 desk.firsts (join_books desk.ends books) in
-      let old = is_there (join_books desk.ends books).apps app (omega (arith, below, long)) in
+      let below = within (join_firsts 0 desk.firsts (join_books desk.handles books)).apps app new at in
+      let long = length-join_firsts 0 desk.firsts (join_books desk.handles books) in
+      let old = is_there (join_books desk.handles books).apps app (omega (arith, below, long)) in
       let is = is_known app old.0 old.1 in
       let f = is.firsts in
-      let made = get_first 0 app app desk.firsts (join_books desk.ends books) f (omega arith) is.place ∙ ap (option_map (joined_app f.push f.injections)) old.1 in
-      are_back app old.0 new is f is.place (same_read (slice_get (join_firsts 0 desk.firsts (join_books desk.ends books)).apps app) new (joined_app f.push f.injections old.0) at made)
+      let made = get_first 0 app app desk.firsts (join_books desk.handles books) f (omega arith) is.place ∙ ap (option_map (joined_app f.push f.injections)) old.1 in
+      are_back app old.0 new is f is.place (same_read (slice_get (join_firsts 0 desk.firsts (join_books desk.handles books)).apps app) new (joined_app f.push f.injections old.0) at made)
 
-  all_there : {B : Type 0} (q : AppEnds → B) → ((push : ring.PushState) (takes : injections.TakeState) (e : AppEnds) → q (joined_app push takes e) ≡ q e)
-      → map q (join_firsts 0 desk.firsts (join_books desk.ends books)).apps ≡ map q desk.ends.apps
-  all_there q same = map-join_firsts q same 0 desk.firsts (join_books desk.ends books) ∙ map-join_books q same desk.ends books
+  all_there : {B : Type 0} (q : AppHandles → B) → ((push : ring.PushState) (takes : injections.TakeState) (e : AppHandles) → q (joined_app push takes e) ≡ q e)
+      → map q (join_firsts 0 desk.firsts (join_books desk.handles books)).apps ≡ map q desk.handles.apps
+  all_there q same = map-join_firsts q same 0 desk.firsts (join_books desk.handles books) ∙ map-join_books q same desk.handles books
 
-  same_levels : (join_firsts 0 desk.firsts (join_books desk.ends books)).levels ≡ (join_books desk.ends books).levels
-  same_levels = levels-join_firsts 0 desk.firsts (join_books desk.ends books)
+  same_levels : (join_firsts 0 desk.firsts (join_books desk.handles books)).levels ≡ (join_books desk.handles books).levels
+  same_levels = levels-join_firsts 0 desk.firsts (join_books desk.handles books)
 
-  same_losses : (join_firsts 0 desk.firsts (join_books desk.ends books)).losses ≡ (join_books desk.ends books).losses
-  same_losses = losses-join_firsts 0 desk.firsts (join_books desk.ends books)
+  same_losses : (join_firsts 0 desk.firsts (join_books desk.handles books)).losses ≡ (join_books desk.handles books).losses
+  same_losses = losses-join_firsts 0 desk.firsts (join_books desk.handles books)
 
   all_reads : All (λ b. All (Contains (gathered desk books).levels.reads) b.writer.reader.reads) books
   all_reads = subst (λ (l : levels.KeeperState). All (λ (b : BookState). All (Contains (l.reads ++ desk.readers.reads)) b.writer.reader.reads) books) (sym same_levels)
-      (All-weaker (λ (b : BookState). All (Contains (join_books desk.ends books).levels.reads) b.writer.reader.reads)
-      (λ (b : BookState). All (Contains ((join_books desk.ends books).levels.reads ++ desk.readers.reads)) b.writer.reader.reads)
-      (λ b all. All-weaker (Contains (join_books desk.ends books).levels.reads) (Contains ((join_books desk.ends books).levels.reads ++ desk.readers.reads))
-      (λ q at. Contains-append_left (join_books desk.ends books).levels.reads desk.readers.reads q at) b.writer.reader.reads all) books (reads_there desk.ends books))
+      (All-weaker (λ (b : BookState). All (Contains (join_books desk.handles books).levels.reads) b.writer.reader.reads)
+      (λ (b : BookState). All (Contains ((join_books desk.handles books).levels.reads ++ desk.readers.reads)) b.writer.reader.reads)
+      (λ b all. All-weaker (Contains (join_books desk.handles books).levels.reads) (Contains ((join_books desk.handles books).levels.reads ++ desk.readers.reads))
+      (λ q at. Contains-append_left (join_books desk.handles books).levels.reads desk.readers.reads q at) b.writer.reader.reads all) books (reads_there desk.handles books))
 
   all_shared : (gathered desk books).losses.shares ≡ all_shares
   all_shared =
       let none = All-weaker (λ (b : BookState). IsMadeWith desk b.writer) (λ (b : BookState). b.writer.losses.splits_left ≡ 0) (λ b made. made.split.2) books r.made in
-      let sum = ap (λ (k : losses.KeeperState). k.shares) same_losses ∙ shares-join_books desk.ends books none in
+      let sum = ap (λ (k : losses.KeeperState). k.shares) same_losses ∙ shares-join_books desk.handles books none in
       let left = r.kept.counters_left in
       let begun = r.kept.shares in
       let long = r.all in
@@ -412,34 +412,34 @@ module _ (desk : DeskState) (books : List BookState) (r : AreReady desk books) w
 
   all_counted : (app : ℕ) → counted_of app (gathered desk books).losses.counted ≡ lost_of app books
   all_counted app =
-      let sum = counted-append app (join_firsts 0 desk.firsts (join_books desk.ends books)).losses.counted desk.counters.counted in
-      let books_so = ap (λ (k : losses.KeeperState). counted_of app k.counted) same_losses ∙ counted-join_books app desk.ends books in
+      let sum = counted-append app (join_firsts 0 desk.firsts (join_books desk.handles books)).losses.counted desk.counters.counted in
+      let books_so = ap (λ (k : losses.KeeperState). counted_of app k.counted) same_losses ∙ counted-join_books app desk.handles books in
       let begun = ap (counted_of app) r.kept.counted in
       let first : counted_of app desk.counters.counted ≡ 0 = ap (λ (k : losses.WriterState). counted_of app k.counted) r.kept.counters in
       omega (arith, sum, books_so, begun, first)
 
-pub ready_fits_firsts : (desk : DeskState) (books : List BookState) → AreReady desk books → FitFirsts (join_books desk.ends books) desk.firsts
+pub ready_fits_firsts : (desk : DeskState) (books : List BookState) → AreReady desk books → FitFirsts (join_books desk.handles books) desk.firsts
 ready_fits_firsts desk books r = record {
-  long = r.kept.firsts ∙ sym r.kept.ends ∙ sym (length-join_books desk.ends books);
+  long = r.kept.firsts ∙ sym r.kept.handles ∙ sym (length-join_books desk.handles books);
   each = λ app f f_at now now_at. fits_first desk books r app f now f_at (is_known desk books r app now now_at);
 }
 
 pub ready_fits_words : (desk : DeskState) (books : List BookState) → AreReady desk books →
-    let s : EndsState = join_firsts 0 desk.firsts (join_books desk.ends books) in (desk.readers.table ≡ s.levels.table) × (desk.counters.table ≡ s.losses.table)
+    let s : HandlesState = join_firsts 0 desk.firsts (join_books desk.handles books) in (desk.readers.table ≡ s.levels.table) × (desk.counters.table ≡ s.losses.table)
 ready_fits_words desk books r = tables desk books r
 
 pub gathered_is_joined : (desk : DeskState) (books : List BookState) → AreReady desk books → AreJoined desk books (gathered desk books)
 gathered_is_joined desk books r = record {
-  long = length-join_firsts 0 desk.firsts (join_books desk.ends books) ∙ length-join_books desk.ends books ∙ r.kept.ends;
+  long = length-join_firsts 0 desk.firsts (join_books desk.handles books) ∙ length-join_books desk.handles books ∙ r.kept.handles;
   back = back desk books r;
-  taken = all_there desk books r (λ (e : AppEnds). e.ring.taken) (λ push takes e. refl);
-  empties = all_there desk books r (λ (e : AppEnds). e.ring.empties) (λ push takes e. refl);
-  pushed = all_there desk books r (λ (e : AppEnds). e.queue.pushed) (λ push takes e. refl);
-  refusals = all_there desk books r (λ (e : AppEnds). e.queue.refusals) (λ push takes e. refl);
-  first = ap (λ (l : levels.KeeperState). l.first) (same_levels desk books r) ∙ (levels-join_books desk.ends books).1;
-  sets = ap (λ (l : levels.KeeperState). l.sets) (same_levels desk books r) ∙ (levels-join_books desk.ends books).2;
+  taken = all_there desk books r (λ (e : AppHandles). e.ring.taken) (λ push takes e. refl);
+  empties = all_there desk books r (λ (e : AppHandles). e.ring.empties) (λ push takes e. refl);
+  pushed = all_there desk books r (λ (e : AppHandles). e.queue.pushed) (λ push takes e. refl);
+  refusals = all_there desk books r (λ (e : AppHandles). e.queue.refusals) (λ push takes e. refl);
+  first = ap (λ (l : levels.KeeperState). l.first) (same_levels desk books r) ∙ (levels-join_books desk.handles books).1;
+  sets = ap (λ (l : levels.KeeperState). l.sets) (same_levels desk books r) ∙ (levels-join_books desk.handles books).2;
   reads = all_reads desk books r;
   shares = all_shared desk books r;
   counted = all_counted desk books r;
-  reported = ap (λ (k : losses.KeeperState). k.reported) (same_losses desk books r) ∙ (losses-join_books desk.ends books).1;
+  reported = ap (λ (k : losses.KeeperState). k.reported) (same_losses desk books r) ∙ (losses-join_books desk.handles books).1;
 }

@@ -11,14 +11,14 @@ use Rattle.dl_injections.specs.declared.view.Entry.{Entry}
 use Rattle.dl_injections.specs.Order as queue
 use Rattle.dl_ring.specs.declared.view.Sent.{Sent}
 use Rattle.dl_ring.specs.Order.{AllJoined, Holds, of}
-use Rattle.dl_views.specs.Views.{bit, times, total}
-use Rattle.dl_views.proofs.Totals.{total-snoc}
+use Rattle.dl_thread_rules.specs.Views.{bit, times, total}
+use Rattle.dl_thread_rules.proofs.Totals.{total-snoc}
 use Rattle.dl_writer.specs.State.{BookState, numbers}
-use Rattle.dl_desk.specs.declared.app_ends.AppEnds.{AppEnds}
+use Rattle.dl_desk.specs.declared.app_handles.AppHandles.{AppHandles}
 use Rattle.dl_desk.specs.Posting.{pushed_of}
 use Rattle.dl_desk.proofs.Making.{is_there}
 use Rattle.dl_lib.specs.Books.{books_of, given_by, injected_of}
-use Rattle.dl_lib.specs.ClosingInside.{HaveEnds, IsClosing}
+use Rattle.dl_lib.specs.ClosingInside.{HaveHandles, IsClosing}
 use Rattle.dl_lib.specs.Joining.{AreBack, sent_of}
 use Rattle.dl_lib.specs.Known.{AreGathered, AreGivenOnce, IsAllOf, taken_of}
 use Rattle.dl_lib.specs.State.{ClosingState}
@@ -29,7 +29,7 @@ use Rattle.dl_lib.proofs.Lists.{all_last, all_mapped, total-map}
 abbrev unsent : Sent
 unsent = record { number = 0; items = [] }
 
-module _ (app : ℕ) (books : List BookState) (e : AppEnds) (back : AreBack (books_of app books) e) where
+module _ (app : ℕ) (books : List BookState) (e : AppHandles) (back : AreBack (books_of app books) e) where
   abbrev theirs : List BookState
   theirs = books_of app books
 
@@ -95,29 +95,29 @@ module _ (app : ℕ) (books : List BookState) (e : AppEnds) (back : AreBack (boo
 
 -- ---- the daemon's side
 
-module _ (s : ClosingState) (ends : HaveEnds s) (app : ℕ) (within : app < length s.apps) where
-  pub here : (e : AppEnds) × (slice_get s.ends.apps app ≡ Some e)
-  here = is_there s.ends.apps app (let same = ends.ends in omega (arith, same, within))
+module _ (s : ClosingState) (handles : HaveHandles s) (app : ℕ) (within : app < length s.apps) where
+  pub here : (e : AppHandles) × (slice_get s.handles.apps app ≡ Some e)
+  here = is_there s.handles.apps app (let same = handles.handles in omega (arith, same, within))
 
-  pub taken_here : here.0.ring.taken ≡ taken_of s.ends app
-  taken_here = sym (ap (λ o. unwrap_or (option_map (λ (e : AppEnds). e.ring.taken) o) []) here.1)
+  pub taken_here : here.0.ring.taken ≡ taken_of s.handles app
+  taken_here = sym (ap (λ o. unwrap_or (option_map (λ (e : AppHandles). e.ring.taken) o) []) here.1)
 
-  pushed_here : here.0.queue.pushed ≡ pushed_of s.ends app
-  pushed_here = sym (ap (λ o. unwrap_or (option_map (λ (e : AppEnds). e.queue.pushed) o) []) here.1)
+  pushed_here : here.0.queue.pushed ≡ pushed_of s.handles app
+  pushed_here = sym (ap (λ o. unwrap_or (option_map (λ (e : AppHandles). e.queue.pushed) o) []) here.1)
 
-  pub ring_of : (contents : List Item) × IsAllOf app s.books (taken_of s.ends app ++ contents)
+  pub ring_of : (contents : List Item) × IsAllOf app s.books (taken_of s.handles app ++ contents)
   ring_of =
-      let holds = ends.rings app here.0 here.1 in
-      (holds.0, subst (λ (l : List Item). IsAllOf app s.books (l ++ holds.0)) taken_here (ring_known app s.books here.0 (ends.back app here.0 here.1) holds.0 holds.1))
+      let holds = handles.rings app here.0 here.1 in
+      (holds.0, subst (λ (l : List Item). IsAllOf app s.books (l ++ holds.0)) taken_here (ring_known app s.books here.0 (handles.back app here.0 here.1) holds.0 holds.1))
 
-  pub queue_of : (left : ℕ) × AreGivenOnce app s.books (pushed_of s.ends app) left
+  pub queue_of : (left : ℕ) × AreGivenOnce app s.books (pushed_of s.handles app) left
   queue_of =
-      let holds = ends.queues app here.0 here.1 in
-      (holds.0, subst (λ (l : List Injection). AreGivenOnce app s.books l holds.0) pushed_here (queue_known app s.books here.0 (ends.back app here.0 here.1) holds.0 holds.1))
+      let holds = handles.queues app here.0 here.1 in
+      (holds.0, subst (λ (l : List Injection). AreGivenOnce app s.books l holds.0) pushed_here (queue_known app s.books here.0 (handles.back app here.0 here.1) holds.0 holds.1))
 
   -- the count of injections that were given, in 64 bits, is exact
   pub given_exact : min (2 ^ 64 - 1) (injected_of app s.books) ≡ injected_of app s.books
-  given_exact = let holds = ends.queues app here.0 here.1 in given_in_range app s.books here.0 (ends.back app here.0 here.1) holds.0 holds.1 (ends.range app here.0 here.1)
+  given_exact = let holds = handles.queues app here.0 here.1 in given_in_range app s.books here.0 (handles.back app here.0 here.1) holds.0 holds.1 (handles.range app here.0 here.1)
 
   pub given_there : (counts : List ℕ) → counts ≡ given_by (length s.apps) s.books → (app < length counts) × (get_or counts app 0 ≡ injected_of app s.books)
   given_there counts is =
@@ -130,9 +130,9 @@ pub gathered : (s : ClosingState) (calls losses injected : List ℕ) (records : 
 gathered s calls losses injected records c = record {
   numbered = c.books.numbered;
   owned = c.books.owned;
-  rings = ring_of s c.ends;
-  queues = queue_of s c.ends;
-  levels = c.ends.levels;
+  rings = ring_of s c.handles;
+  queues = queue_of s c.handles;
+  levels = c.handles.levels;
   losses = λ app within. (let u = c.counts.untold app within in omega (arith, u));
   told = c.books.told;
 }

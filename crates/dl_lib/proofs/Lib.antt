@@ -9,3 +9,4 @@ pub mod Stepping
 pub mod Gathering
 pub mod Loops
 pub mod Upto
+pub mod Accounted

@@ -3,7 +3,7 @@ use Rattle.std.proofs.Common.{◌≡◌, ℕ, ◌+◌, Bool, true, false, true�
 use Rattle.std.specs.Prelude.{All}
 use Rattle.std.specs.List.{filter}
 use Rattle.std.proofs.lemmas.List.Elements.{All-nil, All-cons, All-head, All-tail}
-use Rattle.dl_views.specs.Views.{total}
+use Rattle.dl_thread_rules.specs.Views.{total}
 
 module _ {X : Type 0} (P : X → Type 0) where
   pub all_last : (xs : List X) (y : X) → All P (xs ++ y ∷ []) → P y

@@ -5,31 +5,31 @@ use Rattle.std.proofs.lemmas.List.Elements.{All-head, All-push}
 use Rattle.dl_events.specs.declared.record.Record.{Record}
 use Rattle.dl_writer.specs.Records.{TellAll}
 use Rattle.dl_writer.specs.State.{BookState, IsWhole}
-use Rattle.dl_desk.specs.declared.app_ends.AppEnds.{AppEnds}
-use Rattle.dl_desk.specs.declared.app_ends.FirstEnds.{FirstEnds}
-use Rattle.dl_desk.specs.Ends.{EndsState, joined_app, with_passes}
+use Rattle.dl_desk.specs.declared.app_handles.AppHandles.{AppHandles}
+use Rattle.dl_desk.specs.declared.app_handles.FirstHandles.{FirstHandles}
+use Rattle.dl_desk.specs.Handles.{HandlesState, joined_app, with_passes}
 use Rattle.dl_desk.specs.Lists.{At}
 use Rattle.dl_desk.proofs.Places.{changed_keeps, length-changed_at}
-use Rattle.dl_lib.specs.Joining.{FitFirsts, FitsEnds, join_books, join_firsts, join_writer}
+use Rattle.dl_lib.specs.Joining.{FitFirsts, FitsHandles, join_books, join_firsts, join_writer}
 use Rattle.dl_lib.proofs.Joined.{fit_stays}
 
 -- ---- books, the first one first
 
 -- these are left of all, with the records of the others
-pub record IsJoining (start : EndsState) (all : List BookState) (s : EndsState) (left : List BookState) (records : List (List Record)) : Type 0 where
+pub record IsJoining (start : HandlesState) (all : List BookState) (s : HandlesState) (left : List BookState) (records : List (List Record)) : Type 0 where
   pub done : List BookState
   pub parted : all ≡ done ++ left
   pub told : All (λ b. IsWhole b → TellAll b.writer b.records) done
-  pub ends : join_books s left ≡ join_books start all
+  pub handles : join_books s left ≡ join_books start all
   pub kept : records ++ map (λ b. b.records) left ≡ map (λ b. b.records) all
-  pub fit : All (λ b. FitsEnds s b.writer) left
+  pub fit : All (λ b. FitsHandles s b.writer) left
   pub few : length records + length left ≤ 32
 
 -- the next one fits
-pub next_fits : (s : EndsState) (left after : List BookState) (b : BookState) → left ≡ b ∷ after → All (λ b. FitsEnds s b.writer) left → FitsEnds s b.writer
-next_fits s left after b parted fit = All-head (λ (c : BookState). FitsEnds s c.writer) b after (subst (All (λ (c : BookState). FitsEnds s c.writer)) parted fit)
+pub next_fits : (s : HandlesState) (left after : List BookState) (b : BookState) → left ≡ b ∷ after → All (λ b. FitsHandles s b.writer) left → FitsHandles s b.writer
+next_fits s left after b parted fit = All-head (λ (c : BookState). FitsHandles s c.writer) b after (subst (All (λ (c : BookState). FitsHandles s c.writer)) parted fit)
 
-joins_one : (start s : EndsState) (all after : List BookState) (b : BookState) (records : List (List Record)) → (IsWhole b → TellAll b.writer b.records)
+joins_one : (start s : HandlesState) (all after : List BookState) (b : BookState) (records : List (List Record)) → (IsWhole b → TellAll b.writer b.records)
     → IsJoining start all s (b ∷ after) records → IsJoining start all (join_writer s b.writer) after (records ++ b.records ∷ [])
 joins_one start s all after b records told i =
     let long = length-append records (b.records ∷ []) in
@@ -38,74 +38,74 @@ joins_one start s all after b records told i =
       done = i.done ++ b ∷ [];
       parted = i.parted ∙ sym (append_assoc i.done (b ∷ []) after);
       told = All-push (λ (c : BookState). IsWhole c → TellAll c.writer c.records) i.done b i.told told;
-      ends = i.ends;
+      handles = i.handles;
       kept = append_assoc records (b.records ∷ []) (map (λ (c : BookState). c.records) after) ∙ i.kept;
       fit = fit_stays s b after i.fit;
       few = omega (arith, long, few);
     }
 
-pub joins_on : (start s new : EndsState) (all left after : List BookState) (b : BookState) (records more : List (List Record))
+pub joins_on : (start s new : HandlesState) (all left after : List BookState) (b : BookState) (records more : List (List Record))
     → left ≡ b ∷ after → new ≡ join_writer s b.writer → more ≡ records ++ b.records ∷ [] → (IsWhole b → TellAll b.writer b.records)
     → IsJoining start all s left records → IsJoining start all new after more
 joins_on start s new all left after b records more parted made added told i =
-    subst (λ (e : EndsState). IsJoining start all e after more) (sym made)
+    subst (λ (e : HandlesState). IsJoining start all e after more) (sym made)
     (subst (λ (rs : List (List Record)). IsJoining start all (join_writer s b.writer) after rs) (sym added)
     (joins_one start s all after b records told (subst (λ (bs : List BookState). IsJoining start all s bs records) parted i)))
 
 -- ---- first ends, the last one first
 
 -- of these that are left there are ends in front of the others'
-pub record FitFront (s : EndsState) (left : List FirstEnds) : Type 0 where
+pub record FitFront (s : HandlesState) (left : List FirstHandles) : Type 0 where
   pub long : length left ≤ length s.apps
   pub each : (app : ℕ) → At left app (λ f. At s.apps app (λ e. (f.push.ring ≡ e.ring.ring) × (f.injections.queue ≡ e.queue.queue)))
 
-pub record AreJoining (start : EndsState) (all : List FirstEnds) (s : EndsState) (left : List FirstEnds) : Type 0 where
-  pub ends : join_firsts 0 left s ≡ join_firsts 0 all start
+pub record AreJoining (start : HandlesState) (all : List FirstHandles) (s : HandlesState) (left : List FirstHandles) : Type 0 where
+  pub handles : join_firsts 0 left s ≡ join_firsts 0 all start
   pub fit : FitFront s left
   pub few : length left ≤ 16
 
-joined_last : (from : ℕ) (left : List FirstEnds) (f : FirstEnds) (s : EndsState) → join_firsts from (left ++ f ∷ []) s ≡ join_firsts from left (with_passes s (from + length left) f.push f.injections)
+joined_last : (from : ℕ) (left : List FirstHandles) (f : FirstHandles) (s : HandlesState) → join_firsts from (left ++ f ∷ []) s ≡ join_firsts from left (with_passes s (from + length left) f.push f.injections)
 joined_last from [] f s = let same : from ≡ from + 0 = omega arith in ap (λ (n : ℕ). with_passes s n f.push f.injections) same
 joined_last from (g ∷ left) f s =
     let same : from + 1 + length left ≡ from + suc (length left) = omega arith in
-    ap (λ (e : EndsState). with_passes e from g.push g.injections) (joined_last (from + 1) left f s ∙ ap (λ (n : ℕ). join_firsts (from + 1) left (with_passes s n f.push f.injections)) same)
+    ap (λ (e : HandlesState). with_passes e from g.push g.injections) (joined_last (from + 1) left f s ∙ ap (λ (n : ℕ). join_firsts (from + 1) left (with_passes s n f.push f.injections)) same)
 
-at_end : (left : List FirstEnds) (f : FirstEnds) → slice_get (left ++ f ∷ []) (length left) ≡ Some f
+at_end : (left : List FirstHandles) (f : FirstHandles) → slice_get (left ++ f ∷ []) (length left) ≡ Some f
 at_end [] f = refl
 at_end (g ∷ left) f = at_end left f
 
-at_front : (left : List FirstEnds) (f g : FirstEnds) (app : ℕ) → slice_get left app ≡ Some g → slice_get (left ++ f ∷ []) app ≡ Some g
+at_front : (left : List FirstHandles) (f g : FirstHandles) (app : ℕ) → slice_get left app ≡ Some g → slice_get (left ++ f ∷ []) app ≡ Some g
 at_front [] f g app at = absurd cc
 at_front (h ∷ left) f g zero at = at
 at_front (h ∷ left) f g (suc app) at = at_front left f g app at
 
 -- the last one fits
-pub last_fits : (s : EndsState) (all left : List FirstEnds) (f : FirstEnds) (app : ℕ) → all ≡ left ++ f ∷ [] → app ≡ length left → FitFront s all
+pub last_fits : (s : HandlesState) (all left : List FirstHandles) (f : FirstHandles) (app : ℕ) → all ≡ left ++ f ∷ [] → app ≡ length left → FitFront s all
     → (app < length s.apps) × At s.apps app (λ e. f.push.ring ≡ e.ring.ring) × At s.apps app (λ e. f.injections.queue ≡ e.queue.queue)
 last_fits s all left f app parted is fit =
     let long = fit.long in
     let count = ap length parted ∙ length-append left (f ∷ []) in
-    let at : slice_get all app ≡ Some f = ap (λ (n : ℕ). slice_get all n) is ∙ ap (λ (fs : List FirstEnds). slice_get fs (length left)) parted ∙ at_end left f in
+    let at : slice_get all app ≡ Some f = ap (λ (n : ℕ). slice_get all n) is ∙ ap (λ (fs : List FirstHandles). slice_get fs (length left)) parted ∙ at_end left f in
     (omega (arith, long, count, is), λ e e_at. (fit.each app f at e e_at).0, λ e e_at. (fit.each app f at e e_at).1)
 
-pub joins_first : (start s new : EndsState) (whole all left : List FirstEnds) (f : FirstEnds) (app : ℕ) → all ≡ left ++ f ∷ [] → app ≡ length left → new ≡ with_passes s app f.push f.injections
+pub joins_first : (start s new : HandlesState) (whole all left : List FirstHandles) (f : FirstHandles) (app : ℕ) → all ≡ left ++ f ∷ [] → app ≡ length left → new ≡ with_passes s app f.push f.injections
     → AreJoining start whole s all → AreJoining start whole new left
-joins_first start s new whole all left f app parted is made i = subst (λ (e : EndsState). AreJoining start whole e left) (sym (made ∙ ap (λ (n : ℕ). with_passes s n f.push f.injections) here)) (
+joins_first start s new whole all left f app parted is made i = subst (λ (e : HandlesState). AreJoining start whole e left) (sym (made ∙ ap (λ (n : ℕ). with_passes s n f.push f.injections) here)) (
     let count = ap length parted ∙ length-append left (f ∷ []) in
     let few = i.few in
     let long = i.fit.long in
     let same = length-changed_at (0 + length left) (joined_app f.push f.injections) s.apps in
     record {
-      ends = sym (joined_last 0 left f s) ∙ sym (ap (λ (fs : List FirstEnds). join_firsts 0 fs s) parted) ∙ i.ends;
+      handles = sym (joined_last 0 left f s) ∙ sym (ap (λ (fs : List FirstHandles). join_firsts 0 fs s) parted) ∙ i.handles;
       fit = record {
         long = omega (arith, count, long, same);
-        each = λ n g g_at. changed_keeps (λ (e : AppEnds). (g.push.ring ≡ e.ring.ring) × (g.injections.queue ≡ e.queue.queue)) (0 + length left) n (joined_app f.push f.injections) s.apps
-            (λ e same. same) (i.fit.each n g (ap (λ (fs : List FirstEnds). slice_get fs n) parted ∙ at_front left f g n g_at));
+        each = λ n g g_at. changed_keeps (λ (e : AppHandles). (g.push.ring ≡ e.ring.ring) × (g.injections.queue ≡ e.queue.queue)) (0 + length left) n (joined_app f.push f.injections) s.apps
+            (λ e same. same) (i.fit.each n g (ap (λ (fs : List FirstHandles). slice_get fs n) parted ∙ at_front left f g n g_at));
       };
       few = omega (arith, count, few);
     }) where
       here : app ≡ 0 + length left
       here = omega (arith, is)
 
-pub begins : (s : EndsState) (firsts : List FirstEnds) → FitFirsts s firsts → length firsts ≤ 16 → AreJoining s firsts s firsts
-begins s firsts fit few = record { ends = refl; fit = record { long = (let same = fit.long in omega (arith, same)); each = fit.each }; few = few }
+pub begins : (s : HandlesState) (firsts : List FirstHandles) → FitFirsts s firsts → length firsts ≤ 16 → AreJoining s firsts s firsts
+begins s firsts fit few = record { handles = refl; fit = record { long = (let same = fit.long in omega (arith, same)); each = fit.each }; few = few }

@@ -13,12 +13,12 @@ use Rattle.dl_losses.specs.Losses.{all_shares, counted_of, reported_of}
 use Rattle.dl_losses.proofs.Sums.{reported_else}
 use Rattle.dl_ring.specs.Order.{Holds}
 use Rattle.dl_writer.specs.State.{BookState}
-use Rattle.dl_desk.specs.declared.app_ends.AppEnds.{AppEnds}
-use Rattle.dl_desk.specs.Ends.{EndsState, QueueHolds, RingHolds, with_empty_take, with_injected, with_item, with_level, with_refusal, with_report}
+use Rattle.dl_desk.specs.declared.app_handles.AppHandles.{AppHandles}
+use Rattle.dl_desk.specs.Handles.{HandlesState, QueueHolds, RingHolds, with_empty_take, with_injected, with_item, with_level, with_refusal, with_report}
 use Rattle.dl_desk.specs.Lists.{At, changed_at}
 use Rattle.dl_desk.proofs.Places.{changed_else, changed_here, changed_keeps, length-changed_at}
 use Rattle.dl_lib.specs.Books.{books_of, lost_of, queued_of}
-use Rattle.dl_lib.specs.ClosingInside.{HaveEnds, IsClosing}
+use Rattle.dl_lib.specs.ClosingInside.{HaveHandles, IsClosing}
 use Rattle.dl_lib.specs.Joining.{AreBack}
 use Rattle.dl_lib.specs.Known.{IsDrained, IsEmpty, IsTold}
 use Rattle.dl_lib.specs.State.{ClosingState}
@@ -56,7 +56,7 @@ set_zero (x ∷ xs) (suc n) = set_zero xs n
 -- ---- a change of one application's ends
 
 -- the passes that are back are the same where these parts are
-same_back : (books : List BookState) (old new : AppEnds) → new.ring.joined ≡ old.ring.joined → new.ring.first ≡ old.ring.first → new.ring.given ≡ old.ring.given
+same_back : (books : List BookState) (old new : AppHandles) → new.ring.joined ≡ old.ring.joined → new.ring.first ≡ old.ring.first → new.ring.given ≡ old.ring.given
     → new.queue.joined ≡ old.queue.joined → new.queue.first ≡ old.queue.first → new.queue.splits ≡ old.queue.splits → AreBack books old → AreBack books new
 same_back books old new joined first given queue_joined queue_first splits b = record {
   ring = joined ∙ b.ring;
@@ -67,21 +67,21 @@ same_back books old new joined first given queue_joined queue_first splits b = r
   splits = splits ∙ b.splits;
 }
 
-module _ (s : ClosingState) (app : ℕ) (f : AppEnds → AppEnds) where
-  abbrev changed : List AppEnds
-  changed = changed_at app f s.ends.apps
+module _ (s : ClosingState) (app : ℕ) (f : AppHandles → AppHandles) where
+  abbrev changed : List AppHandles
+  changed = changed_at app f s.handles.apps
 
   -- it keeps what the passes that are back had done
-  have_ends : HaveEnds s → ((books : List BookState) (e : AppEnds) → AreBack books e → AreBack books (f e))
+  have_handles : HaveHandles s → ((books : List BookState) (e : AppHandles) → AreBack books e → AreBack books (f e))
       → At changed app (λ e. (contents : List Item) × Holds e.ring contents) → At changed app (λ e. (left : ℕ) × queue.Holds e.queue left)
-      → At changed app (λ e. length e.queue.pushed < 2 ^ 64) → HaveEnds (record s { ends = record s.ends { apps = changed } })
-  have_ends h back rings queues range = record {
+      → At changed app (λ e. length e.queue.pushed < 2 ^ 64) → HaveHandles (record s { handles = record s.handles { apps = changed } })
+  have_handles h back rings queues range = record {
     few = h.few;
-    ends = length-changed_at app f s.ends.apps ∙ h.ends;
-    back = λ n. changed_keeps (AreBack (books_of n s.books)) app n f s.ends.apps (back (books_of n s.books)) (h.back n);
-    rings = at_all (λ _ (e : AppEnds). (contents : List Item) × Holds e.ring contents) app f s.ends.apps rings (λ n _. h.rings n);
-    queues = at_all (λ _ (e : AppEnds). (left : ℕ) × queue.Holds e.queue left) app f s.ends.apps queues (λ n _. h.queues n);
-    range = at_all (λ _ (e : AppEnds). length e.queue.pushed < 2 ^ 64) app f s.ends.apps range (λ n _. h.range n);
+    handles = length-changed_at app f s.handles.apps ∙ h.handles;
+    back = λ n. changed_keeps (AreBack (books_of n s.books)) app n f s.handles.apps (back (books_of n s.books)) (h.back n);
+    rings = at_all (λ _ (e : AppHandles). (contents : List Item) × Holds e.ring contents) app f s.handles.apps rings (λ n _. h.rings n);
+    queues = at_all (λ _ (e : AppHandles). (left : ℕ) × queue.Holds e.queue left) app f s.handles.apps queues (λ n _. h.queues n);
+    range = at_all (λ _ (e : AppHandles). length e.queue.pushed < 2 ^ 64) app f s.handles.apps range (λ n _. h.range n);
     levels = h.levels;
     shares = h.shares;
     counted = h.counted;
@@ -90,47 +90,47 @@ module _ (s : ClosingState) (app : ℕ) (f : AppEnds → AppEnds) where
 -- ---- levels
 
 module _ (s : ClosingState) (calls losses injected : List ℕ) (records : List (List Record)) (c : IsClosing s calls losses injected records) where
-  pub levelled : (slot level : ℕ) → IsClosing (record s { ends = with_level s.ends slot level }) calls losses injected records
+  pub levelled : (slot level : ℕ) → IsClosing (record s { handles = with_level s.handles slot level }) calls losses injected records
   levelled slot level = record {
     books = c.books;
-    ends = record {
-      few = c.ends.few;
-      ends = c.ends.ends;
-      back = c.ends.back;
-      rings = c.ends.rings;
-      queues = c.ends.queues;
-      range = c.ends.range;
-      levels = λ k d lt. entries_stay s.ends.levels.first s.ends.levels.sets (change slot level ∷ []) (get_or s.books k d).writer.reader.reads (c.ends.levels k d lt);
-      shares = c.ends.shares;
-      counted = c.ends.counted;
+    handles = record {
+      few = c.handles.few;
+      handles = c.handles.handles;
+      back = c.handles.back;
+      rings = c.handles.rings;
+      queues = c.handles.queues;
+      range = c.handles.range;
+      levels = λ k d lt. entries_stay s.handles.levels.first s.handles.levels.sets (change slot level ∷ []) (get_or s.books k d).writer.reader.reads (c.handles.levels k d lt);
+      shares = c.handles.shares;
+      counted = c.handles.counted;
     };
     counts = record { waiting = c.counts.waiting; untold = c.counts.untold; given = c.counts.given };
     kept = c.kept;
   }
 
-  pub sets : {T E : Type 0} (r : Result T E) (slot level : ℕ) (new : EndsState) → OnOk r (new ≡ with_level s.ends slot level) → OnErr r (new ≡ s.ends)
-      → IsClosing (record s { ends = new }) calls losses injected records
-  sets (Ok x) slot level new is _ = subst (λ (e : EndsState). IsClosing (record s { ends = e }) calls losses injected records) (sym is) (levelled slot level)
-  sets (Err x) slot level new _ is = subst (λ (e : EndsState). IsClosing (record s { ends = e }) calls losses injected records) (sym is) c
+  pub sets : {T E : Type 0} (r : Result T E) (slot level : ℕ) (new : HandlesState) → OnOk r (new ≡ with_level s.handles slot level) → OnErr r (new ≡ s.handles)
+      → IsClosing (record s { handles = new }) calls losses injected records
+  sets (Ok x) slot level new is _ = subst (λ (e : HandlesState). IsClosing (record s { handles = e }) calls losses injected records) (sym is) (levelled slot level)
+  sets (Err x) slot level new _ is = subst (λ (e : HandlesState). IsClosing (record s { handles = e }) calls losses injected records) (sym is) c
 
 module _ (s : ClosingState) (calls losses injected : List ℕ) (records : List (List Record)) (c : IsClosing s calls losses injected records) (app : ℕ) where
   -- ---- takes
 
-  abbrev taking : Item → AppEnds → AppEnds
+  abbrev taking : Item → AppHandles → AppHandles
   taking item e = record e { ring = record e.ring { taken = e.ring.taken ++ item ∷ [] } }
 
-  abbrev finding_none : AppEnds → AppEnds
+  abbrev finding_none : AppHandles → AppHandles
   finding_none e = record e { ring = record e.ring { empties = e.ring.empties + 1 } }
 
-  pub none : IsClosing (record s { ends = with_empty_take s.ends app }) calls losses injected records
+  pub none : IsClosing (record s { handles = with_empty_take s.handles app }) calls losses injected records
   none = record {
     books = c.books;
-    ends = have_ends s app finding_none c.ends (λ books e b. same_back books e (finding_none e) refl refl refl refl refl refl b)
-        (changed_keeps (λ (e : AppEnds). (contents : List Item) × Holds e.ring contents) app app finding_none s.ends.apps (λ e h. h) (c.ends.rings app))
-        (changed_keeps (λ (e : AppEnds). (left : ℕ) × queue.Holds e.queue left) app app finding_none s.ends.apps (λ e h. h) (c.ends.queues app))
-        (changed_keeps (λ (e : AppEnds). length e.queue.pushed < 2 ^ 64) app app finding_none s.ends.apps (λ e h. h) (c.ends.range app));
+    handles = have_handles s app finding_none c.handles (λ books e b. same_back books e (finding_none e) refl refl refl refl refl refl b)
+        (changed_keeps (λ (e : AppHandles). (contents : List Item) × Holds e.ring contents) app app finding_none s.handles.apps (λ e h. h) (c.handles.rings app))
+        (changed_keeps (λ (e : AppHandles). (left : ℕ) × queue.Holds e.queue left) app app finding_none s.handles.apps (λ e h. h) (c.handles.queues app))
+        (changed_keeps (λ (e : AppHandles). length e.queue.pushed < 2 ^ 64) app app finding_none s.handles.apps (λ e h. h) (c.handles.range app));
     counts = record {
-      waiting = λ n. changed_keeps (λ (e : AppEnds). length e.ring.taken + slice_index calls n ≡ queued_of n s.books) app n finding_none s.ends.apps (λ e h. h) (c.counts.waiting n);
+      waiting = λ n. changed_keeps (λ (e : AppHandles). length e.ring.taken + slice_index calls n ≡ queued_of n s.books) app n finding_none s.handles.apps (λ e h. h) (c.counts.waiting n);
       untold = c.counts.untold;
       given = c.counts.given;
     };
@@ -138,24 +138,24 @@ module _ (s : ClosingState) (calls losses injected : List ℕ) (records : List (
   }
 
   module _ (within : app < length s.apps) where
-    abbrev found : (e : AppEnds) × (slice_get s.ends.apps app ≡ Some e)
-    found = here s c.ends app within
+    abbrev found : (e : AppHandles) × (slice_get s.handles.apps app ≡ Some e)
+    found = here s c.handles app within
 
     -- a take that found none met an empty ring
-    pub none_empty : RingHolds (with_empty_take s.ends app) app [] → IsEmpty s app
+    pub none_empty : RingHolds (with_empty_take s.handles app) app [] → IsEmpty s app
     none_empty holds =
-        let e : AppEnds = found.0 in
-        let all = ring_known app s.books e (c.ends.back app e found.1) [] (holds (finding_none e) (changed_there s.ends.apps app finding_none e found.1)) in
+        let e : AppHandles = found.0 in
+        let all = ring_known app s.books e (c.handles.back app e found.1) [] (holds (finding_none e) (changed_there s.handles.apps app finding_none e found.1)) in
         let count = all.count in
-        ap length (sym (taken_here s c.ends app within)) ∙ ap length (sym (append-nil e.ring.taken)) ∙ count
+        ap length (sym (taken_here s c.handles app within)) ∙ ap length (sym (append-nil e.ring.taken)) ∙ count
 
-    module _ (item : Item) (contents : List Item) (holds : RingHolds (with_item s.ends app item) app contents) where
+    module _ (item : Item) (contents : List Item) (holds : RingHolds (with_item s.handles app item) app contents) where
       -- as many waited before as are left, and this one
       waits : slice_index calls app ≡ length contents + 1
       waits =
-          let e : AppEnds = found.0 in
-          let all = ring_known app s.books (taking item e) (same_back (books_of app s.books) e (taking item e) refl refl refl refl refl refl (c.ends.back app e found.1)) contents
-          (holds (taking item e) (changed_there s.ends.apps app (taking item) e found.1)) in
+          let e : AppHandles = found.0 in
+          let all = ring_known app s.books (taking item e) (same_back (books_of app s.books) e (taking item e) refl refl refl refl refl refl (c.handles.back app e found.1)) contents
+          (holds (taking item e) (changed_there s.handles.apps app (taking item) e found.1)) in
           let count = all.count in
           let before = c.counts.waiting app e found.1 in
           omega (arith, count, before, length-append (e.ring.taken ++ item ∷ []) contents, length-append e.ring.taken (item ∷ []))
@@ -167,22 +167,22 @@ module _ (s : ClosingState) (calls losses injected : List ℕ) (records : List (
       some_not_empty empty =
           let w = waits in
           let before = c.counts.waiting app found.0 found.1 in
-          let same = ap length (taken_here s c.ends app within) in
+          let same = ap length (taken_here s c.handles app within) in
           absurd (omega (arith, w, before, same, empty))
 
       abbrev fewer : List ℕ
       fewer = set calls app (get_or calls app 0 - 1)
 
-      pub some : IsClosing (record s { ends = with_item s.ends app item }) fewer losses injected records
+      pub some : IsClosing (record s { handles = with_item s.handles app item }) fewer losses injected records
       some = record {
         books = c.books;
-        ends = have_ends s app (taking item) c.ends (λ books e b. same_back books e (taking item e) refl refl refl refl refl refl b)
+        handles = have_handles s app (taking item) c.handles (λ books e b. same_back books e (taking item e) refl refl refl refl refl refl b)
             (λ e is. (contents, holds e is))
-            (changed_keeps (λ (e : AppEnds). (left : ℕ) × queue.Holds e.queue left) app app (taking item) s.ends.apps (λ e h. h) (c.ends.queues app))
-            (changed_keeps (λ (e : AppEnds). length e.queue.pushed < 2 ^ 64) app app (taking item) s.ends.apps (λ e h. h) (c.ends.range app));
+            (changed_keeps (λ (e : AppHandles). (left : ℕ) × queue.Holds e.queue left) app app (taking item) s.handles.apps (λ e h. h) (c.handles.queues app))
+            (changed_keeps (λ (e : AppHandles). length e.queue.pushed < 2 ^ 64) app app (taking item) s.handles.apps (λ e h. h) (c.handles.range app));
         counts = record {
-          waiting = at_all (λ n (e : AppEnds). length e.ring.taken + slice_index fewer n ≡ queued_of n s.books) app (taking item) s.ends.apps
-              (changed_here (λ (e : AppEnds). length e.ring.taken + slice_index fewer app ≡ queued_of app s.books) app (taking item) s.ends.apps
+          waiting = at_all (λ n (e : AppHandles). length e.ring.taken + slice_index fewer n ≡ queued_of n s.books) app (taking item) s.handles.apps
+              (changed_here (λ (e : AppHandles). length e.ring.taken + slice_index fewer app ≡ queued_of app s.books) app (taking item) s.handles.apps
               (λ e is.
               (let before = c.counts.waiting app e is in
               let one = some_waits in
@@ -197,46 +197,46 @@ module _ (s : ClosingState) (calls losses injected : List ℕ) (records : List (
 
   -- ---- the answers of a take
 
-  module _ (within : app < length s.apps) (new : EndsState) where
-    pub took : (at : ℕ) (item : Item) → at ≡ app → new ≡ with_item s.ends app item → ((contents : List Item) × RingHolds new app contents)
-        → (1 ≤ get_or calls at 0) × IsClosing (record s { ends = new }) (set calls at (get_or calls at 0 - 1)) losses injected records × (IsEmpty s app → ⊥)
+  module _ (within : app < length s.apps) (new : HandlesState) where
+    pub took : (at : ℕ) (item : Item) → at ≡ app → new ≡ with_item s.handles app item → ((contents : List Item) × RingHolds new app contents)
+        → (1 ≤ get_or calls at 0) × IsClosing (record s { handles = new }) (set calls at (get_or calls at 0 - 1)) losses injected records × (IsEmpty s app → ⊥)
     took at item same is rest =
-        let holds : (contents : List Item) × RingHolds (with_item s.ends app item) app contents = subst (λ (e : EndsState). (contents : List Item) × RingHolds e app contents) is rest in (
+        let holds : (contents : List Item) × RingHolds (with_item s.handles app item) app contents = subst (λ (e : HandlesState). (contents : List Item) × RingHolds e app contents) is rest in (
           subst (λ (k : ℕ). 1 ≤ get_or calls k 0) (sym same) (some_waits within item holds.0 holds.1),
-          subst (λ (e : EndsState). IsClosing (record s { ends = e }) (set calls at (get_or calls at 0 - 1)) losses injected records) (sym is)
-              (subst (λ (k : ℕ). IsClosing (record s { ends = with_item s.ends app item }) (set calls k (get_or calls k 0 - 1)) losses injected records) (sym same) (some within item holds.0 holds.1)),
+          subst (λ (e : HandlesState). IsClosing (record s { handles = e }) (set calls at (get_or calls at 0 - 1)) losses injected records) (sym is)
+              (subst (λ (k : ℕ). IsClosing (record s { handles = with_item s.handles app item }) (set calls k (get_or calls k 0 - 1)) losses injected records) (sym same) (some within item holds.0 holds.1)),
           some_not_empty within item holds.0 holds.1,
         )
 
-    pub took_none : new ≡ with_empty_take s.ends app → RingHolds new app [] → IsClosing (record s { ends = new }) calls losses injected records × IsEmpty s app
+    pub took_none : new ≡ with_empty_take s.handles app → RingHolds new app [] → IsClosing (record s { handles = new }) calls losses injected records × IsEmpty s app
     took_none is rest = (
-      subst (λ (e : EndsState). IsClosing (record s { ends = e }) calls losses injected records) (sym is) none,
-      none_empty within (subst (λ (e : EndsState). RingHolds e app []) is rest),
+      subst (λ (e : HandlesState). IsClosing (record s { handles = e }) calls losses injected records) (sym is) none,
+      none_empty within (subst (λ (e : HandlesState). RingHolds e app []) is rest),
     )
 
   -- ---- losses
 
-  reported : (count : ℕ) → reported_of app (with_report s.ends app count).losses.reported ≡ lost_of app s.books → IsClosing (record s { ends = with_report s.ends app count }) calls (set losses app 0) injected records
+  reported : (count : ℕ) → reported_of app (with_report s.handles app count).losses.reported ≡ lost_of app s.books → IsClosing (record s { handles = with_report s.handles app count }) calls (set losses app 0) injected records
   reported count all = record {
     books = c.books;
-    ends = record {
-      few = c.ends.few;
-      ends = c.ends.ends;
-      back = c.ends.back;
-      rings = c.ends.rings;
-      queues = c.ends.queues;
-      range = c.ends.range;
-      levels = c.ends.levels;
-      shares = c.ends.shares;
-      counted = c.ends.counted;
+    handles = record {
+      few = c.handles.few;
+      handles = c.handles.handles;
+      back = c.handles.back;
+      rings = c.handles.rings;
+      queues = c.handles.queues;
+      range = c.handles.range;
+      levels = c.handles.levels;
+      shares = c.handles.shares;
+      counted = c.handles.counted;
     };
     counts = record {
       waiting = c.counts.waiting;
       untold = λ n within. by_places n app
-          (λ is. subst (λ (k : ℕ). reported_of k (with_report s.ends app count).losses.reported + slice_index (set losses app 0) k ≡ lost_of k s.books) (sym is) (let z = set_zero losses app in omega (arith, z, all)))
+          (λ is. subst (λ (k : ℕ). reported_of k (with_report s.handles app count).losses.reported + slice_index (set losses app 0) k ≡ lost_of k s.books) (sym is) (let z = set_zero losses app in omega (arith, z, all)))
           (λ apart.
           (let before = c.counts.untold n within in
-          let more = reported_else n app count s.ends.losses.reported (λ is. apart (sym is)) in
+          let more = reported_else n app count s.handles.losses.reported (λ is. apart (sym is)) in
           let rest = get_or-set_other losses app n 0 0 apart in
           omega (arith, before, more, rest)));
       given = c.counts.given;
@@ -244,27 +244,27 @@ module _ (s : ClosingState) (calls losses injected : List ℕ) (records : List (
     kept = c.kept;
   }
 
-  pub reports : (at count : ℕ) (new : EndsState) → at ≡ app → new ≡ with_report s.ends app count → (s.ends.losses.shares ≡ all_shares → reported_of app new.losses.reported ≡ counted_of app s.ends.losses.counted)
-      → IsClosing (record s { ends = new }) calls (set losses at 0) injected records
+  pub reports : (at count : ℕ) (new : HandlesState) → at ≡ app → new ≡ with_report s.handles app count → (s.handles.losses.shares ≡ all_shares → reported_of app new.losses.reported ≡ counted_of app s.handles.losses.counted)
+      → IsClosing (record s { handles = new }) calls (set losses at 0) injected records
   reports at count new same is all =
-      let told : reported_of app (with_report s.ends app count).losses.reported ≡ lost_of app s.books = sym (ap (λ (e : EndsState). reported_of app e.losses.reported) is) ∙ all c.ends.shares ∙ c.ends.counted app in
-      subst (λ (e : EndsState). IsClosing (record s { ends = e }) calls (set losses at 0) injected records) (sym is)
-      (subst (λ (k : ℕ). IsClosing (record s { ends = with_report s.ends app count }) calls (set losses k 0) injected records) (sym same) (reported count told))
+      let told : reported_of app (with_report s.handles app count).losses.reported ≡ lost_of app s.books = sym (ap (λ (e : HandlesState). reported_of app e.losses.reported) is) ∙ all c.handles.shares ∙ c.handles.counted app in
+      subst (λ (e : HandlesState). IsClosing (record s { handles = e }) calls (set losses at 0) injected records) (sym is)
+      (subst (λ (k : ℕ). IsClosing (record s { handles = with_report s.handles app count }) calls (set losses k 0) injected records) (sym same) (reported count told))
 
   -- ---- injections
 
   -- what the queue took, or how many it refused, is another
-  queued : (f : AppEnds → AppEnds) → ((e : AppEnds) → (f e).ring ≡ e.ring) → ((e : AppEnds) → (f e).queue.joined ≡ e.queue.joined) → ((e : AppEnds) → (f e).queue.first ≡ e.queue.first) → ((e : AppEnds) → (f e).queue.splits ≡ e.queue.splits)
-      → ((left : ℕ) × At (changed_at app f s.ends.apps) app (λ e. queue.Holds e.queue left)) → At (changed_at app f s.ends.apps) app (λ e. length e.queue.pushed < 2 ^ 64)
-      → IsClosing (record s { ends = record s.ends { apps = changed_at app f s.ends.apps } }) calls losses injected records
+  queued : (f : AppHandles → AppHandles) → ((e : AppHandles) → (f e).ring ≡ e.ring) → ((e : AppHandles) → (f e).queue.joined ≡ e.queue.joined) → ((e : AppHandles) → (f e).queue.first ≡ e.queue.first) → ((e : AppHandles) → (f e).queue.splits ≡ e.queue.splits)
+      → ((left : ℕ) × At (changed_at app f s.handles.apps) app (λ e. queue.Holds e.queue left)) → At (changed_at app f s.handles.apps) app (λ e. length e.queue.pushed < 2 ^ 64)
+      → IsClosing (record s { handles = record s.handles { apps = changed_at app f s.handles.apps } }) calls losses injected records
   queued f ring joined first splits holds range = record {
     books = c.books;
-    ends = have_ends s app f c.ends
+    handles = have_handles s app f c.handles
         (λ books e b. same_back books e (f e) (ap (λ r. r.joined) (ring e)) (ap (λ r. r.first) (ring e)) (ap (λ r. r.given) (ring e)) (joined e) (first e) (splits e) b)
-        (changed_keeps (λ (e : AppEnds). (contents : List Item) × Holds e.ring contents) app app f s.ends.apps (λ e h. (h.0, subst (λ r. Holds r h.0) (sym (ring e)) h.1)) (c.ends.rings app))
+        (changed_keeps (λ (e : AppHandles). (contents : List Item) × Holds e.ring contents) app app f s.handles.apps (λ e h. (h.0, subst (λ r. Holds r h.0) (sym (ring e)) h.1)) (c.handles.rings app))
         (λ e is. (holds.0, holds.1 e is)) range;
     counts = record {
-      waiting = λ n. changed_keeps (λ (e : AppEnds). length e.ring.taken + slice_index calls n ≡ queued_of n s.books) app n f s.ends.apps
+      waiting = λ n. changed_keeps (λ (e : AppHandles). length e.ring.taken + slice_index calls n ≡ queued_of n s.books) app n f s.handles.apps
           (λ e h. subst (λ r. length r.taken + slice_index calls n ≡ queued_of n s.books) (sym (ring e)) h) (c.counts.waiting n);
       untold = c.counts.untold;
       given = c.counts.given;
@@ -272,32 +272,32 @@ module _ (s : ClosingState) (calls losses injected : List ℕ) (records : List (
     kept = c.kept;
   }
 
-  pub injects : {T E : Type 0} (r : Result T E) (item : Injection) (new : EndsState) → OnOk r (new ≡ with_injected s.ends app item) → OnErr r (new ≡ with_refusal s.ends app)
-      → ((left : ℕ) × QueueHolds new app left) → At new.apps app (λ e. length e.queue.pushed < 2 ^ 64) → IsClosing (record s { ends = new }) calls losses injected records
+  pub injects : {T E : Type 0} (r : Result T E) (item : Injection) (new : HandlesState) → OnOk r (new ≡ with_injected s.handles app item) → OnErr r (new ≡ with_refusal s.handles app)
+      → ((left : ℕ) × QueueHolds new app left) → At new.apps app (λ e. length e.queue.pushed < 2 ^ 64) → IsClosing (record s { handles = new }) calls losses injected records
   injects (Ok x) item new is _ holds range =
-      subst (λ (e : EndsState). IsClosing (record s { ends = e }) calls losses injected records) (sym is)
+      subst (λ (e : HandlesState). IsClosing (record s { handles = e }) calls losses injected records) (sym is)
       (queued (λ e. record e { queue = record e.queue { pushed = e.queue.pushed ++ item ∷ [] } }) (λ e. refl) (λ e. refl) (λ e. refl) (λ e. refl)
-      (subst (λ (e : EndsState). (left : ℕ) × QueueHolds e app left) is holds) (subst (λ (e : EndsState). At e.apps app (λ e. length e.queue.pushed < 2 ^ 64)) is range))
+      (subst (λ (e : HandlesState). (left : ℕ) × QueueHolds e app left) is holds) (subst (λ (e : HandlesState). At e.apps app (λ e. length e.queue.pushed < 2 ^ 64)) is range))
   injects (Err x) item new _ is holds range =
-      subst (λ (e : EndsState). IsClosing (record s { ends = e }) calls losses injected records) (sym is)
+      subst (λ (e : HandlesState). IsClosing (record s { handles = e }) calls losses injected records) (sym is)
       (queued (λ e. record e { queue = record e.queue { refusals = e.queue.refusals + 1 } }) (λ e. refl) (λ e. refl) (λ e. refl) (λ e. refl)
-      (subst (λ (e : EndsState). (left : ℕ) × QueueHolds e app left) is holds) (subst (λ (e : EndsState). At e.apps app (λ e. length e.queue.pushed < 2 ^ 64)) is range))
+      (subst (λ (e : HandlesState). (left : ℕ) × QueueHolds e app left) is holds) (subst (λ (e : HandlesState). At e.apps app (λ e. length e.queue.pushed < 2 ^ 64)) is range))
 
   -- its application is there still
-  pub within_after : app < length s.apps → {T E : Type 0} (r : Result T E) (item : Injection) (new : EndsState) → OnOk r (new ≡ with_injected s.ends app item) → OnErr r (new ≡ with_refusal s.ends app) → app < length new.apps
+  pub within_after : app < length s.apps → {T E : Type 0} (r : Result T E) (item : Injection) (new : HandlesState) → OnOk r (new ≡ with_injected s.handles app item) → OnErr r (new ≡ with_refusal s.handles app) → app < length new.apps
   within_after within (Ok x) item new is _ =
-      let same = ap (λ (e : EndsState). length e.apps) is ∙ length-changed_at app (λ e. record e { queue = record e.queue { pushed = e.queue.pushed ++ item ∷ [] } }) s.ends.apps ∙ c.ends.ends in omega (arith, same, within)
+      let same = ap (λ (e : HandlesState). length e.apps) is ∙ length-changed_at app (λ e. record e { queue = record e.queue { pushed = e.queue.pushed ++ item ∷ [] } }) s.handles.apps ∙ c.handles.handles in omega (arith, same, within)
   within_after within (Err x) item new _ is =
-      let same = ap (λ (e : EndsState). length e.apps) is ∙ length-changed_at app (λ e. record e { queue = record e.queue { refusals = e.queue.refusals + 1 } }) s.ends.apps ∙ c.ends.ends in omega (arith, same, within)
+      let same = ap (λ (e : HandlesState). length e.apps) is ∙ length-changed_at app (λ e. record e { queue = record e.queue { refusals = e.queue.refusals + 1 } }) s.handles.apps ∙ c.handles.handles in omega (arith, same, within)
 
   -- ---- what the counters say
 
   module _ (within : app < length s.apps) where
     waits_none : (get_or calls app 0 ≡ 0 → IsEmpty s app) × (IsEmpty s app → get_or calls app 0 ≡ 0)
     waits_none =
-        let there = here s c.ends app within in
+        let there = here s c.handles app within in
         let counts = c.counts.waiting app there.0 there.1 in
-        let same = ap length (taken_here s c.ends app within) in
+        let same = ap length (taken_here s c.handles app within) in
         (λ zero_left. omega (arith, counts, same, zero_left), λ empty. omega (arith, counts, same, empty))
 
     untold_none : (get_or losses app 0 ≡ 0 → IsTold s app) × (IsTold s app → get_or losses app 0 ≡ 0)

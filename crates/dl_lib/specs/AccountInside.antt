@@ -2,20 +2,20 @@
 use Rattle.std.specs.Prelude.{◌≡◌, map, length}
 use Rattle.dl_lib.specs.declared.account.Account.TheInside as account
 use Rattle.dl_lib.specs.Books.{given_by}
-use Rattle.dl_lib.specs.ClosingInside.{HaveBooks, HaveEnds}
+use Rattle.dl_lib.specs.ClosingInside.{HaveBooks, HaveHandles}
 use Rattle.dl_lib.specs.Known.{IsDrained}
 use Rattle.dl_lib.specs.State.{AccountState, ClosingState}
 
 abbrev pub account_state : account.Inside → AccountState
-account_state a = record { apps = a.apps; ends = a.desk; books = a.books.value; events = a.journal.events; outcome = a.ends }
+account_state a = record { apps = a.apps; handles = a.handles; books = a.books.value; events = a.journal.events; outcome = a.ends }
 
 -- of the daemon's side when nothing was left to take or to tell
 abbrev pub settled_side : account.Inside → ClosingState
-settled_side a = record { apps = a.apps; ends = a.desk; books = a.books.value }
+settled_side a = record { apps = a.apps; handles = a.handles; books = a.books.value }
 
 pub record IsAccount (a : account.Inside) : Type 0 where
   pub books : HaveBooks (length a.apps) a.books.value
-  pub ends : HaveEnds (settled_side a)
+  pub handles : HaveHandles (settled_side a)
   pub drained : IsDrained (settled_side a)
   pub injected : a.injected.items ≡ given_by (length a.apps) a.books.value
   pub records : a.records ≡ map (λ b. b.records) a.books.value

@@ -3,7 +3,7 @@ use Rattle.std.specs.Prelude.{ℕ, ◌-◌, ◌^◌, ◌==◌, min, List, length
 use Rattle.std.specs.List.{filter, flat_map, range_with_len}
 use Rattle.dl_events.specs.declared.record.Record.{Record}
 use Rattle.dl_losses.specs.Losses.{counted_of}
-use Rattle.dl_views.specs.Views.{total}
+use Rattle.dl_thread_rules.specs.Views.{total}
 use Rattle.dl_writer.specs.State.{BookState}
 
 -- those of an application's writers, in the order of their numbers

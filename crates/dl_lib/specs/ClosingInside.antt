@@ -16,7 +16,7 @@ use Rattle.dl_lib.specs.Joining.{AreBack}
 use Rattle.dl_lib.specs.State.{ClosingState}
 
 abbrev pub closing_state : closing.Inside → ClosingState
-closing_state c = record { apps = c.apps; ends = c.ends; books = c.books.value }
+closing_state c = record { apps = c.apps; handles = c.handles; books = c.books.value }
 
 -- the writers that are back, and what they did
 pub record HaveBooks (apps : ℕ) (books : List BookState) : Type 0 where
@@ -25,27 +25,27 @@ pub record HaveBooks (apps : ℕ) (books : List BookState) : Type 0 where
   pub owned : All (λ b. b.writer.app < apps) books
   pub told : All (λ b. IsWhole b → TellAll b.writer b.records) books
 
--- their ends are back, and each ring and queue was looked at since
-pub record HaveEnds (s : ClosingState) : Type 0 where
+-- their handles are back, and each ring and queue was looked at since
+pub record HaveHandles (s : ClosingState) : Type 0 where
   pub few : length s.apps ≤ 16
-  pub ends : length s.ends.apps ≡ length s.apps
-  pub back : (app : ℕ) → At s.ends.apps app (AreBack (books_of app s.books))
-  pub rings : (app : ℕ) → At s.ends.apps app (λ e. (contents : List Item) × Holds e.ring contents)
-  pub queues : (app : ℕ) → At s.ends.apps app (λ e. (left : ℕ) × queue.Holds e.queue left)
-  pub range : (app : ℕ) → At s.ends.apps app (λ e. length e.queue.pushed < 2 ^ 64)
-  pub levels : All (λ b. All (IsEntry s.ends.levels.first s.ends.levels.sets) b.writer.reader.reads) s.books
-  pub shares : s.ends.losses.shares ≡ all_shares
-  pub counted : (app : ℕ) → counted_of app s.ends.losses.counted ≡ lost_of app s.books
+  pub handles : length s.handles.apps ≡ length s.apps
+  pub back : (app : ℕ) → At s.handles.apps app (AreBack (books_of app s.books))
+  pub rings : (app : ℕ) → At s.handles.apps app (λ e. (contents : List Item) × Holds e.ring contents)
+  pub queues : (app : ℕ) → At s.handles.apps app (λ e. (left : ℕ) × queue.Holds e.queue left)
+  pub range : (app : ℕ) → At s.handles.apps app (λ e. length e.queue.pushed < 2 ^ 64)
+  pub levels : All (λ b. All (IsEntry s.handles.levels.first s.handles.levels.sets) b.writer.reader.reads) s.books
+  pub shares : s.handles.losses.shares ≡ all_shares
+  pub counted : (app : ℕ) → counted_of app s.handles.losses.counted ≡ lost_of app s.books
 
 -- the counters say how many calls wait in each ring, how many losses in each word, and how many injections were given
 pub record AreCounted (s : ClosingState) (calls losses injected : List ℕ) : Type 0 where
-  pub waiting : (app : ℕ) → At s.ends.apps app (λ e. length e.ring.taken + slice_index calls app ≡ queued_of app s.books)
-  pub untold : (app : ℕ) → app < length s.apps → reported_of app s.ends.losses.reported + slice_index losses app ≡ lost_of app s.books
+  pub waiting : (app : ℕ) → At s.handles.apps app (λ e. length e.ring.taken + slice_index calls app ≡ queued_of app s.books)
+  pub untold : (app : ℕ) → app < length s.apps → reported_of app s.handles.losses.reported + slice_index losses app ≡ lost_of app s.books
   pub given : injected ≡ given_by (length s.apps) s.books
 
 pub record IsClosing (s : ClosingState) (calls losses injected : List ℕ) (records : List (List Record)) : Type 0 where
   pub books : HaveBooks (length s.apps) s.books
-  pub ends : HaveEnds s
+  pub handles : HaveHandles s
   pub counts : AreCounted s calls losses injected
   pub kept : records ≡ map (λ b. b.records) s.books
 

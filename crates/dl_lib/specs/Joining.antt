@@ -1,40 +1,40 @@
--- How the ends of all writers are taken back: one writer at a time, and then the ends from which theirs were split.
+-- How the handles of all writers are taken back: one writer at a time, and then the handles from which theirs were split.
 use Rattle.std.specs.Prelude.{◌≡◌, ℕ, ◌+◌, ◌<◌, true, List, [], ◌∷◌, ◌++◌, length, map}
 use Rattle.dl_ring.specs.declared.view.Sent.{Sent}
-use Rattle.dl_desk.specs.declared.app_ends.AppEnds.{AppEnds}
-use Rattle.dl_desk.specs.declared.app_ends.FirstEnds.{FirstEnds}
+use Rattle.dl_desk.specs.declared.app_handles.AppHandles.{AppHandles}
+use Rattle.dl_desk.specs.declared.app_handles.FirstHandles.{FirstHandles}
 use Rattle.dl_desk.specs.Lists.{At}
-use Rattle.dl_desk.specs.Ends.{EndsState, with_passes, with_words}
+use Rattle.dl_desk.specs.Handles.{HandlesState, with_passes, with_words}
 use Rattle.dl_writer.specs.State.{WriterState, BookState}
 
 -- ---- what can be taken back
 
--- The writer's application is there, and its ends are of the same ring, queue and words as the daemon's.
-pub record FitsEnds (s : EndsState) (w : WriterState) : Type 0 where
+-- The writer's application is there, and its handles are of the same ring, queue and words as the daemon's.
+pub record FitsHandles (s : HandlesState) (w : WriterState) : Type 0 where
   pub app : w.app < length s.apps
   pub ring : At s.apps w.app (λ e. w.push.ring ≡ e.ring.ring)
   pub queue : At s.apps w.app (λ e. w.injections.queue ≡ e.queue.queue)
   pub levels : w.reader.table ≡ s.levels.table
   pub losses : w.losses.table ≡ s.losses.table
 
--- there are first ends for each application, of its ring and its queue
-pub record FitFirsts (s : EndsState) (firsts : List FirstEnds) : Type 0 where
+-- there are first handles for each application, of its ring and its queue
+pub record FitFirsts (s : HandlesState) (firsts : List FirstHandles) : Type 0 where
   pub long : length firsts ≡ length s.apps
   pub each : (app : ℕ) → At firsts app (λ f. At s.apps app (λ e. (f.push.ring ≡ e.ring.ring) × (f.injections.queue ≡ e.queue.queue)))
 
 -- ---- one at a time
 
--- the daemon's ends, once this writer was taken back
-abbrev pub join_writer : EndsState → WriterState → EndsState
+-- the daemon's handles, once this writer was taken back
+abbrev pub join_writer : HandlesState → WriterState → HandlesState
 join_writer s w = with_words (with_passes s w.app w.push w.injections) w.reader w.losses
 
 -- once the writers of these books were, in order
-abbrev pub join_books : EndsState → List BookState → EndsState
+abbrev pub join_books : HandlesState → List BookState → HandlesState
 join_books s [] = s
 join_books s (b ∷ books) = join_books (join_writer s b.writer) books
 
--- once the first ends of the applications from this number on were, the last application's first
-abbrev pub join_firsts : ℕ → List FirstEnds → EndsState → EndsState
+-- once the first handles of the applications from this number on were, the last application's first
+abbrev pub join_firsts : ℕ → List FirstHandles → HandlesState → HandlesState
 join_firsts app [] s = s
 join_firsts app (f ∷ firsts) s = with_passes (join_firsts (app + 1) firsts s) app f.push f.injections
 
@@ -46,7 +46,7 @@ sent_of b = record { number = b.writer.push.number; items = b.writer.push.pushed
 
 -- An application's ring and queue got back the passes of these writers, in order, and then the first ones, which had made
 -- no others.
-pub record AreBack (books : List BookState) (e : AppEnds) : Type 0 where
+pub record AreBack (books : List BookState) (e : AppHandles) : Type 0 where
   pub ring : e.ring.joined ≡ map sent_of books ++ (record { number = 0; items = [] }) ∷ []
   pub ring_first : e.ring.first ≡ true
   pub given : length e.ring.given ≡ length books

@@ -8,8 +8,8 @@ use Rattle.dl_injections.specs.Order.{IsPart, times_in}
 use Rattle.dl_levels.specs.History.{IsEntry}
 use Rattle.dl_losses.specs.Losses.{reported_of}
 use Rattle.dl_ring.specs.Order.{of}
-use Rattle.dl_views.specs.Views.{bit, times}
-use Rattle.dl_desk.specs.Ends.{EndsState}
+use Rattle.dl_thread_rules.specs.Views.{bit, times}
+use Rattle.dl_desk.specs.Handles.{HandlesState}
 use Rattle.dl_desk.specs.Posting.{pushed_of}
 use Rattle.dl_writer.specs.Records.{TellAll}
 use Rattle.dl_writer.specs.State.{BookState, IsWhole, numbers}
@@ -17,7 +17,7 @@ use Rattle.dl_lib.specs.Books.{books_of, queued_of, lost_of, injected_of}
 use Rattle.dl_lib.specs.State.{ClosingState}
 
 -- what was taken of an application's ring, in order
-abbrev pub taken_of : EndsState → ℕ → List Item
+abbrev pub taken_of : HandlesState → ℕ → List Item
 taken_of s app = unwrap_or (option_map (λ e. e.ring.taken) (slice_get s.apps app)) []
 
 -- What was taken of an application's ring, followed by what it holds, is what its writers pushed: of each its calls in
@@ -41,21 +41,21 @@ pub record AreGivenOnce (app : ℕ) (books : List BookState) (pushed : List Inje
 pub record AreGathered (s : ClosingState) : Type 0 where
   pub numbered : numbers s.books ≡ range_with_len 1 (length s.books)
   pub owned : All (λ b. b.writer.app < length s.apps) s.books
-  pub rings : (app : ℕ) → app < length s.apps → (contents : List Item) × IsAllOf app s.books (taken_of s.ends app ++ contents)
-  pub queues : (app : ℕ) → app < length s.apps → (left : ℕ) × AreGivenOnce app s.books (pushed_of s.ends app) left
-  pub levels : All (λ b. All (IsEntry s.ends.levels.first s.ends.levels.sets) b.writer.reader.reads) s.books
-  pub losses : (app : ℕ) → app < length s.apps → reported_of app s.ends.losses.reported ≤ lost_of app s.books
+  pub rings : (app : ℕ) → app < length s.apps → (contents : List Item) × IsAllOf app s.books (taken_of s.handles app ++ contents)
+  pub queues : (app : ℕ) → app < length s.apps → (left : ℕ) × AreGivenOnce app s.books (pushed_of s.handles app) left
+  pub levels : All (λ b. All (IsEntry s.handles.levels.first s.handles.levels.sets) b.writer.reader.reads) s.books
+  pub losses : (app : ℕ) → app < length s.apps → reported_of app s.handles.losses.reported ≤ lost_of app s.books
   pub told : All (λ b. IsWhole b → TellAll b.writer b.records) s.books
 
 -- ---- whether all was taken
 
 -- the ring of an application is empty: as many calls were taken as its writers pushed
 abbrev pub IsEmpty : ClosingState → ℕ → Type 0
-IsEmpty s app = length (taken_of s.ends app) ≡ queued_of app s.books
+IsEmpty s app = length (taken_of s.handles app) ≡ queued_of app s.books
 
 -- its loss word is 0: as many losses were reported as its writers counted
 abbrev pub IsTold : ClosingState → ℕ → Type 0
-IsTold s app = reported_of app s.ends.losses.reported ≡ lost_of app s.books
+IsTold s app = reported_of app s.handles.losses.reported ≡ lost_of app s.books
 
 -- every ring is empty, and every loss word 0
 abbrev pub IsDrained : ClosingState → Type 0

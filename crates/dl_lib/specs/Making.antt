@@ -1,7 +1,7 @@
 -- How the daemon's side is made once all writers are back.
 use Rattle.std.specs.Prelude.{◌≡◌, ℕ, ◌≤◌, List, length, map, All, Contains}
 use Rattle.std.specs.List.{range_with_len}
-use Rattle.dl_views.specs.Views.{times}
+use Rattle.dl_thread_rules.specs.Views.{times}
 use Rattle.dl_desk.specs.Made.{IsMadeWith}
 use Rattle.dl_desk.specs.State.{DeskState}
 use Rattle.dl_writer.specs.State.{BookState, numbers}
@@ -43,13 +43,13 @@ pub record AreInOrder (books ordered : List BookState) : Type 0 where
 -- what the daemon took, reported, set and injected stays as it was
 pub record KeepsDesk (desk : DeskState) (s : ClosingState) : Type 0 where
   pub apps : s.apps ≡ desk.apps
-  pub taken : map (λ e. e.ring.taken) s.ends.apps ≡ map (λ e. e.ring.taken) desk.ends.apps
-  pub empties : map (λ e. e.ring.empties) s.ends.apps ≡ map (λ e. e.ring.empties) desk.ends.apps
-  pub pushed : map (λ e. e.queue.pushed) s.ends.apps ≡ map (λ e. e.queue.pushed) desk.ends.apps
-  pub refusals : map (λ e. e.queue.refusals) s.ends.apps ≡ map (λ e. e.queue.refusals) desk.ends.apps
-  pub first : s.ends.levels.first ≡ desk.ends.levels.first
-  pub sets : s.ends.levels.sets ≡ desk.ends.levels.sets
-  pub reported : s.ends.losses.reported ≡ desk.ends.losses.reported
+  pub taken : map (λ e. e.ring.taken) s.handles.apps ≡ map (λ e. e.ring.taken) desk.handles.apps
+  pub empties : map (λ e. e.ring.empties) s.handles.apps ≡ map (λ e. e.ring.empties) desk.handles.apps
+  pub pushed : map (λ e. e.queue.pushed) s.handles.apps ≡ map (λ e. e.queue.pushed) desk.handles.apps
+  pub refusals : map (λ e. e.queue.refusals) s.handles.apps ≡ map (λ e. e.queue.refusals) desk.handles.apps
+  pub first : s.handles.levels.first ≡ desk.handles.levels.first
+  pub sets : s.handles.levels.sets ≡ desk.handles.levels.sets
+  pub reported : s.handles.losses.reported ≡ desk.handles.losses.reported
 
 -- made of the desk and of the books of all its writers
 pub record IsMadeOf (desk : DeskState) (books : List BookState) (s : ClosingState) : Type 0 where

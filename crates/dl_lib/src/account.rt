@@ -7,7 +7,7 @@ ghost use Rattle.dl_writer.specs.State.{IsWhole};
 
 use arrayvec::ArrayVec;
 use dl_bytes::{AppSpec, Ends, Sequence};
-use dl_desk::DaemonEnds;
+use dl_desk::DaemonHandles;
 use dl_events::{Event, Kept, RecordList};
 use dl_writer::BookList;
 use std::marker::Model;
@@ -18,7 +18,7 @@ use std::snapshot::Snapshot;
 pub struct Account {
     pub(crate) apps: Sequence<AppSpec>,
     // it shows what was taken, reported, set and injected
-    pub(crate) desk: DaemonEnds,
+    pub(crate) handles: DaemonHandles,
     // how many injections the writers of each application were given
     pub(crate) injected: ArrayVec<u64, 16>,
     // by the writers' numbers
@@ -48,6 +48,7 @@ impl Account {
         ensures losses { All IsWhole self.now.books → (app : ℕ) → app < length self.now.apps → TellsLosses self.now app }
         ensures queued { All IsWhole self.now.books → All (TellsQueued self.now) self.now.books }
     {
+        self.handles.reports();
         &self.records
     }
 

@@ -1,12 +1,12 @@
-//! The daemon's side once the writers have ended: it takes back their ends, and then what they left.
+//! The daemon's side once the writers have ended: it takes back their handles, and then what they left.
 
 ghost use Rattle.std.specs.Prelude.{◌≡◌, ◌+◌, ◌-◌, ◌*◌, ◌^◌, ◌<◌, ◌≤◌, ◌↔◌, ℕ, List, length, All, IfOk, IfErr, IfSome, IfNone, IsErr, IsTrue, OnOk, OnErr, OnSome};
 ghost use Rattle.std.specs.List.{range_with_len};
 ghost use Rattle.std.specs.Option.{IsNone};
 ghost use Rattle.dl_bytes.specs.declared.item.Item.{Item as item_type};
-ghost use Rattle.dl_levels.specs.History.{last_version};
+ghost use Rattle.dl_levels.specs.History.{current_version};
 ghost use Rattle.dl_losses.specs.Losses.{reported_of};
-ghost use Rattle.dl_desk.specs.Ends.{RingHolds, with_empty_take, with_injected, with_item, with_level, with_refusal, with_report};
+ghost use Rattle.dl_desk.specs.Handles.{RingHolds, with_empty_take, with_injected, with_item, with_level, with_refusal, with_report};
 ghost use Rattle.dl_desk.specs.Lists.{At};
 ghost use Rattle.dl_lib.specs.Books.{lost_of};
 ghost use Rattle.dl_lib.specs.Known.{AreGathered, IsDrained, IsEmpty};
@@ -18,10 +18,10 @@ ghost use Rattle.dl_lib.specs.Settled.{account_of};
 use crate::account::Account;
 use crate::joining::{injections_given, join_books, join_firsts};
 use crate::ordering::{in_order, missing};
-use crate::waiting::{calls_waiting, look_at_ends, losses_waiting};
+use crate::waiting::{calls_waiting, look_at_handles, losses_waiting};
 use arrayvec::ArrayVec;
 use dl_bytes::{AppSpec, Ends, Injection, Item, Level, Sequence};
-use dl_desk::{DaemonEnds, Desk, DeskParts};
+use dl_desk::{DaemonHandles, Desk, DeskParts};
 use dl_events::{Kept, RecordList};
 use dl_levels::Worn;
 use dl_writer::BookList;
@@ -33,7 +33,7 @@ use std::sync::Wait;
 #[derive(Drop)]
 pub struct Closing {
     apps: Sequence<AppSpec>,
-    ends: DaemonEnds,
+    handles: DaemonHandles,
     // how many calls wait in the ring of each application
     calls: [u64; 16],
     // how many losses wait in its word
@@ -79,6 +79,13 @@ impl Closing {
         self.apps.all()
     }
 
+    /// Each application has its handles. It does nothing: its clause is what callers of `take` and of others learn.
+    pub fn have_handles(&self)
+        ensures { length self.now.handles.apps ≡ length self.now.apps }
+    {
+        let _ = &self.apps;
+    }
+
     /// What is known of the writers, of the rings, queues and words, and of what was taken of them.
     pub fn gathered(&self)
         ensures { AreGathered self.now }
@@ -89,12 +96,12 @@ impl Closing {
     /// The oldest call in the ring of an application. None exactly where it is empty.
     pub fn take<R: Wait>(&mut self, rt: &R, app: u8) -> Option<Item>
         requires { app < length self.old.apps }
-        ensures taken { IfSome result (λ item. self.new ≡ record self.old { ends = with_item self.old.ends app item }) }
-        ensures rest { OnSome result ((contents : List item_type) × RingHolds self.new.ends app contents) }
-        ensures none { IfNone result (self.new ≡ record self.old { ends = with_empty_take self.old.ends app }) }
+        ensures taken { IfSome result (λ item. self.new ≡ record self.old { handles = with_item self.old.handles app item }) }
+        ensures rest { OnSome result ((contents : List item_type) × RingHolds self.new.handles app contents) }
+        ensures none { IfNone result (self.new ≡ record self.old { handles = with_empty_take self.old.handles app }) }
         ensures empty { IsNone result ↔ IsEmpty self.old app }
     {
-        let item = self.ends.take(rt, app)?;
+        let item = self.handles.take(rt, app)?;
         self.calls[usize::from(app)] -= 1;
         Some(item)
     }
@@ -102,36 +109,36 @@ impl Closing {
     /// How many calls of an application were lost that were not told yet.
     pub fn losses(&mut self, app: u8) -> u64
         requires { app < length self.old.apps }
-        ensures reported { self.new ≡ record self.old { ends = with_report self.old.ends app result } }
-        ensures all { reported_of app self.old.ends.losses.reported + result ≡ lost_of app self.old.books }
-        ensures small { reported_of app self.new.ends.losses.reported < 2 ^ 47 }
+        ensures reported { self.new ≡ record self.old { handles = with_report self.old.handles app result } }
+        ensures all { reported_of app self.old.handles.losses.reported + result ≡ lost_of app self.old.books }
+        ensures small { reported_of app self.new.handles.losses.reported < 2 ^ 47 }
     {
         self.losses[usize::from(app)] = 0;
-        self.ends.losses(app)
+        self.handles.losses(app)
     }
 
     /// Sets the level of a slot, 64 times the application's number and the context's place, at the slot's next version.
     /// `Worn` at version 2^56 - 1.
     pub fn set(&mut self, slot: u16, level: Level) -> Result<(), Worn>
         requires { slot < 64 * length self.old.apps }
-        ensures worn { IsErr result ↔ (last_version self.old.ends.levels.first slot self.old.ends.levels.sets ≡ 2 ^ 56 - 1) }
-        ensures set { OnOk result (self.new ≡ record self.old { ends = with_level self.old.ends slot level }) }
+        ensures worn { IsErr result ↔ (current_version self.old.handles.levels.first slot self.old.handles.levels.sets ≡ 2 ^ 56 - 1) }
+        ensures set { OnOk result (self.new ≡ record self.old { handles = with_level self.old.handles slot level }) }
         ensures kept { OnErr result (self.new ≡ self.old) }
     {
-        self.ends.set(slot, level)
+        self.handles.set(slot, level)
     }
 
     /// Puts an injection into the queue of an application, or gives it back. It comes back only where the queue held 16 at
     /// that step, so at least 16 were put before. No writer will take it.
     pub fn inject<R: Wait>(&mut self, rt: &R, app: u8, item: Injection) -> Result<(), Injection>
         requires { app < length self.old.apps }
-        ensures pushed { OnOk result (self.new ≡ record self.old { ends = with_injected self.old.ends app item }) }
-        ensures refused { OnErr result (self.new ≡ record self.old { ends = with_refusal self.old.ends app }) }
+        ensures pushed { OnOk result (self.new ≡ record self.old { handles = with_injected self.old.handles app item }) }
+        ensures refused { OnErr result (self.new ≡ record self.old { handles = with_refusal self.old.handles app }) }
         ensures back { IfErr result (λ back. back ≡ item) }
-        ensures full { OnErr result (At self.old.ends.apps app (λ e. 16 ≤ length e.queue.pushed)) }
+        ensures full { OnErr result (At self.old.handles.apps app (λ e. 16 ≤ length e.queue.pushed)) }
     {
-        let answer = self.ends.inject(rt, app, item);
-        self.ends.look(app);
+        let answer = self.handles.inject(rt, app, item);
+        self.handles.look(app);
         answer
     }
 
@@ -154,7 +161,7 @@ impl Closing {
     {
         let Closing {
             apps,
-            ends: desk,
+            handles,
             calls: _,
             losses: _,
             injected,
@@ -163,22 +170,13 @@ impl Closing {
         } = self;
         Account {
             apps,
-            desk,
+            handles,
             injected,
             records,
             books,
             journal,
             ends,
         }
-    }
-}
-
-impl Closing {
-    // Each application has its ends.
-    pub(crate) fn have_ends(&self)
-        ensures { length self.now.ends.apps ≡ length self.now.apps }
-    {
-        let _ = &self.apps;
     }
 }
 
@@ -193,24 +191,24 @@ fn gather(desk: Desk, books: BookList) -> Closing
     let seen = Snapshot::of(&books);
     let DeskParts {
         apps,
-        mut ends,
+        mut handles,
         firsts,
         readers,
         counters,
         owners: _,
     } = desk.into_parts();
     let count = firsts.len() as u8;
-    let calls = calls_waiting(&ends, &books, count);
+    let calls = calls_waiting(&handles, &books, count);
     let injected = injections_given(&books, count);
-    let records = join_books(&mut ends, books);
-    join_firsts(&mut ends, firsts);
-    ends.join_words(readers, counters);
-    ends.settle();
-    look_at_ends(&mut ends, count);
-    let losses = losses_waiting(&mut ends, count);
+    let records = join_books(&mut handles, books);
+    join_firsts(&mut handles, firsts);
+    handles.join_words(readers, counters);
+    handles.settle();
+    look_at_handles(&mut handles, count);
+    let losses = losses_waiting(&mut handles, count);
     Closing {
         apps,
-        ends,
+        handles,
         calls,
         losses,
         injected,

@@ -1,14 +1,14 @@
-//! The ends of all writers, taken back by the daemon's.
+//! The handles of all writers, taken back by the daemon's.
 
 ghost use Rattle.std.specs.Prelude.{◌≡◌, ◌<◌, ◌≤◌, ◌++◌, List, length, map, min, All, ◌^◌, ◌-◌, vec_len};
 ghost use Rattle.dl_desk.specs.Lists.{At};
 ghost use Rattle.dl_writer.specs.Records.{TellAll};
 ghost use Rattle.dl_writer.specs.State.{IsWhole};
 ghost use Rattle.dl_lib.specs.Books.{given_by, injected_of};
-ghost use Rattle.dl_lib.specs.Joining.{join_books, join_firsts, join_writer, FitsEnds, FitFirsts};
+ghost use Rattle.dl_lib.specs.Joining.{join_books, join_firsts, join_writer, FitsHandles, FitFirsts};
 
 use arrayvec::ArrayVec;
-use dl_desk::{DaemonEnds, FirstEnds};
+use dl_desk::{DaemonHandles, FirstHandles};
 use dl_events::RecordList;
 use dl_writer::{BookList, Writer};
 
@@ -39,10 +39,10 @@ fn injected_of(books: &BookList, app: u8) -> u64
 }
 
 /// Takes back the writers of these books, and gives their records, in order.
-pub fn join_books(ends: &mut DaemonEnds, books: BookList) -> RecordList
-    requires fit { All (λ b. FitsEnds ends.old b.writer) books }
+pub fn join_books(handles: &mut DaemonHandles, books: BookList) -> RecordList
+    requires fit { All (λ b. FitsHandles handles.old b.writer) books }
     requires few { length books ≤ 32 }
-    ensures ends { ends.new ≡ join_books ends.old books }
+    ensures handles { handles.new ≡ join_books handles.old books }
     ensures records { result ≡ map (λ b. b.records) books }
     ensures told { All (λ b. IsWhole b → TellAll b.writer b.records) books }
 {
@@ -50,32 +50,32 @@ pub fn join_books(ends: &mut DaemonEnds, books: BookList) -> RecordList
     let mut records = RecordList::none();
     while let Some(book) = books.take_first() {
         let (writer, list) = book.into_parts();
-        join_writer(ends, writer);
+        join_writer(handles, writer);
         records.add(list);
     }
     records
 }
 
 /// Takes back one writer.
-fn join_writer(ends: &mut DaemonEnds, writer: Writer)
-    requires { FitsEnds ends.old writer }
-    ensures { ends.new ≡ join_writer ends.old writer }
+fn join_writer(handles: &mut DaemonHandles, writer: Writer)
+    requires { FitsHandles handles.old writer }
+    ensures { handles.new ≡ join_writer handles.old writer }
 {
     let app = writer.app();
-    let own = writer.into_ends();
-    ends.join_passes(app, own.push, own.injections);
-    ends.join_words(own.reader, own.losses);
+    let own = writer.into_handles();
+    handles.join_passes(app, own.push, own.injections);
+    handles.join_words(own.reader, own.losses);
 }
 
-/// Takes back the ends of which those of the writers were split, application by application, the last one first.
-pub fn join_firsts(ends: &mut DaemonEnds, firsts: Vec<FirstEnds>)
+/// Takes back the handles of which those of the writers were split, application by application, the last one first.
+pub fn join_firsts(handles: &mut DaemonHandles, firsts: Vec<FirstHandles>)
     requires few { vec_len firsts ≤ 16 }
-    requires fit { FitFirsts ends.old firsts.items }
-    ensures { ends.new ≡ join_firsts 0 firsts.items ends.old }
+    requires fit { FitFirsts handles.old firsts.items }
+    ensures { handles.new ≡ join_firsts 0 firsts.items handles.old }
 {
     let mut firsts = firsts;
     while let Some(first) = firsts.pop() {
         let app = firsts.len() as u8;
-        ends.join_passes(app, first.push, first.injections);
+        handles.join_passes(app, first.push, first.injections);
     }
 }

@@ -1,10 +1,11 @@
 //! Laws on an account.
 
-ghost use Rattle.std.specs.Prelude.{◌≡◌, ℕ, List, All};
+ghost use Rattle.std.specs.Prelude.{◌≡◌, ℕ, List, map, All};
 ghost use Rattle.dl_bytes.specs.declared.item.Injection.{Injection};
 ghost use Rattle.dl_events.specs.declared.event.Event.{Event};
 ghost use Rattle.dl_events.specs.declared.record.Record.{Record};
 ghost use Rattle.dl_levels.specs.declared.history.Read.{Read};
+ghost use Rattle.dl_model.specs.WholeAccounts.{IsAccounted};
 ghost use Rattle.dl_desk.specs.Made.{IsLater, IsMadeWith, MakesWriter};
 ghost use Rattle.dl_desk.specs.Posting.{rest_of};
 ghost use Rattle.dl_desk.specs.State.{DeskState};
@@ -12,13 +13,19 @@ ghost use Rattle.dl_writer.specs.Calls.{after, with_empty, with_injection, with_
 ghost use Rattle.dl_writer.specs.State.{BookState, IsWhole, WriterState};
 ghost use Rattle.dl_lib.specs.Known.{IsDrained};
 ghost use Rattle.dl_lib.specs.Making.{AreInOrder};
-ghost use Rattle.dl_lib.specs.Settled.{IsAccountOf, IsJournalOf, IsSettled};
+ghost use Rattle.dl_lib.specs.Settled.{IsAccountOf, IsJournalOf, IsSettled, refusals_of};
 ghost use Rattle.dl_lib.specs.State.{AccountState, ClosingState};
 
 /// Where all books are whole, the records of an account and a journal that says what the daemon did are the account of all
 /// writers.
 pub fn records_are_an_account()
     ensures { (events : List Event) (s : AccountState) → IsSettled s → All IsWhole s.books → IsJournalOf events s → IsAccountOf events s }
+{}
+
+/// So these records and such a journal are accounted, with no loss pending, in the words that runs of steps have for it.
+pub fn an_account_is_accounted()
+    ensures { (events : List Event) (s : AccountState) → IsSettled s → All IsWhole s.books → IsJournalOf events s →
+        IsAccounted s.handles.levels.first events (λ app. 0) (refusals_of s.books) (map (λ b. b.records) s.books) }
 {}
 
 /// The books in the order of their numbers are whole where all books are.
@@ -37,5 +44,5 @@ pub fn made_stays()
 
 /// A call that sets a level or injects leaves what was drained drained.
 pub fn drained_stays()
-    ensures { (old new : ClosingState) → (record new { ends = rest_of new.ends }) ≡ (record old { ends = rest_of old.ends }) → IsDrained old → IsDrained new }
+    ensures { (old new : ClosingState) → (record new { handles = rest_of new.handles }) ≡ (record old { handles = rest_of old.handles }) → IsDrained old → IsDrained new }
 {}

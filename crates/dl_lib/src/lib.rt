@@ -35,7 +35,7 @@ pub use account::Account;
 pub use closing::Closing;
 pub use dl_bytes::{Ends, LinkEnd, TraceState};
 pub use dl_desk::{
-    Answer, App, AppFault, AppList, AppSpec, Book, BookFault, BookList, CALL_LIMIT, Ctx, Desk,
-    LogFault, Post, Record, Worn, Writer, WriterFault,
+    Answer, App, AppFault, AppList, AppSpec, Book, BookFault, BookList, Ctx, Desk, LogFault, Post,
+    Record, WRITER_CALL_LIMIT, Worn, Writer, WriterFault,
 };
 pub use dl_events::{Kept, RecordList};

@@ -1,7 +1,7 @@
 //! The books of all writers, put in the order of their writers' numbers.
 
 ghost use Rattle.std.specs.Prelude.{◌≡◌, ◌≤◌, ◌<◌, ℕ, length, IfSome, IfNone};
-ghost use Rattle.dl_views.specs.Views.{times};
+ghost use Rattle.dl_thread_rules.specs.Views.{times};
 ghost use Rattle.dl_writer.specs.State.{numbers};
 ghost use Rattle.dl_lib.specs.Making.{AreAmong, AreInOrder, AreNumberedTo, IsAmong};
 

@@ -9,26 +9,19 @@ use std::sync::Wait;
 impl Post for Closing {
     ghost use Rattle.std.specs.Prelude.{◌≡◌, length, refl};
     ghost use Rattle.std.proofs.Common.{◌∙◌};
-    ghost use Rattle.dl_desk.specs.Posting.{pushed_of, refusals_of, rest_of};
+    ghost use Rattle.dl_desk.specs.Posting.{rest_of};
+    ghost use Rattle.dl_desk.specs.Told.{told_by};
 
-    ghost apps = { λ c. length c.apps };
+    ghost told = { λ c. told_by (length c.apps) c.handles };
 
-    ghost first = { λ c. c.ends.levels.first };
-
-    ghost sets = { λ c. c.ends.levels.sets };
-
-    ghost pushed = { λ c app. pushed_of c.ends app };
-
-    ghost refusals = { λ c app. refusals_of c.ends app };
-
-    ghost same_rest = { λ old new. record new { ends = rest_of new.ends } ≡ record old { ends = rest_of old.ends } };
+    ghost same_rest = { λ old new. record new { handles = rest_of new.handles } ≡ record old { handles = rest_of old.handles } };
 
     fn set(&mut self, slot: u16, level: Level) -> Result<(), Worn> {
         Closing::set(self, slot, level)
     }
 
     fn inject<R: Wait>(&mut self, rt: &R, app: u8, item: Injection) -> Result<(), Injection> {
-        self.have_ends();
+        self.have_handles();
         Closing::inject(self, rt, app, item)
     }
 

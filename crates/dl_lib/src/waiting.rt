@@ -3,22 +3,22 @@
 ghost use Rattle.std.specs.Prelude.{◌≡◌, ◌+◌, ◌<◌, ◌≤◌, ◌^◌, ℕ, List, length, slice_index, vec_len};
 ghost use Rattle.dl_bytes.specs.declared.item.Item.{Item as item_type};
 ghost use Rattle.dl_losses.specs.Losses.{all_shares, counted_of, reported_of};
-ghost use Rattle.dl_desk.specs.Ends.{QueueHolds, RingHolds};
+ghost use Rattle.dl_desk.specs.Handles.{QueueHolds, RingHolds};
 ghost use Rattle.dl_desk.specs.Lists.{At};
 ghost use Rattle.dl_lib.specs.Books.{queued_of};
 
-use dl_desk::DaemonEnds;
+use dl_desk::DaemonHandles;
 use dl_writer::BookList;
 
 /// How many calls wait in the ring of each application: of those that its writers pushed, all that were not taken.
-pub fn calls_waiting(ends: &DaemonEnds, books: &BookList, apps: u8) -> [u64; 16]
-    requires there { (apps ≤ 16) × (apps ≤ length ends.now.apps) }
+pub fn calls_waiting(handles: &DaemonHandles, books: &BookList, apps: u8) -> [u64; 16]
+    requires there { (apps ≤ 16) × (apps ≤ length handles.now.apps) }
     requires few { length books.now ≤ 32 }
-    ensures { (app : ℕ) → app < apps → At ends.now.apps app (λ e. length e.ring.taken ≤ queued_of app books.now → length e.ring.taken + slice_index result app ≡ queued_of app books.now) }
+    ensures { (app : ℕ) → app < apps → At handles.now.apps app (λ e. length e.ring.taken ≤ queued_of app books.now → length e.ring.taken + slice_index result app ≡ queued_of app books.now) }
 {
     let mut calls = [0; 16];
     for app in 0..apps {
-        calls[usize::from(app)] = queued_by(books, app).wrapping_sub(ends.taken(app));
+        calls[usize::from(app)] = queued_by(books, app).wrapping_sub(handles.taken(app));
     }
     calls
 }
@@ -40,28 +40,28 @@ fn queued_by(books: &BookList, app: u8) -> u64
 }
 
 /// How many losses wait in the word of each application.
-pub fn losses_waiting(ends: &mut DaemonEnds, apps: u8) -> [u64; 16]
-    requires there { (apps ≤ 16) × (apps ≤ length ends.old.apps) }
-    requires shares { ends.old.losses.shares ≡ all_shares }
-    ensures same { ends.new ≡ ends.old }
-    ensures each { (app : ℕ) → app < apps → reported_of app ends.new.losses.reported + slice_index result app ≡ counted_of app ends.new.losses.counted }
+pub fn losses_waiting(handles: &mut DaemonHandles, apps: u8) -> [u64; 16]
+    requires there { (apps ≤ 16) × (apps ≤ length handles.old.apps) }
+    requires shares { handles.old.losses.shares ≡ all_shares }
+    ensures same { handles.new ≡ handles.old }
+    ensures each { (app : ℕ) → app < apps → reported_of app handles.new.losses.reported + slice_index result app ≡ counted_of app handles.new.losses.counted }
 {
     let mut losses = [0; 16];
     for app in 0..apps {
-        losses[usize::from(app)] = ends.pending(app);
+        losses[usize::from(app)] = handles.pending(app);
     }
     losses
 }
 
 /// Looks at the ring and the queue of each application.
-pub fn look_at_ends(ends: &mut DaemonEnds, apps: u8)
-    requires { (apps ≤ 16) × (apps ≤ length ends.old.apps) }
-    ensures same { ends.new ≡ ends.old }
-    ensures rings { (app : ℕ) → app < apps → (contents : List item_type) × RingHolds ends.new app contents }
-    ensures queues { (app : ℕ) → app < apps → (left : ℕ) × QueueHolds ends.new app left }
-    ensures range { (app : ℕ) → app < apps → At ends.new.apps app (λ e. length e.queue.pushed < 2 ^ 64) }
+pub fn look_at_handles(handles: &mut DaemonHandles, apps: u8)
+    requires { (apps ≤ 16) × (apps ≤ length handles.old.apps) }
+    ensures same { handles.new ≡ handles.old }
+    ensures rings { (app : ℕ) → app < apps → (contents : List item_type) × RingHolds handles.new app contents }
+    ensures queues { (app : ℕ) → app < apps → (left : ℕ) × QueueHolds handles.new app left }
+    ensures range { (app : ℕ) → app < apps → At handles.new.apps app (λ e. length e.queue.pushed < 2 ^ 64) }
 {
     for app in 0..apps {
-        ends.look(app);
+        handles.look(app);
     }
 }

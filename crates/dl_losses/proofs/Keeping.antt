@@ -6,9 +6,9 @@ use native.Mathlib.Decide.{ℕ_discrete}
 use lib.ListN.{get_elem?}
 use Rattle.atomic_table.specs.Table.{State, Me, step, keeps, stepped, Allows, Splits, Joins}
 use Rattle.atomic_table.proofs.Lists.{at_set}
-use Rattle.dl_views.specs.Views.{total, bit}
-use Rattle.dl_views.proofs.Each.{each_put, each_snoc}
-use Rattle.dl_views.proofs.Totals.{total-set, total-snoc, total_at, total_le, total_scale, total_alone}
+use Rattle.dl_thread_rules.specs.Views.{total, bit}
+use Rattle.dl_thread_rules.proofs.Each.{each_put, each_snoc}
+use Rattle.dl_thread_rules.proofs.Totals.{total-set, total-snoc, total_at, total_le, total_scale, total_alone}
 use Rattle.dl_losses.specs.declared.keeper.Report.{Report}
 use Rattle.dl_losses.specs.declared.words.View.{View}
 use Rattle.dl_losses.specs.Losses.{report, counted_of, reported_of}

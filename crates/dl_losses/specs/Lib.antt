@@ -1,4 +1,4 @@
 pub mod Losses
 pub mod States
 pub mod Rule
-pub mod Ends
+pub mod Passes

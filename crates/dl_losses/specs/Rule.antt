@@ -1,7 +1,7 @@
 -- The rule of the loss words, and what each step on them tells.
 use Rattle.std.specs.Prelude.{◌≡◌, ℕ, ◌+◌, ◌-◌, ◌*◌, ◌^◌, ◌<◌, ◌≤◌, true, false, [], ◌∷◌, ◌++◌, length, slice_index}
 use Rattle.atomic_table.specs.Table.{State, Me, Step}
-use Rattle.dl_views.specs.Views.{Each, total, bit}
+use Rattle.dl_thread_rules.specs.Views.{Each, total, bit}
 use Rattle.dl_losses.specs.declared.keeper.Report.{Report}
 use Rattle.dl_losses.specs.declared.words.View.{View}
 use Rattle.dl_losses.specs.Losses.{report, counted_of, reported_of, all_shares}

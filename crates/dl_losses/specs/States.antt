@@ -1,4 +1,4 @@
--- What contracts see of the two ends of the loss words.
+-- What contracts see of the keeper and the writers of the loss words.
 use Rattle.std.specs.Prelude.{ℕ, List}
 use Rattle.atomic_table.specs.Seated.{TableId}
 use Rattle.dl_losses.specs.declared.keeper.Report.{Report}

@@ -3,11 +3,11 @@
 ghost use Rattle.std.specs.Prelude.{◌≡◌, ◌+◌, ◌^◌, ◌<◌, ◌≤◌, [], ◌∷◌, ◌++◌, IfOk};
 ghost use Rattle.dl_losses.specs.Losses.{report, counted_of, reported_of, all_shares};
 
-use crate::words::{Ends, Look, Take, View, Words, Writers};
+use crate::words::{Look, Passes, Take, View, Words, Writers};
 use crate::writer::LossWriter;
 use atomic_table::Seat;
 use dl_bytes::OutOfMemory;
-use dl_views::owners;
+use dl_thread_rules::owners;
 use std::alloc::Global;
 use std::marker::Model;
 use std::sync::Arc;
@@ -35,7 +35,7 @@ impl Model for LossKeeper {
 
     ghost Value = { KeeperState };
 
-    ghost use Rattle.dl_losses.specs.Ends.{keeper_state, IsKeeper};
+    ghost use Rattle.dl_losses.specs.Passes.{keeper_state, IsKeeper};
 
     ghost view = { keeper_state };
 
@@ -87,12 +87,12 @@ impl LossKeeper {
 /// The words of `apps` applications, each with no lost call.
 pub fn make_losses(alloc: Global, apps: u8) -> Result<(LossKeeper, LossWriter), OutOfMemory>
     requires { 1 ≤ apps }
-    ensures keeper { IfOk result (λ ends. ends.0 ≡ record { table = ends.0.table; apps = apps; counted = []; shares = 0; reported = [] }) }
-    ensures writer { IfOk result (λ ends. ends.1 ≡ record { table = ends.0.table; apps = apps; counted = []; splits_left = 64 }) }
+    ensures keeper { IfOk result (λ made. made.0 ≡ record { table = made.0.table; apps = apps; counted = []; shares = 0; reported = [] }) }
+    ensures writer { IfOk result (λ made. made.1 ≡ record { table = made.0.table; apps = apps; counted = []; splits_left = 64 }) }
 {
     let row = Vec::from_elem(alloc, 0, usize::from(apps))?;
     let (table, mut seat) = Words::of_words(alloc, &row, &u64::from(apps))?;
-    let counts = table.shared.split_seat::<Ends>(&mut seat);
+    let counts = table.shared.split_seat::<Passes>(&mut seat);
     let words = Arc::new(alloc, table)?;
     let writer = LossWriter {
         words: Arc::try_clone(&words)?,

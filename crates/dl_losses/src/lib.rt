@@ -2,8 +2,6 @@
 #![tactic(auto)]
 
 mod keeper;
-#[cfg(test)]
-mod tests;
 mod words;
 mod writer;
 

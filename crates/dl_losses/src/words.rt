@@ -56,9 +56,9 @@ impl Play<(), View> for Look {
 }
 
 /// The first seat becomes the keeper's, and the first writer has all shares.
-pub struct Ends;
+pub struct Passes;
 
-impl Split<View> for Ends {
+impl Split<View> for Passes {
     ghost use Rattle.dl_losses.specs.Losses.{all_shares};
     ghost use Rattle.dl_losses.specs.Rule.{kept_view, writer_view};
 
@@ -86,5 +86,5 @@ impl Join<View> for Writers {
     ghost spent = { writer_view 0 };
 }
 
-/// The words of all applications, which the two ends share.
+/// The words of all applications, which the keeper and the writers share.
 pub type Words = Table<(), View, u64, LossRule, Global>;

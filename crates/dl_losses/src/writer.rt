@@ -22,7 +22,7 @@ impl Model for LossWriter {
 
     ghost Value = { WriterState };
 
-    ghost use Rattle.dl_losses.specs.Ends.{writer_state, IsWriter};
+    ghost use Rattle.dl_losses.specs.Passes.{writer_state, IsWriter};
 
     ghost view = { writer_state };
 

@@ -3,7 +3,9 @@ use Rattle.std.specs.Prelude.{◌≡◌, ◌≢◌, ℕ, suc, ◌+◌, ◌^◌, 
 use Rattle.std.specs.Ordering.{nat_cmp}
 use Rattle.std.specs.Cmp.Lexicographic.{slice_cmp}
 use Rattle.std.specs.FinMap.Entries.{by_order, find, is_sorted}
+use Rattle.std.specs.FinMap as map
 use Rattle.std.specs.List.{insert}
+use Rattle.dl_outside.specs.Folder.{Files}
 use Rattle.dl_memory.specs.declared.shelf.Entry.{Entry}
 use Rattle.dl_memory.specs.declared.shelf.Place.{Place}
 
@@ -48,6 +50,10 @@ pub record Stock : Type 0 where
   pub most_bytes : ℕ
   pub changes : ℕ
   pub appends : ℕ
+
+-- the files as a map from names to bytes
+abbrev pub files_of : Stock → Files
+files_of stock = map.from_sorted {R = slice_cmp nat_cmp} stock.files
 
 -- the bytes of a file, none where it isn't there
 abbrev pub held_by : Stock → List ℕ → List ℕ

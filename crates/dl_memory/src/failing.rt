@@ -1,7 +1,15 @@
 //! Faults on purpose, for tests of what a program does then.
 
-ghost use Rattle.std.specs.Prelude.{◌≡◌, ◌<◌, ◌↔◌, IsTrue, Contains, false, length, true};
-ghost use Rattle.dl_outside.specs.Outside.{one_more, HasReadCause, HasRisen, HasWriteCause, Reads, Takes};
+ghost use Rattle.std.specs.Prelude.{◌≡◌, ◌+◌, ◌<◌, ◌≤◌, ◌^◌, ◌↔◌, Contains, Err, IfOk, IfSome, IsTrue, Some, false, length, true};
+ghost use Rattle.std.specs.FinMap as map;
+ghost use Rattle.dl_outside.specs.Dial as dial;
+ghost use Rattle.dl_outside.specs.Folder as folder;
+ghost use Rattle.dl_outside.specs.Link as link;
+ghost use Rattle.dl_outside.specs.Net as net;
+ghost use Rattle.dl_outside.specs.Outside.{one_more, HasReadCause, HasRisen, HasWriteCause, Reads, Stays, Takes};
+ghost use Rattle.dl_memory.specs.Counted.{Counts, with_faults};
+ghost use Rattle.dl_outside.specs.declared.link.Gave.TheVariants as gave;
+ghost use Rattle.dl_outside.specs.declared.link.Sends.TheVariants as sends;
 ghost use Rattle.dl_outside.specs.declared.sink.Took.TheVariants as took;
 ghost use Rattle.dl_outside.specs.declared.source.Got.TheVariants as got;
 
@@ -81,22 +89,15 @@ impl<T> Failing<T> {
 }
 
 impl<S: Source> Source for Failing<S> {
-    ghost left = { λ s. S.left s.inner };
-
-    ghost faults = { λ s. s.faults };
+    ghost told = { λ s. record { left = (S.told s.inner).left; faults = s.faults } };
 
     fn read(&mut self, into: &mut [u8]) -> Got
         requires { 0 < length into.old }
-        ensures bytes { Reads (S.left self.old.inner) (S.left self.new.inner) result into.new }
+        ensures bytes { Reads (S.told self.old.inner).left (S.told self.new.inner).left result into.new }
         ensures cause { HasReadCause self.old.faults self.new.faults result }
-        ensures calls { self.new.calls ≡ one_more self.old.calls }
-        // A chosen call fails, and leaves the object within and the buffer as they were.
-        ensures chosen { Contains self.old.chosen.items self.new.calls
-            → (result ≡ got.Failed) × (self.new.inner ≡ self.old.inner) × (into.new ≡ into.old) }
-        // Every other call is one of the object within: it failed exactly where that did.
+        ensures counts { Counts self.old self.new ((result ≡ got.Failed) × (into.new ≡ into.old)) }
         ensures others { ¬ Contains self.old.chosen.items self.new.calls
-            → HasReadCause (S.faults self.old.inner) (S.faults self.new.inner) result }
-        ensures kept { self.new.chosen ≡ self.old.chosen }
+            → HasReadCause (S.told self.old.inner).faults (S.told self.new.inner).faults result }
     {
         self.calls = self.calls.saturating_add(1);
         if self.chosen.contains(&self.calls) {
@@ -116,22 +117,15 @@ impl<S: Source> Source for Failing<S> {
 }
 
 impl<K: Sink> Sink for Failing<K> {
-    ghost held = { λ s. K.held s.inner };
-
-    ghost faults = { λ s. s.faults };
+    ghost told = { λ s. record { held = (K.told s.inner).held; faults = s.faults } };
 
     fn write(&mut self, piece: &[u8]) -> Took
         requires { 0 < length piece.now }
-        ensures bytes { Takes (K.held self.old.inner) (K.held self.new.inner) result piece.now }
+        ensures bytes { Takes (K.told self.old.inner).held (K.told self.new.inner).held result piece.now }
         ensures cause { HasWriteCause self.old.faults self.new.faults result }
-        ensures calls { self.new.calls ≡ one_more self.old.calls }
-        // A chosen call fails, and leaves the object within as it was.
-        ensures chosen { Contains self.old.chosen.items self.new.calls
-            → (result ≡ took.Failed) × (self.new.inner ≡ self.old.inner) }
-        // Every other call is one of the object within: it failed exactly where that did.
+        ensures counts { Counts self.old self.new (result ≡ took.Failed) }
         ensures others { ¬ Contains self.old.chosen.items self.new.calls
-            → HasWriteCause (K.faults self.old.inner) (K.faults self.new.inner) result }
-        ensures kept { self.new.chosen ≡ self.old.chosen }
+            → HasWriteCause (K.told self.old.inner).faults (K.told self.new.inner).faults result }
     {
         self.calls = self.calls.saturating_add(1);
         if self.chosen.contains(&self.calls) {
@@ -151,15 +145,18 @@ impl<K: Sink> Sink for Failing<K> {
 }
 
 impl<F: Folder> Folder for Failing<F> {
-    ghost files = { λ f. F.files f.inner };
+    ghost told = { λ f. record { files = (F.told f.inner).files; faults = f.faults; changes = f.changes; appends = f.appends } };
 
-    ghost faults = { λ f. f.faults };
-
-    ghost changes = { λ f. f.changes };
-
-    ghost appends = { λ f. f.appends };
-
-    fn read(&mut self, name: &str) -> Result<Option<Bytes>, FolderFault> {
+    fn read(&mut self, name: &str) -> Result<Option<Bytes>, FolderFault>
+        ensures found { folder.Answers (F.told self.old.inner).files result (λ all. map.get all name.now) }
+        ensures stays { Stays (F.told self.old.inner).files (F.told self.new.inner).files }
+        ensures cause { folder.HasCause self.old.faults self.new.faults result }
+        ensures unchanged { self.new.changes ≡ self.old.changes }
+        ensures unappended { self.new.appends ≡ self.old.appends }
+        ensures counts { Counts self.old self.new (result ≡ Err FolderFault.Failed) }
+        ensures others { ¬ Contains self.old.chosen.items self.new.calls
+            → folder.HasCause (F.told self.old.inner).faults (F.told self.new.inner).faults result }
+    {
         if self.begin() {
             return Err(FolderFault::Failed);
         }
@@ -170,7 +167,17 @@ impl<F: Folder> Folder for Failing<F> {
         found
     }
 
-    fn size(&mut self, name: &str) -> Result<Option<u64>, FolderFault> {
+    fn size(&mut self, name: &str) -> Result<Option<u64>, FolderFault>
+        ensures found { folder.Answers (F.told self.old.inner).files result (λ all. folder.size_in all name.now) }
+        ensures small { IfOk result (λ size. IfSome size (λ bytes. bytes < 2 ^ 63)) }
+        ensures stays { Stays (F.told self.old.inner).files (F.told self.new.inner).files }
+        ensures cause { folder.HasCause self.old.faults self.new.faults result }
+        ensures unchanged { self.new.changes ≡ self.old.changes }
+        ensures unappended { self.new.appends ≡ self.old.appends }
+        ensures counts { Counts self.old self.new (result ≡ Err FolderFault.Failed) }
+        ensures others { ¬ Contains self.old.chosen.items self.new.calls
+            → folder.HasCause (F.told self.old.inner).faults (F.told self.new.inner).faults result }
+    {
         if self.begin() {
             return Err(FolderFault::Failed);
         }
@@ -181,7 +188,16 @@ impl<F: Folder> Folder for Failing<F> {
         found
     }
 
-    fn names(&mut self, prefix: &str) -> Result<NameList, FolderFault> {
+    fn names(&mut self, prefix: &str) -> Result<NameList, FolderFault>
+        ensures found { folder.Answers (F.told self.old.inner).files result (folder.names_with prefix.now) }
+        ensures stays { Stays (F.told self.old.inner).files (F.told self.new.inner).files }
+        ensures cause { folder.HasCause self.old.faults self.new.faults result }
+        ensures unchanged { self.new.changes ≡ self.old.changes }
+        ensures unappended { self.new.appends ≡ self.old.appends }
+        ensures counts { Counts self.old self.new (result ≡ Err FolderFault.Failed) }
+        ensures others { ¬ Contains self.old.chosen.items self.new.calls
+            → folder.HasCause (F.told self.old.inner).faults (F.told self.new.inner).faults result }
+    {
         if self.begin() {
             return Err(FolderFault::Failed);
         }
@@ -192,7 +208,15 @@ impl<F: Folder> Folder for Failing<F> {
         found
     }
 
-    fn put(&mut self, name: &str, bytes: &[u8]) -> Result<(), FolderFault> {
+    fn put(&mut self, name: &str, bytes: &[u8]) -> Result<(), FolderFault>
+        ensures files { folder.Puts (F.told self.old.inner).files (F.told self.new.inner).files result name.now bytes.now }
+        ensures cause { folder.HasCause self.old.faults self.new.faults result }
+        ensures changed { self.new.changes ≡ one_more self.old.changes }
+        ensures unappended { self.new.appends ≡ self.old.appends }
+        ensures counts { Counts self.old self.new (result ≡ Err FolderFault.Failed) }
+        ensures others { ¬ Contains self.old.chosen.items self.new.calls
+            → folder.HasCause (F.told self.old.inner).faults (F.told self.new.inner).faults result }
+    {
         self.changes = self.changes.saturating_add(1);
         if self.begin() {
             return Err(FolderFault::Failed);
@@ -204,7 +228,16 @@ impl<F: Folder> Folder for Failing<F> {
         done
     }
 
-    fn append(&mut self, name: &str, piece: &[u8]) -> Result<(), FolderFault> {
+    fn append(&mut self, name: &str, piece: &[u8]) -> Result<(), FolderFault>
+        ensures files { folder.Appends (F.told self.old.inner).files (F.told self.new.inner).files result name.now piece.now }
+        ensures cause { folder.HasCause self.old.faults self.new.faults result }
+        ensures changed { self.new.changes ≡ one_more self.old.changes }
+        ensures appends { self.new.appends ≤ self.old.appends + 1 }
+        ensures later { self.old.appends ≤ self.new.appends }
+        ensures counts { Counts self.old self.new (result ≡ Err FolderFault.Failed) }
+        ensures others { ¬ Contains self.old.chosen.items self.new.calls
+            → folder.HasCause (F.told self.old.inner).faults (F.told self.new.inner).faults result }
+    {
         self.changes = self.changes.saturating_add(1);
         self.appends = self.appends.saturating_add(1);
         if self.begin() {
@@ -217,7 +250,15 @@ impl<F: Folder> Folder for Failing<F> {
         done
     }
 
-    fn remove(&mut self, name: &str) -> Result<(), FolderFault> {
+    fn remove(&mut self, name: &str) -> Result<(), FolderFault>
+        ensures files { folder.Removes (F.told self.old.inner).files (F.told self.new.inner).files result name.now }
+        ensures cause { folder.HasCause self.old.faults self.new.faults result }
+        ensures changed { self.new.changes ≡ one_more self.old.changes }
+        ensures unappended { self.new.appends ≡ self.old.appends }
+        ensures counts { Counts self.old self.new (result ≡ Err FolderFault.Failed) }
+        ensures others { ¬ Contains self.old.chosen.items self.new.calls
+            → folder.HasCause (F.told self.old.inner).faults (F.told self.new.inner).faults result }
+    {
         self.changes = self.changes.saturating_add(1);
         if self.begin() {
             return Err(FolderFault::Failed);
@@ -243,23 +284,32 @@ impl<F: Folder> Folder for Failing<F> {
 }
 
 impl<L: Link> Link for Failing<L> {
-    ghost left = { λ l. L.left l.inner };
+    ghost told = { λ l. record {
+      left = (L.told l.inner).left;
+      over = (L.told l.inner).over;
+      given = (L.told l.inner).given;
+      taken = (L.told l.inner).taken;
+      faults = l.faults;
+      idles = (L.told l.inner).idles;
+      waits = (L.told l.inner).waits;
+      is_shut = (L.told l.inner).is_shut;
+    } };
 
-    ghost over = { λ l. L.over l.inner };
-
-    ghost given = { λ l. L.given l.inner };
-
-    ghost taken = { λ l. L.taken l.inner };
-
-    ghost faults = { λ l. l.faults };
-
-    ghost idles = { λ l. L.idles l.inner };
-
-    ghost waits = { λ l. L.waits l.inner };
-
-    ghost is_shut = { λ l. L.is_shut l.inner };
-
-    fn recv(&mut self, into: &mut [u8]) -> Gave {
+    fn recv(&mut self, into: &mut [u8]) -> Gave
+        requires { 0 < length into.old }
+        ensures bytes { link.Receives (L.told self.old.inner).left (L.told self.new.inner).left result into.new }
+        ensures given { link.Gives (L.told self.old.inner).given (L.told self.new.inner).given result into.new }
+        ensures end { link.EndsRightly (L.told self.old.inner) result }
+        ensures cause { link.HasReceiveCause (with_faults (L.told self.old.inner) self.old.faults) (with_faults (L.told self.new.inner) self.new.faults) result }
+        ensures over { link.StaysOver (L.told self.old.inner) (L.told self.new.inner) }
+        ensures untaken { Stays (L.told self.old.inner).taken (L.told self.new.inner).taken }
+        ensures waits { (L.told self.new.inner).waits ≡ (L.told self.old.inner).waits }
+        ensures shut { (L.told self.new.inner).is_shut ≡ (L.told self.old.inner).is_shut }
+        ensures closed { IsTrue (L.told self.old.inner).is_shut → link.NothingCame result }
+        ensures counts { Counts self.old self.new ((result ≡ gave.Failed) × (into.new ≡ into.old)) }
+        ensures others { ¬ Contains self.old.chosen.items self.new.calls
+            → link.HasReceiveCause (L.told self.old.inner) (L.told self.new.inner) result }
+    {
         if self.begin() {
             return Gave::Failed;
         }
@@ -270,7 +320,20 @@ impl<L: Link> Link for Failing<L> {
         gave
     }
 
-    fn send(&mut self, piece: &[u8]) -> Sends {
+    fn send(&mut self, piece: &[u8]) -> Sends
+        requires { 0 < length piece.now }
+        ensures bytes { link.Sent (L.told self.old.inner).taken (L.told self.new.inner).taken result piece.now }
+        ensures cause { link.HasSendCause (with_faults (L.told self.old.inner) self.old.faults) (with_faults (L.told self.new.inner) self.new.faults) result }
+        ensures left { Stays (L.told self.old.inner).left (L.told self.new.inner).left }
+        ensures over { link.StaysOver (L.told self.old.inner) (L.told self.new.inner) }
+        ensures ungiven { Stays (L.told self.old.inner).given (L.told self.new.inner).given }
+        ensures idles { (L.told self.new.inner).idles ≡ (L.told self.old.inner).idles }
+        ensures shut { (L.told self.new.inner).is_shut ≡ (L.told self.old.inner).is_shut }
+        ensures closed { IsTrue (L.told self.old.inner).is_shut → link.NothingWent result }
+        ensures counts { Counts self.old self.new (result ≡ sends.Failed) }
+        ensures others { ¬ Contains self.old.chosen.items self.new.calls
+            → link.HasSendCause (L.told self.old.inner) (L.told self.new.inner) result }
+    {
         if self.begin() {
             return Sends::Failed;
         }
@@ -283,6 +346,10 @@ impl<L: Link> Link for Failing<L> {
 
     fn shut(&mut self) {
         self.inner.shut();
+    }
+
+    fn rest(&mut self) {
+        self.inner.rest();
     }
 
     fn faults(&self) -> u64 {
@@ -301,15 +368,22 @@ impl<L: Link> Link for Failing<L> {
 impl<N: Net> Net for Failing<N> {
     type L = N::L;
 
-    ghost listens_on = { λ n. N.listens_on n.inner };
+    ghost told = { λ n. record {
+      listens_on = (N.told n.inner).listens_on;
+      launched = (N.told n.inner).launched;
+      waiting = (N.told n.inner).waiting;
+      faults = n.faults;
+    } };
 
-    ghost launched = { λ n. N.launched n.inner };
-
-    ghost waiting = { λ n. N.waiting n.inner };
-
-    ghost faults = { λ n. n.faults };
-
-    fn listen(&mut self, port: u16) -> Result<(), NetFault> {
+    fn listen(&mut self, port: u16) -> Result<(), NetFault>
+        ensures port { net.Listens (N.told self.old.inner).listens_on (N.told self.new.inner).listens_on result port }
+        ensures launched { Stays (N.told self.old.inner).launched (N.told self.new.inner).launched }
+        ensures waiting { Stays (N.told self.old.inner).waiting (N.told self.new.inner).waiting }
+        ensures cause { net.HasCause self.old.faults self.new.faults result }
+        ensures counts { Counts self.old self.new (result ≡ Err NetFault.Failed) }
+        ensures others { ¬ Contains self.old.chosen.items self.new.calls
+            → net.HasCause (N.told self.old.inner).faults (N.told self.new.inner).faults result }
+    {
         if self.begin() {
             return Err(NetFault::Failed);
         }
@@ -320,7 +394,15 @@ impl<N: Net> Net for Failing<N> {
         done
     }
 
-    fn launch(&mut self, script: &ClientScript) -> Result<(), NetFault> {
+    fn launch(&mut self, script: &ClientScript) -> Result<(), NetFault>
+        ensures launched { net.Launches (N.told self.old.inner).launched (N.told self.new.inner).launched result script.now }
+        ensures waiting { net.Queues (N.told self.old.inner).waiting (N.told self.new.inner).waiting result }
+        ensures port { Stays (N.told self.old.inner).listens_on (N.told self.new.inner).listens_on }
+        ensures cause { net.HasCause self.old.faults self.new.faults result }
+        ensures counts { Counts self.old self.new (result ≡ Err NetFault.Failed) }
+        ensures others { ¬ Contains self.old.chosen.items self.new.calls
+            → net.HasCause (N.told self.old.inner).faults (N.told self.new.inner).faults result }
+    {
         if self.begin() {
             return Err(NetFault::Failed);
         }
@@ -331,7 +413,16 @@ impl<N: Net> Net for Failing<N> {
         done
     }
 
-    fn accept(&mut self) -> Accepted<N::L> {
+    fn accept(&mut self) -> Accepted<N::L>
+        ensures waiting { net.Accepts (N.told self.old.inner).waiting (N.told self.new.inner).waiting result }
+        ensures fresh { (l : _) → result ≡ Accepted.Link l → link.IsFresh (N.L.told l) }
+        ensures launched { Stays (N.told self.old.inner).launched (N.told self.new.inner).launched }
+        ensures port { Stays (N.told self.old.inner).listens_on (N.told self.new.inner).listens_on }
+        ensures cause { net.HasAcceptCause self.old.faults self.new.faults result }
+        ensures counts { Counts self.old self.new (result ≡ Accepted.Failed) }
+        ensures others { ¬ Contains self.old.chosen.items self.new.calls
+            → net.HasAcceptCause (N.told self.old.inner).faults (N.told self.new.inner).faults result }
+    {
         if self.begin() {
             return Accepted::Failed;
         }
@@ -342,6 +433,10 @@ impl<N: Net> Net for Failing<N> {
         accepted
     }
 
+    fn rest(&mut self) {
+        self.inner.rest();
+    }
+
     fn faults(&self) -> u64 {
         self.faults
     }
@@ -350,11 +445,17 @@ impl<N: Net> Net for Failing<N> {
 impl<D: Dial> Dial for Failing<D> {
     type S = D::S;
 
-    ghost serves = { λ d. D.serves d.inner };
+    ghost told = { λ d. record { serves = (D.told d.inner).serves; faults = d.faults } };
 
-    ghost faults = { λ d. d.faults };
-
-    fn dial(&mut self, port: u16) -> Result<D::S, DialFault> {
+    fn dial(&mut self, port: u16) -> Result<D::S, DialFault>
+        ensures sound { IfOk result (λ source. (D.S.told source).faults ≡ 0) }
+        ensures bytes { IfOk result (λ source. IfSome (D.told self.old.inner).serves (λ bytes. (D.S.told source).left ≡ Some (bytes port))) }
+        ensures serves { (D.told self.new.inner).serves ≡ (D.told self.old.inner).serves }
+        ensures cause { dial.HasCause self.old.faults self.new.faults result }
+        ensures counts { Counts self.old self.new (result ≡ Err DialFault.Failed) }
+        ensures others { ¬ Contains self.old.chosen.items self.new.calls
+            → dial.HasCause (D.told self.old.inner).faults (D.told self.new.inner).faults result }
+    {
         if self.begin() {
             return Err(DialFault::Failed);
         }

@@ -43,9 +43,7 @@ impl MemorySource {
 }
 
 impl Source for MemorySource {
-    ghost left = { λ s. Some s.bytes };
-
-    ghost faults = { λ _. 0 };
+    ghost told = { λ s. record { left = Some s.bytes; faults = 0 } };
 
     fn read(&mut self, into: &mut [u8]) -> Got
         requires { 0 < length into.old }
@@ -110,9 +108,7 @@ impl MemorySink {
 }
 
 impl Sink for MemorySink {
-    ghost held = { λ s. Some s.bytes };
-
-    ghost faults = { λ s. s.faults };
+    ghost told = { λ s. record { held = Some s.bytes; faults = s.faults } };
 
     fn write(&mut self, piece: &[u8]) -> Took
         requires { 0 < length piece.now }
@@ -141,9 +137,7 @@ impl Sink for MemorySink {
 pub struct Discard;
 
 impl Sink for Discard {
-    ghost held = { λ _. None };
-
-    ghost faults = { λ _. 0 };
+    ghost told = { λ _. record { held = None; faults = 0 } };
 
     fn write(&mut self, piece: &[u8]) -> Took {
         Took::Bytes(piece.len())

@@ -1,7 +1,6 @@
 //! A net in memory.
 
-ghost use Rattle.std.specs.Prelude.{◌≡◌, ◌≤◌, [], ◌++◌, ◌∷◌, None, Some, IfOk, OnOk, OnErr, map};
-ghost use Rattle.std.specs.Vec.{vec_capacity};
+ghost use Rattle.std.specs.Prelude.{◌≡◌, None, Some, IfOk, map};
 ghost use Rattle.dl_memory.specs.Clients.{link_of};
 
 use crate::failing::Failing;
@@ -72,13 +71,12 @@ impl MemoryNet {
 impl Net for MemoryNet {
     type L = Failing<MemoryLink>;
 
-    ghost listens_on = { λ n. Some n.port };
-
-    ghost launched = { λ n. Some n.launched.items };
-
-    ghost waiting = { λ n. Some (map link_of n.waiting.items) };
-
-    ghost faults = { λ _. 0 };
+    ghost told = { λ n. record {
+      listens_on = Some n.port;
+      launched = Some n.launched.items;
+      waiting = Some (map link_of n.waiting.items);
+      faults = 0;
+    } };
 
     fn listen(&mut self, port: u16) -> Result<(), NetFault> {
         self.port = Some(port);
@@ -108,6 +106,8 @@ impl Net for MemoryNet {
             None => Accepted::None,
         }
     }
+
+    fn rest(&mut self) {}
 
     fn faults(&self) -> u64 {
         0

@@ -1,13 +1,12 @@
-//! Clocks, a gate and a dial in memory.
+//! A clock and a dial in memory.
 
-ghost use Rattle.std.specs.Prelude.{◌≡◌, ◌<◌, ◌==◌, [], ℕ, List, Some, if◌then◌else◌};
+ghost use Rattle.std.specs.Prelude.{◌≡◌, ◌<◌, ◌==◌, [], Some, if◌then◌else◌};
 
 use crate::memory::MemorySource;
 use dl_bytes::Moment;
-use dl_outside::{Clock, Dial, DialFault, Gate};
+use dl_outside::{Clock, Dial, DialFault};
 use std::alloc::Global;
 use std::marker::Model;
-use std::sync::atomic::{AtomicBool, Ordering};
 
 /// A clock that stands.
 #[derive(Clone, Copy, Debug)]
@@ -19,53 +18,6 @@ pub struct StandingClock {
 impl Clock for StandingClock {
     fn now(&self) -> Moment {
         self.moment
-    }
-}
-
-/// A call of a worker: the number of its writer, from 1, and that of the call, from 1.
-#[derive(Clone, Copy, Debug, PartialEq, Eq)]
-pub struct Passing {
-    /// The writer's number.
-    pub writer: u8,
-    /// The call's number.
-    pub call: u64,
-}
-
-/// A gate that holds one worker before a call until another one came to a call of its own, for so many turns at most.
-#[derive(Drop)]
-pub struct HoldingGate {
-    held: Passing,
-    until: Passing,
-    turns: u64,
-    is_open: AtomicBool,
-}
-
-impl HoldingGate {
-    /// A gate that holds the first worker until the second has come.
-    pub fn make(held: Passing, until: Passing, turns: u64) -> HoldingGate {
-        HoldingGate {
-            held,
-            until,
-            turns,
-            is_open: AtomicBool::new(false),
-        }
-    }
-}
-
-impl Gate for HoldingGate {
-    fn pass(&self, writer: u8, call: u64) {
-        let now = Passing { writer, call };
-        if now == self.until {
-            self.is_open.store(true, Ordering::SeqCst);
-        }
-        if now != self.held {
-            return;
-        }
-        for _ in 0..self.turns {
-            if self.is_open.load(Ordering::SeqCst) {
-                break;
-            }
-        }
     }
 }
 
@@ -118,9 +70,7 @@ impl MemoryDial {
 impl Dial for MemoryDial {
     type S = MemorySource;
 
-    ghost serves = { λ d. Some (λ port. if port == d.port then d.bytes else []) };
-
-    ghost faults = { λ _. 0 };
+    ghost told = { λ d. record { serves = Some (λ port. if port == d.port then d.bytes else []); faults = 0 } };
 
     fn dial(&mut self, port: u16) -> Result<MemorySource, DialFault> {
         match Vec::from_slice(self.alloc, self.served(port)) {

@@ -1,12 +1,13 @@
 //! A folder in memory.
 
 ghost use Rattle.std.specs.Prelude.{◌≡◌, ◌≢◌, ◌<◌, ◌≤◌, ◌+◌, ◌++◌, [], IfErr, IfOk, IsOk, OnOk, ◌^◌, Some, None, true, false, length, if◌then◌else◌};
-ghost use Rattle.std.specs.FinMap as map;
 ghost use Rattle.std.specs.FinMap.Entries.{put};
 ghost use Rattle.std.specs.Ordering.{nat_cmp};
 ghost use Rattle.std.specs.Cmp.Lexicographic.{slice_cmp};
 ghost use Rattle.std.specs.Vec.{vec_capacity};
-ghost use Rattle.dl_memory.specs.Shelf.{HasRoom, held_by, with_entry};
+ghost use Rattle.dl_outside.specs.Folder.{Appends, HasCause, Puts};
+ghost use Rattle.dl_outside.specs.Outside.{one_more};
+ghost use Rattle.dl_memory.specs.Shelf.{HasRoom, files_of, held_by, with_entry};
 
 use crate::shelf::{Entry, Place, cut, find, paste};
 use arrayvec::ArrayString;
@@ -127,13 +128,12 @@ impl MemoryFolder {
 }
 
 impl Folder for MemoryFolder {
-    ghost files = { λ f. Some (map.from_sorted {R = slice_cmp nat_cmp} f.files) };
-
-    ghost faults = { λ _. 0 };
-
-    ghost changes = { λ f. f.changes };
-
-    ghost appends = { λ f. f.appends };
+    ghost told = { λ f. record {
+      files = Some (files_of f);
+      faults = 0;
+      changes = f.changes;
+      appends = f.appends;
+    } };
 
     fn read(&mut self, name: &str) -> Result<Option<Bytes>, FolderFault> {
         let place = find(&self.entries, name);
@@ -171,7 +171,14 @@ impl Folder for MemoryFolder {
         Ok(NameList::over(names))
     }
 
-    fn put(&mut self, name: &str, bytes: &[u8]) -> Result<(), FolderFault> {
+    fn put(&mut self, name: &str, bytes: &[u8]) -> Result<(), FolderFault>
+        ensures files { Puts (Some (files_of self.old)) (Some (files_of self.new)) result name.now bytes.now }
+        ensures cause { HasCause 0 0 result }
+        ensures changed { self.new.changes ≡ one_more self.old.changes }
+        ensures unappended { self.new.appends ≡ self.old.appends }
+        // Within its room a put succeeds.
+        ensures room { HasRoom self.old name.now (length bytes.now) → IsOk result }
+    {
         self.changes = self.changes.saturating_add(1);
         if self.write(name, false, bytes).is_err() {
             return Err(FolderFault::OutOfMemory);
@@ -179,7 +186,15 @@ impl Folder for MemoryFolder {
         Ok(())
     }
 
-    fn append(&mut self, name: &str, piece: &[u8]) -> Result<(), FolderFault> {
+    fn append(&mut self, name: &str, piece: &[u8]) -> Result<(), FolderFault>
+        ensures files { Appends (Some (files_of self.old)) (Some (files_of self.new)) result name.now piece.now }
+        ensures cause { HasCause 0 0 result }
+        ensures changed { self.new.changes ≡ one_more self.old.changes }
+        ensures appends { self.new.appends ≤ self.old.appends + 1 }
+        ensures later { self.old.appends ≤ self.new.appends }
+        // Within its room an append succeeds.
+        ensures room { HasRoom self.old name.now (length (held_by self.old name.now) + length piece.now) → IsOk result }
+    {
         self.changes = self.changes.saturating_add(1);
         self.appends = self.appends.saturating_add(1);
         if self.write(name, true, piece).is_err() {

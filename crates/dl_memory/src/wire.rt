@@ -60,7 +60,7 @@ pub struct MemoryLink {
 }
 
 impl Model for MemoryLink {
-    ghost use Rattle.std.specs.Prelude.{◌≤◌, ◌<◌, ◌^◌, drop, length, take, vec_len};
+    ghost use Rattle.std.specs.Prelude.{◌≤◌, ◌<◌, drop, length, take, vec_len};
     ghost use Rattle.std.specs.Vec.{vec_capacity};
     ghost use Rattle.dl_memory.specs.Wire.{Wire};
 
@@ -146,21 +146,16 @@ impl MemoryLink {
 }
 
 impl Link for MemoryLink {
-    ghost left = { λ l. Some l.left };
-
-    ghost over = { λ l. Some (is_over l) };
-
-    ghost given = { λ l. Some l.given };
-
-    ghost taken = { λ l. Some l.taken };
-
-    ghost faults = { λ _. 0 };
-
-    ghost idles = { λ l. l.idles };
-
-    ghost waits = { λ l. l.waits };
-
-    ghost is_shut = { λ l. l.is_shut };
+    ghost told = { λ l. record {
+      left = Some l.left;
+      over = Some (is_over l);
+      given = Some l.given;
+      taken = Some l.taken;
+      faults = 0;
+      idles = l.idles;
+      waits = l.waits;
+      is_shut = l.is_shut;
+    } };
 
     fn recv(&mut self, into: &mut [u8]) -> Gave {
         if self.is_over() {
@@ -196,6 +191,8 @@ impl Link for MemoryLink {
     fn shut(&mut self) {
         self.is_shut = true;
     }
+
+    fn rest(&mut self) {}
 
     fn faults(&self) -> u64 {
         0

@@ -1,7 +1,7 @@
 -- The requests of a stream that a client sends.
 use Rattle.std.specs.Prelude.{ℕ, Bool, false, ◌&&◌, List, slice_index, Option, Some, None}
 use Rattle.std.specs.List.{filter}
-use Rattle.dl_bytes.specs.Limits.{client_limit}
+use Rattle.dl_bytes.specs.Limits.{message_limit}
 use Rattle.dl_bytes.specs.Htyp.{htyp_of, has_extended, standard_len}
 use Rattle.dl_headers.specs.Msin.{is_request}
 use Rattle.dl_headers.specs.declared.header.Extended.{Extended}
@@ -18,4 +18,4 @@ asks_by (Some head) = is_request head.msin
 
 -- the messages of a client's stream that ask for something
 abbrev pub requests : List ℕ → List (List ℕ)
-requests stream = filter asks (messages client_limit stream)
+requests stream = filter asks (messages message_limit stream)

@@ -9,9 +9,6 @@ use dl_headers::{HeaderFault, read_front};
 use std::alloc::Global;
 use std::marker::Model;
 
-/// The greatest LEN of a message that a client may send.
-pub const CLIENT_LIMIT: u16 = 2048;
-
 /// Four bytes that may stand before a message, as on a serial line.
 const SERIAL_HEADER: [u8; 4] = [0x44, 0x4c, 0x53, 0x01];
 

@@ -3,7 +3,7 @@
 ghost use Rattle.std.specs.Prelude.{◌≡◌, ◌↔◌, ◌≤◌, ℕ, List, ◌++◌, length, IsSome};
 ghost use Rattle.dl_bytes.specs.Bytes.{IsBytes};
 ghost use Rattle.dl_bytes.specs.Cutting.{Call, Runs, fed_by, given_by, AreCut};
-ghost use Rattle.dl_bytes.specs.Limits.{frame_limit, client_limit};
+ghost use Rattle.dl_bytes.specs.Limits.{frame_limit, message_limit};
 ghost use Rattle.dl_bytes.specs.UserMessage.{HoldsMessage};
 ghost use Rattle.dl_bytes.specs.declared.item.Item.{Item};
 ghost use Rattle.dl_headers.specs.Message.{Message, IsMessage};
@@ -12,8 +12,6 @@ ghost use Rattle.dl_message.specs.Cutting.{Cutting, Found, Begins, Stops, Does, 
 ghost use Rattle.dl_message.specs.declared.cutter.Cut.{Cut};
 ghost use Rattle.dl_message.specs.Frames.{log_call, log_message, overflow_report, overflow_record, IsLogCall};
 ghost use Rattle.dl_message.specs.Requests.{requests};
-
-use crate::cutter::CLIENT_LIMIT;
 
 /// A stream has one cut, so its messages don't depend on how it came.
 pub fn one_cut()
@@ -43,7 +41,7 @@ pub fn a_cutter_gives_the_cut()
 /// A client that is cut off at any byte has sent a prefix of its requests. After a bad header it has sent all of them.
 pub fn requests_of_a_prefix()
     ensures prefix { (a b : List ℕ) → (more : List (List ℕ)) × (requests (a ++ b) ≡ requests a ++ more) }
-    ensures bad { (a b : List ℕ) → IsSome (rest_fault client_limit (rest_of client_limit a)) → requests (a ++ b) ≡ requests a }
+    ensures bad { (a b : List ℕ) → IsSome (rest_fault message_limit (rest_of message_limit a)) → requests (a ++ b) ≡ requests a }
 {}
 
 /// What `log_frame` and `overflow_frame` write are messages of these parts, so they are read again as the same parts.
@@ -51,9 +49,4 @@ pub fn frames_are_messages()
     ensures log { (ecu : List ℕ) (item : Item) → length ecu ≡ 4 → IsLogCall item → IsMessage (log_call ecu item) (log_message ecu item) }
     ensures overflow { (ecu apid ctid : List ℕ) (counter : ℕ) → length ecu ≡ 4 → length apid ≡ 4 → length ctid ≡ 4
         → IsMessage (overflow_report ecu apid ctid counter) (overflow_record ecu apid ctid counter) }
-{}
-
-/// The limit that a cutter of a client's stream is made with.
-pub fn limit_of_clients()
-    ensures { CLIENT_LIMIT ≡ client_limit }
 {}

@@ -6,9 +6,7 @@ mod frames;
 pub mod laws;
 mod message;
 
-pub use cutter::{CLIENT_LIMIT, Cut, Cutter};
+pub use cutter::{Cut, Cutter};
+pub use dl_bytes::MESSAGE_LIMIT;
 pub use frames::{log_frame, overflow_frame, write_log_frame};
 pub use message::{Parts, read_message};
-
-#[cfg(test)]
-mod tests;

@@ -24,7 +24,7 @@ use Rattle.dl_model.specs.declared.registry.RegistryFault.TheVariants as fault
 use Rattle.dl_model.specs.declared.registry.SetFault.{SetFault}
 use Rattle.dl_model.specs.declared.registry.SetFault.TheVariants as set
 use Rattle.dl_model.specs.Along.{along_from}
-use Rattle.dl_model.specs.History.{last_version}
+use Rattle.dl_bytes.specs.Limits.{last_version}
 use Rattle.dl_model.specs.Journal.{Told, step, registry_of, slots_of, accepted_at, accepted}
 use Rattle.dl_model.specs.Registry.{App, Registry, of_channel, app_of, context_of, numbers, places, least_free, slot_of, stored_level, with_app, with_new_app, with_context, with_new_context, without, app_registered, app_unregistered, context_registered, context_unregistered, for_app, applied, Relevel, set_matching, keep_own, no_own, wears, unless_worn, matching, own_set, default_set, nothing_stored, releveled_app, releveled}
 use Rattle.dl_model.specs.Reply.{asked, reset_requested, now_stored, where_done, served}

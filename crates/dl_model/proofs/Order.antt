@@ -24,7 +24,8 @@ use Rattle.dl_model.specs.declared.registry.SetFault.TheVariants as set
 use Rattle.dl_model.specs.declared.registry.Slot.{Slot}
 use Rattle.dl_model.specs.declared.registry.RegistryFault.{RegistryFault}
 use Rattle.dl_model.specs.declared.registry.RegistryFault.TheVariants as fault
-use Rattle.dl_model.specs.History.{last_version, slot_after}
+use Rattle.dl_bytes.specs.Limits.{last_version}
+use Rattle.dl_model.specs.History.{slot_after}
 use Rattle.dl_model.specs.Journal.{start, step, after, registry_of}
 use Rattle.dl_model.specs.Reply.{asked, own_requested, default_requested, reset_requested, now_stored, where_done, served}
 use Rattle.dl_model.specs.Setting.{Setting}

@@ -23,7 +23,7 @@ use Rattle.dl_model.specs.declared.registry.RegistryFault.{RegistryFault}
 use Rattle.dl_model.specs.declared.registry.RegistryFault.TheVariants as fault
 use Rattle.dl_model.specs.declared.registry.SetFault.TheVariants as set
 use Rattle.dl_model.specs.Along.{along_from}
-use Rattle.dl_model.specs.History.{last_version}
+use Rattle.dl_bytes.specs.Limits.{last_version}
 use Rattle.dl_model.specs.Journal.{step, after, registry_of, slots_of}
 use Rattle.dl_model.specs.Registry.{App, Registry, app_of, context_of, numbers, places, least_free, slot_of, stored_level, with_app, with_new_app, with_context, with_new_context, without, app_registered, app_unregistered, context_registered, context_unregistered, for_app, applied, matches, Relevel, set_matching, keep_own, no_own, wears, matching, own_set, nothing_stored, releveled_context, releveled_app, releveled}
 use Rattle.dl_model.specs.Reply.{asked, now_stored, where_done, served}

@@ -1,5 +1,5 @@
 -- The backlog: frames that wait while nobody listens, as many as a buffer keeps.
-use Rattle.std.specs.Prelude.{ℕ, ◌-◌, nat_le, List, [], ◌∷◌, ◌++◌, length, sum_by, if◌then◌else◌}
+use Rattle.std.specs.Prelude.{ℕ, ◌+◌, ◌-◌, nat_le, List, [], ◌∷◌, ◌++◌, length, sum_by, if◌then◌else◌}
 use Rattle.std.specs.List.{after_last}
 use Rattle.dl_bytes.specs.declared.outcome.Backlog.{Backlog}
 use Rattle.dl_control.specs.Reply.{daemon_apid, daemon_ctid}
@@ -9,6 +9,10 @@ use Rattle.dl_model.specs.Traffic.{Traffic, is_going, admitted_in, is_any_open}
 -- the bytes of frames together
 abbrev pub size_of : List (List ℕ) → ℕ
 size_of frames = sum_by length frames
+
+-- the most bytes that wait for a client that is there: those of a whole backlog, and 131,072 more
+abbrev pub outbox_limit : ℕ → ℕ
+outbox_limit buffer = buffer + 131072
 
 -- What waits for the next client: where none is open, the frames admitted since the last one went.
 abbrev pub waiting : List Traffic → List (List ℕ)
@@ -26,8 +30,8 @@ abbrev pub refused : ℕ → List (List ℕ) → ℕ
 refused limit frames = length frames - length (fitting limit frames)
 
 -- What a client is handed that finds frames waiting: those that the buffer kept, and a report of how many it refused.
-abbrev pub handed_over : List ℕ → ℕ → List (List ℕ) → List (List ℕ)
-handed_over ecu buffer frames =
+abbrev pub due_backlog : List ℕ → ℕ → List (List ℕ) → List (List ℕ)
+due_backlog ecu buffer frames =
     fitting buffer frames ++ overflow_frames ecu daemon_apid daemon_ctid (refused buffer frames)
 
 -- what is left of the backlog after this traffic: the frames that wait, their bytes, and how many were refused

@@ -3,8 +3,8 @@ use Rattle.std.specs.Prelude.{ℕ, ◌==◌, ◌&&◌, List, [], ◌∷◌, map,
 use Rattle.dl_events.specs.declared.event.Event.{Event}
 use Rattle.dl_events.specs.declared.event.Event.TheVariants as event
 use Rattle.dl_model.specs.Along.{along}
-use Rattle.dl_model.specs.Traffic.{Traffic, Comes, Admit, Reply, Goes, is_open}
-use Rattle.dl_model.specs.Backlog.{waiting, handed_over}
+use Rattle.dl_model.specs.Traffic.{Traffic, Connected, Admitted, Reply, Closed, is_open}
+use Rattle.dl_model.specs.Backlog.{waiting, due_backlog}
 use Rattle.dl_model.specs.Frames.{FrameSource, frames_of}
 
 -- ---- over traffic
@@ -12,11 +12,11 @@ use Rattle.dl_model.specs.Frames.{FrameSource, frames_of}
 -- what one entry puts into a client's stream, after those before it
 abbrev pub put : List ℕ → ℕ → ℕ → List Traffic → Traffic → List (List ℕ)
 -- at its coming, what waited
-put ecu buffer client before (Comes other) = if other == client then handed_over ecu buffer (waiting before) else []
+put ecu buffer client before (Connected other) = if other == client then due_backlog ecu buffer (waiting before) else []
 -- while it is open, each admitted frame and its own replies
-put ecu buffer client before (Admit frame) = if is_open client before then frame ∷ [] else []
+put ecu buffer client before (Admitted frame) = if is_open client before then frame ∷ [] else []
 put ecu buffer client before (Reply other frame) = if (other == client) && is_open client before then frame ∷ [] else []
-put ecu buffer client before (Goes other) = []
+put ecu buffer client before (Closed other) = []
 
 -- the frames of a client's stream
 abbrev pub sent : List ℕ → ℕ → ℕ → List Traffic → List (List ℕ)
@@ -26,10 +26,10 @@ sent ecu buffer client traffic = along (put ecu buffer client) traffic
 
 -- what an event is for the clients, after those before it
 abbrev pub traffic_of : FrameSource → List Event → Event → List Traffic
-traffic_of source before (event.Connect client) = Comes client ∷ []
+traffic_of source before (event.Connect client) = Connected client ∷ []
 traffic_of source before (event.Request client frame done) = Reply client (source.reply before frame done) ∷ []
-traffic_of source before (event.Close client why) = Goes client ∷ []
-traffic_of source before e = map Admit (frames_of source e)
+traffic_of source before (event.Close client why) = Closed client ∷ []
+traffic_of source before e = map Admitted (frames_of source e)
 
 -- the traffic of a journal
 abbrev pub traffic : FrameSource → List Event → List Traffic

@@ -21,7 +21,3 @@ slot_after first events slot = record {
   version = first + length (filter_map (level_for slot) events);
   level = unwrap_or (last_or None (history events slot)) 0;
 }
-
--- the last version that a slot can have, 2 ^ 56 - 1
-abbrev pub last_version : ℕ
-last_version = 0xff_ffff_ffff_ffff

@@ -1,8 +1,9 @@
 -- The registry of a journal, the Level events that it owes, and which journals are well-formed.
 use Rattle.std.specs.Prelude.{◌≡◌, ℕ, ◌+◌, ◌<◌, ◌≤◌, ◌⊎◌, Bool, true, false, ◌==◌, List, [], ◌∷◌, ◌++◌, length, count_by, if◌then◌else◌, Option, Some, None, unwrap_or}
-use Rattle.std.specs.List.{concat, list_any}
+use Rattle.std.specs.List.{list_any}
 use Rattle.std.specs.Option.{option_map}
 use Rattle.std.specs.Result.{is_ok, result_unwrap_or}
+use Rattle.dl_bytes.specs.Limits.{open_client_limit, request_limit}
 use Rattle.dl_bytes.specs.declared.outcome.Done.{Done}
 use Rattle.dl_bytes.specs.declared.user.UserMsg.{UserMsg}
 use Rattle.dl_events.specs.declared.event.Event.{Event}
@@ -12,9 +13,12 @@ use Rattle.dl_events.specs.declared.event.Why.TheVariants as why
 use Rattle.dl_model.specs.declared.registry.LevelChange.{LevelChange}
 use Rattle.dl_model.specs.declared.registry.Slot.{Slot}
 use Rattle.dl_model.specs.Along.{along, last_that}
+use Rattle.dl_model.specs.Backlog.{outbox_limit, size_of}
+use Rattle.dl_model.specs.ClientStream.{stream}
+use Rattle.dl_model.specs.Frames.{FrameSource, frames_of}
 use Rattle.dl_model.specs.History.{slot_after}
 use Rattle.dl_model.specs.Registry.{Registry, applied, next_change}
-use Rattle.dl_model.specs.Reply.{asked, served, reply_frame_to}
+use Rattle.dl_model.specs.Reply.{Need, apid_of, asked, ctid_of, MayAnswer, need_of, reply_frame_to, served}
 use Rattle.dl_model.specs.Setting.{Setting}
 
 -- ---- the registry of a journal
@@ -64,9 +68,18 @@ accepted setting events = along (accepted_at setting) events
 abbrev pub owed : Setting → List Event → Option LevelChange
 owed setting events = next_change (slots_of setting events) (registry_of setting events)
 
+-- what a request needs that comes after a journal
+abbrev pub need_after : Setting → List Event → List ℕ → Need
+need_after setting events frame =
+    need_of setting (slots_of setting events) (registry_of setting events) (apid_of frame) (ctid_of frame) (asked frame)
+
 -- the bytes of the reply to a request that comes after a journal
 abbrev pub reply_after : Setting → List Event → List ℕ → Done → List ℕ
 reply_after setting events frame answer = reply_frame_to setting (slots_of setting events) (registry_of setting events) frame answer
+
+-- where the frames of a journal's events come from: those of its log calls, the APIDs of its applications, and the registry's replies
+abbrev pub source_by : Setting → (ℕ → ℕ → List ℕ) → (ℕ → List ℕ) → FrameSource
+source_by setting frame apid = record { ecu = setting.ecu; frame = frame; apid = apid; reply = reply_after setting }
 
 -- ---- clients
 
@@ -104,13 +117,7 @@ IsStopping events = list_any is_stop events ≡ true
 abbrev pub IsRunning : List Event → Type 0
 IsRunning events = list_any is_stop events ≡ false
 
--- ---- what events put into the clients' streams: the frames that an event admits, the bytes that a client was sent, and
--- the most bytes of a backlog
-
-pub record Sending : Type 0 where
-  pub frames : Event → List (List ℕ)
-  pub sent : List Event → ℕ → List (List ℕ)
-  pub buffer : ℕ
+-- ---- clients that are too slow
 
 abbrev pub is_slow : Event → Bool
 is_slow (Close client (why.Slow room need)) = true
@@ -122,23 +129,22 @@ next_put [] = None
 next_put (event ∷ events) = if is_slow event then next_put events else Some event
 
 -- the need is that of the next event's frames
-abbrev pub IsFramesNeed : Sending → List Event → ℕ → Type 0
-IsFramesNeed sending events need =
-    option_map (λ event. length (concat (sending.frames event))) (next_put events) ≡ Some need
+abbrev pub IsFramesNeed : FrameSource → List Event → ℕ → Type 0
+IsFramesNeed source events need = option_map (λ event. size_of (frames_of source event)) (next_put events) ≡ Some need
 
 -- the need is that of a reply, whose request is then no event
-pub record IsReplyNeed (setting : Setting) (before : List Event) (need : ℕ) : Type 0 where
+pub record IsReplyNeed (source : FrameSource) (before : List Event) (need : ℕ) : Type 0 where
   pub frame : List ℕ
   pub answer : Done
-  pub length_is : need ≡ length (reply_after setting before frame answer)
+  pub length_is : need ≡ length (source.reply before frame answer)
   pub limit : need ≤ 65535
 
--- A client is closed as slow: its outbox, of the buffer's size and 131,072 bytes more, has less room than is needed. It
--- holds at most what was put into the client's stream.
-pub record IsTooSlow (setting : Setting) (sending : Sending) (before : List Event) (client room need : ℕ) (events : List Event) : Type 0 where
+-- A client is closed as slow: its outbox has less room than is needed. It holds at most what was put into the client's
+-- stream.
+pub record IsTooSlow (setting : Setting) (source : FrameSource) (before : List Event) (client room need : ℕ) (events : List Event) : Type 0 where
   pub short : room < need
-  pub needed : (IsFramesNeed sending events need) ⊎ (IsReplyNeed setting before need)
-  pub held : sending.buffer + 131072 ≤ room + length (concat (sending.sent before client))
+  pub needed : (IsFramesNeed source events need) ⊎ (IsReplyNeed source before need)
+  pub held : outbox_limit setting.buffer ≤ room + size_of (stream source setting.buffer client before)
 
 -- ---- well-formed journals
 
@@ -146,46 +152,47 @@ pub record IsTooSlow (setting : Setting) (sending : Sending) (before : List Even
 abbrev pub IsSettled : Setting → List Event → Type 0
 IsSettled setting before = owed setting before ≡ None
 
--- clients are numbered from 1 to 32 in the order in which they come, and at most 8 are open
+-- clients are numbered from 1 on in the order in which they come; so many may come, and at most 8 are open
 pub record MayConnect (setting : Setting) (before : List Event) (client : ℕ) : Type 0 where
   pub settled : IsSettled setting before
   pub running : IsRunning before
   pub number : client ≡ 1 + count_by is_connect before
-  pub limit : client ≤ 32
-  pub at_most : count_by is_connect before < count_by is_close before + 8
+  pub limit : client ≤ setting.clients
+  pub at_most : count_by is_connect before < count_by is_close before + open_client_limit
 
--- a client that is open has at most 1000 requests
-pub record MayRequest (setting : Setting) (before : List Event) (client : ℕ) : Type 0 where
+-- a client that is open has at most 1000 requests, and the answer is one that the request can have
+pub record MayRequest (setting : Setting) (before : List Event) (client : ℕ) (frame : List ℕ) (answer : Done) : Type 0 where
   pub settled : IsSettled setting before
   pub is_open : IsOpen client before
-  pub limit : count_by (is_request_of client) before < 1000
+  pub limit : count_by (is_request_of client) before < request_limit
+  pub answered : MayAnswer (need_after setting before frame) answer
 
 -- what a Close tells of a slow client is so
-abbrev pub IsSlowAsTold : Setting → Sending → List Event → ℕ → Why → List Event → Type 0
-IsSlowAsTold setting sending before client (why.Slow room need) events = IsTooSlow setting sending before client room need events
-IsSlowAsTold setting sending before client _ events = Unit {0}
+abbrev pub IsSlowAsTold : Setting → FrameSource → List Event → ℕ → Why → List Event → Type 0
+IsSlowAsTold setting source before client (why.Slow room need) events = IsTooSlow setting source before client room need events
+IsSlowAsTold setting source before client _ events = Unit {0}
 
 -- a client is closed once, and one that is slow for that cause
-pub record MayClose (setting : Setting) (sending : Sending) (before : List Event) (client : ℕ) (why : Why) (events : List Event) : Type 0 where
+pub record MayClose (setting : Setting) (source : FrameSource) (before : List Event) (client : ℕ) (why : Why) (events : List Event) : Type 0 where
   pub settled : IsSettled setting before
   pub is_open : IsOpen client before
-  pub slow : IsSlowAsTold setting sending before client why events
+  pub slow : IsSlowAsTold setting source before client why events
 
 -- An event stands in its turn, after those before it, with those that follow. Where Level events are owed they come first,
 -- the least slot first, and none stands that isn't owed. Once clients are closed at the daemon's stop, only Closes,
 -- Requests and their Level events follow.
-abbrev pub IsInTurn : Setting → Sending → List Event → Event → List Event → Type 0
-IsInTurn setting sending before (Level slot level) events = owed setting before ≡ Some (record { slot = slot; level = level })
-IsInTurn setting sending before (Connect client) events = MayConnect setting before client
-IsInTurn setting sending before (Request client frame answer) events = MayRequest setting before client
-IsInTurn setting sending before (Close client why) events = MayClose setting sending before client why events
-IsInTurn setting sending before event events = IsSettled setting before × IsRunning before
+abbrev pub IsInTurn : Setting → FrameSource → List Event → Event → List Event → Type 0
+IsInTurn setting source before (Level slot level) events = owed setting before ≡ Some (record { slot = slot; level = level })
+IsInTurn setting source before (Connect client) events = MayConnect setting before client
+IsInTurn setting source before (Request client frame answer) events = MayRequest setting before client frame answer
+IsInTurn setting source before (Close client why) events = MayClose setting source before client why events
+IsInTurn setting source before event events = IsSettled setting before × IsRunning before
 
-abbrev pub AreInTurn : Setting → Sending → List Event → List Event → Type 0
-AreInTurn setting sending before [] = Unit {0}
-AreInTurn setting sending before (event ∷ events) =
-    IsInTurn setting sending before event events × AreInTurn setting sending (before ++ event ∷ []) events
+abbrev pub AreInTurn : Setting → FrameSource → List Event → List Event → Type 0
+AreInTurn setting source before [] = Unit {0}
+AreInTurn setting source before (event ∷ events) =
+    IsInTurn setting source before event events × AreInTurn setting source (before ++ event ∷ []) events
 
 -- a well-formed journal: each event stands in its turn
-abbrev pub IsWellFormed : Setting → Sending → List Event → Type 0
-IsWellFormed setting sending events = AreInTurn setting sending [] events
+abbrev pub IsWellFormed : Setting → FrameSource → List Event → Type 0
+IsWellFormed setting source events = AreInTurn setting source [] events

@@ -18,3 +18,5 @@ pub mod Report
 pub mod Replay
 pub mod Runs
 pub mod Accounts
+pub mod WholeAccounts
+pub mod ClientEnds

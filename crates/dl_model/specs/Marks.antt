@@ -14,8 +14,8 @@ use Rattle.dl_events.specs.declared.event.Event.TheVariants as event
 use Rattle.dl_events.specs.declared.record.Record.{Record}
 use Rattle.dl_events.specs.declared.record.Answer.{Answer}
 use Rattle.dl_events.specs.declared.record.Answer.TheVariants as answer
-use Rattle.dl_steps.specs.declared.line.AppLine.{AppLine}
-use Rattle.dl_steps.specs.declared.line.ContextLine.{ContextLine}
+use Rattle.dl_script_lines.specs.declared.line.AppLine.{AppLine}
+use Rattle.dl_script_lines.specs.declared.line.ContextLine.{ContextLine}
 use Rattle.dl_model.specs.Along.{last_that}
 
 -- a log call after its load: its item, the slot of its context, and the version and the level that the load gave

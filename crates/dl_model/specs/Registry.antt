@@ -5,6 +5,7 @@ use Rattle.std.specs.Map.{lookup, set_value, values_of}
 use Rattle.std.specs.Option.{option_map, option_and_then, option_or}
 use Rattle.std.specs.Str.{bytes_eq}
 use Rattle.dl_bytes.specs.Id.{zero_id}
+use Rattle.dl_bytes.specs.Limits.{app_limit, context_limit, last_version}
 use Rattle.dl_bytes.specs.declared.conf.StoredLevel.{StoredLevel}
 use Rattle.dl_bytes.specs.declared.user.UserMsg.{UserMsg}
 use Rattle.dl_bytes.specs.declared.user.UserMsg.TheVariants.{RegisterApp, UnregisterApp, RegisterContext, UnregisterContext}
@@ -15,7 +16,6 @@ use Rattle.dl_model.specs.declared.registry.RegistryFault.{RegistryFault}
 use Rattle.dl_model.specs.declared.registry.RegistryFault.TheVariants.{ZeroId, Taken, UnknownApp, UnknownContext, AppsFull, ContextsFull, Worn}
 use Rattle.dl_model.specs.declared.registry.SetFault.{SetFault}
 use Rattle.dl_model.specs.declared.registry.SetFault.TheVariants as set
-use Rattle.dl_model.specs.History.{last_version}
 
 -- An application: the channel that it belongs to, its number, what it told last of itself, and its contexts by their ids.
 pub record App : Type 0 where
@@ -69,15 +69,15 @@ pub record IsNumbered (limit : ℕ) (used : List ℕ) : Type 0 where
   pub apart : IsDistinct nat_eq used
   pub below : AllByRecursion (λ n. n < limit) used
 
--- each application has 64 slots, one a place
+-- each application has as many slots as contexts, one a place
 abbrev pub slot_of : ℕ → ℕ → ℕ
-slot_of number place = 64 * number + place
+slot_of number place = context_limit * number + place
 
 -- the context that has a slot: it has this place, and its application this number
 abbrev pub context_at : Registry → ℕ → Option Context
 context_at registry slot =
-    option_and_then (λ app. find (λ context. context.place == slot % 64) (values_of app.contexts))
-    (find (λ app. app.number == slot / 64) (values_of registry.apps))
+    option_and_then (λ app. find (λ context. context.place == slot % context_limit) (values_of app.contexts))
+    (find (λ app. app.number == slot / context_limit) (values_of registry.apps))
 
 -- ---- levels
 
@@ -120,7 +120,7 @@ abbrev pub app_registered : Registry → ℕ → List ℕ → ℕ → List ℕ �
 app_registered registry channel apid pid text (Some app) =
     if app.channel == channel then Ok (with_app registry apid (record app { pid = pid; text = text })) else Err Taken
 app_registered registry channel apid pid text None =
-    if nat_le 16 (length registry.apps) then Err AppsFull
+    if nat_le app_limit (length registry.apps) then Err AppsFull
     else Ok (with_new_app registry apid (record {
       channel = channel;
       number = least_free (numbers registry.apps);
@@ -141,7 +141,7 @@ context_registered slots registry apid ctid position own text app (Some context)
     Ok (with_app registry apid (with_context app ctid (record context { position = position; text = text })))
 context_registered slots registry apid ctid position own text app None =
     let place = least_free (places app.contexts) in
-    if nat_le 64 (length app.contexts) then Err ContextsFull
+    if nat_le context_limit (length app.contexts) then Err ContextsFull
     else if (slots (slot_of app.number place)).version == last_version then Err Worn
     else Ok (with_app registry apid (with_new_context app ctid (record {
       place = place;
@@ -268,9 +268,9 @@ change_at slots registry slot =
     option_and_then (λ level. if (slots slot).level == level then None else Some (record { slot = slot; level = level }))
     (level_at registry slot)
 
--- the slots of 16 applications
+-- the slots of all applications
 abbrev pub all_slots : List ℕ
-all_slots = range_with_len 0 1024
+all_slots = range_with_len 0 (app_limit * context_limit)
 
 -- the next change of level that is owed, the least slot first
 abbrev pub first_change : (ℕ → Slot) → Registry → List ℕ → Option LevelChange
@@ -282,13 +282,13 @@ next_change slots registry = first_change slots registry all_slots
 
 -- ---- what always holds
 
--- each application's contexts have places of their own below 64
+-- each application's contexts have places of their own below the limit
 abbrev pub ArePlaced : List (List ℕ × App) → Type 0
 ArePlaced [] = Unit {0}
-ArePlaced (entry ∷ entries) = IsNumbered 64 (places entry.1.contexts) × ArePlaced entries
+ArePlaced (entry ∷ entries) = IsNumbered context_limit (places entry.1.contexts) × ArePlaced entries
 
--- The applications have numbers of their own below 16, and each one's contexts places of their own below 64: so no two
+-- The applications have numbers of their own below their limit, and each one's contexts places of their own below theirs: so no two
 -- contexts have the same slot.
 pub record IsInOrder (registry : Registry) : Type 0 where
-  pub numbered : IsNumbered 16 (numbers registry.apps)
+  pub numbered : IsNumbered app_limit (numbers registry.apps)
   pub placed : ArePlaced registry.apps

@@ -1,9 +1,10 @@
 -- Journals of the examples on registries, levels and replies.
-use Rattle.std.specs.Prelude.{ℕ, ◌+◌, ◌*◌, ◌-◌, ◌^◌, true, nat_lt, List, [], ◌∷◌, ◌++◌, length, codes, if◌then◌else◌, Option, Some, None, negsuc}
+use Rattle.std.specs.Prelude.{ℕ, ◌+◌, ◌*◌, ◌-◌, true, nat_lt, List, [], ◌∷◌, ◌++◌, length, codes, if◌then◌else◌, Option, Some, None, negsuc}
 use Rattle.dl_bytes.specs.Id.{filled}
+use Rattle.dl_bytes.specs.Limits.{client_limit, last_version}
 use Rattle.dl_bytes.specs.declared.moment.Moment.{Moment}
 use Rattle.dl_bytes.specs.declared.outcome.Done.TheVariants.{Yes}
-use Rattle.dl_bytes.specs.declared.user.UserMsg.TheVariants.{RegisterApp, UnregisterApp, RegisterContext, UnregisterContext}
+use Rattle.dl_bytes.specs.declared.user.UserMsg.TheVariants.{RegisterApp, UnregisterApp, RegisterContext, UnregisterContext, Log}
 use Rattle.dl_events.specs.declared.event.Event.{Event}
 use Rattle.dl_events.specs.declared.event.Event.TheVariants.{User, Level, Connect, Request}
 use Rattle.dl_model.specs.Setting.{Setting}
@@ -20,7 +21,7 @@ hex _ = []
 
 -- ---- settings
 
--- the defaults of `dlt.conf`, and nothing stored
+-- the defaults of `dlt.conf`, nothing stored, and the clients of a script
 abbrev pub defaults : Setting
 defaults = record {
   ecu = codes "ECU1";
@@ -32,11 +33,16 @@ defaults = record {
   injection = true;
   stored = record { level = None; own = [] };
   first = 0;
+  clients = client_limit;
 }
 
 -- each slot has one version left before the last one
 abbrev pub nearly_worn : Setting
-nearly_worn = record defaults { first = 2 ^ 56 - 2 }
+nearly_worn = record defaults { first = last_version - 1 }
+
+-- a buffer of 10,000 bytes
+abbrev pub small_buffer : Setting
+small_buffer = record defaults { buffer = 10000 }
 
 -- ---- events
 
@@ -55,6 +61,10 @@ context_comes at channel apid ctid own = User channel (RegisterContext (id apid)
 
 abbrev pub context_goes : Moment → ℕ → List ℕ → List ℕ → Event
 context_goes at channel apid ctid = User channel (UnregisterContext (id apid) (id ctid) 0) at
+
+-- an application on a channel of its own logs this message
+abbrev pub logged : Moment → List ℕ → Event
+logged at message = User 1 (Log message) at
 
 -- a control request for these ids, of a client without ECU, session and timestamp: MSIN is 16, a request
 abbrev pub control : List ℕ → List ℕ → List ℕ → List ℕ
@@ -82,6 +92,10 @@ store = 5 ∷ 0 ∷ 0 ∷ 0 ∷ []
 
 abbrev pub reset_all : List ℕ
 reset_all = 6 ∷ 0 ∷ 0 ∷ 0 ∷ []
+
+-- GetSoftwareVersion
+abbrev pub version : List ℕ
+version = 0x13 ∷ 0 ∷ 0 ∷ 0 ∷ []
 
 -- ---- journals
 

@@ -8,9 +8,9 @@ use Rattle.dl_bytes.specs.declared.outcome.Ends.{Ends}
 use Rattle.dl_bytes.specs.declared.outcome.LinkEnd.{LinkEnd}
 use Rattle.dl_bytes.specs.declared.outcome.TraceState.{TraceState}
 use Rattle.dl_message.specs.Frames.{log_message}
-use Rattle.dl_steps.specs.declared.step.Step.{Step}
+use Rattle.dl_script_lines.specs.declared.step.Step.{Step}
 use Rattle.dl_model.specs.Setting.{Setting}
-use Rattle.dl_model.specs.Journal.{reply_after, is_connect}
+use Rattle.dl_model.specs.Journal.{is_connect, source_by}
 use Rattle.dl_model.specs.Marks.{Call, Mark, journal, records, apps, apid_of, call_of}
 use Rattle.dl_model.specs.Frames.{FrameSource, stored_frames}
 use Rattle.dl_model.specs.ClientStream.{traffic, stream}
@@ -30,12 +30,7 @@ frame_of_call setting done writer number =
 
 -- where the frames of a run come from: its log calls, its applications, and the registry's replies
 abbrev pub source_of : Setting → List Mark → FrameSource
-source_of setting done = record {
-  ecu = setting.ecu;
-  frame = frame_of_call setting done;
-  apid = apid_of done;
-  reply = reply_after setting;
-}
+source_of setting done = source_by setting (frame_of_call setting done) (apid_of done)
 
 -- the clients that came, by their numbers
 abbrev pub clients : List Mark → List ℕ

@@ -1,7 +1,7 @@
 -- What a request makes of the registry, and what the daemon replies.
-use Rattle.std.specs.Prelude.{ℕ, ℤ, ◌+◌, Bool, ◌||◌, not, ◌==◌, nat_le, nat_lt, List, [], ◌∷◌, ◌++◌, length, take, drop, codes, if◌then◌else◌, Option, Some, None, unwrap_or, Result, Ok, Err}
+use Rattle.std.specs.Prelude.{◌≡◌, ◌≢◌, ℕ, ℤ, ◌+◌, Bool, ◌||◌, not, ◌==◌, nat_le, nat_lt, List, [], ◌∷◌, ◌++◌, length, take, drop, codes, if◌then◌else◌, Option, Some, None, is_some, unwrap_or, Result, Ok, Err}
 use Rattle.std.specs.List.{filter, flat_map}
-use Rattle.std.specs.Option.{option_and_then, option_map}
+use Rattle.std.specs.Option.{option_and_then, option_map, option_map_or}
 use Rattle.std.specs.Result.{result_ok}
 use Rattle.byteorder.specs.Endian.{little_bytes}
 use Rattle.dl_bytes.specs.Htyp.{htyp_of, has_big_numbers, standard_len, header_len}
@@ -80,6 +80,27 @@ served setting slots registry (Ok Store) answer = where_done answer (now_stored 
 served setting slots registry (Ok Reset) answer =
     where_done answer (unwrap_or (reset_requested setting slots registry) registry) registry
 served setting slots registry request answer = registry
+
+-- ---- what a request needs of others, before it is served
+
+pub data Need : Type 0 where
+  Nothing : Need
+  Folder : Need
+  Queue : ℕ → Need
+
+-- a Store the folder, a Reset too unless a slot is worn, and an injection the queue of its application
+abbrev pub need_of : Setting → (ℕ → Slot) → Registry → List ℕ → List ℕ → Result Request RequestFault → Need
+need_of setting slots registry apid ctid (Ok Store) = Folder
+need_of setting slots registry apid ctid (Ok Reset) = if is_some (reset_requested setting slots registry) then Folder else Nothing
+need_of setting slots registry apid ctid (Ok (Inject service body)) =
+    option_map_or (λ target. Queue target.0.number) (injected setting registry apid ctid) Nothing
+need_of setting slots registry apid ctid request = Nothing
+
+-- who needs nobody is done; a queue takes what it is given or is full; a folder may fail, and may want memory
+abbrev pub MayAnswer : Need → Done → Type 0
+MayAnswer Nothing answer = answer ≡ done.Yes
+MayAnswer Folder answer = Unit {0}
+MayAnswer (Queue app) answer = answer ≢ done.NoMemory
 
 -- ---- replies
 

@@ -4,7 +4,7 @@ use Rattle.dl_bytes.specs.declared.conf.Stored.{Stored}
 
 -- The configuration (the control unit's id, the level of `ContextLogLevel`, the bytes of the backlog, where trace files
 -- are and how many bytes one of them and all of them have, and whether clients may send data to applications), the stored
--- configuration that was read, and the version at which each slot begins.
+-- configuration that was read, the version at which each slot begins, and the most clients that may come.
 pub record Setting : Type 0 where
   pub ecu : List ℕ
   pub level : ℕ
@@ -15,3 +15,4 @@ pub record Setting : Type 0 where
   pub injection : Bool
   pub stored : Stored
   pub first : ℕ
+  pub clients : ℕ

@@ -1,8 +1,9 @@
 -- Steps: what each line of a step script comes to, after all that came before it.
-use Rattle.std.specs.Prelude.{ℕ, ◌+◌, ◌%◌, ◌&&◌, nat_lt, Bool, true, false, List, [], ◌∷◌, ◌++◌, length, take, drop, map, replicate, count_by, slice_get, Option, Some, None, is_some, unwrap_or, if◌then◌else◌, negsuc, Result, Ok}
+use Rattle.std.specs.Prelude.{ℕ, ◌+◌, ◌%◌, ◌&&◌, nat_lt, Bool, true, false, List, [], ◌∷◌, ◌++◌, length, take, drop, map, replicate, count_by, slice_get, Option, Some, None, is_some, unwrap_or, if◌then◌else◌, negsuc}
 use Rattle.std.specs.List.{filter_map, range_with_len}
 use Rattle.std.specs.Option.{option_map_or}
 use Rattle.dl_bytes.specs.Level.{passes}
+use Rattle.dl_bytes.specs.Limits.{injection_limit, open_client_limit, request_limit, message_limit}
 use Rattle.dl_bytes.specs.Number.{◌>>=◌}
 use Rattle.dl_bytes.specs.declared.outcome.Done.{Done}
 use Rattle.dl_bytes.specs.declared.outcome.Done.TheVariants as did
@@ -10,25 +11,21 @@ use Rattle.dl_bytes.specs.declared.user.UserMsg.{UserMsg}
 use Rattle.dl_bytes.specs.declared.user.UserMsg.TheVariants as user
 use Rattle.dl_message.specs.Cut.{rest_fault, rest_of}
 use Rattle.dl_message.specs.Requests.{requests}
-use Rattle.dl_message.specs.declared.cutter.TheConstants.{CLIENT_LIMIT}
 use Rattle.dl_user.specs.Cut.{messages_of}
-use Rattle.dl_control.specs.declared.request.Request.{Request}
-use Rattle.dl_control.specs.declared.request.Request.TheVariants as request
-use Rattle.dl_control.specs.declared.request.RequestFault.{RequestFault}
 use Rattle.dl_events.specs.declared.event.Event.{Event}
 use Rattle.dl_events.specs.declared.event.Event.TheVariants as event
 use Rattle.dl_events.specs.declared.event.Why.{Why}
 use Rattle.dl_events.specs.declared.event.Why.TheVariants as why
-use Rattle.dl_steps.specs.declared.line.CallLine.{CallLine}
-use Rattle.dl_steps.specs.declared.step.LevelEvents.TheVariants as levels
-use Rattle.dl_steps.specs.declared.step.Step.{Step}
-use Rattle.dl_steps.specs.declared.step.Step.TheVariants as line
+use Rattle.dl_script_lines.specs.declared.line.CallLine.{CallLine}
+use Rattle.dl_script_lines.specs.declared.step.LevelEvents.TheVariants as levels
+use Rattle.dl_script_lines.specs.declared.step.Step.{Step}
+use Rattle.dl_script_lines.specs.declared.step.Step.TheVariants as line
 use Rattle.dl_model.specs.declared.registry.LevelChange.{LevelChange}
 use Rattle.dl_model.specs.Along.{last_that}
 use Rattle.dl_model.specs.Setting.{Setting}
 use Rattle.dl_model.specs.Registry.{change_at, all_slots, slot_of}
-use Rattle.dl_model.specs.Reply.{asked, apid_of, ctid_of, reset_requested, injected}
-use Rattle.dl_model.specs.Journal.{registry_of, slots_of, is_connect, is_close, comes_or_goes, is_request_of}
+use Rattle.dl_model.specs.Reply.{Need, Nothing, Folder, Queue}
+use Rattle.dl_model.specs.Journal.{registry_of, slots_of, need_after, is_connect, is_close, comes_or_goes, is_request_of}
 use Rattle.dl_model.specs.Marks.{Call, Mark, HasApp, HasContext, HasWriter, Filtered, Passed, Queued, Refused, Counted, Noted, Clocked, LevelsWait, Fed, Heard, Answered, Injected, Handed, journal, apps, number_of, place_of, writer_numbers, app_of_writer, calls_of, passed_of, to_push, to_count, queued, taken, held_by, is_full, pending, moment_at, moment, is_later, fed, heard, is_answer, injections}
 
 -- ---- acts, and acts in turn
@@ -38,9 +35,9 @@ abbrev pub Act : Type 0
 Act = List Mark → List Mark
 
 -- one act after the other, each after all marks before it
-abbrev pub in_turn : List Act → Act
-in_turn [] done = []
-in_turn (act ∷ acts) done = let more = act done in more ++ in_turn acts (done ++ more)
+abbrev pub in_sequence : List Act → Act
+in_sequence [] done = []
+in_sequence (act ∷ acts) done = let more = act done in more ++ in_sequence acts (done ++ more)
 
 -- this mark, whatever was before
 abbrev pub just : Mark → Act
@@ -64,16 +61,16 @@ abbrev pub level_noted : LevelChange → Mark
 level_noted change = Noted (event.Level change.slot change.level)
 
 -- all Level events that wait
-abbrev pub hand_out : Setting → Act
-hand_out setting done = map level_noted (changes setting (journal done))
+abbrev pub note_levels : Setting → Act
+note_levels setting done = map level_noted (changes setting (journal done))
 
 -- the same where they don't wait
-abbrev pub hand_out_now : Setting → Act
-hand_out_now setting done = if is_later done then [] else hand_out setting done
+abbrev pub note_levels_now : Setting → Act
+note_levels_now setting done = if is_later done then [] else note_levels setting done
 
 -- An event is noted behind the Level events that wait; those that it owes follow, unless they are to wait.
 abbrev pub note : Setting → (List Mark → Event) → Act
-note setting make = in_turn (hand_out setting ∷ (λ done. Noted (make done) ∷ []) ∷ hand_out_now setting ∷ [])
+note setting make = in_sequence (note_levels setting ∷ (λ done. Noted (make done) ∷ []) ∷ note_levels_now setting ∷ [])
 
 -- ---- log calls
 
@@ -116,15 +113,15 @@ count writer done = for_some (to_count writer done) (λ c. just (Counted c)) don
 
 -- what an open call of a writer still needs
 abbrev pub finish : ℕ → Act
-finish writer = in_turn (push writer ∷ count writer ∷ [])
+finish writer = in_sequence (push writer ∷ count writer ∷ [])
 
 -- a new call, once the writer's open one is finished
 abbrev pub begin_call : Setting → CallLine → Act
-begin_call setting call = in_turn (finish call.writer ∷ load setting call ∷ [])
+begin_call setting call = in_sequence (finish call.writer ∷ load setting call ∷ [])
 
 -- a whole call
 abbrev pub whole_call : Setting → CallLine → Act
-whole_call setting call = in_turn (begin_call setting call ∷ finish call.writer ∷ [])
+whole_call setting call = in_sequence (begin_call setting call ∷ finish call.writer ∷ [])
 
 -- the daemon takes the next call of a ring, where there is one
 abbrev pub take_log : Setting → ℕ → Act
@@ -145,26 +142,11 @@ is_open client done = option_map_or is_connect (last_that (comes_or_goes client)
 abbrev pub close : Setting → ℕ → Why → Act
 close setting client cause done = when (is_open client done) (note setting (λ _. event.Close client cause)) done
 
--- a client is taken while fewer than 32 came and fewer than 8 are open
+-- a client is taken while fewer came than may, and fewer than 8 are open
 abbrev pub connect : Setting → Act
 connect setting done =
     let came = count_by is_connect (journal done) in
-    when (nat_lt came 32 && nat_lt came (count_by is_close (journal done) + 8)) (note setting (λ _. event.Connect (came + 1))) done
-
--- what a request needs of others, before it is served
-pub data Need : Type 0 where
-  Nothing : Need
-  Folder : Need
-  Queue : ℕ → Need
-
--- a Store the folder, a Reset too unless a slot is worn, and an injection the queue of its application
-abbrev pub need_of : Setting → List Event → List ℕ → Result Request RequestFault → Need
-need_of setting events frame (Ok request.Store) = Folder
-need_of setting events frame (Ok request.Reset) =
-    if is_some (reset_requested setting (slots_of setting events) (registry_of setting events)) then Folder else Nothing
-need_of setting events frame (Ok (request.Inject service body)) =
-    option_map_or (λ target. Queue target.0.number) (injected setting (registry_of setting events) (apid_of frame) (ctid_of frame)) Nothing
-need_of setting events frame _ = Nothing
+    when (nat_lt came setting.clients && nat_lt came (count_by is_close (journal done) + open_client_limit)) (note setting (λ _. event.Connect (came + 1))) done
 
 -- a request that is served: the folder's next answer shows in it, and whether the queue had room
 abbrev pub served : List Done → ℕ → List ℕ → Need → Act
@@ -173,18 +155,18 @@ served answers client frame Folder done =
     let answer = unwrap_or (slice_get answers (count_by is_answer done)) did.Yes in
     Answered answer ∷ Noted (event.Request client frame answer) ∷ []
 served answers client frame (Queue app) done =
-    if nat_lt (injections app done) 16 then Injected app ∷ Noted (event.Request client frame did.Yes) ∷ []
+    if nat_lt (injections app done) injection_limit then Injected app ∷ Noted (event.Request client frame did.Yes) ∷ []
     else Noted (event.Request client frame did.Failed) ∷ []
 
 abbrev pub request_now : Setting → List Done → ℕ → List ℕ → Act
 request_now setting answers client frame done =
-    served answers client frame (need_of setting (journal done) frame (asked frame)) done
+    served answers client frame (need_after setting (journal done) frame) done
 
 -- a whole request of a client: the 1001st closes it
 abbrev pub ask : Setting → List Done → ℕ → List ℕ → Act
 ask setting answers client frame done =
-    if nat_lt (count_by (is_request_of client) (journal done)) 1000
-    then when (is_open client done) (in_turn (hand_out setting ∷ request_now setting answers client frame ∷ hand_out_now setting ∷ [])) done
+    if nat_lt (count_by (is_request_of client) (journal done)) request_limit
+    then when (is_open client done) (in_sequence (note_levels setting ∷ request_now setting answers client frame ∷ note_levels_now setting ∷ [])) done
     else close setting client why.TooMany done
 
 -- the requests that these bytes of a client make whole
@@ -194,13 +176,13 @@ new_requests client bytes done = drop (length (requests (fed client done))) (req
 -- a client whose bytes show a bad header is closed
 abbrev pub close_malformed : Setting → ℕ → Act
 close_malformed setting client done =
-    when (is_some (rest_fault CLIENT_LIMIT (rest_of CLIENT_LIMIT (fed client done)))) (close setting client why.Malformed) done
+    when (is_some (rest_fault message_limit (rest_of message_limit (fed client done)))) (close setting client why.Malformed) done
 
 -- bytes of a client that is open: each request that became whole in turn, and then the bad header, if one shows
 abbrev pub receive : Setting → List Done → ℕ → List ℕ → Act
 receive setting answers client bytes done =
     when (is_open client done)
-    (in_turn (just (Fed client bytes) ∷ (map (ask setting answers client) (new_requests client bytes done) ++ close_malformed setting client ∷ []))) done
+    (in_sequence (just (Fed client bytes) ∷ (map (ask setting answers client) (new_requests client bytes done) ++ close_malformed setting client ∷ []))) done
 
 -- ---- channels of user messages
 
@@ -214,7 +196,7 @@ tell setting channel msg = note setting (λ now. event.User channel msg (moment 
 -- bytes on a channel: each message that became whole in turn
 abbrev pub hear : Setting → ℕ → List ℕ → Act
 hear setting channel bytes done =
-    in_turn (just (Heard channel bytes) ∷ map (tell setting channel) (new_messages channel bytes done)) done
+    in_sequence (just (Heard channel bytes) ∷ map (tell setting channel) (new_messages channel bytes done)) done
 
 -- ---- lines
 
@@ -229,9 +211,9 @@ on_app apid act done = for_some (number_of apid done) act done
 -- what a line of a script comes to. Applications and contexts register on channel 0.
 abbrev pub act_of : Setting → List Done → Step → Act
 act_of setting answers (line.App app) =
-    in_turn (just (HasApp app) ∷ tell setting 0 (user.RegisterApp app.apid 0 app.text) ∷ [])
+    in_sequence (just (HasApp app) ∷ tell setting 0 (user.RegisterApp app.apid 0 app.text) ∷ [])
 act_of setting answers (line.Context context) =
-    in_turn (just (HasContext context) ∷ tell setting 0 (user.RegisterContext context.apid context.ctid 0 context.level (negsuc 0) 0 context.text) ∷ [])
+    in_sequence (just (HasContext context) ∷ tell setting 0 (user.RegisterContext context.apid context.ctid 0 context.level (negsuc 0) 0 context.text) ∷ [])
 act_of setting answers (line.Writer apid) = just (HasWriter apid)
 act_of setting answers (line.Clock secs micros) = just (Clocked (moment_at secs micros))
 act_of setting answers (line.Load call) = begin_call setting call
@@ -239,12 +221,12 @@ act_of setting answers (line.Push writer) = push writer
 act_of setting answers (line.Count writer) = count writer
 act_of setting answers (line.Call call) = whole_call setting call
 act_of setting answers (line.Log call) =
-    in_turn (whole_call setting call ∷ (λ done. for_some (app_of_writer call.writer done) (λ apid. on_app apid (take_log setting)) done) ∷ [])
+    in_sequence (whole_call setting call ∷ (λ done. for_some (app_of_writer call.writer done) (λ apid. on_app apid (take_log setting)) done) ∷ [])
 act_of setting answers (line.Take apid) = on_app apid (take_log setting)
 act_of setting answers (line.Losses apid) = on_app apid (take_losses setting)
 act_of setting answers (line.Levels levels.Later) = just (LevelsWait true)
 act_of setting answers (line.Levels levels.Now) = just (LevelsWait false)
-act_of setting answers line.Level = λ done. take 1 (hand_out setting done)
+act_of setting answers line.Level = λ done. take 1 (note_levels setting done)
 act_of setting answers line.Connect = connect setting
 act_of setting answers (line.Bytes client bytes) = receive setting answers client bytes
 act_of setting answers (line.Close client) = close setting client why.Left
@@ -255,21 +237,21 @@ act_of setting answers (line.Inject apid) = on_app apid take_injection
 
 -- what is still in an application's ring is taken, and then its losses
 abbrev pub drain : Setting → ℕ → Act
-drain setting app = in_turn ((λ done. in_turn (replicate (held_by app done) (take_log setting app)) done) ∷ take_losses setting app ∷ [])
+drain setting app = in_sequence ((λ done. in_sequence (replicate (held_by app done) (take_log setting app)) done) ∷ take_losses setting app ∷ [])
 
 -- Open calls are finished, rings and losses are emptied application by application, Level events no longer wait, and
 -- the clients that are open are closed in the order of their numbers.
 abbrev pub end_of : Setting → Act
-end_of setting = in_turn (
-    (λ done. in_turn (map finish (writer_numbers done)) done)
-    ∷ (λ done. in_turn (map (drain setting) (range_with_len 0 (length (apps done)))) done)
-    ∷ hand_out setting
-    ∷ (λ done. in_turn (map (λ client. close setting client why.Stopped) (range_with_len 1 (count_by is_connect (journal done)))) done)
+end_of setting = in_sequence (
+    (λ done. in_sequence (map finish (writer_numbers done)) done)
+    ∷ (λ done. in_sequence (map (drain setting) (range_with_len 0 (length (apps done)))) done)
+    ∷ note_levels setting
+    ∷ (λ done. in_sequence (map (λ client. close setting client why.Stopped) (range_with_len 1 (count_by is_connect (journal done)))) done)
     ∷ [])
 
 -- The marks of lines, where the folder answers so to the Stores and the Resets that ask it; and those of a whole run.
 abbrev pub after_lines : Setting → List Done → List Step → List Mark
-after_lines setting answers steps = in_turn (map (act_of setting answers) steps) []
+after_lines setting answers steps = in_sequence (map (act_of setting answers) steps) []
 
 abbrev pub run : Setting → List Done → List Step → List Mark
-run setting answers steps = in_turn (map (act_of setting answers) steps ++ end_of setting ∷ []) []
+run setting answers steps = in_sequence (map (act_of setting answers) steps ++ end_of setting ∷ []) []

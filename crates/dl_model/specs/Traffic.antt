@@ -6,38 +6,38 @@ use Rattle.dl_model.specs.Along.{last_that}
 
 -- a client connects, a frame is admitted, a client is sent a reply, a client's connection ends
 pub data Traffic : Type 0 where
-  Comes : ℕ → Traffic
-  Admit : List ℕ → Traffic
+  Connected : ℕ → Traffic
+  Admitted : List ℕ → Traffic
   Reply : ℕ → List ℕ → Traffic
-  Goes : ℕ → Traffic
+  Closed : ℕ → Traffic
 
 -- ---- what an entry is, each case by its own line
 
 abbrev pub is_coming : Traffic → Bool
-is_coming (Comes client) = true
+is_coming (Connected client) = true
 is_coming _ = false
 
 abbrev pub is_going : Traffic → Bool
-is_going (Goes client) = true
+is_going (Closed client) = true
 is_going _ = false
 
 -- it is the coming or the going of this client
 abbrev pub comes_or_goes : ℕ → Traffic → Bool
-comes_or_goes client (Comes other) = other == client
-comes_or_goes client (Goes other) = other == client
+comes_or_goes client (Connected other) = other == client
+comes_or_goes client (Closed other) = other == client
 comes_or_goes client _ = false
 
 abbrev pub comer_of : Traffic → Option ℕ
-comer_of (Comes client) = Some client
+comer_of (Connected client) = Some client
 comer_of _ = None
 
 abbrev pub frame_of : Traffic → Option (List ℕ)
-frame_of (Admit frame) = Some frame
+frame_of (Admitted frame) = Some frame
 frame_of _ = None
 
 -- what is meant for a client that listens: each admitted frame, and its own replies
 abbrev pub meant_for : ℕ → Traffic → Option (List ℕ)
-meant_for client (Admit frame) = Some frame
+meant_for client (Admitted frame) = Some frame
 meant_for client (Reply other frame) = if other == client then Some frame else None
 meant_for client _ = None
 

@@ -2,6 +2,7 @@
 //! The code here is the plain types that the definitions speak of.
 #![tactic(auto)]
 
+pub mod journal_examples;
 mod registry;
 pub mod registry_examples;
 pub mod registry_laws;

@@ -10,7 +10,8 @@ ghost use Rattle.dl_bytes.specs.declared.user.UserMsg.TheVariants.{RegisterApp, 
 ghost use Rattle.dl_events.specs.declared.event.Event.TheVariants.{Level, Request, Connect, Close};
 ghost use Rattle.dl_events.specs.declared.event.Why.TheVariants as why;
 ghost use Rattle.dl_model.specs.declared.registry.RegistryFault.TheVariants as fault;
-ghost use Rattle.dl_model.specs.Journal.{Sending, IsWellFormed, registry_of, slots_of, owed, reply_after, accepted};
+ghost use Rattle.dl_model.specs.Frames.{FrameSource};
+ghost use Rattle.dl_model.specs.Journal.{IsWellFormed, registry_of, slots_of, owed, reply_after, accepted};
 ghost use Rattle.dl_model.specs.Registry.{applied, app_of, context_at, effective, level_at, owns_now};
 ghost use Rattle.dl_model.specs.RegistryExamples.{hex, defaults, nearly_worn, id, app_comes, app_goes, context_comes, context_goes, control, query, asks, set_level, set_default, store, reset_all, two_contexts, one_context};
 
@@ -201,13 +202,13 @@ pub fn injections()
 /// A journal that is well-formed: Level events come right after the event that owes them, the least slot first. Without
 /// one of them, or with one that isn't owed, it is none.
 pub fn well_formed_journals()
-    ensures good { (sending : Sending) (at : Moment) →
-        IsWellFormed defaults sending (two_contexts at ++ asks (set_level [] [] 2) ∷ Level 0 2 ∷ Level 1 2 ∷ Close 1 why.Left ∷ Connect 2 ∷ Close 2 why.Stopped ∷ []) }
-    ensures missing { (sending : Sending) (at : Moment) →
-        IsWellFormed defaults sending (two_contexts at ++ asks (set_level [] [] 2) ∷ Level 0 2 ∷ Close 1 why.Left ∷ []) → ⊥ }
-    ensures order { (sending : Sending) (at : Moment) →
-        IsWellFormed defaults sending (two_contexts at ++ asks (set_level [] [] 2) ∷ Level 1 2 ∷ Level 0 2 ∷ []) → ⊥ }
-    ensures not_owed { (sending : Sending) (at : Moment) → IsWellFormed defaults sending (two_contexts at ++ Level 0 5 ∷ []) → ⊥ }
-    ensures gone { (sending : Sending) (at : Moment) →
-        IsWellFormed defaults sending (two_contexts at ++ Close 1 why.Left ∷ asks store ∷ []) → ⊥ }
+    ensures good { (source : FrameSource) (at : Moment) →
+        IsWellFormed defaults source (two_contexts at ++ asks (set_level [] [] 2) ∷ Level 0 2 ∷ Level 1 2 ∷ Close 1 why.Left ∷ Connect 2 ∷ Close 2 why.Stopped ∷ []) }
+    ensures missing { (source : FrameSource) (at : Moment) →
+        IsWellFormed defaults source (two_contexts at ++ asks (set_level [] [] 2) ∷ Level 0 2 ∷ Close 1 why.Left ∷ []) → ⊥ }
+    ensures order { (source : FrameSource) (at : Moment) →
+        IsWellFormed defaults source (two_contexts at ++ asks (set_level [] [] 2) ∷ Level 1 2 ∷ Level 0 2 ∷ []) → ⊥ }
+    ensures not_owed { (source : FrameSource) (at : Moment) → IsWellFormed defaults source (two_contexts at ++ Level 0 5 ∷ []) → ⊥ }
+    ensures gone { (source : FrameSource) (at : Moment) →
+        IsWellFormed defaults source (two_contexts at ++ Close 1 why.Left ∷ asks store ∷ []) → ⊥ }
 {}

@@ -5,6 +5,7 @@ use Rattle.dl_outside.specs.declared.link.Gave.TheVariants as gave
 use Rattle.dl_outside.specs.declared.link.Sends.{Sends}
 use Rattle.dl_outside.specs.declared.link.Sends.TheVariants as sends
 use Rattle.dl_outside.specs.Outside.{Grows, HasRisen, Stays}
+use Rattle.dl_outside.specs.Told.{LinkTold}
 
 -- What a link gave into the front of a buffer: the next bytes of what is left of its input. Every other answer leaves
 -- the input as it was.
@@ -24,18 +25,22 @@ Gives old new gave.End into = Stays old new
 Gives old new gave.Failed into = Stays old new
 
 -- the end comes exactly where the input is over: nothing is left of it, and no more will come
-abbrev pub EndsRightly : Option Bool → Option (List ℕ) → Gave → Type 0
-EndsRightly over left (gave.Bytes n) = IfSome over (λ is_over. is_over ≡ false)
-EndsRightly over left gave.NotYet = IfSome over (λ is_over. is_over ≡ false)
-EndsRightly over left gave.End = IfSome over (λ is_over. is_over ≡ true) × IfSome left (λ bytes. bytes ≡ [])
-EndsRightly over left gave.Failed = Unit {0}
+abbrev pub EndsRightly : LinkTold → Gave → Type 0
+EndsRightly link (gave.Bytes n) = IfSome link.over (λ is_over. is_over ≡ false)
+EndsRightly link gave.NotYet = IfSome link.over (λ is_over. is_over ≡ false)
+EndsRightly link gave.End = IfSome link.over (λ is_over. is_over ≡ true) × IfSome link.left (λ bytes. bytes ≡ [])
+EndsRightly link gave.Failed = Unit {0}
+
+-- where the input was over, it stays over
+abbrev pub StaysOver : LinkTold → LinkTold → Type 0
+StaysOver old new = old.over ≡ Some true → new.over ≡ Some true
 
 -- a fault raised the count of faults, and an idle turn that of idle turns; nothing else did
-abbrev pub HasReceiveCause : (faults faults_now idles idles_now : ℕ) → Gave → Type 0
-HasReceiveCause faults faults_now idles idles_now (gave.Bytes n) = (faults_now ≡ faults) × (idles_now ≡ idles)
-HasReceiveCause faults faults_now idles idles_now gave.NotYet = (faults_now ≡ faults) × HasRisen idles idles_now
-HasReceiveCause faults faults_now idles idles_now gave.End = (faults_now ≡ faults) × (idles_now ≡ idles)
-HasReceiveCause faults faults_now idles idles_now gave.Failed = HasRisen faults faults_now × (idles_now ≡ idles)
+abbrev pub HasReceiveCause : LinkTold → LinkTold → Gave → Type 0
+HasReceiveCause old new (gave.Bytes n) = (new.faults ≡ old.faults) × (new.idles ≡ old.idles)
+HasReceiveCause old new gave.NotYet = (new.faults ≡ old.faults) × HasRisen old.idles new.idles
+HasReceiveCause old new gave.End = (new.faults ≡ old.faults) × (new.idles ≡ old.idles)
+HasReceiveCause old new gave.Failed = HasRisen old.faults new.faults × (new.idles ≡ old.idles)
 
 -- what a link took: the first bytes of the piece, at least one; every other answer took nothing
 abbrev pub Sent : Option (List ℕ) → Option (List ℕ) → Sends → List ℕ → Type 0
@@ -44,10 +49,10 @@ Sent old new sends.Busy piece = Stays old new
 Sent old new sends.Failed piece = Stays old new
 
 -- a fault raised the count of faults, and a busy turn that of busy turns; nothing else did
-abbrev pub HasSendCause : (faults faults_now waits waits_now : ℕ) → Sends → Type 0
-HasSendCause faults faults_now waits waits_now (sends.Bytes n) = (faults_now ≡ faults) × (waits_now ≡ waits)
-HasSendCause faults faults_now waits waits_now sends.Busy = (faults_now ≡ faults) × HasRisen waits waits_now
-HasSendCause faults faults_now waits waits_now sends.Failed = HasRisen faults faults_now × (waits_now ≡ waits)
+abbrev pub HasSendCause : LinkTold → LinkTold → Sends → Type 0
+HasSendCause old new (sends.Bytes n) = (new.faults ≡ old.faults) × (new.waits ≡ old.waits)
+HasSendCause old new sends.Busy = (new.faults ≡ old.faults) × HasRisen old.waits new.waits
+HasSendCause old new sends.Failed = HasRisen old.faults new.faults × (new.waits ≡ old.waits)
 
 -- nothing goes through a link that was shut
 abbrev pub NothingCame : Gave → Type 0
@@ -57,10 +62,10 @@ abbrev pub NothingWent : Sends → Type 0
 NothingWent answer = (n : ℕ) → answer ≢ sends.Bytes n
 
 -- a link through which nothing has gone, with its counts at 0
-pub record IsFresh (faults idles waits : ℕ) (given taken : Option (List ℕ)) (is_shut : Bool) : Type 0 where
-  pub no_fault : faults ≡ 0
-  pub no_idle_turn : idles ≡ 0
-  pub no_busy_turn : waits ≡ 0
-  pub nothing_given : IfSome given (λ bytes. bytes ≡ [])
-  pub nothing_taken : IfSome taken (λ bytes. bytes ≡ [])
-  pub is_open : is_shut ≡ false
+pub record IsFresh (link : LinkTold) : Type 0 where
+  pub no_fault : link.faults ≡ 0
+  pub no_idle_turn : link.idles ≡ 0
+  pub no_busy_turn : link.waits ≡ 0
+  pub nothing_given : IfSome link.given (λ bytes. bytes ≡ [])
+  pub nothing_taken : IfSome link.taken (λ bytes. bytes ≡ [])
+  pub is_open : link.is_shut ≡ false

@@ -1,7 +1,8 @@
 //! How a client reaches a daemon.
 
-ghost use Rattle.std.specs.Prelude.{◌≡◌, ℕ, List, Option, Some, IfOk, IfSome};
+ghost use Rattle.std.specs.Prelude.{◌≡◌, Some, IfOk, IfSome};
 ghost use Rattle.dl_outside.specs.Dial.{HasCause};
+ghost use Rattle.dl_outside.specs.Told.{DialTold};
 
 use crate::source::Source;
 
@@ -19,20 +20,17 @@ pub trait Dial {
     /// What a connection is read as.
     type S: Source;
 
-    /// What each port gives, where the object tells it.
-    ghost serves: { Self → Option (ℕ → List ℕ) };
-
-    /// How often it has failed.
-    ghost faults: { Self → ℕ };
+    /// What it tells of itself: what each port gives, and how often it has failed.
+    ghost told: { Self → DialTold };
 
     /// Connects to this port. The source has not failed yet, and has left all that the port gives.
     fn dial(&mut self, port: u16) -> Result<Self::S, DialFault>
-        ensures sound { IfOk result (λ source. Self.S.faults source ≡ 0) }
-        ensures bytes { IfOk result (λ source. IfSome (serves self.old) (λ bytes. Self.S.left source ≡ Some (bytes port))) }
-        ensures serves { serves self.new ≡ serves self.old }
-        ensures cause { HasCause (faults self.old) (faults self.new) result };
+        ensures sound { IfOk result (λ source. (Self.S.told source).faults ≡ 0) }
+        ensures bytes { IfOk result (λ source. IfSome (told self.old).serves (λ bytes. (Self.S.told source).left ≡ Some (bytes port))) }
+        ensures serves { (told self.new).serves ≡ (told self.old).serves }
+        ensures cause { HasCause (told self.old).faults (told self.new).faults result };
 
     /// How often it has failed. The count never falls.
     fn faults(&self) -> u64
-        ensures { result ≡ faults self.now };
+        ensures { result ≡ (told self.now).faults };
 }

@@ -1,8 +1,9 @@
 //! A connection of a client.
 
-ghost use Rattle.std.specs.Prelude.{◌≡◌, ◌<◌, List, ℕ, Bool, true, IsTrue, Option, length};
+ghost use Rattle.std.specs.Prelude.{◌≡◌, ◌<◌, true, IsTrue, length};
 ghost use Rattle.dl_outside.specs.Outside.{Stays};
-ghost use Rattle.dl_outside.specs.Link.{EndsRightly, Gives, HasReceiveCause, HasSendCause, NothingCame, NothingWent, Receives, Sent};
+ghost use Rattle.dl_outside.specs.Link.{EndsRightly, Gives, HasReceiveCause, HasSendCause, NothingCame, NothingWent, Receives, Sent, StaysOver};
+ghost use Rattle.dl_outside.specs.Told.{LinkTold};
 
 /// What a link gave.
 #[derive(Clone, Copy, Debug, PartialEq, Eq)]
@@ -30,72 +31,59 @@ pub enum Sends {
 
 /// A connection to a client, both ways.
 pub trait Link {
-    /// What is left of its input, where the link tells it.
-    ghost left: { Self → Option (List ℕ) };
-
-    /// Whether its input is over, so that no more will come, where the link tells it.
-    ghost over: { Self → Option Bool };
-
-    /// What it gave so far, where the link tells it.
-    ghost given: { Self → Option (List ℕ) };
-
-    /// What it took so far, where the link tells it.
-    ghost taken: { Self → Option (List ℕ) };
-
-    /// How often it has failed.
-    ghost faults: { Self → ℕ };
-
-    /// How often it had nothing to give.
-    ghost idles: { Self → ℕ };
-
-    /// How often it could take nothing.
-    ghost waits: { Self → ℕ };
-
-    /// Whether it was shut.
-    ghost is_shut: { Self → Bool };
+    /// What it tells of itself: what is left of its input and whether that is over, what it gave and what it took, its counts, and whether it
+    /// was shut.
+    ghost told: { Self → LinkTold };
 
     /// Reads the next bytes into the front of `into`.
     fn recv(&mut self, into: &mut [u8]) -> Gave
         requires { 0 < length into.old }
-        ensures bytes { Receives (left self.old) (left self.new) result into.new }
-        ensures given { Gives (given self.old) (given self.new) result into.new }
-        ensures end { EndsRightly (over self.old) (left self.old) result }
-        ensures cause { HasReceiveCause (faults self.old) (faults self.new) (idles self.old) (idles self.new) result }
-        ensures untaken { Stays (taken self.old) (taken self.new) }
-        ensures waits { waits self.new ≡ waits self.old }
-        ensures shut { is_shut self.new ≡ is_shut self.old }
-        ensures closed { IsTrue (is_shut self.old) → NothingCame result };
+        ensures bytes { Receives (told self.old).left (told self.new).left result into.new }
+        ensures given { Gives (told self.old).given (told self.new).given result into.new }
+        ensures end { EndsRightly (told self.old) result }
+        ensures cause { HasReceiveCause (told self.old) (told self.new) result }
+        ensures over { StaysOver (told self.old) (told self.new) }
+        ensures untaken { Stays (told self.old).taken (told self.new).taken }
+        ensures waits { (told self.new).waits ≡ (told self.old).waits }
+        ensures shut { (told self.new).is_shut ≡ (told self.old).is_shut }
+        ensures closed { IsTrue (told self.old).is_shut → NothingCame result };
 
     /// Sends the front of the piece, as much of it as the link takes.
     fn send(&mut self, piece: &[u8]) -> Sends
         requires { 0 < length piece.now }
-        ensures bytes { Sent (taken self.old) (taken self.new) result piece.now }
-        ensures cause { HasSendCause (faults self.old) (faults self.new) (waits self.old) (waits self.new) result }
-        ensures left { Stays (left self.old) (left self.new) }
-        ensures ungiven { Stays (given self.old) (given self.new) }
-        ensures idles { idles self.new ≡ idles self.old }
-        ensures shut { is_shut self.new ≡ is_shut self.old }
-        ensures closed { IsTrue (is_shut self.old) → NothingWent result };
+        ensures bytes { Sent (told self.old).taken (told self.new).taken result piece.now }
+        ensures cause { HasSendCause (told self.old) (told self.new) result }
+        ensures left { Stays (told self.old).left (told self.new).left }
+        ensures over { StaysOver (told self.old) (told self.new) }
+        ensures ungiven { Stays (told self.old).given (told self.new).given }
+        ensures idles { (told self.new).idles ≡ (told self.old).idles }
+        ensures shut { (told self.new).is_shut ≡ (told self.old).is_shut }
+        ensures closed { IsTrue (told self.old).is_shut → NothingWent result };
 
     /// Ends the connection for the peer. Nothing goes through the link afterwards.
     fn shut(&mut self)
-        ensures shut { is_shut self.new ≡ true }
-        ensures left { Stays (left self.old) (left self.new) }
-        ensures given { Stays (given self.old) (given self.new) }
-        ensures taken { Stays (taken self.old) (taken self.new) }
-        ensures faults { faults self.new ≡ faults self.old }
-        ensures idles { idles self.new ≡ idles self.old }
-        ensures waits { waits self.new ≡ waits self.old };
+        ensures shut { (told self.new).is_shut ≡ true }
+        ensures left { Stays (told self.old).left (told self.new).left }
+        ensures over { StaysOver (told self.old) (told self.new) }
+        ensures given { Stays (told self.old).given (told self.new).given }
+        ensures taken { Stays (told self.old).taken (told self.new).taken }
+        ensures faults { (told self.new).faults ≡ (told self.old).faults }
+        ensures idles { (told self.new).idles ≡ (told self.old).idles }
+        ensures waits { (told self.new).waits ≡ (told self.old).waits };
+
+    /// Rests a while, where nothing is to be done. It changes nothing that the link tells.
+    fn rest(&mut self)
+        ensures { told self.new ≡ told self.old };
 
     /// How often it has failed. The count never falls.
     fn faults(&self) -> u64
-        ensures { result ≡ faults self.now };
+        ensures { result ≡ (told self.now).faults };
 
     /// How often `recv` answered that nothing had come. The count never falls.
     fn idles(&self) -> u64
-        ensures { result ≡ idles self.now };
+        ensures { result ≡ (told self.now).idles };
 
     /// How often `send` answered that it could take nothing. The count never falls.
     fn waits(&self) -> u64
-        ensures { result ≡ waits self.now };
+        ensures { result ≡ (told self.now).waits };
 }

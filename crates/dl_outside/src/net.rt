@@ -1,10 +1,10 @@
 //! Where a daemon's clients come from.
 
-ghost use Rattle.std.specs.Prelude.{◌≡◌, ℕ, List, Option};
-ghost use Rattle.dl_outside.specs.declared.client.ClientScript.{ClientScript};
+ghost use Rattle.std.specs.Prelude.{◌≡◌};
 ghost use Rattle.dl_outside.specs.Outside.{Stays};
 ghost use Rattle.dl_outside.specs.Link.{IsFresh};
 ghost use Rattle.dl_outside.specs.Net.{Accepts, HasAcceptCause, HasCause, Launches, Listens, Queues};
+ghost use Rattle.dl_outside.specs.Told.{NetTold};
 
 use crate::client::ClientScript;
 use crate::link::Link;
@@ -36,42 +36,36 @@ pub trait Net {
     /// Its connections.
     type L: Link;
 
-    /// The port on which it listens, if it does, where the net tells that.
-    ghost listens_on: { Self → Option (Option ℕ) };
-
-    /// The clients that were launched, in order, where the net tells them.
-    ghost launched: { Self → Option (List ClientScript) };
-
-    /// The connections that wait for an accept, the oldest first, where the net tells them.
-    ghost waiting: { Self → Option (List Self.L) };
-
-    /// How often it has failed.
-    ghost faults: { Self → ℕ };
+    /// What it tells of itself: its port, the clients that were launched, the connections that wait for an accept, and how often it has failed.
+    ghost told: { Self → NetTold Self.L };
 
     /// Begins to listen on this port.
     fn listen(&mut self, port: u16) -> Result<(), NetFault>
-        ensures port { Listens (listens_on self.old) (listens_on self.new) result port }
-        ensures launched { Stays (launched self.old) (launched self.new) }
-        ensures waiting { Stays (waiting self.old) (waiting self.new) }
-        ensures cause { HasCause (faults self.old) (faults self.new) result };
+        ensures port { Listens (told self.old).listens_on (told self.new).listens_on result port }
+        ensures launched { Stays (told self.old).launched (told self.new).launched }
+        ensures waiting { Stays (told self.old).waiting (told self.new).waiting }
+        ensures cause { HasCause (told self.old).faults (told self.new).faults result };
 
     /// Starts a client, which dials this net.
     fn launch(&mut self, script: &ClientScript) -> Result<(), NetFault>
-        ensures launched { Launches (launched self.old) (launched self.new) result script.now }
-        ensures waiting { Queues (waiting self.old) (waiting self.new) result }
-        ensures port { Stays (listens_on self.old) (listens_on self.new) }
-        ensures cause { HasCause (faults self.old) (faults self.new) result };
+        ensures launched { Launches (told self.old).launched (told self.new).launched result script.now }
+        ensures waiting { Queues (told self.old).waiting (told self.new).waiting result }
+        ensures port { Stays (told self.old).listens_on (told self.new).listens_on }
+        ensures cause { HasCause (told self.old).faults (told self.new).faults result };
 
     /// Takes the connection that waited longest. It is handed out fresh.
     fn accept(&mut self) -> Accepted<Self::L>
-        ensures waiting { Accepts (waiting self.old) (waiting self.new) result }
-        ensures fresh { (link : _) → result ≡ Accepted.Link link
-            → IsFresh (Self.L.faults link) (Self.L.idles link) (Self.L.waits link) (Self.L.given link) (Self.L.taken link) (Self.L.is_shut link) }
-        ensures launched { Stays (launched self.old) (launched self.new) }
-        ensures port { Stays (listens_on self.old) (listens_on self.new) }
-        ensures cause { HasAcceptCause (faults self.old) (faults self.new) result };
+        ensures waiting { Accepts (told self.old).waiting (told self.new).waiting result }
+        ensures fresh { (link : _) → result ≡ Accepted.Link link → IsFresh (Self.L.told link) }
+        ensures launched { Stays (told self.old).launched (told self.new).launched }
+        ensures port { Stays (told self.old).listens_on (told self.new).listens_on }
+        ensures cause { HasAcceptCause (told self.old).faults (told self.new).faults result };
+
+    /// Rests a while, where nothing is to be done. It changes nothing that the net tells.
+    fn rest(&mut self)
+        ensures { told self.new ≡ told self.old };
 
     /// How often it has failed. The count never falls.
     fn faults(&self) -> u64
-        ensures { result ≡ faults self.now };
+        ensures { result ≡ (told self.now).faults };
 }

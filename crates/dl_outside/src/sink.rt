@@ -1,7 +1,8 @@
 //! Where bytes go.
 
-ghost use Rattle.std.specs.Prelude.{◌≡◌, ◌<◌, List, ℕ, Option, length};
+ghost use Rattle.std.specs.Prelude.{◌≡◌, ◌<◌, length};
 ghost use Rattle.dl_outside.specs.Outside.{HasWriteCause, Takes};
+ghost use Rattle.dl_outside.specs.Told.{SinkTold};
 
 /// What a write did.
 #[derive(Clone, Copy, Debug, PartialEq, Eq)]
@@ -14,19 +15,16 @@ pub enum Took {
 
 /// A sink for bytes, as standard output.
 pub trait Sink {
-    /// What it holds, where the sink tells it.
-    ghost held: { Self → Option (List ℕ) };
-
-    /// How often it has failed.
-    ghost faults: { Self → ℕ };
+    /// What it tells of itself: what it holds, and how often it has failed.
+    ghost told: { Self → SinkTold };
 
     /// Appends the front of the piece, as much of it as the sink takes.
     fn write(&mut self, piece: &[u8]) -> Took
         requires { 0 < length piece.now }
-        ensures bytes { Takes (held self.old) (held self.new) result piece.now }
-        ensures cause { HasWriteCause (faults self.old) (faults self.new) result };
+        ensures bytes { Takes (told self.old).held (told self.new).held result piece.now }
+        ensures cause { HasWriteCause (told self.old).faults (told self.new).faults result };
 
     /// How often it has failed. The count never falls.
     fn faults(&self) -> u64
-        ensures { result ≡ faults self.now };
+        ensures { result ≡ (told self.now).faults };
 }

@@ -1,8 +1,7 @@
 //! A whole text to its sink.
 
-ghost use Rattle.std.specs.Prelude.{◌≡◌, OnOk, OnErr};
-ghost use Rattle.dl_outside.specs.Outside.{HasRisen};
-ghost use Rattle.dl_outside.specs.Written.{TookAll, TookFront};
+ghost use Rattle.std.specs.Prelude.{OnOk, OnErr};
+ghost use Rattle.dl_outside.specs.Written.{WroteAll, WroteFront};
 
 use crate::sink::{Sink, Took};
 
@@ -12,10 +11,8 @@ pub struct WriteError;
 
 /// Writes a whole text, piece by piece as the sink takes it.
 pub fn write_text<O: Sink>(out: &mut O, text: &[u8]) -> Result<(), WriteError>
-    ensures ok { OnOk result (TookAll (O.held out.old) (O.held out.new) text.now) }
-    ensures well { OnOk result (O.faults out.new ≡ O.faults out.old) }
-    ensures failed { OnErr result (HasRisen (O.faults out.old) (O.faults out.new)) }
-    ensures front { OnErr result (TookFront (O.held out.old) (O.held out.new) text.now) }
+    ensures ok { OnOk result (WroteAll (O.told out.old) (O.told out.new) text.now) }
+    ensures front { OnErr result (WroteFront (O.told out.old) (O.told out.new) text.now) }
 {
     let mut done = 0;
     while done < text.len() {

@@ -1,5 +1,8 @@
 //! The clocks of the machine, and a gate that is open.
 
+ghost use Rattle.std.specs.Prelude.{◌≡◌, ◌-◌, ◌/◌, ◌%◌, ◌^◌};
+ghost use Rattle.std.specs.Duration.{as_nanos};
+
 use dl_bytes::Moment;
 use dl_outside::{Clock, Gate};
 use std::time::Duration;
@@ -12,9 +15,18 @@ pub struct SystemClock<R> {
     start: Duration,
 }
 
-/// The low 32 bits.
-fn low(number: u128) -> u32 {
-    (number % (1 << 32)) as u32
+/// The moment of a time since 1970, and of a monotonic time with the one at which the clock was made.
+fn moment(day: Duration, start: Duration, now: Duration) -> Moment
+    ensures secs { result.secs ≡ as_nanos day / 1_000_000_000 % 2 ^ 32 }
+    ensures micros { result.micros ≡ as_nanos day % 1_000_000_000 / 1_000 }
+    ensures ticks { result.ticks ≡ (as_nanos now - as_nanos start) / 100_000 % 2 ^ 32 }
+{
+    let passed = now.saturating_sub(start).as_nanos() / 100_000;
+    Moment {
+        secs: (day.as_secs() % (1 << 32)) as u32,
+        micros: day.subsec_micros(),
+        ticks: (passed % (1 << 32)) as u32,
+    }
 }
 
 impl<R: std::time::Clock> SystemClock<R> {
@@ -27,14 +39,9 @@ impl<R: std::time::Clock> SystemClock<R> {
 
 impl<R: std::time::Clock> Clock for SystemClock<R> {
     fn now(&self) -> Moment {
-        let time = self.rt.since_1970().unwrap_or(Duration::ZERO);
-        let passed = self.rt.monotonic().unwrap_or(self.start);
-        let since = passed.saturating_sub(self.start);
-        Moment {
-            secs: low(time.as_secs() as u128),
-            micros: time.subsec_micros() % 1_000_000,
-            ticks: low(since.as_micros() / 100),
-        }
+        let day = self.rt.since_1970().unwrap_or(Duration::ZERO);
+        let now = self.rt.monotonic().unwrap_or(self.start);
+        moment(day, self.start, now)
     }
 }
 

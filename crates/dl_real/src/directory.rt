@@ -1,50 +1,40 @@
 //! Files below the current folder.
 
 ghost use Rattle.std.specs.Prelude.{◌≡◌, ◌<◌, ◌^◌, IfOk, IfSome, None};
-ghost use Rattle.dl_outside.specs.Outside.{HasRisen, one_more};
+ghost use Rattle.std.specs.Fs.{IsFile, file_type};
+ghost use Rattle.dl_outside.specs.Outside.{HasRisen};
 
+use crate::answers::{found, is_memory};
 use crate::paths::{is_inside, parent, parted};
-use crate::writing::write_whole;
+use crate::whole::{read_whole, write_whole};
 use dl_bytes::Bytes;
 use dl_outside::{Folder, FolderFault, Name, NameList};
-use std::fs::{File, Files, OpenOptions};
-use std::io::{Error, ErrorKind, Read};
+use std::fs::{File, Files, Metadata, OpenOptions};
+use std::io::{Error, ErrorKind};
 use std::{fs, io};
 
 /// The files below the current folder, by their names from there, as `trace/a.dlt`. It tells no content.
 ///
 /// A name that is empty, that begins with `/` or that has `..` between its slashes is refused as a fault: no call leaves
-/// the folder by such a name. Links are followed. The directories of a name that is written are made where they are
-/// missing. `names` looks into one directory, that which stands before the prefix's last slash, and gives the files in
-/// it; where it isn't there, there are none. A file whose name is no text is passed over.
-#[derive(Debug, Drop)]
-pub struct Directory<R> {
+/// the folder by such a name. What is no plain file, looked at without following, is a fault too, and is not opened: a
+/// link, a directory, a pipe. The directories of a name may be links; those of a file that is made are made where they
+/// are missing. The file that was added to last stays open. `names` looks into one directory, that which stands before
+/// the prefix's last slash, and gives the plain files in it; where it isn't there, there are none. A file whose name is
+/// no text is passed over.
+#[derive(Drop)]
+pub struct Directory<R: Files> {
     rt: R,
+    last: Option<Last<R::File>>,
     faults: u64,
     changes: u64,
     appends: u64,
 }
 
-/// How many bytes are asked for at once.
-const PIECE: usize = 8192;
-
-/// The bytes of a file, or nothing where there is none.
-fn read_file<R: Files + AllocGlobal>(rt: &R, name: &str) -> io::Result<Option<Vec<u8>>> {
-    let mut file = match File::open(rt, inside(name)?) {
-        Ok(file) => file,
-        Err(error) if error.kind() == ErrorKind::NotFound => return Ok(None),
-        Err(error) => return Err(error),
-    };
-    let mut bytes = Vec::new(rt.alloc());
-    let mut piece = [0; PIECE];
-    for _ in 0..u64::MAX {
-        let n = file.read(&mut piece)?;
-        if n == 0 {
-            break;
-        }
-        bytes.extend_from_slice(&piece[..n])?;
-    }
-    Ok(Some(bytes))
+/// A file that is open to be added to.
+#[derive(Drop)]
+struct Last<F> {
+    name: String,
+    file: F,
 }
 
 /// The name, where it stays in the folder.
@@ -56,49 +46,87 @@ fn inside(name: &str) -> io::Result<&str> {
     }
 }
 
+/// What is known of a plain file, or nothing where there is none.
+fn look<R: Files>(rt: &R, name: &str) -> io::Result<Option<Metadata>>
+    ensures { IfOk result (λ found. IfSome found (λ file. IsFile (file_type file))) }
+{
+    match found(fs::symlink_metadata(rt, inside(name)?))? {
+        Some(file) if file.is_file() => Ok(Some(file)),
+        Some(_) => Err(Error::from(ErrorKind::InvalidInput)),
+        None => Ok(None),
+    }
+}
+
+/// The bytes of a file, or nothing where there is none.
+fn read_file<R: Files + AllocGlobal>(rt: &R, name: &str) -> io::Result<Option<Vec<u8>>> {
+    if look(rt, name)?.is_none() {
+        return Ok(None);
+    }
+    match found(File::open(rt, name))? {
+        Some(mut file) => Ok(Some(read_whole(rt.alloc(), &mut file)?)),
+        None => Ok(None),
+    }
+}
+
 /// The size of a file, or nothing where there is none.
 fn file_size<R: Files>(rt: &R, name: &str) -> io::Result<Option<u64>>
     ensures { IfOk result (λ size. IfSome size (λ bytes. bytes < 2 ^ 63)) }
 {
-    match fs::metadata(rt, inside(name)?) {
-        Ok(found) if !found.is_file() => Ok(None),
-        Ok(found) if found.len() < 1 << 63 => Ok(Some(found.len())),
-        Ok(_) => Err(Error::from(ErrorKind::InvalidData)),
-        Err(error) if error.kind() == ErrorKind::NotFound => Ok(None),
-        Err(error) => Err(error),
+    match look(rt, name)? {
+        Some(file) if file.len() < 1 << 63 => Ok(Some(file.len())),
+        Some(_) => Err(Error::from(ErrorKind::InvalidData)),
+        None => Ok(None),
     }
 }
 
-/// Makes the directories of a name.
-fn make_parents<R: Files>(rt: &R, name: &str) -> io::Result<()> {
-    match parent(name) {
-        Some(directory) => fs::create_dir_all(rt, directory),
-        None => Ok(()),
+/// Makes a file that is missing, with its directories.
+fn create<R: Files>(rt: &R, name: &str) -> io::Result<R::File> {
+    if let Some(directory) = parent(name) {
+        fs::create_dir_all(rt, directory)?;
     }
+    OpenOptions::new()
+        .append(true)
+        .create_new(true)
+        .open(rt, name)
 }
 
 /// Makes or replaces a file.
 fn put_file<R: Files>(rt: &R, name: &str, bytes: &[u8]) -> io::Result<()> {
-    let name = inside(name)?;
-    make_parents(rt, name)?;
-    let mut file = File::create(rt, name)?;
+    let mut file = match look(rt, name)? {
+        Some(_) => OpenOptions::new()
+            .write(true)
+            .truncate(true)
+            .open(rt, name)?,
+        None => create(rt, name)?,
+    };
     write_whole(&mut file, bytes)
 }
 
-/// Adds to a file, which is made where it is missing.
-fn append_file<R: Files>(rt: &R, name: &str, piece: &[u8]) -> io::Result<()> {
-    let name = inside(name)?;
-    make_parents(rt, name)?;
-    let mut file = OpenOptions::new().append(true).create(true).open(rt, name)?;
-    write_whole(&mut file, piece)
+/// A file that is open to be added to: the one that is kept open, where it has the name.
+fn opened<R: Files + AllocGlobal>(
+    rt: &R,
+    kept: Option<Last<R::File>>,
+    name: &str,
+) -> io::Result<Last<R::File>> {
+    if let Some(last) = kept {
+        if last.name.as_str() == name {
+            return Ok(last);
+        }
+    }
+    let text = String::from_str(rt.alloc(), name)?;
+    let file = match look(rt, name)? {
+        Some(_) => OpenOptions::new().append(true).open(rt, name)?,
+        None => create(rt, name)?,
+    };
+    Ok(Last { name: text, file })
 }
 
 /// Takes a file away, if there is one.
 fn remove_file<R: Files>(rt: &R, name: &str) -> io::Result<()> {
-    match fs::remove_file(rt, inside(name)?) {
-        Err(error) if error.kind() != ErrorKind::NotFound => Err(error),
-        _ => Ok(()),
+    if look(rt, name)?.is_some() {
+        let _ = found(fs::remove_file(rt, name))?;
     }
+    Ok(())
 }
 
 /// The names of the files that begin with a prefix, in byte order.
@@ -127,10 +155,8 @@ fn file_texts<R: Files + AllocGlobal + Clone + Drop>(
     } else {
         inside(directory)?
     };
-    let listing = match fs::read_dir(rt, place) {
-        Ok(listing) => listing,
-        Err(error) if error.kind() == ErrorKind::NotFound => return Ok(names),
-        Err(error) => return Err(error),
+    let Some(listing) = found(fs::read_dir(rt, place))? else {
+        return Ok(names);
     };
     for entry in listing {
         let entry = match entry {
@@ -147,7 +173,7 @@ fn file_texts<R: Files + AllocGlobal + Clone + Drop>(
     Ok(names)
 }
 
-impl<R> Directory<R> {
+impl<R: Files> Directory<R> {
     /// The files below the current folder, with nothing that failed or changed so far.
     pub fn over(rt: R) -> Directory<R>
         ensures faults { result.faults ≡ 0 }
@@ -156,6 +182,7 @@ impl<R> Directory<R> {
     {
         Directory {
             rt,
+            last: None,
             faults: 0,
             changes: 0,
             appends: 0,
@@ -169,7 +196,7 @@ impl<R> Directory<R> {
         ensures changes { self.new.changes ≡ self.old.changes }
         ensures appends { self.new.appends ≡ self.old.appends }
     {
-        if error.kind() == ErrorKind::OutOfMemory {
+        if is_memory(&error) {
             return FolderFault::OutOfMemory;
         }
         self.faults = self.faults.saturating_add(1);
@@ -177,14 +204,23 @@ impl<R> Directory<R> {
     }
 }
 
+impl<R: Files + AllocGlobal> Directory<R> {
+    /// Adds to a file, which is made where it is missing, and keeps it open unless that failed.
+    fn add(&mut self, name: &str, piece: &[u8]) -> io::Result<()>
+        ensures faults { self.new.faults ≡ self.old.faults }
+        ensures changes { self.new.changes ≡ self.old.changes }
+        ensures appends { self.new.appends ≡ self.old.appends }
+    {
+        let kept = self.last.take();
+        let mut last = opened(&self.rt, kept, name)?;
+        write_whole(&mut last.file, piece)?;
+        self.last = Some(last);
+        Ok(())
+    }
+}
+
 impl<R: Files + AllocGlobal + Clone + Drop> Folder for Directory<R> {
-    ghost files = { λ _. None };
-
-    ghost faults = { λ d. d.faults };
-
-    ghost changes = { λ d. d.changes };
-
-    ghost appends = { λ d. d.appends };
+    ghost told = { λ d. record { files = None; faults = d.faults; changes = d.changes; appends = d.appends } };
 
     fn read(&mut self, name: &str) -> Result<Option<Bytes>, FolderFault> {
         match read_file(&self.rt, name) {
@@ -210,6 +246,7 @@ impl<R: Files + AllocGlobal + Clone + Drop> Folder for Directory<R> {
 
     fn put(&mut self, name: &str, bytes: &[u8]) -> Result<(), FolderFault> {
         self.changes = self.changes.saturating_add(1);
+        self.last = None;
         match put_file(&self.rt, name, bytes) {
             Ok(()) => Ok(()),
             Err(error) => Err(self.refused(error)),
@@ -219,7 +256,7 @@ impl<R: Files + AllocGlobal + Clone + Drop> Folder for Directory<R> {
     fn append(&mut self, name: &str, piece: &[u8]) -> Result<(), FolderFault> {
         self.changes = self.changes.saturating_add(1);
         self.appends = self.appends.saturating_add(1);
-        match append_file(&self.rt, name, piece) {
+        match self.add(name, piece) {
             Ok(()) => Ok(()),
             Err(error) => Err(self.refused(error)),
         }
@@ -227,6 +264,7 @@ impl<R: Files + AllocGlobal + Clone + Drop> Folder for Directory<R> {
 
     fn remove(&mut self, name: &str) -> Result<(), FolderFault> {
         self.changes = self.changes.saturating_add(1);
+        self.last = None;
         match remove_file(&self.rt, name) {
             Ok(()) => Ok(()),
             Err(error) => Err(self.refused(error)),

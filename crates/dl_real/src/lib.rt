@@ -2,16 +2,21 @@
 //! content but where std tells it.
 #![tactic(auto)]
 
+mod answers;
+mod bind;
 mod client;
 mod clock;
 mod directory;
+mod once;
 mod paths;
 mod reading;
+mod resting;
+mod streams;
 mod tcp;
-#[cfg(test)]
-mod tests;
+mod whole;
 mod writing;
 
+pub use bind::{BIND_ADDRESS, BindFault, bind_address};
 pub use clock::{OpenGate, SystemClock};
 pub use directory::Directory;
 pub use reading::Reading;

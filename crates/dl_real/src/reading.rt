@@ -2,6 +2,7 @@
 
 ghost use Rattle.std.specs.Prelude.{◌≡◌};
 
+use crate::once::read_once;
 use dl_outside::{Got, Source};
 use std::io::Read;
 
@@ -23,12 +24,10 @@ impl<R> Reading<R> {
 }
 
 impl<R: Read> Source for Reading<R> {
-    ghost left = { λ s. R.remaining s.inner };
-
-    ghost faults = { λ s. s.faults };
+    ghost told = { λ s. record { left = R.remaining s.inner; faults = s.faults } };
 
     fn read(&mut self, into: &mut [u8]) -> Got {
-        match self.inner.read(into) {
+        match read_once(&mut self.inner, into) {
             Ok(0) => Got::End,
             Ok(n) => Got::Bytes(n),
             Err(_) => {

@@ -1,86 +1,58 @@
-//! Clients over TCP.
+//! Clients over TCP. No call on a socket waits.
 
-ghost use Rattle.std.specs.Prelude.{◌≡◌, None, Some, Ok, false};
+ghost use Rattle.std.specs.Prelude.{◌≡◌, None};
+ghost use Rattle.dl_outside.specs.Outside.{HasRisen};
 
+use crate::answers::{is_gone, is_memory, is_pause};
 use crate::client::attend;
 use crate::reading::Reading;
+use crate::resting::Resting;
+use crate::streams::{pass_on, receive};
 use dl_outside::{Accepted, ClientScript, Dial, DialFault, Gave, Link, Net, NetFault, Sends};
-use std::io::{Error, ErrorKind, Read, Write};
-use std::net::{IpAddr, Ipv4Addr, Shutdown, TcpListener, TcpStream};
+use std::io::{Error, ErrorKind};
+use std::net::{IpAddr, Ipv4Addr, Ipv6Addr, Shutdown, TcpListener, TcpStream};
 use std::thread::{JoinHandle, Threads};
-use std::time::{Clock, Duration};
+use std::time::Clock;
 use std::{io, thread};
 
-/// How long an accept, a `recv` or a `send` waits at most, in milliseconds.
-const TURN: u64 = 1;
-
-/// Whether an error only says that nothing came, or that nothing could go, for now.
-fn is_pause(error: &Error) -> bool {
-    matches!(
-        error.kind(),
-        ErrorKind::WouldBlock | ErrorKind::TimedOut | ErrorKind::Interrupted
-    )
-}
-
-/// A client's connection over TCP. It tells no content. Its calls wait about a millisecond at most.
+/// A client's connection over TCP. It tells no content. No call waits but `rest`, which sleeps about a millisecond, and
+/// up to five once nothing has gone through the link for a hundred rests.
 #[derive(Drop)]
-pub struct TcpLink {
+pub struct TcpLink<R> {
+    rt: R,
     stream: TcpStream,
+    resting: Resting,
     faults: u64,
     idles: u64,
     waits: u64,
     is_shut: bool,
 }
 
-/// The connection of a stream, with its limits of time set.
-fn link(stream: TcpStream) -> io::Result<TcpLink>
-    ensures { (l : _) → result ≡ Ok l → (l.faults ≡ 0) × (l.idles ≡ 0) × (l.waits ≡ 0) × (l.is_shut ≡ false) }
-{
-    stream.set_read_timeout(Some(Duration::from_millis(TURN)))?;
-    stream.set_write_timeout(Some(Duration::from_millis(TURN)))?;
-    Ok(TcpLink {
-        stream,
-        faults: 0,
-        idles: 0,
-        waits: 0,
-        is_shut: false,
-    })
-}
-
-impl Link for TcpLink {
-    ghost left = { λ _. None };
-
-    ghost over = { λ _. None };
-
-    ghost given = { λ _. None };
-
-    ghost taken = { λ _. None };
-
-    ghost faults = { λ l. l.faults };
-
-    ghost idles = { λ l. l.idles };
-
-    ghost waits = { λ l. l.waits };
-
-    ghost is_shut = { λ l. l.is_shut };
+impl<R: Clock> Link for TcpLink<R> {
+    ghost told = { λ l. record {
+      left = None;
+      over = None;
+      given = None;
+      taken = None;
+      faults = l.faults;
+      idles = l.idles;
+      waits = l.waits;
+      is_shut = l.is_shut;
+    } };
 
     fn recv(&mut self, into: &mut [u8]) -> Gave {
         if self.is_shut {
             self.idles = self.idles.saturating_add(1);
             return Gave::NotYet;
         }
-        match self.stream.read(into) {
-            Ok(0) => Gave::End,
-            Ok(n) => Gave::Bytes(n),
-            Err(error) if is_pause(&error) => {
-                self.idles = self.idles.saturating_add(1);
-                Gave::NotYet
-            }
-            Err(_) => {
-                self.faults = self.faults.saturating_add(1);
-                Gave::Failed
-            }
+        let gave = receive(&mut self.stream, into);
+        match gave {
+            Gave::Bytes(_) => self.resting.end(),
+            Gave::NotYet => self.idles = self.idles.saturating_add(1),
+            Gave::End => {}
+            Gave::Failed => self.faults = self.faults.saturating_add(1),
         }
+        gave
     }
 
     fn send(&mut self, piece: &[u8]) -> Sends {
@@ -88,23 +60,23 @@ impl Link for TcpLink {
             self.waits = self.waits.saturating_add(1);
             return Sends::Busy;
         }
-        match self.stream.write(piece) {
-            Ok(n) if n > 0 => Sends::Bytes(n),
-            Err(error) if is_pause(&error) => {
-                self.waits = self.waits.saturating_add(1);
-                Sends::Busy
-            }
-            _ => {
-                self.faults = self.faults.saturating_add(1);
-                Sends::Failed
-            }
+        let sent = pass_on(&mut self.stream, piece);
+        match sent {
+            Sends::Bytes(_) => self.resting.end(),
+            Sends::Busy => self.waits = self.waits.saturating_add(1),
+            Sends::Failed => self.faults = self.faults.saturating_add(1),
         }
+        sent
     }
 
     fn shut(&mut self) {
         // A peer that is gone needs no end.
         let _ = self.stream.shutdown(Shutdown::Both);
         self.is_shut = true;
+    }
+
+    fn rest(&mut self) {
+        self.resting.rest(&self.rt);
     }
 
     fn faults(&self) -> u64 {
@@ -121,21 +93,46 @@ impl Link for TcpLink {
 }
 
 /// A net over TCP. It tells no content. It listens on the address that it was made with: `Ipv4Addr::LOCALHOST` is
-/// reached from this machine alone, and nothing here asks who a client is. Its own clients dial this machine.
+/// reached from this machine alone, and nothing here asks who a client is. Its own clients dial that address, or
+/// loopback where it stands for every address of the machine. No call waits but `rest`, which sleeps about a
+/// millisecond, and up to five once a hundred rounds in a row have rested.
 #[derive(Drop)]
 pub struct TcpNet<R> {
     rt: R,
     address: IpAddr,
     port: u16,
     listener: Option<TcpListener>,
-    clients: Vec<JoinHandle<()>>,
+    clients: Vec<JoinHandle<u64>>,
+    resting: Resting,
     faults: u64,
+}
+
+impl<R> TcpNet<R> {
+    /// The port on which it listens, or 0 where it doesn't.
+    pub fn port(&self) -> u16
+        ensures { result ≡ self.now.port }
+    {
+        self.port
+    }
+
+    /// Counts an error as a fault, unless it is want of memory.
+    fn refused(&mut self, error: Error) -> NetFault
+        ensures failed { result ≡ NetFault.Failed → HasRisen self.old.faults self.new.faults }
+        ensures memory { result ≡ NetFault.OutOfMemory → self.new.faults ≡ self.old.faults }
+    {
+        if is_memory(&error) {
+            return NetFault::OutOfMemory;
+        }
+        self.faults = self.faults.saturating_add(1);
+        NetFault::Failed
+    }
 }
 
 impl<R: Threads + AllocGlobal> TcpNet<R> {
     /// A net that is to listen on this address.
     pub fn make(rt: R, address: IpAddr) -> TcpNet<R>
-        ensures { result.faults ≡ 0 }
+        ensures faults { result.faults ≡ 0 }
+        ensures port { result.port ≡ 0 }
     {
         let clients = Vec::new(rt.alloc());
         TcpNet {
@@ -144,12 +141,14 @@ impl<R: Threads + AllocGlobal> TcpNet<R> {
             port: 0,
             listener: None,
             clients,
+            resting: Resting::none(),
             faults: 0,
         }
     }
 
-    /// Stops listening, and waits until its clients have ended. Drop the links before.
-    pub fn finish(self)
+    /// Stops listening, and waits until its clients have ended. Drop the links before. It tells how many bytes its
+    /// clients have read.
+    pub fn finish(self) -> u64
     where
         R: Drop,
     {
@@ -159,12 +158,15 @@ impl<R: Threads + AllocGlobal> TcpNet<R> {
             port: _,
             listener,
             clients,
+            resting: _,
             faults: _,
         } = self;
         drop(listener);
+        let mut read = 0u64;
         for client in clients {
-            client.join(&rt);
+            read = read.saturating_add(client.join(&rt));
         }
+        read
     }
 }
 
@@ -180,34 +182,60 @@ fn listener<R: std::net::Net<Stream = TcpStream, Listener = TcpListener>>(
     Ok((listener, port))
 }
 
+/// The address that reaches a listener on this address from the same machine.
+fn reached_at(address: IpAddr) -> IpAddr {
+    if !address.is_unspecified() {
+        return address;
+    }
+    match address {
+        IpAddr::V4(_) => IpAddr::V4(Ipv4Addr::LOCALHOST),
+        IpAddr::V6(_) => IpAddr::V6(Ipv6Addr::LOCALHOST),
+    }
+}
+
 /// A client that runs in a thread of its own.
 fn client<R: std::net::Net<Stream = TcpStream, Listener = TcpListener> + Threads + AllocGlobal>(
     rt: &R,
+    address: IpAddr,
     port: u16,
     script: &ClientScript,
-) -> io::Result<JoinHandle<()>> {
+) -> io::Result<JoinHandle<u64>> {
     let sends = Vec::from_slice(rt.alloc(), script.sends.all())?;
     let leave = script.leave;
-    let stream = TcpStream::connect(rt, (Ipv4Addr::LOCALHOST, port))?;
+    let stream = TcpStream::connect(rt, (reached_at(address), port))?;
     match thread::spawn(rt, move || attend(stream, sends, leave)) {
         Ok(client) => Ok(client),
         Err(_) => Err(Error::from(ErrorKind::Other)),
     }
 }
 
+/// The client that waited longest, or nothing where none waits or nothing listens. Its socket doesn't wait.
+fn waiting(listener: Option<&TcpListener>) -> io::Result<Option<TcpStream>> {
+    let Some(listener) = listener else {
+        return Ok(None);
+    };
+    let stream = match listener.accept() {
+        Ok((stream, _)) => stream,
+        Err(error) if is_pause(&error) || is_gone(&error) => return Ok(None),
+        Err(error) => return Err(error),
+    };
+    stream.set_nonblocking(true)?;
+    // Without it frames come later, and no more.
+    let _ = stream.set_nodelay(true);
+    Ok(Some(stream))
+}
+
 impl<R> Net for TcpNet<R>
 where
-    R: std::net::Net<Stream = TcpStream, Listener = TcpListener> + Threads + Clock + AllocGlobal,
+    R: std::net::Net<Stream = TcpStream, Listener = TcpListener>
+        + Threads
+        + Clock
+        + AllocGlobal
+        + Copy,
 {
-    type L = TcpLink;
+    type L = TcpLink<R>;
 
-    ghost listens_on = { λ _. None };
-
-    ghost launched = { λ _. None };
-
-    ghost waiting = { λ _. None };
-
-    ghost faults = { λ n. n.faults };
+    ghost told = { λ n. record { listens_on = None; launched = None; waiting = None; faults = n.faults } };
 
     fn listen(&mut self, port: u16) -> Result<(), NetFault> {
         match listener(&self.rt, self.address, port) {
@@ -216,10 +244,7 @@ where
                 self.port = bound;
                 Ok(())
             }
-            Err(_) => {
-                self.faults = self.faults.saturating_add(1);
-                Err(NetFault::Failed)
-            }
+            Err(error) => Err(self.refused(error)),
         }
     }
 
@@ -227,52 +252,45 @@ where
         if self.clients.reserve(1).is_err() {
             return Err(NetFault::OutOfMemory);
         }
-        match client(&self.rt, self.port, script) {
+        match client(&self.rt, self.address, self.port, script) {
             Ok(client) => {
                 // There is room for it.
                 let _ = self.clients.push(client);
                 Ok(())
             }
-            Err(_) => {
-                self.faults = self.faults.saturating_add(1);
-                Err(NetFault::Failed)
-            }
+            Err(error) => Err(self.refused(error)),
         }
     }
 
-    fn accept(&mut self) -> Accepted<TcpLink> {
-        match accepted(self.listener.as_ref()) {
-            Ok(Some(link)) => Accepted::Link(link),
-            Ok(None) => {
-                thread::sleep(&self.rt, Duration::from_millis(TURN));
-                Accepted::None
+    fn accept(&mut self) -> Accepted<TcpLink<R>> {
+        self.resting.begin_round();
+        match waiting(self.listener.as_ref()) {
+            Ok(Some(stream)) => {
+                self.resting.end();
+                Accepted::Link(TcpLink {
+                    rt: self.rt,
+                    stream,
+                    resting: Resting::none(),
+                    faults: 0,
+                    idles: 0,
+                    waits: 0,
+                    is_shut: false,
+                })
             }
-            Err(_) => {
-                self.faults = self.faults.saturating_add(1);
-                Accepted::Failed
-            }
+            Ok(None) => Accepted::None,
+            Err(error) => match self.refused(error) {
+                NetFault::Failed => Accepted::Failed,
+                NetFault::OutOfMemory => Accepted::OutOfMemory,
+            },
         }
+    }
+
+    fn rest(&mut self) {
+        self.resting.rest(&self.rt);
     }
 
     fn faults(&self) -> u64 {
         self.faults
-    }
-}
-
-/// The connection that waited longest, or none where no client waits or nothing listens.
-fn accepted(listener: Option<&TcpListener>) -> io::Result<Option<TcpLink>>
-    ensures { (l : _) → result ≡ Ok (Some l) → (l.faults ≡ 0) × (l.idles ≡ 0) × (l.waits ≡ 0) × (l.is_shut ≡ false) }
-{
-    let Some(listener) = listener else {
-        return Ok(None);
-    };
-    match listener.accept() {
-        Ok((stream, _)) => match link(stream) {
-            Ok(link) => Ok(Some(link)),
-            Err(error) => Err(error),
-        },
-        Err(error) if is_pause(&error) => Ok(None),
-        Err(error) => Err(error),
     }
 }
 
@@ -295,13 +313,12 @@ impl<R> TcpDial<R> {
 impl<R: std::net::Net<Stream = TcpStream, Listener = TcpListener>> Dial for TcpDial<R> {
     type S = Reading<TcpStream>;
 
-    ghost serves = { λ _. None };
-
-    ghost faults = { λ d. d.faults };
+    ghost told = { λ d. record { serves = None; faults = d.faults } };
 
     fn dial(&mut self, port: u16) -> Result<Reading<TcpStream>, DialFault> {
         match TcpStream::connect(&self.rt, (Ipv4Addr::LOCALHOST, port)) {
             Ok(stream) => Ok(Reading::over(stream)),
+            Err(error) if is_memory(&error) => Err(DialFault::OutOfMemory),
             Err(_) => {
                 self.faults = self.faults.saturating_add(1);
                 Err(DialFault::Failed)

@@ -2,9 +2,9 @@
 
 ghost use Rattle.std.specs.Prelude.{◌≡◌};
 
+use crate::once::write_once;
 use dl_outside::{Sink, Took};
-use std::io;
-use std::io::{Error, ErrorKind, Write};
+use std::io::Write;
 
 /// A sink over a writer. It tells what it holds where the writer does: standard output, a file and a socket don't. A
 /// writer that takes nothing of a piece has failed.
@@ -25,12 +25,10 @@ impl<W> Writing<W> {
 }
 
 impl<W: Write> Sink for Writing<W> {
-    ghost held = { λ s. W.contents s.inner };
-
-    ghost faults = { λ s. s.faults };
+    ghost told = { λ s. record { held = W.contents s.inner; faults = s.faults } };
 
     fn write(&mut self, piece: &[u8]) -> Took {
-        match self.inner.write(piece) {
+        match write_once(&mut self.inner, piece) {
             Ok(n) if n > 0 => Took::Bytes(n),
             _ => {
                 self.faults = self.faults.saturating_add(1);
@@ -42,16 +40,4 @@ impl<W: Write> Sink for Writing<W> {
     fn faults(&self) -> u64 {
         self.faults
     }
-}
-
-/// Writes all bytes, piece by piece as the writer takes them.
-pub fn write_whole<W: Write>(writer: &mut W, bytes: &[u8]) -> io::Result<()> {
-    let mut done = 0;
-    while done < bytes.len() {
-        match writer.write(&bytes[done..])? {
-            0 => return Err(Error::from(ErrorKind::WriteZero)),
-            n => done += n,
-        }
-    }
-    Ok(())
 }

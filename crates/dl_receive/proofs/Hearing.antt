@@ -9,12 +9,12 @@ use Rattle.dl_control.specs.Reply.{daemon_apid, daemon_ctid}
 use Rattle.dl_events.specs.declared.event.Event.{Event}
 use Rattle.dl_events.specs.declared.event.Event.TheVariants as event
 use Rattle.dl_model.specs.Along.{along_from}
-use Rattle.dl_model.specs.Backlog.{waiting, fitting, refused, handed_over}
+use Rattle.dl_model.specs.Backlog.{waiting, fitting, refused, due_backlog}
 use Rattle.dl_model.specs.ClientStream.{put, sent, traffic_of, traffic, stream}
 use Rattle.dl_model.specs.Frames.{FrameSource, frames_of}
 use Rattle.dl_model.specs.Overflow.{overflow_frames}
 use Rattle.dl_model.specs.Traffic as ts
-use Rattle.dl_model.specs.Traffic.{Traffic, Comes, Admit, Reply, Goes, meant_for, is_coming, is_open, is_any_open}
+use Rattle.dl_model.specs.Traffic.{Traffic, Connected, Admitted, Reply, Closed, meant_for, is_coming, is_open, is_any_open}
 use Rattle.dl_laws.proofs.Lists.{along_from-append}
 use Rattle.dl_laws.proofs.ClientStreams.{is_open-one, same_number, any_open-admit, any_open-reply, waiting-admit, waiting-reply}
 use Rattle.dl_receive.specs.Calls.{heard_frames, comes_or_goes, stirs}
@@ -25,7 +25,7 @@ none_of : (a b : Bool) → (a || b) ≡ false → (a ≡ false) × (b ≡ false)
 none_of true b e = absurd cc
 none_of false b e = (refl, e)
 
-admits_stay : (client : ℕ) (frames : List (List ℕ)) → list_any (ts.comes_or_goes client) (map Admit frames) ≡ false
+admits_stay : (client : ℕ) (frames : List (List ℕ)) → list_any (ts.comes_or_goes client) (map Admitted frames) ≡ false
 admits_stay client [] = refl
 admits_stay client (frame ∷ frames) = admits_stay client frames
 
@@ -54,13 +54,13 @@ events_stay source client before (e ∷ events) none =
 
 puts_meant : (ecu : List ℕ) (buffer client : ℕ) (before : List Traffic) (t : Traffic) → is_open client before ≡ true → ts.comes_or_goes client t ≡ false →
     put ecu buffer client before t ≡ filter_map (meant_for client) (t ∷ [])
-puts_meant ecu buffer client before (Comes other) there none = rw none refl
-puts_meant ecu buffer client before (Admit frame) there none = rw there refl
+puts_meant ecu buffer client before (Connected other) there none = rw none refl
+puts_meant ecu buffer client before (Admitted frame) there none = rw there refl
 puts_meant ecu buffer client before (Reply other frame) there none = rw there (by_test (eqb other client)) where
   by_test : (b : Bool) → cond (b && true) (frame ∷ []) [] ≡ filter_map (λ (o : Option (List ℕ)). o) (cond b (Some frame) None ∷ [])
   by_test true = refl
   by_test false = refl
-puts_meant ecu buffer client before (Goes other) there none = refl
+puts_meant ecu buffer client before (Closed other) there none = refl
 
 during : (ecu : List ℕ) (buffer client : ℕ) (before all : List Traffic) → is_open client before ≡ true → list_any (ts.comes_or_goes client) all ≡ false →
     along_from (put ecu buffer client) before all ≡ filter_map (meant_for client) all
@@ -74,12 +74,12 @@ during ecu buffer client before (t ∷ all) there none =
 
 -- from its coming on: what waited, and all that is meant for it
 coming : (ecu : List ℕ) (buffer client : ℕ) (before all : List Traffic) → list_any (ts.comes_or_goes client) all ≡ false →
-    along_from (put ecu buffer client) before (Comes client ∷ all) ≡ handed_over ecu buffer (waiting before) ++ filter_map (meant_for client) all
+    along_from (put ecu buffer client) before (Connected client ∷ all) ≡ due_backlog ecu buffer (waiting before) ++ filter_map (meant_for client) all
 coming ecu buffer client before all none =
-    let there : is_open client (before ++ Comes client ∷ []) ≡ true = is_open-one client before (Comes client) ∙ ap (λ b. cond b true (is_open client before)) (same_number client) in
-    let first : put ecu buffer client before (Comes client) ≡ handed_over ecu buffer (waiting before) = ap (λ b. cond b (handed_over ecu buffer (waiting before)) []) (same_number client) in
-    ap (λ (x : List (List ℕ)). x ++ along_from (put ecu buffer client) (before ++ Comes client ∷ []) all) first
-    ∙ ap (λ (x : List (List ℕ)). handed_over ecu buffer (waiting before) ++ x) (during ecu buffer client (before ++ Comes client ∷ []) all there none)
+    let there : is_open client (before ++ Connected client ∷ []) ≡ true = is_open-one client before (Connected client) ∙ ap (λ b. cond b true (is_open client before)) (same_number client) in
+    let first : put ecu buffer client before (Connected client) ≡ due_backlog ecu buffer (waiting before) = ap (λ b. cond b (due_backlog ecu buffer (waiting before)) []) (same_number client) in
+    ap (λ (x : List (List ℕ)). x ++ along_from (put ecu buffer client) (before ++ Connected client ∷ []) all) first
+    ∙ ap (λ (x : List (List ℕ)). due_backlog ecu buffer (waiting before) ++ x) (during ecu buffer client (before ++ Connected client ∷ []) all there none)
 
 -- ---- a stream in three parts
 
@@ -93,7 +93,7 @@ module _ (source : FrameSource) (buffer client : ℕ) (before middle after : Lis
   abbrev third : List Traffic
   third = along_from (traffic_of source) (before ++ event.Connect client ∷ middle) after
 
-  parts : traffic source (before ++ ((event.Connect client ∷ middle) ++ after)) ≡ first ++ ((Comes client ∷ second) ++ third)
+  parts : traffic source (before ++ ((event.Connect client ∷ middle) ++ after)) ≡ first ++ ((Connected client ∷ second) ++ third)
   parts =
       along_from-append (traffic_of source) [] before (event.Connect client ∷ (middle ++ after))
       ∙ ap (λ (x : List Traffic). first ++ x) (along_from-append (traffic_of source) before (event.Connect client ∷ middle) after)
@@ -102,13 +102,13 @@ module _ (source : FrameSource) (buffer client : ℕ) (before middle after : Lis
   puts = along_from (put source.ecu buffer client)
 
   pub stream_parts : (later : List (List ℕ)) × (stream source buffer client (before ++ ((event.Connect client ∷ middle) ++ after))
-      ≡ puts [] first ++ ((handed_over source.ecu buffer (waiting first) ++ heard_frames source client before (event.Connect client ∷ middle)) ++ later))
+      ≡ puts [] first ++ ((due_backlog source.ecu buffer (waiting first) ++ heard_frames source client before (event.Connect client ∷ middle)) ++ later))
   stream_parts = (
-    puts (first ++ (Comes client ∷ second)) third,
+    puts (first ++ (Connected client ∷ second)) third,
     ap (sent source.ecu buffer client) parts
-        ∙ along_from-append (put source.ecu buffer client) [] first ((Comes client ∷ second) ++ third)
-        ∙ ap (λ (x : List (List ℕ)). puts [] first ++ x) (along_from-append (put source.ecu buffer client) first (Comes client ∷ second) third
-        ∙ ap (λ (x : List (List ℕ)). x ++ puts (first ++ (Comes client ∷ second)) third) (coming source.ecu buffer client first second (events_stay source client (before ++ event.Connect client ∷ []) middle none))),
+        ∙ along_from-append (put source.ecu buffer client) [] first ((Connected client ∷ second) ++ third)
+        ∙ ap (λ (x : List (List ℕ)). puts [] first ++ x) (along_from-append (put source.ecu buffer client) first (Connected client ∷ second) third
+        ∙ ap (λ (x : List (List ℕ)). x ++ puts (first ++ (Connected client ∷ second)) third) (coming source.ecu buffer client first second (events_stay source client (before ++ event.Connect client ∷ []) middle none))),
   )
 
 pub listening : (source : FrameSource) (buffer client : ℕ) (before middle after : List Event) → list_any (comes_or_goes client) middle ≡ false →
@@ -117,7 +117,7 @@ pub listening : (source : FrameSource) (buffer client : ℕ) (before middle afte
 listening source buffer client before middle after none =
     let s = stream_parts source buffer client before middle after none in
     let earlier = along_from (put source.ecu buffer client) [] (traffic source before) in
-    let due = handed_over source.ecu buffer (waiting (traffic source before)) in
+    let due = due_backlog source.ecu buffer (waiting (traffic source before)) in
     let heard = heard_frames source client before (event.Connect client ∷ middle) in
     (earlier ++ due, s.0, s.1 ∙ ap (λ (x : List (List ℕ)). earlier ++ x) (append_assoc due heard s.0) ∙ sym (append_assoc earlier due (heard ++ s.0)))
 
@@ -125,14 +125,14 @@ listening source buffer client before middle after none =
 
 -- what waits goes on with frames while nobody is there
 waits_on : (before : List Traffic) (frames : List (List ℕ)) → is_any_open before ≡ false
-    → (waiting (before ++ map Admit frames) ≡ waiting before ++ frames) × (is_any_open (before ++ map Admit frames) ≡ false)
+    → (waiting (before ++ map Admitted frames) ≡ waiting before ++ frames) × (is_any_open (before ++ map Admitted frames) ≡ false)
 waits_on before [] shut = (ap waiting (append-nil before) ∙ sym (append-nil (waiting before)), ap is_any_open (append-nil before) ∙ shut)
 waits_on before (frame ∷ frames) shut =
-    let more = before ++ Admit frame ∷ [] in
+    let more = before ++ Admitted frame ∷ [] in
     let still : is_any_open more ≡ false = any_open-admit frame before ∙ shut in
     let one : waiting more ≡ waiting before ++ frame ∷ [] = waiting-admit frame before ∙ ap (λ b. cond b [] (waiting before ++ frame ∷ [])) shut in
     let later = waits_on more frames still in
-    let all : more ++ map Admit frames ≡ before ++ (Admit frame ∷ map Admit frames) = append_assoc before (Admit frame ∷ []) (map Admit frames) in
+    let all : more ++ map Admitted frames ≡ before ++ (Admitted frame ∷ map Admitted frames) = append_assoc before (Admitted frame ∷ []) (map Admitted frames) in
     (ap waiting (sym all) ∙ later.0 ∙ ap (λ (x : List (List ℕ)). x ++ frames) one ∙ append_assoc (waiting before) (frame ∷ []) frames, ap is_any_open (sym all) ∙ later.1)
 
 -- traffic that only makes frames wait
@@ -140,11 +140,11 @@ abbrev Waits : ℕ → List Traffic → List Traffic → Type 0
 Waits client before more =
     (waiting (before ++ more) ≡ waiting before ++ filter_map (meant_for client) more) × (is_any_open (before ++ more) ≡ false)
 
-meant_all : (client : ℕ) (frames : List (List ℕ)) → filter_map (meant_for client) (map Admit frames) ≡ frames
+meant_all : (client : ℕ) (frames : List (List ℕ)) → filter_map (meant_for client) (map Admitted frames) ≡ frames
 meant_all client [] = refl
 meant_all client (frame ∷ frames) = ap (λ (fs : List (List ℕ)). frame ∷ fs) (meant_all client frames)
 
-frames_wait : (client : ℕ) (before : List Traffic) (frames : List (List ℕ)) → is_any_open before ≡ false → Waits client before (map Admit frames)
+frames_wait : (client : ℕ) (before : List Traffic) (frames : List (List ℕ)) → is_any_open before ≡ false → Waits client before (map Admitted frames)
 frames_wait client before frames shut =
     let w = waits_on before frames shut in
     (w.0 ∙ ap (λ (x : List (List ℕ)). waiting before ++ x) (sym (meant_all client frames)), w.1)
@@ -202,7 +202,7 @@ fits_all limit frames none = by_prefix (fitting limit frames) (prefix limit fram
 none_over : (ecu apid ctid : List ℕ) (kept : List (List ℕ)) (n : ℕ) → n ≡ 0 → kept ++ overflow_frames ecu apid ctid n ≡ kept
 none_over ecu apid ctid kept n none = ap (λ (m : ℕ). kept ++ overflow_frames ecu apid ctid m) none ∙ append-nil kept
 
-hands_all : (ecu : List ℕ) (buffer : ℕ) (frames : List (List ℕ)) → refused buffer frames ≡ 0 → handed_over ecu buffer frames ≡ frames
+hands_all : (ecu : List ℕ) (buffer : ℕ) (frames : List (List ℕ)) → refused buffer frames ≡ 0 → due_backlog ecu buffer frames ≡ frames
 hands_all ecu buffer frames none = none_over ecu daemon_apid daemon_ctid (fitting buffer frames) (refused buffer frames) none ∙ fits_all buffer frames none
 
 pub waited_for : (source : FrameSource) (buffer client : ℕ) (before waited middle after : List Event) → is_any_open (traffic source before) ≡ false →
@@ -216,7 +216,7 @@ waited_for source buffer client before waited middle after shut still none stays
     let since = heard_frames source client before waited in
     let then = heard_frames source client (before ++ waited) (event.Connect client ∷ middle) in
     let already = waiting (traffic source before) in
-    let due : handed_over source.ecu buffer (waiting (traffic source (before ++ waited))) ≡ already ++ since =
+    let due : due_backlog source.ecu buffer (waiting (traffic source (before ++ waited))) ≡ already ++ since =
     hands_all source.ecu buffer (waiting (traffic source (before ++ waited))) none ∙ ap waiting (along_from-append (traffic_of source) [] before waited) ∙ w.0 in
     let all : heard_frames source client before (waited ++ event.Connect client ∷ middle) ≡ since ++ then =
     ap (filter_map (meant_for client)) (along_from-append (traffic_of source) before waited (event.Connect client ∷ middle))

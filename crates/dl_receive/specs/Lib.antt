@@ -5,5 +5,7 @@ pub mod Status
 pub mod Streams
 pub mod Program
 pub mod Receiving
+pub mod Handed
+pub mod Laws
 pub mod Listening
 pub mod Calls

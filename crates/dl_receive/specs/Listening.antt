@@ -4,45 +4,48 @@ use Rattle.dl_outside.specs.Outside.{HasRisen}
 use Rattle.dl_receive.specs.declared.receiver.Receiver.{Receiver}
 use Rattle.dl_receive.specs.declared.status.Status.{Status}
 use Rattle.dl_receive.specs.declared.status.Status.TheVariants.{Ok, WordsRefused, BadMessage, Truncated, WriteFault, NetFault, OutOfMemory, ReadFault, Limit}
-use Rattle.dl_receive.specs.Program.{IsBad, IsGood, IsTruncated, IsWhole}
+use Rattle.dl_receive.specs.Program.{IsBad, IsGood, IsTruncated, IsWhole, WroteSome}
 use Rattle.dl_receive.specs.Receiving.{IsAt}
-use Rattle.dl_outside.specs.Written.{TookAll, TookFront}
+use Rattle.dl_outside.specs.Told.{SinkTold, SourceTold}
+use Rattle.dl_outside.specs.Written.{WroteAll, WroteFront}
 use Rattle.dl_receive.specs.Streams.{Gave}
 use Rattle.dl_receive.specs.Text.{received}
 
--- what a source and an output tell: what is left and what is held, and how often each has failed
+-- what a source and an output tell
 pub record Sides : Type 0 where
-  pub left : Option (List ℕ)
-  pub reads_failed : ℕ
-  pub held : Option (List ℕ)
-  pub writes_failed : ℕ
+  pub source : SourceTold
+  pub out : SinkTold
 
+-- both
+abbrev pub sides : SourceTold → SinkTold → Sides
+sides source out = record { source = source; out = out }
+
+-- the source did not fail
 abbrev pub ReadsOn : Sides → Sides → Type 0
-ReadsOn old new = new.reads_failed ≡ old.reads_failed
-
-abbrev pub WritesOn : Sides → Sides → Type 0
-WritesOn old new = new.writes_failed ≡ old.writes_failed
+ReadsOn old new = new.source.faults ≡ old.source.faults
 
 -- the source gave this stream, and its text was written
 abbrev pub Printed : Sides → Sides → List ℕ → Type 0
-Printed old new stream = Gave old.left new.left stream × TookAll old.held new.held (received stream)
+Printed old new stream = Gave old.source.left new.source.left stream × WroteAll old.out new.out (received stream)
 
--- the source gave this stream, and a front of its text was written
+-- the source gave this stream and did not fail, and a front of its text was written; the output did not fail
 abbrev pub CutShort : Sides → Sides → List ℕ → Type 0
-CutShort old new stream = Gave old.left new.left stream × TookFront old.held new.held (received stream)
+CutShort old new stream = Gave old.source.left new.source.left stream × ReadsOn old new × WroteSome old.out new.out (received stream)
 
 -- the source has nothing left
 abbrev pub ReadUp : Sides → Sides → Type 0
-ReadUp old new = IfSome old.left (λ all. new.left ≡ Some [])
+ReadUp old new = IfSome old.source.left (λ all. new.source.left ≡ Some [])
 
+-- what each status says: how the stream ends that the source gave, that its text was written, and what failed
 abbrev pub Listened : Sides → Sides → Status → Type 0
-Listened old new Ok = (stream : List ℕ) × Printed old new stream × IsWhole stream × ReadUp old new × ReadsOn old new × WritesOn old new
-Listened old new BadMessage = (stream : List ℕ) × Printed old new stream × IsBad stream × ReadsOn old new × WritesOn old new
-Listened old new Truncated = (stream : List ℕ) × Printed old new stream × IsTruncated stream × ReadUp old new × ReadsOn old new × WritesOn old new
-Listened old new WriteFault = (stream : List ℕ) × CutShort old new stream × ReadsOn old new × HasRisen old.writes_failed new.writes_failed
-Listened old new OutOfMemory = (stream : List ℕ) × CutShort old new stream × ReadsOn old new × WritesOn old new
-Listened old new ReadFault = (stream : List ℕ) × Printed old new stream × IsGood stream × HasRisen old.reads_failed new.reads_failed × WritesOn old new
-Listened old new Limit = (stream : List ℕ) × Printed old new stream × IsGood stream × (2 ^ 40 ≤ length stream) × ReadsOn old new × WritesOn old new
+Listened old new Ok = (stream : List ℕ) × Printed old new stream × IsWhole stream × ReadUp old new × ReadsOn old new
+Listened old new BadMessage = (stream : List ℕ) × Printed old new stream × IsBad stream × ReadsOn old new
+Listened old new Truncated = (stream : List ℕ) × Printed old new stream × IsTruncated stream × ReadUp old new × ReadsOn old new
+Listened old new WriteFault =
+    (stream : List ℕ) × Gave old.source.left new.source.left stream × ReadsOn old new × WroteFront old.out new.out (received stream)
+Listened old new OutOfMemory = (stream : List ℕ) × CutShort old new stream
+Listened old new ReadFault = (stream : List ℕ) × Printed old new stream × IsGood stream × HasRisen old.source.faults new.source.faults
+Listened old new Limit = (stream : List ℕ) × Printed old new stream × IsGood stream × (2 ^ 40 ≤ length stream) × ReadsOn old new
 Listened old new WordsRefused = ⊥
 Listened old new NetFault = ⊥
 
@@ -53,4 +56,3 @@ pub record IsListening (old new : Sides) (total : ℕ) (receiver : Receiver) : T
   pub at : IsAt stream receiver
   pub count : length stream ≡ total
   pub reads_on : ReadsOn old new
-  pub writes_on : WritesOn old new

@@ -4,7 +4,6 @@ use Rattle.std.specs.HashMap as hash
 use Rattle.dl_bytes.specs.Cutting.{AreCut}
 use Rattle.dl_message.specs.Cut.{IsOpen, rest_fault}
 use Rattle.dl_message.specs.Cutting.{Begins}
-use Rattle.dl_outside.specs.Outside.{HasRisen}
 use Rattle.dl_receive.specs.declared.kind.Kind.{Kind}
 use Rattle.dl_receive.specs.declared.printer.Printer.{Printer}
 use Rattle.dl_receive.specs.declared.receiver.Receiver.{Receiver}
@@ -13,7 +12,7 @@ use Rattle.dl_receive.specs.declared.status.Status.TheVariants.{BadMessage, Writ
 use Rattle.dl_receive.specs.MessageKind.{kind_of}
 use Rattle.dl_receive.specs.Program.{IsBad}
 use Rattle.dl_outside.specs.Told.{SinkTold}
-use Rattle.dl_outside.specs.Written.{TookAll, TookFront}
+use Rattle.dl_outside.specs.Written.{WroteAll, WroteFront, WroteNothing}
 use Rattle.dl_receive.specs.Text.{last_counter, text_of, len_limit, received}
 
 -- the counter that a printer keeps of a session
@@ -59,8 +58,13 @@ Took false stream shown receiver = IsBad stream × (shown ++ receiver.printer.te
 -- What became of a piece of the stream, which showed these lines more: more may come, or it is bad, or the output failed
 -- or there was no memory.
 abbrev pub Heard : List ℕ → List ℕ → SinkTold → SinkTold → Receiver → Option Status → Type 0
-Heard stream more old new receiver None = IsAt stream receiver × TookAll old.held new.held more × (new.failed ≡ old.failed)
-Heard stream more old new receiver (Some BadMessage) = IsBad stream × TookAll old.held new.held more × (new.failed ≡ old.failed)
-Heard stream more old new receiver (Some WriteFault) = TookFront old.held new.held more × HasRisen old.failed new.failed
-Heard stream more old new receiver (Some OutOfMemory) = (new.held ≡ old.held) × (new.failed ≡ old.failed)
+Heard stream more old new receiver None = IsAt stream receiver × WroteAll old new more
+Heard stream more old new receiver (Some BadMessage) = IsBad stream × WroteAll old new more
+Heard stream more old new receiver (Some WriteFault) = WroteFront old new more
+Heard stream more old new receiver (Some OutOfMemory) = WroteNothing old new
 Heard stream more old new receiver (Some _) = ⊥
+
+-- what became of a piece behind a stream, whatever lines it showed
+abbrev pub Hears : List ℕ → List ℕ → SinkTold → SinkTold → Receiver → Option Status → Type 0
+Hears stream piece old new receiver heard =
+    (more : List ℕ) × (received (stream ++ piece) ≡ received stream ++ more) × Heard (stream ++ piece) more old new receiver heard

@@ -1,9 +1,8 @@
 //! Listening to a source until it ends.
 
-ghost use Rattle.std.specs.Prelude.{◌≡◌, ◌++◌, ℕ, List};
-ghost use Rattle.dl_receive.specs.Listening.{Listened};
-ghost use Rattle.dl_receive.specs.Receiving.{Heard, IsAt, IsReady};
-ghost use Rattle.dl_receive.specs.Text.{received};
+ghost use Rattle.std.specs.Prelude.{ℕ, List};
+ghost use Rattle.dl_receive.specs.Listening.{Listened, sides};
+ghost use Rattle.dl_receive.specs.Receiving.{Hears, IsAt, IsReady};
 
 use crate::receiver::Receiver;
 use crate::status::Status;
@@ -20,12 +19,7 @@ const LIMIT: u64 = 1_099_511_627_776;
 /// it goes no further.
 fn hear<O: Sink>(receiver: &mut Receiver, piece: &[u8], out: &mut O) -> Option<Status>
     requires { IsReady receiver.old }
-    ensures { (stream : List ℕ) → IsAt stream receiver.old
-        → (more : List ℕ) × (received (stream ++ piece.now) ≡ received stream ++ more)
-        × Heard (stream ++ piece.now) more
-        (record { held = O.held out.old; failed = O.faults out.old })
-        (record { held = O.held out.new; failed = O.faults out.new })
-        receiver.new result }
+    ensures { (stream : List ℕ) → IsAt stream receiver.old → Hears stream piece.now (O.told out.old) (O.told out.new) receiver.new result }
 {
     let Ok(more) = receiver.take(piece) else {
         return Some(Status::OutOfMemory);
@@ -40,10 +34,7 @@ fn hear<O: Sink>(receiver: &mut Receiver, piece: &[u8], out: &mut O) -> Option<S
 /// Reads a source to its end, and writes the lines of each message once it has come. The memory that it takes doesn't
 /// grow with the stream, but for the counter of each session.
 pub fn listen<S: Source, O: Sink>(alloc: Global, source: &mut S, out: &mut O) -> Status
-    ensures { Listened
-        (record { left = S.left source.old; reads_failed = S.faults source.old; held = O.held out.old; writes_failed = O.faults out.old })
-        (record { left = S.left source.new; reads_failed = S.faults source.new; held = O.held out.new; writes_failed = O.faults out.new })
-        result }
+    ensures { Listened (sides (S.told source.old) (O.told out.old)) (sides (S.told source.new) (O.told out.new)) result }
 {
     let Ok(mut receiver) = Receiver::make(alloc) else {
         return Status::OutOfMemory;

@@ -1,10 +1,8 @@
 //! The program: a stream from a port, its lines to standard output, and a status.
 
-ghost use Rattle.std.specs.Prelude.{◌≡◌, map, option_map, string_bytes};
-ghost use Rattle.dl_receive.specs.declared.status.Status.{Status};
-ghost use Rattle.dl_receive.specs.Program.{Asked, Outcome, IsRun};
-ghost use Rattle.dl_receive.specs.Words.{asked_port};
-ghost use Rattle.dl_receive.specs.Status.{number};
+ghost use Rattle.std.specs.Prelude.{Some};
+ghost use Rattle.dl_receive.specs.Handed.{AskedFor, Asks, Receives, Runs};
+ghost use Rattle.dl_receive.specs.Program.{told};
 
 use crate::listen::listen;
 use crate::status::Status;
@@ -30,11 +28,7 @@ struct Ended<S> {
 
 /// Connects to a port, and prints what comes from there.
 fn connect<D: Dial, O: Sink>(alloc: Global, port: u16, dial: &mut D, out: &mut O) -> Ended<D::S>
-    ensures { Outcome (option_map (λ serves. serves port) (D.serves dial.old))
-        (record { dials_failed = D.faults dial.old; held = O.held out.old; writes_failed = O.faults out.old })
-        (record { dials_failed = D.faults dial.new; held = O.held out.new; writes_failed = O.faults out.new })
-        (option_map (λ source. record { left = D.S.left source; reads_failed = D.S.faults source }) result.source)
-        result.status }
+    ensures { Asks (Some port) D.S.told (told (D.told dial.old) (O.told out.old)) (told (D.told dial.new) (O.told out.new)) result }
 {
     let mut source = match dial.dial(port) {
         Ok(source) => source,
@@ -60,11 +54,7 @@ fn connect<D: Dial, O: Sink>(alloc: Global, port: u16, dial: &mut D, out: &mut O
 
 /// The same with the port that the words name, if they do.
 fn ask<D: Dial, O: Sink>(alloc: Global, words: &[String], dial: &mut D, out: &mut O) -> Ended<D::S>
-    ensures { Asked (asked_port (map string_bytes words.now)) (D.serves dial.old)
-        (record { dials_failed = D.faults dial.old; held = O.held out.old; writes_failed = O.faults out.old })
-        (record { dials_failed = D.faults dial.new; held = O.held out.new; writes_failed = O.faults out.new })
-        (option_map (λ source. record { left = D.S.left source; reads_failed = D.S.faults source }) result.source)
-        result.status }
+    ensures { AskedFor words.now D.S.told (told (D.told dial.old) (O.told out.old)) (told (D.told dial.new) (O.told out.new)) result }
 {
     let Some(port) = asked_port(words) else {
         return Ended {
@@ -83,13 +73,8 @@ fn run<D: Dial, O: Sink, E: Sink>(
     out: &mut O,
     err: &mut E,
 ) -> Ended<D::S>
-    ensures { IsRun (map string_bytes words.now) (D.serves dial.old)
-        (record { dials_failed = D.faults dial.old; held = O.held out.old; writes_failed = O.faults out.old })
-        (record { dials_failed = D.faults dial.new; held = O.held out.new; writes_failed = O.faults out.new })
-        (option_map (λ source. record { left = D.S.left source; reads_failed = D.S.faults source }) result.source)
-        (record { held = E.held err.old; failed = E.faults err.old })
-        (record { held = E.held err.new; failed = E.faults err.new })
-        result.status }
+    ensures { Runs words.now D.S.told (D.told dial.old) (D.told dial.new) (O.told out.old) (O.told out.new)
+        (E.told err.old) (E.told err.new) result }
 {
     let ended = ask(alloc, words, dial, out);
     if ended.status != Status::Ok {
@@ -110,13 +95,8 @@ pub fn receive<D: Dial, O: Sink, E: Sink>(
     out: &mut O,
     err: &mut E,
 ) -> Received<D::S>
-    ensures { (status : Status) × (result.status ≡ number status) × IsRun (map string_bytes words.now) (D.serves dial.old)
-        (record { dials_failed = D.faults dial.old; held = O.held out.old; writes_failed = O.faults out.old })
-        (record { dials_failed = D.faults dial.new; held = O.held out.new; writes_failed = O.faults out.new })
-        (option_map (λ source. record { left = D.S.left source; reads_failed = D.S.faults source }) result.source)
-        (record { held = E.held err.old; failed = E.faults err.old })
-        (record { held = E.held err.new; failed = E.faults err.new })
-        status }
+    ensures { Receives words.now D.S.told (D.told dial.old) (D.told dial.new) (O.told out.old) (O.told out.new)
+        (E.told err.old) (E.told err.new) result }
 {
     let Ended { status, source } = run(alloc, words, dial, out, err);
     Received {

@@ -9,7 +9,7 @@ use Rattle.dl_model.specs.declared.registry.Context.{Context}
 use Rattle.dl_model.specs.declared.registry.RegistryFault.{RegistryFault}
 use Rattle.dl_model.specs.declared.registry.RegistryFault.TheVariants as fault
 use Rattle.dl_model.specs.declared.registry.Slot.{Slot}
-use Rattle.dl_model.specs.History.{last_version}
+use Rattle.dl_bytes.specs.Limits.{last_version}
 use Rattle.dl_model.specs.Registry.{App, Registry, IsNumbered, context_of, context_registered, effective, least_free, numbers, places, slot_of, stored_level, with_app, with_new_app, with_context, with_new_context, without}
 use Rattle.dl_model.proofs.Numbered.{IsNumbered-filter, IsNumbered-push, map-set_value, least_free-le-length, least_free-is_free}
 use Rattle.std.proofs.lemmas.List.{length-map, map-append}

@@ -10,7 +10,7 @@ use Rattle.std.proofs.lemmas.List.{reverse-append}
 use Rattle.std.proofs.lemmas.Map.Keys.{IsDistinct-head, IsDistinct-tail, IsDistinct-cons}
 use Rattle.dl_model.specs.declared.registry.Context.{Context}
 use Rattle.dl_model.specs.declared.registry.Slot.{Slot}
-use Rattle.dl_model.specs.History.{last_version}
+use Rattle.dl_bytes.specs.Limits.{last_version}
 use Rattle.dl_model.specs.Registry.{App, Registry, ArePlaced, IsInOrder, IsNumbered, Relevel, effective, level_at, numbers, places, releveled, releveled_app, releveled_context, slot_of, wears, wears_app, wears_context}
 use Rattle.dl_model.proofs.Order.{in_order-releveled}
 use Rattle.dl_registry.specs.Kept.{Fits}

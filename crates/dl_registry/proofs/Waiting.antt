@@ -6,7 +6,7 @@ use Rattle.dl_bytes.specs.declared.conf.StoredLevel.{StoredLevel}
 use Rattle.std.specs.Option.{option_map, option_or}
 use Rattle.std.proofs.lemmas.List.{get_or-set_same, get_or-set_other, length-replicate}
 use Rattle.dl_model.specs.declared.registry.Slot.{Slot}
-use Rattle.dl_model.specs.History.{last_version}
+use Rattle.dl_bytes.specs.Limits.{last_version}
 use Rattle.dl_model.specs.Registry.{Registry, all_slots, first_change, level_at}
 use Rattle.dl_registry.specs.Kept.{Fits, kept_of, owed_change}
 use Rattle.std.proofs.lemmas.Bool.Decides.{eqb_tells}

@@ -3,7 +3,7 @@ use Rattle.std.specs.Prelude.{ℕ, ◌≡◌, ◌<◌, ◌≤◌, ◌+◌, ◌�
 use Rattle.std.specs.Option.{option_and_then, option_or}
 use Rattle.dl_model.specs.declared.registry.LevelChange.{LevelChange}
 use Rattle.dl_model.specs.declared.registry.Slot.{Slot}
-use Rattle.dl_model.specs.History.{last_version}
+use Rattle.dl_bytes.specs.Limits.{last_version}
 use Rattle.dl_model.specs.Registry.{slot_of, all_slots}
 
 -- The first version of all slots, what each slot holds, and the effective level of the context that has it, where one has.

@@ -4,7 +4,7 @@ ghost use Rattle.std.specs.Prelude.{◌≡◌, ◌<◌, ◌≤◌, ◌==◌, ◌
 ghost use Rattle.std.specs.List.{find};
 ghost use Rattle.std.specs.Map.{values_of};
 ghost use Rattle.std.specs.Option.{option_map, option_or};
-ghost use Rattle.dl_model.specs.History.{last_version};
+ghost use Rattle.dl_bytes.specs.Limits.{last_version};
 ghost use Rattle.dl_model.specs.Registry.{IsInOrder, app_of, level_at, stored_level, owns_now, owns_of_app};
 ghost use Rattle.dl_registry.specs.Kept.{slots, made, owed_change, with_change, with_registry, slot_named, channel_at, position_at};
 

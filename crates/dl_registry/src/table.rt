@@ -1,7 +1,7 @@
 //! The slots of all contexts: what the level word of each holds, and which ones wait for another level.
 
 ghost use Rattle.std.specs.Prelude.{◌≡◌, ◌<◌, ◌≤◌, ◌+◌, ◌*◌, ◌/◌, ◌==◌, ℕ, IfOk, IfSome, Some, None, length, replicate, if◌then◌else◌};
-ghost use Rattle.dl_model.specs.History.{last_version};
+ghost use Rattle.dl_bytes.specs.Limits.{last_version};
 ghost use Rattle.dl_model.specs.Registry.{slot_of as slot_number};
 ghost use Rattle.std.specs.Option.{option_map_or};
 ghost use Rattle.dl_registry.specs.Table.{held_at, wanted_at, unset, waiting_at, next_waiting, held_after, IsFresh, IsFirstFree, IsFirstWaiting};

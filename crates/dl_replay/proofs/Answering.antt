@@ -7,13 +7,13 @@ use Rattle.dl_bytes.specs.declared.outcome.Done.{Done}
 use Rattle.dl_bytes.specs.declared.outcome.Done.TheVariants as did
 use Rattle.dl_events.specs.declared.event.Event.TheVariants as event
 use Rattle.dl_events.specs.declared.event.Why.TheVariants as why
-use Rattle.dl_steps.specs.declared.step.Step.{Step}
-use Rattle.dl_steps.specs.declared.step.Step.TheVariants as line
-use Rattle.dl_model.specs.Journal.{is_request_of}
+use Rattle.dl_script_lines.specs.declared.step.Step.{Step}
+use Rattle.dl_script_lines.specs.declared.step.Step.TheVariants as line
+use Rattle.dl_model.specs.Journal.{is_request_of, need_after}
 use Rattle.dl_model.specs.Marks.{Mark, Noted, Answered, Fed, is_answer, journal}
-use Rattle.dl_model.specs.Reply.{asked}
+use Rattle.dl_model.specs.Reply.{asked, Need, Nothing, Folder, Queue}
 use Rattle.dl_model.specs.Setting.{Setting}
-use Rattle.dl_model.specs.Steps.{Act, Need, Nothing, Folder, Queue, act_of, ask, close, close_malformed, end_of, hand_out, hand_out_now, in_turn, is_open, just, need_of, new_requests, receive, request_now, run, served, when}
+use Rattle.dl_model.specs.Steps.{Act, act_of, ask, close, close_malformed, end_of, note_levels, note_levels_now, in_sequence, is_open, just, new_requests, receive, request_now, run, served, when}
 use Rattle.dl_world.specs.Played.{is_failed}
 use Rattle.dl_replay.specs.Run.{unserved}
 
@@ -41,14 +41,14 @@ abbrev IsSure : Answering → Type 0
 IsSure make = (answers : List Done) (done : List Mark) → AreWell (make answers done) → make answers done ≡ make [] done
 
 -- one act, and then others
-in_row : (first : Answering) (rest : List Done → List Act) → IsSure first → IsSure (λ answers. in_turn (rest answers)) → IsSure (λ answers. in_turn (first answers ∷ rest answers))
+in_row : (first : Answering) (rest : List Done → List Act) → IsSure first → IsSure (λ answers. in_sequence (rest answers)) → IsSure (λ answers. in_sequence (first answers ∷ rest answers))
 in_row first rest one others answers done well =
-    let parts = both (first answers done) (in_turn (rest answers) (done ++ first answers done)) well in
+    let parts = both (first answers done) (in_sequence (rest answers) (done ++ first answers done)) well in
     ap (λ (more : List Mark). first answers done ++ more) (others answers (done ++ first answers done) parts.1)
-    ∙ ap (λ (more : List Mark). more ++ in_turn (rest []) (done ++ more)) (one answers done parts.0)
+    ∙ ap (λ (more : List Mark). more ++ in_sequence (rest []) (done ++ more)) (one answers done parts.0)
 
 -- the same act for each of a list, and then others
-each : {A : Type 0} → (act : List Done → A → Act) (last : List Act) → ((x : A) → IsSure (λ answers. act answers x)) → (xs : List A) → IsSure (λ answers. in_turn (map (act answers) xs ++ last))
+each : {A : Type 0} → (act : List Done → A → Act) (last : List Act) → ((x : A) → IsSure (λ answers. act answers x)) → (xs : List A) → IsSure (λ answers. in_sequence (map (act answers) xs ++ last))
 each act last sure [] answers done well = refl
 each act last sure (x ∷ xs) answers done well =
     in_row (λ (a : List Done). act a x) (λ (a : List Done). map (act a) xs ++ last) (sure x) (each act last sure xs) answers done well
@@ -67,7 +67,7 @@ served_sure client frame Folder answers done well =
 served_sure client frame (Queue app) answers done well = refl
 
 request_sure : (setting : Setting) (client : ℕ) (frame : List ℕ) → IsSure (λ answers. request_now setting answers client frame)
-request_sure setting client frame answers done well = served_sure client frame (need_of setting (journal done) frame (asked frame)) answers done well
+request_sure setting client frame answers done well = served_sure client frame (need_after setting (journal done) frame) answers done well
 
 -- an act that is made or not
 when_sure : (act : Answering) → IsSure act → (b : Bool) (answers : List Done) (done : List Mark) → AreWell (when b (act answers) done) → when b (act answers) done ≡ when b (act []) done
@@ -77,11 +77,11 @@ when_sure act sure false answers done well = refl
 ask_sure : (setting : Setting) (client : ℕ) (frame : List ℕ) → IsSure (λ answers. ask setting answers client frame)
 ask_sure setting client frame answers done well = by (nat_lt (count_by (is_request_of client) (journal done)) 1000) well where
   act : Answering
-  act = λ (a : List Done). in_turn (hand_out setting ∷ request_now setting a client frame ∷ hand_out_now setting ∷ [])
+  act = λ (a : List Done). in_sequence (note_levels setting ∷ request_now setting a client frame ∷ note_levels_now setting ∷ [])
 
   sure : IsSure act
-  sure = in_row (λ (a : List Done). hand_out setting) (λ (a : List Done). request_now setting a client frame ∷ hand_out_now setting ∷ []) (λ a d w. refl)
-      (in_row (λ (a : List Done). request_now setting a client frame) (λ (a : List Done). hand_out_now setting ∷ []) (request_sure setting client frame) (λ a d w. refl))
+  sure = in_row (λ (a : List Done). note_levels setting) (λ (a : List Done). request_now setting a client frame ∷ note_levels_now setting ∷ []) (λ a d w. refl)
+      (in_row (λ (a : List Done). request_now setting a client frame) (λ (a : List Done). note_levels_now setting ∷ []) (request_sure setting client frame) (λ a d w. refl))
 
   by : (b : Bool) → AreWell (if b then when (is_open client done) (act answers) done else close setting client why.TooMany done)
       → (if b then when (is_open client done) (act answers) done else close setting client why.TooMany done) ≡ (if b then when (is_open client done) (act []) done else close setting client why.TooMany done)
@@ -94,7 +94,7 @@ receive_sure setting client bytes answers done well = when_sure act sure (is_ope
   frames = new_requests client bytes done
 
   act : Answering
-  act = λ (a : List Done). in_turn (just (Fed client bytes) ∷ (map (ask setting a client) frames ++ close_malformed setting client ∷ []))
+  act = λ (a : List Done). in_sequence (just (Fed client bytes) ∷ (map (ask setting a client) frames ++ close_malformed setting client ∷ []))
 
   sure : IsSure act
   sure = in_row (λ (a : List Done). just (Fed client bytes)) (λ (a : List Done). map (ask setting a client) frames ++ close_malformed setting client ∷ []) (λ a d w. refl)

@@ -4,7 +4,7 @@ use Rattle.std.specs.Prelude.{IfSome, IsOk, Ok, Err, if◌then◌else◌, is_ok}
 use Rattle.std.proofs.lemmas.Bool.{lt-ltb}
 use Rattle.dl_conf.specs.Conf.{Values}
 use Rattle.dl_conf.specs.declared.stored.StoredKind.{StoredKind}
-use Rattle.dl_fields.specs.declared.kind.ScriptKind.TheVariants.{Size}
+use Rattle.dl_script_fields.specs.declared.kind.ScriptKind.TheVariants.{Size}
 use Rattle.dl_outside.specs.Outside.{Stays}
 use Rattle.dl_script.specs.Earlier.{nothing}
 use Rattle.dl_script.specs.Line.{step_of}
@@ -14,7 +14,7 @@ use Rattle.dl_text.specs.Faults.{size_limit}
 use Rattle.dl_text.specs.Lines.{lines_of}
 use Rattle.dl_conf.specs.Outcome.{values_of}
 use Rattle.dl_outside.specs.Folder.{Files}
-use Rattle.dl_program.specs.Setup.{conf_in, stored_in}
+use Rattle.dl_startup.specs.Setup.{conf_in, stored_in}
 use Rattle.dl_replay.specs.declared.begin.Setup.{Setup}
 use Rattle.dl_replay.specs.Begin.{IsQuiet, SayConfs, conf_name}
 use Rattle.dl_outside.specs.Told.{FolderTold}
@@ -30,7 +30,7 @@ too_long None long = tt
 too_long (Some bytes) long = refused bytes long
 
 -- two calls that leave the folder alone
-pub quiet_twice : (old mid new : FolderTold) → Stays old.files mid.files → Stays mid.files new.files → mid.changes ≡ old.changes → new.changes ≡ mid.changes → mid.failed ≡ old.failed → new.failed ≡ mid.failed → IsQuiet old new
+pub quiet_twice : (old mid new : FolderTold) → Stays old.files mid.files → Stays mid.files new.files → mid.changes ≡ old.changes → new.changes ≡ mid.changes → mid.faults ≡ old.faults → new.faults ≡ mid.faults → IsQuiet old new
 quiet_twice old mid new first second changes more well still = record {
   unchanged = record { files = stays_on old.files mid.files new.files first second; changes = more ∙ changes };
   well = still ∙ well;

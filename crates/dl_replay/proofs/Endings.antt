@@ -24,7 +24,8 @@ use Rattle.dl_replay.specs.Finish.{Ends, Finishes, report_for, status_after}
 use Rattle.dl_replay.specs.Playing.{IsOf, Plays}
 use Rattle.dl_replay.specs.Run.{Run, HasDecided, HasNames, HoldsItsStored, IsDecided, IsSpent, IsWhole, marks, no_trace, setting, text_of, unserved}
 use Rattle.dl_outside.specs.Told.{FolderTold, SinkTold}
-use Rattle.dl_replay.specs.Told.{FolderWell, WroteAll, WroteFront}
+use Rattle.dl_outside.specs.Written.{WroteAll, WroteFront}
+use Rattle.dl_replay.specs.Told.{FolderWell}
 use Rattle.dl_replay.proofs.Answering.{said_yes}
 use Rattle.dl_replay.proofs.Folders.{known_before, stored_before, unchanged_on}
 
@@ -95,8 +96,8 @@ spent {start = start} run ended = record {
 
 -- what is known of a run when its report is written
 record Known {start : Start} {old new : FolderTold} (run : Run start old new) (failed : Bool) (cause : Option TraceEnd) (short : Bool) : Type 0 where
-  later : old.failed ≤ new.failed
-  rose : failed ≡ true → HasRisen old.failed new.failed
+  later : old.faults ≤ new.faults
+  rose : failed ≡ true → HasRisen old.faults new.faults
   well : failed ≡ false → FolderWell old new
   cause_is : run.trace.end ≡ cause
   short_is : unserved (journal (marks start run.answers)) ≡ short
@@ -106,11 +107,11 @@ has_names : {start : Start} {old new : FolderTold} → (run : Run start old new)
 has_names run cause is other = λ spent. other (sym is ∙ spent)
 
 -- the folder failed where the trace ended so
-risen : {start : Start} {old new : FolderTold} → (run : Run start old new) → run.trace.end ≡ Some end.Failed → old.failed ≤ new.failed → HasRisen old.failed new.failed
+risen : {start : Start} {old new : FolderTold} → (run : Run start old new) → run.trace.end ≡ Some end.Failed → old.faults ≤ new.faults → HasRisen old.faults new.faults
 risen {start = start} {old = old} {new = new} run ended later =
     let count = count_by is_failed (marks start run.answers) in
-    let rises : min (old.failed + (count + 1)) (2 ^ 64 - 1) ≤ new.failed =
-    subst (λ (e : Option TraceEnd). min (old.failed + (count + trace_failures e)) (2 ^ 64 - 1) ≤ new.failed) ended run.failed in
+    let rises : min (old.faults + (count + 1)) (2 ^ 64 - 1) ≤ new.faults =
+    subst (λ (e : Option TraceEnd). min (old.faults + (count + trace_failures e)) (2 ^ 64 - 1) ≤ new.faults) ended run.failed in
     (later, omega (arith, rises))
 
 -- the folder did not fail, and each Store and each Reset had memory
@@ -118,14 +119,14 @@ decided : {start : Start} {old new : FolderTold} → (run : Run start old new) �
 decided {start = start} {old = old} {new = new} run well served = λ room.
     let count = count_by is_failed (marks start run.answers) in
     let more = trace_failures run.trace.end in
-    let rises : min (old.failed + (count + more)) (2 ^ 64 - 1) ≤ new.failed = run.failed in
+    let rises : min (old.faults + (count + more)) (2 ^ 64 - 1) ≤ new.faults = run.failed in
     said_yes (setting start) run.answers start.steps (omega (arith, rises, well, room)) served
 
 -- so the stored configuration is that of the run in which it said Yes each time
 has_decided : {start : Start} {old new : FolderTold} → (run : Run start old new) → FolderWell old new → unserved (journal (marks start run.answers)) ≡ false → HasDecided run
 has_decided {start = start} {old = old} {new = new} run well served = λ room.
     let more = trace_failures run.trace.end in
-    let rises : min (old.failed + (count_by is_failed (marks start run.answers) + more)) (2 ^ 64 - 1) ≤ new.failed = run.failed in
+    let rises : min (old.faults + (count_by is_failed (marks start run.answers) + more)) (2 ^ 64 - 1) ≤ new.faults = run.failed in
     subst (λ (done : List Mark). HoldsItsStored start old.files new.files done) (decided run well served room) (run.stored (omega (arith, rises, well, room)))
 
 written_whole : {start : Start} {old new : FolderTold} → (task : Task) (run : Run start old new) (out out_now : SinkTold) (failed : Bool) (cause : Option TraceEnd) (short : Bool) → Known run failed cause short
@@ -152,12 +153,12 @@ counted before now failed later is = (
   λ still. let down : now ≤ before = ltb-false before now (sym is ∙ still) in omega (arith, down, later),
 )
 
-pub ended : {start : Start} {old new : FolderTold} → (task : Task) (run : Run start old new) (played : Played) (out out_now : SinkTold) (failed : Bool) (status : Status) → IsOf run played → old.failed ≤ new.failed
-    → failed ≡ nat_lt old.failed new.failed → Finishes (report_for task played) failed played.ends.trace.end (unserved played.events.events) out out_now status → Ends task start old new out out_now status
+pub ended : {start : Start} {old new : FolderTold} → (task : Task) (run : Run start old new) (played : Played) (out out_now : SinkTold) (failed : Bool) (status : Status) → IsOf run played → old.faults ≤ new.faults
+    → failed ≡ nat_lt old.faults new.faults → Finishes (report_for task played) failed played.ends.trace.end (unserved played.events.events) out out_now status → Ends task start old new out out_now status
 ended {start = start} {old = old} {new = new} task run played out out_now failed status of later failed_is finishes =
     let cause = played.ends.trace.end in
     let short = unserved played.events.events in
-    let count = counted old.failed new.failed failed later failed_is in
+    let count = counted old.faults new.faults failed later failed_is in
     let known : Known run failed cause short = record {
       later = later;
       rose = count.0;
@@ -186,7 +187,7 @@ earlier_run start old mid new quiet run = record {
   traced = run.traced;
   holds = λ named goes. known_before old.files mid.files (λ files. IsSomeAnd new.files (λ now. HasFiles start.conf.directory now (files_of (setting start) run.stood (marks start run.answers)))) quiet.unchanged.files (run.holds named goes);
   stored = λ none. stored_before start old.files mid.files new.files (marks start run.answers) quiet.unchanged.files (run.stored none);
-  failed = subst (λ (n : ℕ). min (n + failures (marks start run.answers) run.trace) (2 ^ 64 - 1) ≤ new.failed) quiet.well run.failed;
+  failed = subst (λ (n : ℕ). min (n + failures (marks start run.answers) run.trace) (2 ^ 64 - 1) ≤ new.faults) quiet.well run.failed;
 }
 
 pub earlier : (task : Task) (start : Start) (old mid new : FolderTold) (out out_now : SinkTold) (status : Status) → IsQuiet old mid → Ends task start mid new out out_now status → Ends task start old new out out_now status
@@ -202,7 +203,7 @@ earlier task start old mid new out out_now Ok quiet h = (
 )
 earlier task start old mid new out out_now WriteFault quiet h = (earlier_run start old mid new quiet h.0, h.1, h.2 ∙ quiet.well, h.3)
 earlier task start old mid new out out_now FolderFault quiet h = (
-  subst (λ (n : ℕ). HasRisen n new.failed) quiet.well h.0,
+  subst (λ (n : ℕ). HasRisen n new.faults) quiet.well h.0,
   elim h.1 [ inl w ↦ inl (unchanged_on old mid new quiet.unchanged w.0, w.1) | inr w ↦ inr (earlier_run start old mid new quiet w.0, w.1) ],
 )
 earlier task start old mid new out out_now OutOfMemory quiet h =

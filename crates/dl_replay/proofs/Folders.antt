@@ -6,7 +6,7 @@ use Rattle.dl_conf.specs.Outcome.{values_of}
 use Rattle.dl_model.specs.Marks.{Mark, journal}
 use Rattle.dl_outside.specs.Folder.{Files}
 use Rattle.dl_outside.specs.Outside.{Stays}
-use Rattle.dl_program.specs.Setup.{conf_in, stored_name}
+use Rattle.dl_startup.specs.Setup.{conf_in, stored_name}
 use Rattle.dl_replay.specs.declared.begin.Start.{Start}
 use Rattle.dl_replay.specs.Begin.{IsQuiet, IsSaid, conf_name}
 use Rattle.dl_replay.specs.Playing.{OwnFiles}

@@ -4,3 +4,4 @@ pub mod Answering
 pub mod Endings
 pub mod Playings
 pub mod Runs
+pub mod OneText

@@ -24,7 +24,7 @@ use Rattle.dl_model.specs.Setting.{Setting}
 use Rattle.dl_model.specs.TraceFiles.{StoredFile}
 use Rattle.dl_outside.specs.Folder.{Files}
 use Rattle.dl_outside.specs.Outside.{Stays}
-use Rattle.dl_program.specs.Setup.{IsBegun, stored_name}
+use Rattle.dl_startup.specs.Setup.{IsBegun, stored_name}
 use Rattle.dl_report.specs.Counts.{HasStreams}
 use Rattle.dl_trace.specs.Made.{IsMade}
 use Rattle.dl_trace.specs.Stands.{HasFiles, IsTraceName}
@@ -83,9 +83,9 @@ text_with setting done played trace a b c d e f (Generate number calls) =
     played.backlog (left setting.buffer (traffic (source_of setting done) (journal done))) None None
     a b c d e refl
 
-is_of : (start : Start) (old new : FolderTold) (stood : List StoredFile) (trace : Option Trace) (played : Played) (told told_now : Option Files) (faults faults_now : ℕ)
-    → (p : IsPlayed (setting start) stood start.steps trace played told told_now faults faults_now) (run : Run start old new) → run.answers ≡ p.answers → run.trace ≡ played.ends.trace → IsOf run played
-is_of start old new stood trace played told told_now faults faults_now p run answers trace_is =
+is_of : (start : Start) (old new : FolderTold) (stood : List StoredFile) (trace : Option Trace) (played : Played) (told told_now : FolderTold)
+    → (p : IsPlayed (setting start) stood start.steps trace played told told_now) (run : Run start old new) → run.answers ≡ p.answers → run.trace ≡ played.ends.trace → IsOf run played
+is_of start old new stood trace played told told_now p run answers trace_is =
     let done = marks start run.answers in
     let same : p.done ≡ done = p.run_is ∙ ap (marks start) (sym answers) in
     let ends : played.ends ≡ ends_of (setting start) done run.trace =
@@ -114,9 +114,9 @@ stored_at_end start old mid new done other told same stored none =
     stored_before start old mid new other told (subst (λ (d : List Mark). count_by is_failed d ≡ 0 → HoldsItsStored start mid new d) same stored none)
 
 -- a run without a trace
-untraced_run : (start : Start) (old new : FolderTold) (mid : Option Files) (played : Played) → start.conf.directory ≡ [] → Stays old.files mid
-    → IsPlayed (setting start) [] start.steps None played mid new.files old.failed new.failed → (run : Run start old new) × IsOf run played
-untraced_run start old new mid played unnamed told p =
+untraced_run : (start : Start) (old mid new : FolderTold) (played : Played) → start.conf.directory ≡ [] → Stays old.files mid.files → mid.faults ≡ old.faults
+    → IsPlayed (setting start) [] start.steps None played mid new → (run : Run start old new) × IsOf run played
+untraced_run start old mid new played unnamed told well p =
     let run : Run start old new = record {
       stood = [];
       answers = p.answers;
@@ -125,10 +125,12 @@ untraced_run start old new mid played unnamed told p =
       untraced = λ _. p.trace_is;
       traced = λ named. absurd (is_empty start.conf.directory unnamed named);
       holds = λ named goes. absurd (is_empty start.conf.directory unnamed named);
-      stored = stored_at_end start old.files mid new.files p.done (marks start p.answers) told p.run_is p.stored;
-      failed = subst (λ (d : List Mark). min (old.failed + failures d played.ends.trace) (2 ^ 64 - 1) ≤ new.failed) p.run_is p.faults_rose;
+      stored = stored_at_end start old.files mid.files new.files p.done (marks start p.answers) told p.run_is p.stored;
+      failed =
+          subst (λ (n : ℕ). min (n + failures (marks start p.answers) played.ends.trace) (2 ^ 64 - 1) ≤ new.faults) well
+          (subst (λ (d : List Mark). min (mid.faults + failures d played.ends.trace) (2 ^ 64 - 1) ≤ new.faults) p.run_is p.faults_rose);
     } in
-    (run, is_of start old new [] None played mid new.files old.failed new.failed p run refl refl)
+    (run, is_of start old new [] None played mid new p run refl refl)
 
 -- what the folder holds, where it held the files that stood
 holding : (start : Start) (stood : List StoredFile) (done : List Mark) (trace : Trace) (state : TraceState) (old mid new : Option Files) → 0 < length start.conf.directory
@@ -141,10 +143,10 @@ holding start stood done trace state (Some files) mid new named told had holds g
     (named_files start.conf.directory (files_with (setting start) stood (frames_in (setting start) done)) named) (holds goes there)
 
 -- a run with a trace
-traced_run : (start : Start) (old new : FolderTold) (mid : Option Files) (stood : List StoredFile) (trace : Trace) (played : Played) → 0 < length start.conf.directory
-    → Stays old.files mid → IfSome old.files (λ files. HasFiles start.conf.directory files stood)
-    → IsPlayed (setting start) stood start.steps (Some trace) played mid new.files old.failed new.failed → (run : Run start old new) × IsOf run played
-traced_run start old new mid stood trace played named told had p =
+traced_run : (start : Start) (old mid new : FolderTold) (stood : List StoredFile) (trace : Trace) (played : Played) → 0 < length start.conf.directory
+    → Stays old.files mid.files → mid.faults ≡ old.faults → IfSome old.files (λ files. HasFiles start.conf.directory files stood)
+    → IsPlayed (setting start) stood start.steps (Some trace) played mid new → (run : Run start old new) × IsOf run played
+traced_run start old mid new stood trace played named told well had p =
     let run : Run start old new = record {
       stood = stood;
       answers = p.answers;
@@ -152,21 +154,21 @@ traced_run start old new mid stood trace played named told had p =
       stood_are = λ _. had;
       untraced = λ unnamed. absurd (is_empty start.conf.directory unnamed named);
       traced = λ _. subst (λ (d : List Mark). IsTraced (setting start) stood d played.ends.trace) p.run_is p.trace_is;
-      holds = λ _ goes. holding start stood (marks start p.answers) trace played.ends.trace old.files mid new.files named told had
-          (subst (λ (d : List Mark). Holds (setting start) stood d (Some trace) played.ends.trace mid new.files) p.run_is p.holds) goes;
-      stored = stored_at_end start old.files mid new.files p.done (marks start p.answers) told p.run_is p.stored;
-      failed = subst (λ (d : List Mark). min (old.failed + failures d played.ends.trace) (2 ^ 64 - 1) ≤ new.failed) p.run_is p.faults_rose;
+      holds = λ _ goes. holding start stood (marks start p.answers) trace played.ends.trace old.files mid.files new.files named told had
+          (subst (λ (d : List Mark). Holds (setting start) stood d (Some trace) played.ends.trace mid.files new.files) p.run_is p.holds) goes;
+      stored = stored_at_end start old.files mid.files new.files p.done (marks start p.answers) told p.run_is p.stored;
+      failed =
+          subst (λ (n : ℕ). min (n + failures (marks start p.answers) played.ends.trace) (2 ^ 64 - 1) ≤ new.faults) well
+          (subst (λ (d : List Mark). min (mid.faults + failures d played.ends.trace) (2 ^ 64 - 1) ≤ new.faults) p.run_is p.faults_rose);
     } in
-    (run, is_of start old new stood (Some trace) played mid new.files old.failed new.failed p run refl refl)
+    (run, is_of start old new stood (Some trace) played mid new p run refl refl)
 
 -- What was played over a trace that was begun is a run. The folder stood while the trace was begun.
-pub is_run : (start : Start) (old new : FolderTold) (mid : Option Files) (faults : ℕ) (trace : Option Trace) (played : Played) → Stays old.files mid → faults ≡ old.failed → IsBegun start.conf old.files trace
-    → ((stood : List StoredFile) → IfSome trace (IsAfter stood []) → IsPlayed (setting start) stood start.steps trace played mid new.files faults new.failed) → (run : Run start old new) × IsOf run played
-is_run start old new mid faults None played told well begun plays =
-    untraced_run start old new mid played begun told (subst (λ (n : ℕ). IsPlayed (setting start) [] start.steps None played mid new.files n new.failed) well (plays [] tt))
-is_run start old new mid faults (Some trace) played told well begun plays =
-    traced_run start old new mid begun.2.0 trace played begun.0 told begun.2.2
-    (subst (λ (n : ℕ). IsPlayed (setting start) begun.2.0 start.steps (Some trace) played mid new.files n new.failed) well (plays begun.2.0 begun.2.1))
+pub is_run : (start : Start) (old mid new : FolderTold) (trace : Option Trace) (played : Played) → Stays old.files mid.files → mid.faults ≡ old.faults → IsBegun start.conf old.files trace
+    → ((stood : List StoredFile) → IfSome trace (IsAfter stood []) → IsPlayed (setting start) stood start.steps trace played mid new) → (run : Run start old new) × IsOf run played
+is_run start old mid new None played told well begun plays = untraced_run start old mid new played begun told well (plays [] tt)
+is_run start old mid new (Some trace) played told well begun plays =
+    traced_run start old mid new begun.2.0 trace played begun.0 told well begun.2.2 (plays begun.2.0 begun.2.1)
 
 -- ---- files that change
 

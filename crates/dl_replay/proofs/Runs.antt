@@ -5,8 +5,8 @@ use Rattle.dl_conf.specs.declared.conf.ConfKind.{ConfKind}
 use Rattle.dl_conf.specs.declared.stored.StoredKind.{StoredKind}
 use Rattle.dl_outside.specs.Folder.{Files}
 use Rattle.dl_outside.specs.Outside.{Stays}
-use Rattle.dl_program.specs.Input.{GaveAtMost}
-use Rattle.dl_program.specs.Setup.{conf_in, stored_in}
+use Rattle.dl_startup.specs.Input.{GaveAtMost}
+use Rattle.dl_startup.specs.Setup.{conf_in, stored_in}
 use Rattle.dl_script.specs.Script.{steps_of}
 use Rattle.dl_script.specs.declared.error.ScriptError.{ScriptError}
 use Rattle.dl_script.specs.declared.error.ScriptError.TheVariants as bad
@@ -21,7 +21,8 @@ use Rattle.dl_replay.specs.Program.{Asked, ChangesOwnFiles, HasReported, HasStep
 use Rattle.dl_replay.specs.Status.{line_of}
 use Rattle.dl_replay.specs.Task.{task_of}
 use Rattle.dl_outside.specs.Told.{FolderTold, SinkTold, SourceTold}
-use Rattle.dl_replay.specs.Told.{IsUnchanged, Told, Wrote}
+use Rattle.dl_outside.specs.Written.{Wrote}
+use Rattle.dl_replay.specs.Told.{IsUnchanged, Told}
 use Rattle.dl_replay.proofs.Folders.{nothing_changes}
 
 -- ---- refusals

@@ -1,10 +1,10 @@
 -- What must be there before a run: its configurations and its steps, as folder and input say them; and why it is not there.
 use Rattle.std.specs.Prelude.{◌≡◌, ℕ, List, [], codes, Option, Some, IfSome, IsOk, Result, Ok, Err}
-use Rattle.dl_steps.specs.declared.step.Step.{Step}
+use Rattle.dl_script_lines.specs.declared.step.Step.{Step}
 use Rattle.dl_conf.specs.Outcome.{values_of}
 use Rattle.dl_outside.specs.Folder.{Files}
 use Rattle.dl_outside.specs.Outside.{HasRisen}
-use Rattle.dl_program.specs.Setup.{conf_in, stored_in}
+use Rattle.dl_startup.specs.Setup.{conf_in, stored_in}
 use Rattle.dl_script.specs.Generated.{generated}
 use Rattle.dl_script.specs.Script.{steps_of}
 use Rattle.dl_script.specs.declared.error.ScriptError.TheVariants as bad
@@ -47,15 +47,15 @@ SaySteps (Generate number calls) left steps = steps ≡ generated number calls
 
 -- the input was read to its end, where it has the script; else it was left alone
 abbrev pub IsReadUp : Task → SourceTold → SourceTold → Type 0
-IsReadUp Steps old new = IfSome old.left (λ script. new.left ≡ Some []) × (new.failed ≡ old.failed)
+IsReadUp Steps old new = IfSome old.left (λ script. new.left ≡ Some []) × (new.faults ≡ old.faults)
 IsReadUp (Generate number calls) old new = new ≡ old
 
 -- why there are no steps
 abbrev pub HasNoSteps : Task → SourceTold → SourceTold → Status → Type 0
 HasNoSteps task old new (ScriptRefused line kind) =
-    (task ≡ Steps) × IfSome old.left (λ script. steps_of script ≡ Err (bad.Fault line kind)) × (new.failed ≡ old.failed)
-HasNoSteps task old new ReadFault = (task ≡ Steps) × HasRisen old.failed new.failed
-HasNoSteps task old new OutOfMemory = new.failed ≡ old.failed
+    (task ≡ Steps) × IfSome old.left (λ script. steps_of script ≡ Err (bad.Fault line kind)) × (new.faults ≡ old.faults)
+HasNoSteps task old new ReadFault = (task ≡ Steps) × HasRisen old.faults new.faults
+HasNoSteps task old new OutOfMemory = new.faults ≡ old.faults
 HasNoSteps task old new _ = ⊥
 
 -- ---- a run
@@ -75,8 +75,8 @@ Refuses task input input_now folder folder_now (ScriptRefused line kind) =
     IfSome folder.files AreSetUp × IsQuiet folder folder_now × HasNoSteps task input input_now (ScriptRefused line kind)
 Refuses task input input_now folder folder_now ReadFault =
     IfSome folder.files AreSetUp × IsQuiet folder folder_now × HasNoSteps task input input_now ReadFault
-Refuses task input input_now folder folder_now FolderFault = HasRisen folder.failed folder_now.failed × IsUnchanged folder folder_now × (input_now ≡ input)
-Refuses task input input_now folder folder_now OutOfMemory = IsQuiet folder folder_now × (input_now.failed ≡ input.failed)
+Refuses task input input_now folder folder_now FolderFault = HasRisen folder.faults folder_now.faults × IsUnchanged folder folder_now × (input_now ≡ input)
+Refuses task input input_now folder folder_now OutOfMemory = IsQuiet folder folder_now × (input_now.faults ≡ input.faults)
 Refuses task input input_now folder folder_now _ = ⊥
 
 -- ---- for inner functions
@@ -86,7 +86,7 @@ abbrev pub Unset : FolderTold → FolderTold → Status → Type 0
 Unset old new (ConfRefused line kind) = IfSome old.files (λ files. conf_in conf_name files ≡ Err (line, kind)) × IsQuiet old new
 Unset old new (StoredRefused line kind) =
     IfSome old.files (λ files. IsOk (conf_in conf_name files) × (stored_in files ≡ Err (line, kind))) × IsQuiet old new
-Unset old new FolderFault = HasRisen old.failed new.failed × IsUnchanged old new
+Unset old new FolderFault = HasRisen old.faults new.faults × IsUnchanged old new
 Unset old new OutOfMemory = IsQuiet old new
 Unset old new _ = ⊥
 

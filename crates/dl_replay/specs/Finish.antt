@@ -12,7 +12,8 @@ use Rattle.dl_replay.specs.declared.task.Task.{Task}
 use Rattle.dl_replay.specs.declared.task.Task.TheVariants.{Steps, Generate}
 use Rattle.dl_replay.specs.Run.{Run, HasDecided, HasNames, IsDecided, IsServed, IsSpent, IsWhole, WantedMemory, text_of}
 use Rattle.dl_outside.specs.Told.{FolderTold, SinkTold}
-use Rattle.dl_replay.specs.Told.{FolderWell, IsUnchanged, Wrote, WroteAll, WroteFront, WroteNothing}
+use Rattle.dl_outside.specs.Written.{Wrote, WroteAll, WroteFront, WroteNothing}
+use Rattle.dl_replay.specs.Told.{FolderWell, IsUnchanged}
 
 -- ---- the table of statuses of a run that began
 
@@ -26,7 +27,7 @@ Ends task start folder folder_now out out_now Ok =
 Ends task start folder folder_now out out_now WriteFault =
     (run : Run start folder folder_now) × WroteFront out out_now (text_of task run) × FolderWell folder folder_now × HasNames run
 Ends task start folder folder_now out out_now FolderFault =
-    HasRisen folder.failed folder_now.failed
+    HasRisen folder.faults folder_now.faults
     × ((IsUnchanged folder folder_now × WroteNothing out out_now) ⊎ ((run : Run start folder folder_now) × Wrote out out_now (text_of task run)))
 Ends task start folder folder_now out out_now OutOfMemory =
     WroteNothing out out_now ⊎ ((run : Run start folder folder_now) × WroteAll out out_now (text_of task run) × FolderWell folder folder_now × HasNames run × WantedMemory run)

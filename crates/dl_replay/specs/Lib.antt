@@ -6,3 +6,4 @@ pub mod Begin
 pub mod Finish
 pub mod Playing
 pub mod Program
+pub mod Decided

@@ -5,7 +5,7 @@ use Rattle.std.specs.FinMap as map
 use Rattle.dl_model.specs.Marks.{journal}
 use Rattle.dl_outside.specs.Folder.{Files}
 use Rattle.dl_outside.specs.Outside.{HasRisen}
-use Rattle.dl_program.specs.Setup.{stored_name}
+use Rattle.dl_startup.specs.Setup.{stored_name}
 use Rattle.dl_report.specs.Counts.{HasStreams}
 use Rattle.dl_trace.specs.Stands.{IsTraceName}
 use Rattle.dl_world.specs.declared.played.Played.{Played}
@@ -27,8 +27,8 @@ pub record IsOf {start : Start} {old new : FolderTold} (run : Run start old new)
 
 -- What was played is a run; or the trace could not be made, and nothing changed, or there was no memory.
 abbrev pub Plays : Start → FolderTold → FolderTold → Result Played Status → Type 0
-Plays start old new (Ok played) = ((run : Run start old new) × IsOf run played) × (old.failed ≤ new.failed)
-Plays start old new (Err FolderFault) = HasRisen old.failed new.failed × IsUnchanged old new
+Plays start old new (Ok played) = ((run : Run start old new) × IsOf run played) × (old.faults ≤ new.faults)
+Plays start old new (Err FolderFault) = HasRisen old.faults new.faults × IsUnchanged old new
 Plays start old new (Err OutOfMemory) = Unit {0}
 Plays start old new (Err _) = ⊥
 

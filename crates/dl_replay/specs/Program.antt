@@ -1,10 +1,10 @@
 -- What the program promises.
-use Rattle.std.specs.Prelude.{◌≡◌, ◌≢◌, ◌↔◌, ℕ, ◌<◌, ◌⊎◌, List, length, Option, Some, None, IfSome, IsSomeAnd, IsOk, IsOkAnd}
-use Rattle.std.specs.FinMap as map
+use Rattle.std.specs.Prelude.{◌≡◌, ◌≢◌, ◌↔◌, ℕ, ◌<◌, ◌⊎◌, List, length, map, Option, Some, None, IfSome, IsSomeAnd, IsOk, IsOkAnd, String, string_bytes}
+use Rattle.std.specs.FinMap as files
 use Rattle.dl_outside.specs.Folder.{Files}
 use Rattle.dl_outside.specs.Outside.{HasRisen}
-use Rattle.dl_program.specs.Input.{GaveAtMost}
-use Rattle.dl_program.specs.Setup.{conf_in, stored_name}
+use Rattle.dl_startup.specs.Input.{GaveAtMost}
+use Rattle.dl_startup.specs.Setup.{conf_in, stored_name}
 use Rattle.dl_script.specs.Script.{steps_of}
 use Rattle.dl_trace.specs.Stands.{IsTraceName}
 use Rattle.dl_replay.specs.declared.begin.Start.{Start}
@@ -15,10 +15,11 @@ use Rattle.dl_replay.specs.declared.task.Task.TheVariants.{Steps, Generate}
 use Rattle.dl_replay.specs.Begin.{AreSetUp, IsReadUp, IsSaid, Refuses, conf_name}
 use Rattle.dl_replay.specs.Finish.{Ends}
 use Rattle.dl_replay.specs.Run.{Run, text_of}
-use Rattle.dl_replay.specs.Status.{line_of}
+use Rattle.dl_replay.specs.Status.{line_of, number}
 use Rattle.dl_replay.specs.Task.{task_of}
-use Rattle.dl_outside.specs.Told.{SinkTold}
-use Rattle.dl_replay.specs.Told.{IsUnchanged, Told, Wrote, WroteNothing}
+use Rattle.dl_outside.specs.Told.{FolderTold, SinkTold, SourceTold}
+use Rattle.dl_outside.specs.Written.{Wrote, WroteNothing}
+use Rattle.dl_replay.specs.Told.{IsUnchanged, Told, told}
 
 -- ---- the two halves of a run
 
@@ -56,13 +57,13 @@ pub record HasReported (task : Task) (old new : Told) : Type 0 where
 
 -- the name of a trace file: of the configuration that the files say, where that names a directory
 abbrev pub IsTraceFile : Files → List ℕ → Type 0
-IsTraceFile files name = IsOkAnd (conf_in conf_name files) (λ values. (0 < length values.directory) × IsTraceName values.directory name)
+IsTraceFile all name = IsOkAnd (conf_in conf_name all) (λ values. (0 < length values.directory) × IsTraceName values.directory name)
 
 -- every file is as it was, but the trace files and the stored configuration
 abbrev pub ChangesOwnFiles : Option Files → Option Files → Type 0
 ChangesOwnFiles old new =
-    IfSome old (λ files. (now : Files) × (new ≡ Some now)
-    × ((name : List ℕ) → name ≢ stored_name → ¬ (IsTraceFile files name) → map.get now name ≡ map.get files name))
+    IfSome old (λ was. (now : Files) × (new ≡ Some now)
+    × ((name : List ℕ) → name ≢ stored_name → ¬ (IsTraceFile was name) → files.get now name ≡ files.get was name))
 
 -- ---- completeness
 
@@ -75,9 +76,9 @@ HasSteps (Generate number calls) left = Unit {0}
 pub record IsLawful (task : Task) (old new : Told) : Type 0 where
   pub confs : IsSomeAnd old.folder.files AreSetUp
   pub steps : HasSteps task old.input.left
-  pub reads : ¬ (HasRisen old.input.failed new.input.failed)
-  pub keeps : ¬ (HasRisen old.folder.failed new.folder.failed)
-  pub writes : ¬ (HasRisen old.out.failed new.out.failed)
+  pub reads : ¬ (HasRisen old.input.faults new.input.faults)
+  pub keeps : ¬ (HasRisen old.folder.faults new.folder.faults)
+  pub writes : ¬ (HasRisen old.out.faults new.out.faults)
 
 -- ---- the whole
 
@@ -103,3 +104,24 @@ pub record IsRun (words : List (List ℕ)) (old new : Told) (said said_now : Sin
   pub silent : status ≡ Ok → WroteNothing said said_now
   -- else the status's line, whole; or its front, where standard error failed
   pub told : status ≢ Ok → Wrote said said_now (line_of status)
+
+-- ---- the calls, over what the outside tells
+
+-- what a task comes to
+abbrev pub Serves : Task → (input input_now : SourceTold) → (folder folder_now : FolderTold) → (out out_now : SinkTold) → Status → Type 0
+Serves task input input_now folder folder_now out out_now status = Outcome task (told input folder out) (told input_now folder_now out_now) status
+
+-- what the words come to, before anything is said
+abbrev pub Asks : {Z : Type 0} → List (String Z) → (input input_now : SourceTold) → (folder folder_now : FolderTold) → (out out_now : SinkTold) → Status → Type 0
+Asks words input input_now folder folder_now out out_now status =
+    Asked (task_of (map string_bytes words)) (told input folder out) (told input_now folder_now out_now) status
+
+-- what a run comes to, with its status by its name
+abbrev pub Runs : {Z : Type 0} → List (String Z) → (input input_now : SourceTold) → (folder folder_now : FolderTold) → (out out_now err err_now : SinkTold) → Status → Type 0
+Runs words input input_now folder folder_now out out_now err err_now status =
+    IsRun (map string_bytes words) (told input folder out) (told input_now folder_now out_now) err err_now status
+
+-- What a replay comes to: the words, what input, folder, output and standard error told before and after, and the exit status.
+abbrev pub Replays : {Z : Type 0} → List (String Z) → (input input_now : SourceTold) → (folder folder_now : FolderTold) → (out out_now err err_now : SinkTold) → ℕ → Type 0
+Replays words input input_now folder folder_now out out_now err err_now result =
+    (status : Status) × (result ≡ number status) × Runs words input input_now folder folder_now out out_now err err_now status

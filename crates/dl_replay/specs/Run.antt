@@ -15,7 +15,7 @@ use Rattle.dl_model.specs.Steps as steps
 use Rattle.dl_model.specs.TraceFiles.{StoredFile, is_spent}
 use Rattle.dl_core.specs.Settings.{setting_of}
 use Rattle.dl_outside.specs.Folder.{Files}
-use Rattle.dl_program.specs.Setup.{stored_name}
+use Rattle.dl_startup.specs.Setup.{stored_name}
 use Rattle.dl_trace.specs.Stands.{HasFiles}
 use Rattle.dl_world.specs.Played.{IsTraced, failures, frames_in, is_failed}
 use Rattle.dl_world.specs.Stored.{HoldsStored}
@@ -66,7 +66,7 @@ pub record Run (start : Start) (old new : FolderTold) : Type 0 where
   -- where it failed at no Store and no Reset, the stored configuration is what the run made of the one that stood there
   pub stored : count_by is_failed (marks start answers) ≡ 0 → HoldsItsStored start old.files new.files (marks start answers)
   -- the folder's count of faults rose at least as often as it failed
-  pub failed : min (old.failed + failures (marks start answers) trace) (2 ^ 64 - 1) ≤ new.failed
+  pub failed : min (old.faults + failures (marks start answers) trace) (2 ^ 64 - 1) ≤ new.faults
 
 -- the trace went on to the end of the run: it tells of the files of the rotation rule, and why it ended is not told
 abbrev pub IsWhole : {start : Start} {old new : FolderTold} → Run start old new → Type 0
@@ -97,11 +97,11 @@ IsServed {start = start} run = unserved (journal (marks start run.answers)) ≡ 
 -- The folder said Yes to each Store and each Reset, where its count of faults had room to rise: so the run is that of the folder and the
 -- script alone.
 abbrev pub IsDecided : {start : Start} {old new : FolderTold} → Run start old new → Type 0
-IsDecided {start = start} {old = old} run = old.failed < 2 ^ 64 - 1 → marks start run.answers ≡ marks start []
+IsDecided {start = start} {old = old} run = old.faults < 2 ^ 64 - 1 → marks start run.answers ≡ marks start []
 
 -- So is what the stored configuration holds then.
 abbrev pub HasDecided : {start : Start} {old new : FolderTold} → Run start old new → Type 0
-HasDecided {start = start} {old = old} {new = new} run = old.failed < 2 ^ 64 - 1 → HoldsItsStored start old.files new.files (marks start [])
+HasDecided {start = start} {old = old} {new = new} run = old.faults < 2 ^ 64 - 1 → HoldsItsStored start old.files new.files (marks start [])
 
 -- a Store, a Reset or the trace wanted memory
 abbrev pub WantedMemory : {start : Start} {old new : FolderTold} → Run start old new → Type 0

@@ -1,6 +1,6 @@
 -- The statuses of a replay: their numbers, and what is said of each.
 use Rattle.std.specs.Prelude.{ℕ, List, [], codes}
-use Rattle.dl_program.specs.Refusal.{conf_word, refusal_line, script_word, stored_word}
+use Rattle.dl_startup.specs.Refusal.{conf_word, refusal_line, script_word, stored_word}
 use Rattle.dl_replay.specs.declared.status.Status.{Status}
 use Rattle.dl_replay.specs.declared.status.Status.TheVariants.{Ok, WordsRefused, ConfRefused, StoredRefused, ScriptRefused, WriteFault, FolderFault, OutOfMemory, NamesSpent, ReadFault}
 

@@ -1,20 +1,19 @@
 //! What a run begins with: the configurations of the folder, and the steps of the task.
 
 ghost use Rattle.std.specs.Prelude.{◌≡◌, ◌≤◌, IfOk};
-ghost use Rattle.dl_program.specs.Input.{GaveAtMost};
+ghost use Rattle.dl_startup.specs.Input.{GaveAtMost};
 ghost use Rattle.dl_replay.specs.Begin.{Begins, MakesSteps, SetsUp, TakesSteps};
 ghost use Rattle.dl_replay.specs.Task.{IsWithin};
-ghost use Rattle.dl_replay.specs.Told.{folder_told, source_told};
-ghost use Rattle.dl_script_laws.specs.Playable.{IsPlayable};
+ghost use Rattle.dl_script.specs.Playable.{IsPlayable};
 
 use crate::status::Status;
 use crate::task::Task;
 use dl_bytes::{Conf, Stored};
 use dl_outside::{Folder, Source};
-use dl_program::{CONF_NAME, ReadError, SetupError, conf_in, read_text, stored_in};
+use dl_script::laws::{what_is_generated_can_be_played, what_is_read_can_be_played};
 use dl_script::{ScriptError, ScriptKind, generate, read_steps};
-use dl_script_laws::playing::{what_is_generated_can_be_played, what_is_read_can_be_played};
-use dl_steps::StepList;
+use dl_script_lines::StepList;
+use dl_startup::{CONF_NAME, ReadError, SetupError, conf_in, read_text, stored_in};
 use std::alloc::Global;
 
 /// The configuration and the stored one.
@@ -39,8 +38,8 @@ pub struct Start {
 
 /// The configuration and the stored one, or why they aren't there.
 fn set_up<F: Folder>(alloc: Global, folder: &mut F) -> Result<Setup, Status>
-    ensures { SetsUp (folder_told (F.files folder.old) (F.faults folder.old) (F.changes folder.old))
-        (folder_told (F.files folder.new) (F.faults folder.new) (F.changes folder.new)) result }
+    ensures { SetsUp (F.told folder.old)
+        (F.told folder.new) result }
 {
     let conf = match conf_in(alloc, folder, CONF_NAME) {
         Ok(conf) => conf,
@@ -58,9 +57,9 @@ fn set_up<F: Folder>(alloc: Global, folder: &mut F) -> Result<Setup, Status>
 
 /// The steps of the script that the input has, or why they aren't there.
 fn read_script<I: Source>(alloc: Global, input: &mut I) -> Result<StepList, Status>
-    ensures steps { TakesSteps Task.Steps (source_told (I.left input.old) (I.faults input.old))
-        (source_told (I.left input.new) (I.faults input.new)) result }
-    ensures at_most { GaveAtMost (I.left input.old) (I.left input.new) }
+    ensures steps { TakesSteps Task.Steps (I.told input.old)
+        (I.told input.new) result }
+    ensures at_most { GaveAtMost (I.told input.old).left (I.told input.new).left }
     ensures playable { IfOk result IsPlayable }
 {
     let text = match read_text(alloc, input) {
@@ -98,9 +97,9 @@ fn make_script(alloc: Global, number: u64, calls: u32) -> Result<StepList, Statu
 /// The steps of the task, or why they aren't there.
 fn steps_for<I: Source>(alloc: Global, task: Task, input: &mut I) -> Result<StepList, Status>
     requires { IsWithin task }
-    ensures steps { TakesSteps task (source_told (I.left input.old) (I.faults input.old))
-        (source_told (I.left input.new) (I.faults input.new)) result }
-    ensures at_most { GaveAtMost (I.left input.old) (I.left input.new) }
+    ensures steps { TakesSteps task (I.told input.old)
+        (I.told input.new) result }
+    ensures at_most { GaveAtMost (I.told input.old).left (I.told input.new).left }
     ensures playable { IfOk result IsPlayable }
 {
     match task {
@@ -118,11 +117,11 @@ pub fn begin<F: Folder, I: Source>(
 ) -> Result<Start, Status>
     requires { IsWithin task }
     ensures begins { Begins task
-        (source_told (I.left input.old) (I.faults input.old))
-        (source_told (I.left input.new) (I.faults input.new))
-        (folder_told (F.files folder.old) (F.faults folder.old) (F.changes folder.old))
-        (folder_told (F.files folder.new) (F.faults folder.new) (F.changes folder.new)) result }
-    ensures at_most { GaveAtMost (I.left input.old) (I.left input.new) }
+        (I.told input.old)
+        (I.told input.new)
+        (F.told folder.old)
+        (F.told folder.new) result }
+    ensures at_most { GaveAtMost (I.told input.old).left (I.told input.new).left }
     ensures playable { IfOk result (λ start. IsPlayable start.steps) }
 {
     let setup = match set_up(alloc, folder) {

@@ -5,7 +5,6 @@ ghost use Rattle.std.specs.List.{All};
 ghost use Rattle.dl_report.specs.Counts.{HasStreams};
 ghost use Rattle.dl_replay.specs.Finish.{Finishes, frames_for, report_for, status_after};
 ghost use Rattle.dl_replay.specs.Run.{is_unserved, unserved};
-ghost use Rattle.dl_replay.specs.Told.{sink_told};
 
 use crate::status::Status;
 use crate::task::Task;
@@ -82,8 +81,7 @@ pub fn finish<O: Sink>(
 ) -> Status
     requires { All (HasStreams (frames_for task played.now)) played.now.ends.links }
     ensures { Finishes (report_for task played.now) failed played.now.ends.trace.end (unserved played.now.events.events)
-        (sink_told (O.held out.old) (O.faults out.old))
-        (sink_told (O.held out.new) (O.faults out.new)) result }
+        (O.told out.old) (O.told out.new) result }
 {
     let Ok(text) = report_for(alloc, task, played) else {
         return Status::OutOfMemory;

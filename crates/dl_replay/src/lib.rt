@@ -3,6 +3,7 @@
 
 mod begin;
 mod finish;
+pub mod laws;
 mod program;
 mod status;
 mod task;

@@ -1,22 +1,18 @@
 //! The program: what the words ask for is played, the report is written, and the status answered.
 
-ghost use Rattle.std.specs.Prelude.{◌≡◌, map, string_bytes};
-ghost use Rattle.dl_program.specs.Input.{GaveAtMost};
+ghost use Rattle.dl_startup.specs.Input.{GaveAtMost};
 ghost use Rattle.dl_replay.specs.Finish.{Ends};
 ghost use Rattle.dl_replay.specs.Playing.{OwnFiles, Plays};
-ghost use Rattle.dl_replay.specs.Program.{Asked, ChangesOwnFiles, IsRun, Outcome};
-ghost use Rattle.dl_replay.specs.Status.{number};
-ghost use Rattle.dl_replay.specs.Task.{IsWithin, task_of};
-ghost use Rattle.dl_replay.specs.Told.{folder_told, sink_told, source_told, told};
-ghost use Rattle.dl_replay.specs.declared.status.Status.{Status};
-ghost use Rattle.dl_script_laws.specs.Playable.{IsPlayable};
+ghost use Rattle.dl_replay.specs.Program.{Asks, ChangesOwnFiles, Replays, Runs, Serves};
+ghost use Rattle.dl_replay.specs.Task.{IsWithin};
+ghost use Rattle.dl_script.specs.Playable.{IsPlayable};
 
 use crate::begin::{Start, begin};
 use crate::finish::finish;
 use crate::status::Status;
 use crate::task::{Task, task_of};
 use dl_outside::{Folder, Sink, Source};
-use dl_program::trace_over;
+use dl_startup::trace_over;
 use dl_trace::TraceFault;
 use dl_world::{Played, play};
 use std::alloc::Global;
@@ -25,10 +21,8 @@ use std::alloc::Global;
 /// nothing was.
 fn play_start<F: Folder>(alloc: Global, start: Start, folder: &mut F) -> Result<Played, Status>
     requires { IsPlayable start.steps }
-    ensures plays { Plays start
-        (folder_told (F.files folder.old) (F.faults folder.old) (F.changes folder.old))
-        (folder_told (F.files folder.new) (F.faults folder.new) (F.changes folder.new)) result }
-    ensures others { OwnFiles start (F.files folder.old) (F.files folder.new) }
+    ensures plays { Plays start (F.told folder.old) (F.told folder.new) result }
+    ensures others { OwnFiles start (F.told folder.old).files (F.told folder.new).files }
 {
     let Start {
         conf,
@@ -55,12 +49,8 @@ fn perform<F: Folder, O: Sink>(
     out: &mut O,
 ) -> Status
     requires { IsPlayable start.steps }
-    ensures ends { Ends task start
-        (folder_told (F.files folder.old) (F.faults folder.old) (F.changes folder.old))
-        (folder_told (F.files folder.new) (F.faults folder.new) (F.changes folder.new))
-        (sink_told (O.held out.old) (O.faults out.old))
-        (sink_told (O.held out.new) (O.faults out.new)) result }
-    ensures others { OwnFiles start (F.files folder.old) (F.files folder.new) }
+    ensures ends { Ends task start (F.told folder.old) (F.told folder.new) (O.told out.old) (O.told out.new) result }
+    ensures others { OwnFiles start (F.told folder.old).files (F.told folder.new).files }
 {
     let before = folder.faults();
     let played = match play_start(alloc, start, folder) {
@@ -80,11 +70,10 @@ fn serve<F: Folder, I: Source, O: Sink>(
     out: &mut O,
 ) -> Status
     requires { IsWithin task }
-    ensures outcome { Outcome task
-        (told (source_told (I.left input.old) (I.faults input.old)) (folder_told (F.files folder.old) (F.faults folder.old) (F.changes folder.old)) (sink_told (O.held out.old) (O.faults out.old)))
-        (told (source_told (I.left input.new) (I.faults input.new)) (folder_told (F.files folder.new) (F.faults folder.new) (F.changes folder.new)) (sink_told (O.held out.new) (O.faults out.new))) result }
-    ensures at_most { GaveAtMost (I.left input.old) (I.left input.new) }
-    ensures others { ChangesOwnFiles (F.files folder.old) (F.files folder.new) }
+    ensures outcome { Serves task (I.told input.old) (I.told input.new) (F.told folder.old) (F.told folder.new)
+        (O.told out.old) (O.told out.new) result }
+    ensures at_most { GaveAtMost (I.told input.old).left (I.told input.new).left }
+    ensures others { ChangesOwnFiles (F.told folder.old).files (F.told folder.new).files }
 {
     match begin(alloc, task, input, folder) {
         Ok(start) => perform(alloc, task, start, folder, out),
@@ -100,11 +89,10 @@ fn ask<F: Folder, I: Source, O: Sink>(
     folder: &mut F,
     out: &mut O,
 ) -> Status
-    ensures asked { Asked (task_of (map string_bytes words.now))
-        (told (source_told (I.left input.old) (I.faults input.old)) (folder_told (F.files folder.old) (F.faults folder.old) (F.changes folder.old)) (sink_told (O.held out.old) (O.faults out.old)))
-        (told (source_told (I.left input.new) (I.faults input.new)) (folder_told (F.files folder.new) (F.faults folder.new) (F.changes folder.new)) (sink_told (O.held out.new) (O.faults out.new))) result }
-    ensures at_most { GaveAtMost (I.left input.old) (I.left input.new) }
-    ensures others { ChangesOwnFiles (F.files folder.old) (F.files folder.new) }
+    ensures asked { Asks words.now (I.told input.old) (I.told input.new) (F.told folder.old) (F.told folder.new)
+        (O.told out.old) (O.told out.new) result }
+    ensures at_most { GaveAtMost (I.told input.old).left (I.told input.new).left }
+    ensures others { ChangesOwnFiles (F.told folder.old).files (F.told folder.new).files }
 {
     match task_of(words) {
         Some(task) => serve(alloc, task, input, folder, out),
@@ -121,11 +109,8 @@ fn run<F: Folder, I: Source, O: Sink, E: Sink>(
     out: &mut O,
     err: &mut E,
 ) -> Status
-    ensures { IsRun (map string_bytes words.now)
-        (told (source_told (I.left input.old) (I.faults input.old)) (folder_told (F.files folder.old) (F.faults folder.old) (F.changes folder.old)) (sink_told (O.held out.old) (O.faults out.old)))
-        (told (source_told (I.left input.new) (I.faults input.new)) (folder_told (F.files folder.new) (F.faults folder.new) (F.changes folder.new)) (sink_told (O.held out.new) (O.faults out.new)))
-        (sink_told (E.held err.old) (E.faults err.old))
-        (sink_told (E.held err.new) (E.faults err.new)) result }
+    ensures { Runs words.now (I.told input.old) (I.told input.new) (F.told folder.old) (F.told folder.new)
+        (O.told out.old) (O.told out.new) (E.told err.old) (E.told err.new) result }
 {
     let status = ask(alloc, words, input, folder, out);
     status.say(err);
@@ -144,11 +129,8 @@ pub fn replay<F: Folder, I: Source, O: Sink, E: Sink>(
     out: &mut O,
     err: &mut E,
 ) -> u8
-    ensures { (status : Status) × (result ≡ number status) × IsRun (map string_bytes words.now)
-        (told (source_told (I.left input.old) (I.faults input.old)) (folder_told (F.files folder.old) (F.faults folder.old) (F.changes folder.old)) (sink_told (O.held out.old) (O.faults out.old)))
-        (told (source_told (I.left input.new) (I.faults input.new)) (folder_told (F.files folder.new) (F.faults folder.new) (F.changes folder.new)) (sink_told (O.held out.new) (O.faults out.new)))
-        (sink_told (E.held err.old) (E.faults err.old))
-        (sink_told (E.held err.new) (E.faults err.new)) status }
+    ensures { Replays words.now (I.told input.old) (I.told input.new) (F.told folder.old) (F.told folder.new)
+        (O.told out.old) (O.told out.new) (E.told err.old) (E.told err.new) result }
 {
     run(alloc, words, input, folder, out, err).number()
 }

@@ -1,16 +1,14 @@
 //! How a replay ends: its exit status, and the line that it says on standard error.
 
 ghost use Rattle.std.specs.Prelude.{◌≡◌, ◌≢◌, OnErr, OnOk};
-ghost use Rattle.dl_outside.specs.Outside.{HasRisen};
-ghost use Rattle.dl_outside.specs.Written.{TookAll, TookFront};
+ghost use Rattle.dl_outside.specs.Written.{Wrote, WroteAll, WroteFront, WroteNothing};
 ghost use Rattle.dl_replay.specs.Status.{fixed_line, line_of, number};
-ghost use Rattle.dl_replay.specs.Told.{Wrote, WroteNothing, sink_told};
 ghost use Rattle.dl_replay.specs.declared.status.Status.{Status};
 
 use dl_conf::{ConfKind, StoredKind};
-use dl_fields::ScriptKind;
 use dl_outside::{Sink, WriteError, write_text};
-use dl_program::{conf_word, say_refusal, script_word, stored_word};
+use dl_script_fields::ScriptKind;
+use dl_startup::{conf_word, say_refusal, script_word, stored_word};
 
 /// The program's name, with which each line on standard error begins.
 const PROGRAM: &[u8] = b"dlt_replay";
@@ -95,10 +93,8 @@ impl Status {
     /// Writes the line on standard error.
     #[tactic(auto, unfolding(crate::specs::Status::line_of))]
     fn write_line<E: Sink>(self, err: &mut E) -> Result<(), WriteError>
-        ensures ok { OnOk result (TookAll (E.held err.old) (E.held err.new) (line_of self)) }
-        ensures well { OnOk result (E.faults err.new ≡ E.faults err.old) }
-        ensures failed { OnErr result (HasRisen (E.faults err.old) (E.faults err.new)) }
-        ensures front { OnErr result (TookFront (E.held err.old) (E.held err.new) (line_of self)) }
+        ensures ok { OnOk result (WroteAll (E.told err.old) (E.told err.new) (line_of self)) }
+        ensures front { OnErr result (WroteFront (E.told err.old) (E.told err.new) (line_of self)) }
     {
         match self {
             Status::ConfRefused { line, kind } => say_refusal(
@@ -134,8 +130,8 @@ impl Status {
 
     /// Says on standard error how the replay ended, in one line; nothing where all went well. A fault there changes nothing.
     pub fn say<E: Sink>(self, err: &mut E)
-        ensures silent { self ≡ Status.Ok → WroteNothing (sink_told (E.held err.old) (E.faults err.old)) (sink_told (E.held err.new) (E.faults err.new)) }
-        ensures told { self ≢ Status.Ok → Wrote (sink_told (E.held err.old) (E.faults err.old)) (sink_told (E.held err.new) (E.faults err.new)) (line_of self) }
+        ensures silent { self ≡ Status.Ok → WroteNothing (E.told err.old) (E.told err.new) }
+        ensures told { self ≢ Status.Ok → Wrote (E.told err.old) (E.told err.new) (line_of self) }
     {
         match self {
             Status::Ok => {}

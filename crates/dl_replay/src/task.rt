@@ -3,10 +3,8 @@
 ghost use Rattle.std.specs.Prelude.{◌≡◌, ◌≤◌, map, string_bytes, IfSome};
 ghost use Rattle.dl_replay.specs.Task.{IsWithin, generate_by, generate_of, plain_number, steps_by, task_of};
 
+use dl_bytes::CALL_LIMIT;
 use dl_text::number;
-
-/// The most calls of a script that a number makes.
-const CALL_LIMIT: u64 = 1_000_000;
 
 /// What the words ask for.
 #[derive(Clone, Copy, Debug, PartialEq, Eq)]
@@ -40,7 +38,7 @@ fn generate_of(number: &[u8], calls: &[u8]) -> Option<Task>
 {
     let number = plain_number(number)?;
     let calls = plain_number(calls)?;
-    if calls > CALL_LIMIT {
+    if calls > u64::from(CALL_LIMIT) {
         return None;
     }
     Some(Task::Generate {

@@ -3,11 +3,11 @@ use Rattle.std.proofs.Common.{◌≡◌, ◌≢◌, ℕ, List, [], ◌∷◌, �
 use Rattle.std.specs.Prelude.{Option, None}
 use Rattle.std.specs.List.{All}
 use Rattle.std.specs.declared.sync.Arc.{Arc}
-use Rattle.dl_views.specs.Views.{times}
-use Rattle.dl_views.proofs.Totals.{times-append, times_more}
+use Rattle.dl_thread_rules.specs.Views.{times}
+use Rattle.dl_thread_rules.proofs.Totals.{times-append, times_more}
 use Rattle.dl_ring.specs.declared.view.View.{View}
 use Rattle.dl_ring.specs.Rule.{first_pusher, with_given}
-use Rattle.dl_ring.specs.Ends.{Owns, HasOwners, IsPusher}
+use Rattle.dl_ring.specs.Passes.{Owns, HasOwners, IsPusher}
 
 module _ {X Z : Type 0} (ring : X) where
   -- at first for each number

@@ -1,4 +1,6 @@
 pub mod State
 pub mod Order
+pub mod Items
 pub mod Rule
-pub mod Ends
+pub mod Boxes
+pub mod Passes

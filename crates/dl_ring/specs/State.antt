@@ -1,4 +1,4 @@
--- What contracts see of the two ends of a ring.
+-- What contracts see of the passes of a ring.
 use Rattle.std.specs.Prelude.{ℕ, Bool, true, false, List, [], ◌∷◌, ◌++◌, if◌then◌else◌}
 use Rattle.atomic_table.specs.Seated.{TableId}
 use Rattle.dl_bytes.specs.declared.item.Item.{Item}

@@ -2,11 +2,13 @@
 //! takes them.
 #![tactic(auto)]
 
+mod call;
 mod push;
 mod ring;
 mod take;
 mod view;
 
+pub use call::Call;
 pub use dl_injections::{InjectPush, InjectTake, make_injections};
 pub use push::RingPush;
 pub use ring::make_ring;

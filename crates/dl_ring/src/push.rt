@@ -1,13 +1,15 @@
 //! The passes with which writers push.
 
 ghost use Rattle.std.specs.Prelude.{◌≡◌, ◌+◌, ◌≤◌, ◌∷◌, [], ◌++◌, true, false, OnOk, OnErr, IfErr};
-ghost use Rattle.dl_views.specs.Views.{times};
+ghost use Rattle.dl_thread_rules.specs.Views.{times};
+ghost use Rattle.dl_ring.specs.Items.{item_with};
 ghost use Rattle.dl_ring.specs.Order.{MetFull};
 ghost use Rattle.dl_ring.specs.State.{unused_push};
 
+use crate::call::Call;
 use crate::ring::{Push, Ring, RingPass, new_pass};
-use dl_bytes::Item;
-use dl_views::one_more;
+use dl_bytes::{Item, Payload};
+use dl_thread_rules::one_more;
 use std::marker::{Brand, Model};
 use std::sync::{Arc, Wait};
 
@@ -27,13 +29,13 @@ impl Model for RingPush {
     ghost use Rattle.std.specs.Arc.{arc_value};
     ghost use Rattle.crossbeam_queue.specs.Passes.{view as knows, IsPassOf, ruled_capacity};
     ghost use Rattle.dl_ring.specs.State.{PushState};
-    ghost use Rattle.dl_ring.specs.Ends.{IsPusher, HasOwners};
+    ghost use Rattle.dl_ring.specs.Passes.{IsPusher, HasOwners};
 
     ghost Value = { PushState };
 
     ghost view = { λ p. record {
       ring = p.pass.table_id;
-      capacity = ruled_capacity (arc_value p.ring);
+      capacity = ruled_capacity (arc_value p.ring).queue;
       number = (knows p.pass).number;
       pushed = (knows p.pass).pushed;
       refusals = p.refusals;
@@ -41,7 +43,7 @@ impl Model for RingPush {
       given = (knows p.pass).given;
     } };
 
-    ghost invariant = { λ p. IsPassOf (arc_value p.ring) p.pass × IsPusher (knows p.pass)
+    ghost invariant = { λ p. IsPassOf (arc_value p.ring).queue p.pass × IsPusher (knows p.pass)
         × MatchOption p.spare ((knows p.pass).gives ≡ false) (λ owners. HasOwners (arc_value p.ring) (knows p.pass).given owners.items) };
 }
 
@@ -55,11 +57,34 @@ impl RingPush {
         ensures back { IfErr result (λ back. back ≡ item) }
         ensures full { OnErr result (MetFull self.old.capacity self.old.number self.old.pushed) }
     {
-        match self.ring.push_as::<Push, R>(rt, &mut self.pass, item) {
+        let mut full = self.ring.free_box(rt);
+        *full = item;
+        match self.push_box(rt, full) {
             Ok(()) => Ok(()),
             Err(back) => {
-                self.refusals = one_more(rt, self.refusals);
-                Err(back)
+                let item = back.copy();
+                self.ring.give_back(rt, back);
+                Err(item)
+            }
+        }
+    }
+
+    /// Puts the call with this payload at the end of the ring, and tells whether there was room. After a refusal the same is
+    /// known as after one of `push`. It is never a part of its caller, so that a call which is filtered has none of its cost.
+    #[inline(never)]
+    pub fn push_call<R: Wait>(&mut self, rt: &R, call: &Call, payload: &Payload) -> bool
+        requires { call.now.writer ≡ self.old.number }
+        ensures pushed { result ≡ true → self.new ≡ record self.old { pushed = self.old.pushed ++ item_with call.now payload.now ∷ [] } }
+        ensures refused { result ≡ false → self.new ≡ record self.old { refusals = self.old.refusals + 1 } }
+        ensures full { result ≡ false → MetFull self.old.capacity self.old.number self.old.pushed }
+    {
+        let mut full = self.ring.free_box(rt);
+        call.fill(&mut full, payload);
+        match self.push_box(rt, full) {
+            Ok(()) => true,
+            Err(back) => {
+                self.ring.give_back(rt, back);
+                false
             }
         }
     }
@@ -76,12 +101,31 @@ impl RingPush {
             unreachable!()
         };
         let ring = owners[usize::from(writer)].take().unwrap();
-        let pass = new_pass::<Brand>(&self.ring, &mut self.pass, writer);
+        let pass = new_pass::<Brand>(&self.ring.queue, &mut self.pass, writer);
         RingPush {
             ring,
             pass,
             refusals: 0,
             spare: None,
+        }
+    }
+}
+
+impl RingPush {
+    // Puts a box at the end of the ring, or gives it back.
+    fn push_box<R: Wait>(&mut self, rt: &R, full: Box<Item>) -> Result<(), Box<Item>>
+        requires { full.value.writer ≡ self.old.number }
+        ensures pushed { OnOk result (self.new ≡ record self.old { pushed = self.old.pushed ++ full.value ∷ [] }) }
+        ensures refused { OnErr result (self.new ≡ record self.old { refusals = self.old.refusals + 1 }) }
+        ensures back { IfErr result (λ back. back ≡ full) }
+        ensures met { OnErr result (MetFull self.old.capacity self.old.number self.old.pushed) }
+    {
+        match self.ring.queue.push_as::<Push, R>(rt, &mut self.pass, full) {
+            Ok(()) => Ok(()),
+            Err(back) => {
+                self.refusals = one_more(rt, self.refusals);
+                Err(back)
+            }
         }
     }
 }

@@ -1,79 +1,98 @@
-//! The queue under its rule: how it is made, and what each kind of step makes of the views.
+//! The queue under its rule, with its free boxes: how it is made, and what each kind of step makes of the views.
 
 ghost use Rattle.std.specs.Prelude.{◌≡◌, ℕ, ◌+◌, ◌≤◌, ◌<◌, true, length, IfOk, vec_len};
 ghost use Rattle.std.specs.List.{All};
 ghost use Rattle.std.specs.Arc.{arc_value};
 ghost use Rattle.crossbeam_queue.specs.Passes.{view, IsSamePass, IsPassOf, ruled_capacity};
-ghost use Rattle.dl_views.specs.Views.{times};
+ghost use Rattle.dl_thread_rules.specs.Views.{times};
 ghost use Rattle.dl_ring.specs.Rule.{pusher, with_given};
-ghost use Rattle.dl_ring.specs.Ends.{Owns};
+ghost use Rattle.dl_ring.specs.Passes.{Owns};
 ghost use Rattle.dl_ring.specs.State.{unused_push, unused_take};
 
+use crate::call::Call;
 use crate::push::RingPush;
 use crate::take::RingTake;
 use crate::view::View;
 use crossbeam_queue::protocol::{Join, Lesson, Outcome, Protocol, Split};
-use crossbeam_queue::{Pass, RuledArrayQueue};
-use dl_bytes::{Item, OutOfMemory};
+use crossbeam_queue::{ArrayQueue, Pass, RuledArrayQueue};
+use dl_bytes::{Id, Item, OutOfMemory, Payload, Severity};
 use std::alloc::Global;
 use std::marker::{Brand, PhantomData};
-use std::sync::Arc;
+use std::sync::{Arc, Wait};
+use std::thread;
+
+/// How many boxes passes have in their hands at most, where no more than 32 writers have a pass: one each, the first pass
+/// and the one that takes.
+const HANDS: usize = 34;
 
 /// The rule of a ring: each pass's items come out in the order of its pushes, each once.
 pub struct InOrder;
 
-impl Protocol<Item, View> for InOrder {
-    ghost use Rattle.dl_ring.specs.Rule.{Keeps, opener};
+impl Protocol<Box<Item>, View> for InOrder {
+    ghost use Rattle.dl_ring.specs.Boxes.{KeepsBoxed};
+    ghost use Rattle.dl_ring.specs.Rule.{opener};
 
-    ghost holds = { Keeps };
+    ghost holds = { KeepsBoxed };
 
     ghost first = { opener };
 }
 
-pub type Ring = RuledArrayQueue<Item, View, InOrder>;
+/// The boxes that are full, in the order of their pushes.
+pub type Queue = RuledArrayQueue<Box<Item>, View, InOrder>;
 
-pub type RingPass = Pass<Item, View>;
+pub type RingPass = Pass<Box<Item>, View>;
+
+/// What the passes of a ring share. A box is full or free, or a pass fills or empties it.
+#[derive(Drop)]
+pub struct Ring {
+    /// The full ones.
+    pub queue: Queue,
+    /// The free ones.
+    pub free: ArrayQueue<Box<Item>>,
+}
 
 /// A push: one item more, or the ring is full.
 pub struct Push;
 
-impl Outcome<Item, View> for Push {
+impl Outcome<Box<Item>, View> for Push {
     ghost use Rattle.std.specs.Prelude.{◌≡◌};
     ghost use Rattle.dl_ring.specs.Rule.{with_pushed};
 
-    ghost then = { λ v item w. w ≡ with_pushed v item };
+    ghost then = { λ v full w. w ≡ with_pushed v full.value };
 }
 
-impl Lesson<Item, View> for Push {
+impl Lesson<Box<Item>, View> for Push {
     ghost use Rattle.std.specs.Prelude.{◌≡◌, ◌++◌, List};
     ghost use Rattle.dl_bytes.specs.declared.item.Item.{Item as item_type};
+    ghost use Rattle.dl_ring.specs.Boxes.{values};
     ghost use Rattle.dl_ring.specs.Order.{of};
 
-    ghost fact = { λ v contents. (taken : List item_type) × (of v.number (taken ++ contents) ≡ v.pushed) };
+    ghost fact = { λ v boxes. (taken : List item_type) × (of v.number (taken ++ values boxes) ≡ v.pushed) };
 }
 
 /// A take: the oldest item, or the ring is empty.
 pub struct Take;
 
-impl Outcome<Item, View> for Take {
+impl Outcome<Box<Item>, View> for Take {
     ghost use Rattle.std.specs.Prelude.{◌≡◌, List};
     ghost use Rattle.dl_bytes.specs.declared.item.Item.{Item as item_type};
     ghost use Rattle.dl_ring.specs.Order.{Rest};
     ghost use Rattle.dl_ring.specs.Rule.{with_taken};
 
-    ghost then = { λ v item w. (w ≡ with_taken v item) × ((contents : List item_type) × Rest w.gives w.given w.taken w.joined contents) };
+    ghost then = { λ v full w. (w ≡ with_taken v full.value) × ((contents : List item_type) × Rest w.gives w.given w.taken w.joined contents) };
 }
 
-impl Lesson<Item, View> for Take {
+impl Lesson<Box<Item>, View> for Take {
+    ghost use Rattle.dl_ring.specs.Boxes.{values};
     ghost use Rattle.dl_ring.specs.Order.{Rest};
 
-    ghost fact = { λ v contents. Rest v.gives v.given v.taken v.joined contents };
+    ghost fact = { λ v boxes. Rest v.gives v.given v.taken v.joined (values boxes) };
 }
 
 /// The pass with which a ring is made becomes the first that pushes and the one that takes.
-struct Ends;
+struct Passes;
 
-impl Split<View> for Ends {
+impl Split<View> for Passes {
     ghost use Rattle.dl_ring.specs.Rule.{first_pusher, taker};
 
     ghost left = { λ _. first_pusher };
@@ -115,15 +134,65 @@ impl<N: Number> Split<View> for Give<N> {
 }
 
 /// A new pass of the ring, under this number.
-pub fn new_pass<N: Number>(ring: &Ring, pass: &mut RingPass, number: u8) -> RingPass
+pub fn new_pass<N: Number>(queue: &Queue, pass: &mut RingPass, number: u8) -> RingPass
     requires number { number ≡ N.number }
-    requires pass { IsPassOf ring.now pass.old × ((view pass.old).gives ≡ true) }
+    requires pass { IsPassOf queue.now pass.old × ((view pass.old).gives ≡ true) }
     requires positive { 1 ≤ number }
     requires fresh { times number (view pass.old).given ≡ 0 }
     ensures same { IsSamePass pass.old pass.new × (view pass.new ≡ with_given (view pass.old) number) }
-    ensures new { IsPassOf ring.now result × (view result ≡ pusher number) }
+    ensures new { IsPassOf queue.now result × (view result ≡ pusher number) }
 {
-    ring.another::<Give<N>>(pass)
+    queue.another::<Give<N>>(pass)
+}
+
+impl Ring {
+    /// A free box, whatever it holds. There always is one, since each pass has one box at most: this waits only for a pass
+    /// that is just giving one back or taking one.
+    pub fn free_box<R: Wait>(&self, rt: &R) -> Box<Item> {
+        for _ in rt.forever() {
+            if let Some(free) = self.free.pop(rt) {
+                return free;
+            }
+            thread::yield_now();
+        }
+        unreachable!()
+    }
+
+    /// Gives a box back. There always is room, since the queue of free boxes has room for all of them.
+    pub fn give_back<R: Wait>(&self, rt: &R, free: Box<Item>) {
+        let _ = self.free.push(rt, free);
+    }
+}
+
+/// What lies in a box before its first use.
+fn no_item() -> Item {
+    let call = Call {
+        app: 0,
+        writer: 0,
+        severity: Severity::Info,
+        mcnt: 0,
+        at: 0,
+        apid: Id::from_bytes([0; 4]),
+        ctid: Id::from_bytes([0; 4]),
+        number: 0,
+    };
+    call.item(&Payload::new())
+}
+
+/// So many free boxes.
+fn free_boxes(alloc: Global, count: usize) -> Result<ArrayQueue<Box<Item>>, OutOfMemory>
+    requires { 0 < count }
+{
+    let mut free = ArrayQueue::new(alloc, count)?;
+    for _box in 0..count {
+        let Ok(made) = Box::new(alloc, no_item()) else {
+            return Err(OutOfMemory);
+        };
+        if free.push_mut(made).is_err() {
+            return Err(OutOfMemory);
+        }
+    }
+    Ok(free)
 }
 
 /// An owner of the ring for each number of a pass.
@@ -139,14 +208,15 @@ fn owners(alloc: Global, ring: &Arc<Ring>) -> Result<Vec<Option<Arc<Ring>>>, Out
 }
 
 /// A ring that holds at most this many items, 1 to 4096: the first pass that pushes, which has the number 0, and the
-/// one pass that takes.
+/// one pass that takes. All memory that the ring ever takes is taken here.
 pub fn make_ring(alloc: Global, capacity: u16) -> Result<(RingPush, RingTake), OutOfMemory>
     requires { (1 ≤ capacity) × (capacity ≤ 4096) }
-    ensures { IfOk result (λ ends. (ends.0 ≡ unused_push ends.0.ring capacity 0 true) × (ends.1 ≡ unused_take ends.0.ring capacity)) }
+    ensures { IfOk result (λ passes. (passes.0 ≡ unused_push passes.0.ring capacity 0 true) × (passes.1 ≡ unused_take passes.0.ring capacity)) }
 {
-    let (queue, mut pass) = Ring::ruled(alloc, usize::from(capacity))?;
-    let taker = queue.another::<Ends>(&mut pass);
-    let Ok(ring) = Arc::new(alloc, queue) else {
+    let (queue, mut pass) = Queue::ruled(alloc, usize::from(capacity))?;
+    let taker = queue.another::<Passes>(&mut pass);
+    let free = free_boxes(alloc, usize::from(capacity) + HANDS)?;
+    let Ok(ring) = Arc::new(alloc, Ring { queue, free }) else {
         return Err(OutOfMemory);
     };
     let spare = owners(alloc, &ring)?;

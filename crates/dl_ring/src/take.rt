@@ -1,14 +1,15 @@
 //! The pass with which the daemon takes.
 
-ghost use Rattle.std.specs.Prelude.{◌≡◌, ◌+◌, List, ◌∷◌, [], ◌++◌, IfSome, OnSome, IfNone};
+ghost use Rattle.std.specs.Prelude.{◌≡◌, ◌+◌, true, false, List, ◌∷◌, [], ◌++◌, IfSome, OnSome, IfNone};
 ghost use Rattle.dl_bytes.specs.declared.item.Item.{Item as item_type};
 ghost use Rattle.dl_ring.specs.Order.{Holds};
 ghost use Rattle.dl_ring.specs.State.{with_pass};
 
+use crate::call::Call;
 use crate::push::RingPush;
 use crate::ring::{Gather, Ring, RingPass, Take};
 use dl_bytes::Item;
-use dl_views::one_more;
+use dl_thread_rules::one_more;
 use std::marker::Model;
 use std::sync::{Arc, Wait};
 
@@ -25,13 +26,13 @@ impl Model for RingTake {
     ghost use Rattle.std.specs.Arc.{arc_value};
     ghost use Rattle.crossbeam_queue.specs.Passes.{view as knows, IsPassOf, ruled_capacity};
     ghost use Rattle.dl_ring.specs.State.{TakeState};
-    ghost use Rattle.dl_ring.specs.Ends.{IsTaker};
+    ghost use Rattle.dl_ring.specs.Passes.{IsTaker};
 
     ghost Value = { TakeState };
 
     ghost view = { λ p. record {
       ring = p.pass.table_id;
-      capacity = ruled_capacity (arc_value p.ring);
+      capacity = ruled_capacity (arc_value p.ring).queue;
       taken = (knows p.pass).taken;
       empties = p.empties;
       joined = (knows p.pass).joined;
@@ -39,7 +40,7 @@ impl Model for RingTake {
       given = (knows p.pass).given;
     } };
 
-    ghost invariant = { λ p. IsPassOf (arc_value p.ring) p.pass × IsTaker (knows p.pass) };
+    ghost invariant = { λ p. IsPassOf (arc_value p.ring).queue p.pass × IsTaker (knows p.pass) };
 }
 
 impl RingTake {
@@ -50,12 +51,28 @@ impl RingTake {
         ensures none { IfNone result (self.new ≡ record self.old { empties = self.old.empties + 1 }) }
         ensures empty { IfNone result (Holds self.new []) }
     {
-        match self.ring.pop_as::<Take, R>(rt, &mut self.pass) {
-            Some(item) => Some(item),
-            None => {
-                self.empties = one_more(rt, self.empties);
-                None
+        let full = self.take_box(rt)?;
+        let item = full.copy();
+        self.ring.give_back(rt, full);
+        Some(item)
+    }
+
+    /// Takes the oldest item into one that the caller keeps, and tells whether there was one: what `take` does, with the
+    /// item's bytes copied once. Where there was none, the caller's item stays.
+    pub fn take_into<R: Wait>(&mut self, rt: &R, item: &mut Item) -> bool
+        ensures taken { result ≡ true → self.new ≡ record self.old { taken = self.old.taken ++ item.new ∷ [] } }
+        ensures rest { result ≡ true → (contents : List item_type) × Holds self.new contents }
+        ensures none { result ≡ false → self.new ≡ record self.old { empties = self.old.empties + 1 } }
+        ensures empty { result ≡ false → Holds self.new [] }
+        ensures kept { result ≡ false → item.new ≡ item.old }
+    {
+        match self.take_box(rt) {
+            Some(full) => {
+                Call::of(&full).fill(item, &full.payload);
+                self.ring.give_back(rt, full);
+                true
             }
+            None => false,
         }
     }
 
@@ -71,7 +88,7 @@ impl RingTake {
             refusals,
             spare: _,
         } = push;
-        self.ring.absorb::<Gather>(&mut self.pass, pass);
+        self.ring.queue.absorb::<Gather>(&mut self.pass, pass);
         refusals
     }
 
@@ -81,6 +98,24 @@ impl RingTake {
         ensures same { self.new ≡ self.old }
         ensures rest { (contents : List item_type) × Holds self.new contents }
     {
-        self.ring.learn_as::<Take>(&mut self.pass);
+        self.ring.queue.learn_as::<Take>(&mut self.pass);
+    }
+}
+
+impl RingTake {
+    // The oldest box of the ring.
+    fn take_box<R: Wait>(&mut self, rt: &R) -> Option<Box<Item>>
+        ensures taken { IfSome result (λ full. self.new ≡ record self.old { taken = self.old.taken ++ full.value ∷ [] }) }
+        ensures rest { OnSome result ((contents : List item_type) × Holds self.new contents) }
+        ensures none { IfNone result (self.new ≡ record self.old { empties = self.old.empties + 1 }) }
+        ensures empty { IfNone result (Holds self.new []) }
+    {
+        match self.ring.queue.pop_as::<Take, R>(rt, &mut self.pass) {
+            Some(full) => Some(full),
+            None => {
+                self.empties = one_more(rt, self.empties);
+                None
+            }
+        }
     }
 }

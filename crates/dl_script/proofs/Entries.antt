@@ -3,7 +3,7 @@ use Rattle.std.proofs.Common.{◌≡◌, ℕ, ◌+◌, true, false, List, [], �
 use Rattle.dl_script.specs.Earlier.{Declared}
 use Rattle.dl_script.specs.Line.{is_ignored}
 use Rattle.dl_script.specs.Script.{judged, before, entries}
-use Rattle.dl_fields.specs.declared.kind.ScriptKind.{ScriptKind}
+use Rattle.dl_script_fields.specs.declared.kind.ScriptKind.{ScriptKind}
 use Rattle.dl_script.specs.declared.error.ScriptError.{ScriptError}
 use Rattle.dl_script.specs.declared.error.ScriptError.TheVariants.{Fault}
 use Rattle.dl_script.specs.declared.read.Read.{Read}

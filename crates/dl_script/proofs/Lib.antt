@@ -7,3 +7,10 @@ pub mod SpelledSteps
 pub mod SpelledScenarios
 pub mod SpelledScripts
 pub mod SayableSteps
+pub mod ReadResults
+pub mod ShortTexts
+pub mod ReadSteps
+pub mod ReadScripts
+pub mod StepRuns
+pub mod GeneratedCalls
+pub mod GeneratedScripts

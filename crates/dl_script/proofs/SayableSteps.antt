@@ -7,17 +7,17 @@ use Rattle.dl_bytes.specs.Level.{severity_number}
 use Rattle.dl_bytes.specs.declared.level.Severity.{Severity}
 use Rattle.dl_bytes.specs.declared.level.Severity.TheVariants.{Fatal, Error, Warn, Info, Debug, Verbose}
 use Rattle.dl_bytes.specs.Payload.{Arguments}
-use Rattle.dl_steps.specs.declared.line.AppLine.{AppLine}
-use Rattle.dl_steps.specs.declared.line.CallLine.{CallLine}
-use Rattle.dl_steps.specs.declared.line.ContextLine.{ContextLine}
-use Rattle.dl_steps.specs.declared.scenario.ScenarioLine.{ScenarioLine}
-use Rattle.dl_steps.specs.declared.scenario.ScenarioLine.TheVariants as scenario
-use Rattle.dl_steps.specs.declared.step.Step.{Step}
-use Rattle.dl_steps.specs.declared.step.Step.TheVariants as step
-use Rattle.dl_fields.specs.Joined.{parted_by_blanks}
-use Rattle.dl_fields.specs.Spelling.{spelling}
-use Rattle.dl_fields.specs.Spells.{SpellsNumber, SpellsBytes, SpellsLevel, SpellsTexts, IsShortText, SpellsApp, SpellsContext, SpellsCall, SpellsSent, severity_word, levels_word, quoted}
-use Rattle.dl_fields.proofs.SpelledFields.{decimal_spells, hex_spells}
+use Rattle.dl_script_lines.specs.declared.line.AppLine.{AppLine}
+use Rattle.dl_script_lines.specs.declared.line.CallLine.{CallLine}
+use Rattle.dl_script_lines.specs.declared.line.ContextLine.{ContextLine}
+use Rattle.dl_script_lines.specs.declared.scenario.ScenarioLine.{ScenarioLine}
+use Rattle.dl_script_lines.specs.declared.scenario.ScenarioLine.TheVariants as scenario
+use Rattle.dl_script_lines.specs.declared.step.Step.{Step}
+use Rattle.dl_script_lines.specs.declared.step.Step.TheVariants as step
+use Rattle.dl_script_fields.specs.Joined.{parted_by_blanks}
+use Rattle.dl_script_fields.specs.Spelling.{spelling}
+use Rattle.dl_script_fields.specs.Spells.{SpellsNumber, SpellsBytes, SpellsLevel, SpellsTexts, IsShortText, SpellsApp, SpellsContext, SpellsCall, SpellsSent, severity_word, levels_word, quoted}
+use Rattle.dl_script_fields.proofs.SpelledFields.{decimal_spells, hex_spells}
 use Rattle.dl_script.specs.Spelled.{step_word_for, SpellsLog, SpellsFields, SpellsStep, SpellsScenarioFields, SpellsScenarioLine, scenario_word_for, HasName, HasBytes, HasArguments, IsSayableApp, IsSayableContext, IsSayableCall, IsSayableStep, IsSayableScenarioLine}
 
 number_spells : (low high n : ℕ) → high < 10 ^ 64 → low ≤ n → n ≤ high → SpellsNumber low high (decimal n) n

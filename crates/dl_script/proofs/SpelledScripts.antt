@@ -3,8 +3,8 @@ use Rattle.std.proofs.Common.{◌≡◌, ℕ, ◌+◌, ◌≤◌, true, List, []
 use Rattle.std.specs.List.{AllByRecursion}
 use Rattle.std.proofs.lemmas.Bool.{le-ltb}
 use Rattle.dl_text.specs.Faults.{size_limit}
-use Rattle.dl_fields.specs.declared.kind.ScriptKind.{ScriptKind}
-use Rattle.dl_fields.proofs.Letters.{is_whole}
+use Rattle.dl_script_fields.specs.declared.kind.ScriptKind.{ScriptKind}
+use Rattle.dl_script_fields.proofs.Letters.{is_whole}
 use Rattle.dl_script.specs.Earlier.{Declared, nothing, refusal, noted}
 use Rattle.dl_script.specs.Line.{says}
 use Rattle.dl_script.specs.Script.{judged, entries, script_of}

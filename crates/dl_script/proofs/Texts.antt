@@ -4,8 +4,8 @@ use Rattle.std.specs.Str.{IsUtf8, is_utf8}
 use Rattle.std.proofs.lemmas.Bool.{cases_Bool}
 use Rattle.std.proofs.lemmas.Str.{IsUtf8-from_is_utf8, is_utf8-from_IsUtf8}
 use Rattle.dl_script.specs.Line.{line_of_text, line_by}
-use Rattle.dl_fields.specs.declared.kind.ScriptKind.{ScriptKind}
-use Rattle.dl_fields.specs.declared.kind.ScriptKind.TheVariants.{NotUtf8}
+use Rattle.dl_script_fields.specs.declared.kind.ScriptKind.{ScriptKind}
+use Rattle.dl_script_fields.specs.declared.kind.ScriptKind.TheVariants.{NotUtf8}
 use Rattle.dl_script.specs.declared.read.Read.{Read}
 
 module _ {W A : Type 0} (word_of : List ℕ → Option W) (by_word : W → List (List ℕ) → Result (Read A) ScriptKind) where

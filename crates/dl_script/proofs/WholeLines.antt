@@ -7,7 +7,7 @@ use Rattle.std.proofs.lemmas.List.{get_or_append_left}
 use Rattle.bstr.specs.Text as bstr
 use Rattle.bstr.proofs.lemmas.LineLemmas.{lines-append, lines-one, lines-nil}
 use Rattle.dl_text.specs.Lines.{lines_of}
-use Rattle.dl_fields.proofs.Letters.{is_feed, is_whole, whole_holds_none}
+use Rattle.dl_script_fields.proofs.Letters.{is_feed, is_whole, whole_holds_none}
 use Rattle.dl_script.specs.Spelled.{text_of}
 
 no_feed_at : (xs : List ℕ) → list_any is_feed xs ≡ false → (k : ℕ) → k < length xs → get_or xs k 0 ≢ 10

@@ -3,15 +3,15 @@ use Rattle.std.proofs.Common.{◌≡◌, ℕ, true, false, cond, List, ◌++◌,
 use Rattle.std.specs.List.{list_all}
 use Rattle.std.specs.Option.{ok_or}
 use Rattle.std.specs.Str.{is_utf8}
-use Rattle.dl_fields.specs.Fields.{worded, fields_of}
-use Rattle.dl_fields.specs.Joined.{is_field, parted_by_blanks, is_plain}
-use Rattle.dl_fields.specs.Kind.{◌>>=◌}
-use Rattle.dl_fields.specs.Spells.{is_letter}
-use Rattle.dl_fields.specs.declared.kind.ScriptKind.{ScriptKind}
-use Rattle.dl_fields.specs.declared.kind.ScriptKind.TheVariants.{NotUtf8, Word, Fields}
-use Rattle.dl_fields.proofs.Letters.{is_whole}
-use Rattle.dl_fields.proofs.SpelledLines.{AreGood, are_fields, line_utf8, line_whole}
-use Rattle.dl_fields.proofs.JoinedFields.{ends_behind, parted, word_first}
+use Rattle.dl_script_fields.specs.Fields.{worded, fields_of}
+use Rattle.dl_script_fields.specs.Joined.{is_field, parted_by_blanks, is_plain}
+use Rattle.dl_script_fields.specs.Kind.{◌>>=◌}
+use Rattle.dl_script_fields.specs.Spells.{is_letter}
+use Rattle.dl_script_fields.specs.declared.kind.ScriptKind.{ScriptKind}
+use Rattle.dl_script_fields.specs.declared.kind.ScriptKind.TheVariants.{NotUtf8, Word, Fields}
+use Rattle.dl_script_fields.proofs.Letters.{is_whole}
+use Rattle.dl_script_fields.proofs.SpelledLines.{AreGood, are_fields, line_utf8, line_whole}
+use Rattle.dl_script_fields.proofs.JoinedFields.{ends_behind, parted, word_first}
 use Rattle.dl_script.specs.Line.{line_by, is_ignored}
 use Rattle.dl_script.specs.declared.read.Read.{Read}
 

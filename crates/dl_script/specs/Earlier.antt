@@ -7,10 +7,10 @@ use Rattle.dl_script.specs.declared.claim.Claim.{Claim}
 use Rattle.dl_script.specs.declared.claim.Claim.TheVariants as claim
 use Rattle.dl_script.specs.declared.claim.ContextName.{ContextName}
 use Rattle.dl_script.specs.declared.claim.Client.{Client}
-use Rattle.dl_fields.specs.declared.kind.LineError.{LineError}
-use Rattle.dl_fields.specs.declared.kind.LineError.TheVariants.{Fault, OutOfMemory}
-use Rattle.dl_fields.specs.declared.kind.ScriptKind.{ScriptKind}
-use Rattle.dl_fields.specs.declared.kind.ScriptKind.TheVariants.{Order, Unknown, Twice, Limit}
+use Rattle.dl_script_fields.specs.declared.kind.LineError.{LineError}
+use Rattle.dl_script_fields.specs.declared.kind.LineError.TheVariants.{Fault, OutOfMemory}
+use Rattle.dl_script_fields.specs.declared.kind.ScriptKind.{ScriptKind}
+use Rattle.dl_script_fields.specs.declared.kind.ScriptKind.TheVariants.{Order, Unknown, Twice, Limit}
 
 -- what the lines so far declare, each in the order of the lines
 pub record Declared : Type 0 where

@@ -3,3 +3,4 @@ pub mod Line
 pub mod Script
 pub mod Generated
 pub mod Spelled
+pub mod Playable

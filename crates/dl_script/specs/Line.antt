@@ -3,19 +3,19 @@ use Rattle.std.specs.Prelude.{ℕ, Bool, false, ◌==◌, ◌||◌, List, [], �
 use Rattle.std.specs.List.{list_all}
 use Rattle.std.specs.Option.{ok_or}
 use Rattle.std.specs.Str.{is_utf8}
-use Rattle.dl_steps.specs.declared.line.CallLine.{CallLine}
-use Rattle.dl_steps.specs.declared.step.Step.{Step}
-use Rattle.dl_steps.specs.declared.step.Step.TheVariants as step
-use Rattle.dl_steps.specs.declared.scenario.ScenarioLine.{ScenarioLine}
-use Rattle.dl_steps.specs.declared.scenario.ScenarioLine.TheVariants as scenario
+use Rattle.dl_script_lines.specs.declared.line.CallLine.{CallLine}
+use Rattle.dl_script_lines.specs.declared.step.Step.{Step}
+use Rattle.dl_script_lines.specs.declared.step.Step.TheVariants as step
+use Rattle.dl_script_lines.specs.declared.scenario.ScenarioLine.{ScenarioLine}
+use Rattle.dl_script_lines.specs.declared.scenario.ScenarioLine.TheVariants as scenario
 use Rattle.dl_text.specs.Lines.{is_blank}
-use Rattle.dl_fields.specs.Fields.{worded, fields_of}
-use Rattle.dl_fields.specs.Kind.{◌>>=◌}
-use Rattle.dl_fields.specs.Line.{app_line, context_line, id_line, call_line, clock_line, writer_line, levels_line, bare_line, client_line, bytes_line, user_line, leave_line, line_in}
-use Rattle.dl_fields.specs.Value.{is_word}
-use Rattle.dl_fields.specs.declared.kind.ScriptKind.{ScriptKind}
-use Rattle.dl_fields.specs.declared.kind.ScriptKind.TheVariants as wrong
-use Rattle.dl_fields.specs.declared.line.Call.{Call}
+use Rattle.dl_script_fields.specs.Fields.{worded, fields_of}
+use Rattle.dl_script_fields.specs.Kind.{◌>>=◌}
+use Rattle.dl_script_fields.specs.Line.{app_line, context_line, id_line, call_line, clock_line, writer_line, levels_line, bare_line, client_line, bytes_line, user_line, leave_line, line_in}
+use Rattle.dl_script_fields.specs.Value.{is_word}
+use Rattle.dl_script_fields.specs.declared.kind.ScriptKind.{ScriptKind}
+use Rattle.dl_script_fields.specs.declared.kind.ScriptKind.TheVariants as wrong
+use Rattle.dl_script_fields.specs.declared.line.Call.{Call}
 use Rattle.dl_script.specs.declared.claim.Claim.{Claim}
 use Rattle.dl_script.specs.declared.claim.Claim.TheVariants as claim
 use Rattle.dl_script.specs.declared.read.Read.{Read}

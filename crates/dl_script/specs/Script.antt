@@ -1,18 +1,18 @@
 -- What a script says, line by line, or its first bad line and what is wrong with it.
 use Rattle.std.specs.Prelude.{◌≡◌, ℕ, ◌+◌, nat_lt, List, [], ◌∷◌, length, Option, Some, None, Result, Ok, Err, if◌then◌else◌}
 use Rattle.std.specs.Option.{ok_or}
-use Rattle.dl_steps.specs.declared.step.Step.{Step}
-use Rattle.dl_steps.specs.declared.scenario.ScenarioLine.{ScenarioLine}
+use Rattle.dl_script_lines.specs.declared.step.Step.{Step}
+use Rattle.dl_script_lines.specs.declared.scenario.ScenarioLine.{ScenarioLine}
 use Rattle.dl_script.specs.Earlier.{Declared, nothing, refusal, noted}
 use Rattle.dl_text.specs.Faults.{size_limit}
 use Rattle.dl_text.specs.Lines.{lines_of}
-use Rattle.dl_fields.specs.Kind.{◌>>=◌}
+use Rattle.dl_script_fields.specs.Kind.{◌>>=◌}
 use Rattle.dl_script.specs.Line.{is_ignored, step_of, scenario_line_of}
 use Rattle.dl_script.specs.declared.claim.Claim.{Claim}
-use Rattle.dl_fields.specs.declared.kind.ScriptKind.{ScriptKind}
-use Rattle.dl_fields.specs.declared.kind.ScriptKind.TheVariants.{Size, Payload}
-use Rattle.dl_fields.specs.declared.kind.LineError.{LineError}
-use Rattle.dl_fields.specs.declared.kind.LineError.TheVariants as bad
+use Rattle.dl_script_fields.specs.declared.kind.ScriptKind.{ScriptKind}
+use Rattle.dl_script_fields.specs.declared.kind.ScriptKind.TheVariants.{Size, Payload}
+use Rattle.dl_script_fields.specs.declared.kind.LineError.{LineError}
+use Rattle.dl_script_fields.specs.declared.kind.LineError.TheVariants as bad
 use Rattle.dl_script.specs.declared.error.ScriptError.{ScriptError}
 use Rattle.dl_script.specs.declared.error.ScriptError.TheVariants.{Fault, OutOfMemory}
 use Rattle.dl_script.specs.declared.read.Read.{Read}

@@ -1,9 +1,9 @@
 //! What a line of a step script or of a scenario says: its word chooses what its fields are.
 
 ghost use Rattle.std.specs.Prelude.{◌≡◌};
-ghost use Rattle.dl_steps.specs.declared.step.Step.TheVariants as step;
-ghost use Rattle.dl_fields.specs.Fields.{texts};
-ghost use Rattle.dl_fields.specs.Kind.{Says};
+ghost use Rattle.dl_script_lines.specs.declared.step.Step.TheVariants as step;
+ghost use Rattle.dl_script_fields.specs.Fields.{texts};
+ghost use Rattle.dl_script_fields.specs.Kind.{Says};
 ghost use Rattle.dl_script.specs.Line.{called, step_by_word, step_word, scenario_word, scenario_by_word, line_of_text, step_of, scenario_line_of};
 ghost use Rattle.dl_script.specs.declared.word.StepWord.TheVariants as word;
 ghost use Rattle.dl_script.specs.declared.word.ScenarioWord.TheVariants as scene;
@@ -13,11 +13,11 @@ use crate::read::{Read, all_calls, one_call, says};
 use crate::scratch::Scratch;
 use crate::word::{ScenarioWord, StepWord, scenario_word, step_word};
 use dl_bytes::Payload;
-use dl_fields::{
+use dl_script_fields::{
     Call, LineError, ScriptKind, app, app_id, bare, client_bytes, client_number, clock, context,
     cut_into, leave, levels, log_call, user, worded, writer_number,
 };
-use dl_steps::{ScenarioLine, Step};
+use dl_script_lines::{ScenarioLine, Step};
 use std::alloc::Global;
 use std::str::from_utf8;
 

@@ -4,25 +4,11 @@ ghost use Rattle.std.specs.Prelude.{◌≡◌, ◌<◌, ◌+◌, IfSome, length,
 ghost use Rattle.dl_script.specs.Earlier.{nothing, is_app, is_of, is_context, numbered, logs_under, Admits};
 ghost use Rattle.dl_script.specs.declared.claim.Claim.TheVariants as claim;
 
-use dl_bytes::Id;
-use dl_fields::{LineError, ScriptKind};
+use dl_bytes::{APP_LIMIT, CALL_LIMIT, CLIENT_LIMIT, CONTEXT_LIMIT, Id, WRITER_LIMIT};
+use dl_script_fields::{LineError, ScriptKind};
+use indexmap::IndexSet;
 use std::alloc::Global;
 use std::marker::Model;
-
-/// The most applications.
-const APPS_LIMIT: usize = 16;
-
-/// The most contexts of an application.
-const CONTEXTS_LIMIT: usize = 64;
-
-/// The most writers.
-const WRITERS_LIMIT: usize = 32;
-
-/// The most clients of a scenario.
-const CLIENTS_LIMIT: usize = 32;
-
-/// The most log calls of a script.
-const CALLS_LIMIT: u64 = 1_000_000;
 
 /// The most bytes that one client sends.
 const SENT_LIMIT: u64 = 1_000_000;
@@ -59,7 +45,7 @@ pub enum Claim {
 }
 
 /// A context as lines name it.
-#[derive(Clone, Copy, Debug)]
+#[derive(Clone, Copy, Debug, PartialEq, Eq, Hash)]
 pub struct ContextName {
     /// The application's id.
     pub apid: Id,
@@ -80,7 +66,7 @@ pub struct Client {
 #[derive(Drop)]
 pub struct Known {
     apps: Vec<Id>,
-    contexts: Vec<ContextName>,
+    contexts: IndexSet<ContextName>,
     writers: Vec<Id>,
     clients: Vec<Client>,
     calls: u64,
@@ -95,7 +81,7 @@ impl Model for Known {
 
     ghost view = { λ k. record {
       apps = k.apps.items;
-      contexts = k.contexts.items;
+      contexts = k.contexts.keys;
       writers = k.writers.items;
       clients = k.clients.items;
       calls = k.calls;
@@ -112,7 +98,7 @@ impl Known {
     {
         Known {
             apps: Vec::new(alloc),
-            contexts: Vec::new(alloc),
+            contexts: IndexSet::new(alloc),
             writers: Vec::new(alloc),
             clients: Vec::new(alloc),
             calls: 0,
@@ -159,9 +145,10 @@ impl Known {
     fn is_context(&self, apid: &Id, ctid: &Id) -> bool
         ensures { result ≡ is_context self.now apid.now ctid.now }
     {
-        self.contexts
-            .iter()
-            .any(|context| context.apid == *apid && context.ctid == *ctid)
+        self.contexts.contains(&ContextName {
+            apid: *apid,
+            ctid: *ctid,
+        })
     }
 
     /// How many contexts of an application are declared.
@@ -211,7 +198,7 @@ impl Known {
         if self.is_app(&apid) {
             return Err(LineError::Fault(ScriptKind::Twice));
         }
-        if self.apps.len() >= APPS_LIMIT {
+        if self.apps.len() >= APP_LIMIT {
             return Err(LineError::Fault(ScriptKind::Limit));
         }
         self.apps.push(apid)?;
@@ -231,10 +218,10 @@ impl Known {
         if self.is_context(&apid, &ctid) {
             return Err(LineError::Fault(ScriptKind::Twice));
         }
-        if self.contexts_of(&apid) >= CONTEXTS_LIMIT {
+        if self.contexts_of(&apid) >= CONTEXT_LIMIT {
             return Err(LineError::Fault(ScriptKind::Limit));
         }
-        self.contexts.push(ContextName { apid, ctid })?;
+        self.contexts.insert(ContextName { apid, ctid })?;
         Ok(())
     }
 
@@ -245,7 +232,7 @@ impl Known {
         if !self.is_app(&apid) {
             return Err(LineError::Fault(ScriptKind::Unknown));
         }
-        if self.writers.len() >= WRITERS_LIMIT {
+        if self.writers.len() >= WRITER_LIMIT {
             return Err(LineError::Fault(ScriptKind::Limit));
         }
         self.writers.push(apid)?;
@@ -259,7 +246,7 @@ impl Known {
         if !self.logs_under(writer, &ctid) {
             return Err(LineError::Fault(ScriptKind::Unknown));
         }
-        if self.calls + count as u64 > CALLS_LIMIT {
+        if self.calls + count as u64 > CALL_LIMIT as u64 {
             return Err(LineError::Fault(ScriptKind::Limit));
         }
         self.calls += count as u64;
@@ -301,7 +288,7 @@ impl Known {
     fn client(&mut self) -> Result<(), LineError>
         ensures { Admits claim.Client result self.old self.new }
     {
-        if self.clients.len() >= CLIENTS_LIMIT {
+        if self.clients.len() >= CLIENT_LIMIT as usize {
             return Err(LineError::Fault(ScriptKind::Limit));
         }
         self.clients.push(Client {

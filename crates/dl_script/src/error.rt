@@ -3,7 +3,7 @@
 ghost use Rattle.std.specs.Prelude.{◌≡◌};
 ghost use Rattle.dl_script.specs.Script.{error_at};
 
-use dl_fields::{LineError, ScriptKind};
+use dl_script_fields::{LineError, ScriptKind};
 use std::alloc::{AllocError, AllocFailed};
 
 /// Why a script can't be read.

@@ -1,13 +1,15 @@
-//! Laws of what lines say.
+//! Laws of what lines say, and of what can be played: the steps that a text is read as, and those that a number makes.
 
-ghost use Rattle.std.specs.Prelude.{◌≡◌, ◌≤◌, ◌++◌, List, ℕ, true, Some, Ok, length};
+ghost use Rattle.std.specs.Prelude.{◌≡◌, ◌≤◌, ◌++◌, ◌+◌, ◌*◌, List, ℕ, true, Some, Ok, length};
 ghost use Rattle.std.specs.List.{list_all};
 ghost use Rattle.std.specs.Str.{is_utf8};
-ghost use Rattle.dl_fields.specs.Joined.{is_field, is_plain, parted_by_blanks};
-ghost use Rattle.dl_steps.specs.declared.scenario.ScenarioLine.{ScenarioLine};
-ghost use Rattle.dl_steps.specs.declared.step.Step.{Step};
+ghost use Rattle.dl_script_fields.specs.Joined.{is_field, is_plain, parted_by_blanks};
+ghost use Rattle.dl_script_lines.specs.declared.scenario.ScenarioLine.{ScenarioLine};
+ghost use Rattle.dl_script_lines.specs.declared.step.Step.{Step};
 ghost use Rattle.dl_text.specs.Faults.{size_limit};
 ghost use Rattle.dl_script.specs.Earlier.{nothing};
+ghost use Rattle.dl_script.specs.Generated.{generated};
+ghost use Rattle.dl_script.specs.Playable.{IsPlayable};
 ghost use Rattle.dl_script.specs.Script.{steps_of, scenario_of};
 ghost use Rattle.dl_script.specs.Spelled.{SpellsStep, SpellsScenarioLine, step_claim, scenario_claim, IsSayableStep, IsSayableScenarioLine, AreSpelled, MayFollow, text_of};
 ghost use Rattle.dl_script.specs.Line.{says, step_word, scenario_word, step_by_word, scenario_by_word, step_of, scenario_line_of};
@@ -41,4 +43,18 @@ pub fn a_script_says_what_its_lines_spell()
         → length (text_of lines) ≤ size_limit → steps_of (text_of lines) ≡ Ok steps }
     ensures scenario { (lines : List (List ℕ)) (scenario : List ScenarioLine) → AreSpelled SpellsScenarioLine lines scenario → MayFollow scenario_claim nothing scenario
         → length (text_of lines) ≤ size_limit → scenario_of (text_of lines) ≡ Ok scenario }
+{}
+
+/// A script that is read can be played: each of its steps may follow those before it, and its descriptions are short. It has
+/// no more steps than its text has bytes.
+pub fn what_is_read_can_be_played()
+    ensures playable { (text : List ℕ) (steps : List Step) → steps_of text ≡ Ok steps → IsPlayable steps }
+    ensures bounded { (text : List ℕ) (steps : List Step) → steps_of text ≡ Ok steps → (length steps ≤ length text) × (length text ≤ size_limit) }
+{}
+
+/// So can the steps that a number makes, up to as many calls as a script may have. There are 21 steps before the first call,
+/// and at most seven for each call.
+pub fn what_is_generated_can_be_played()
+    ensures playable { (number calls : ℕ) → calls ≤ 1000000 → IsPlayable (generated number calls) }
+    ensures bounded { (number calls : ℕ) → calls ≤ 1000000 → length (generated number calls) ≤ 21 + 7 * calls }
 {}

@@ -11,7 +11,7 @@ mod scratch;
 mod script;
 mod word;
 
-pub use dl_fields::ScriptKind;
+pub use dl_script_fields::ScriptKind;
 pub use error::ScriptError;
 pub use generator::generate;
 pub use script::{read_scenario, read_steps};

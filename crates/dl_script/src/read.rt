@@ -5,8 +5,8 @@ ghost use Rattle.dl_script.specs.Line.{says, calls};
 ghost use Rattle.dl_script.specs.declared.claim.Claim.TheVariants as claim;
 
 use crate::claim::Claim;
-use dl_fields::Call;
-use dl_steps::ScenarioLine;
+use dl_script_fields::Call;
+use dl_script_lines::ScenarioLine;
 
 /// What a line says, and what it declares or asks.
 #[derive(Drop)]

@@ -12,8 +12,8 @@ use crate::by_word::{scenario_line, step};
 use crate::claim::Known;
 use crate::error::ScriptError;
 use crate::scratch::Scratch;
-use dl_fields::{LineError, ScriptKind};
-use dl_steps::{Scenario, ScenarioLine, Step, StepList};
+use dl_script_fields::{LineError, ScriptKind};
+use dl_script_lines::{Scenario, ScenarioLine, Step, StepList};
 use dl_text::{SIZE_LIMIT, is_blank, lines};
 use std::alloc::Global;
 

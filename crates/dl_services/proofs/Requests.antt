@@ -9,14 +9,11 @@ use Rattle.dl_control.specs.declared.request.Request.{Request}
 use Rattle.dl_control.specs.declared.request.Request.TheVariants.{Store, Reset, Inject}
 use Rattle.dl_control.specs.declared.request.RequestFault.{RequestFault}
 use Rattle.dl_control.specs.declared.request.RequestFault.TheVariants.{Short, Excess}
-use Rattle.dl_events.specs.declared.event.Event.{Event}
 use Rattle.dl_model.specs.declared.registry.Context.{Context}
 use Rattle.dl_model.specs.declared.registry.Slot.{Slot}
-use Rattle.dl_model.specs.Journal.{registry_of, slots_of}
 use Rattle.dl_model.specs.Registry.{App, Registry}
-use Rattle.dl_model.specs.Reply.{apid_of, bare, ctid_of, done_status, inject_status, injected, now_stored, reply_to, reset_requested, reset_status, served, where_done}
+use Rattle.dl_model.specs.Reply.{Folder, Nothing, Queue, bare, done_status, inject_status, injected, need_of, now_stored, reply_to, reset_requested, reset_status, served, where_done}
 use Rattle.dl_model.specs.Setting.{Setting}
-use Rattle.dl_model.specs.Steps.{Folder, Nothing, Queue, need_of}
 use Rattle.dl_services.specs.Wish.{wanted, needed, removes, sends}
 use Rattle.dl_services.specs.declared.wish.Want.TheVariants as want
 
@@ -29,12 +26,12 @@ pub inject_needs : (service : ℕ) (body : Arguments) (o : Option (App × Contex
 inject_needs service body None = refl
 inject_needs service body (Some target) = refl
 
-pub wants-needs : (setting : Setting) (events : List Event) (frame : List ℕ) (request : Result Request RequestFault)
-    → need_of setting events frame request ≡ needed (wanted setting (slots_of setting events) (registry_of setting events) (apid_of frame) (ctid_of frame) request)
-wants-needs setting events frame (Ok Store) = refl
-wants-needs setting events frame (Ok Reset) = reset_needs (reset_requested setting (slots_of setting events) (registry_of setting events))
-wants-needs setting events frame (Ok (Inject service body)) = inject_needs service body (injected setting (registry_of setting events) (apid_of frame) (ctid_of frame))
-wants-needs setting events frame _ = refl
+pub wants-needs : (setting : Setting) (slots : ℕ → Slot) (registry : Registry) (apid ctid : List ℕ) (request : Result Request RequestFault)
+    → need_of setting slots registry apid ctid request ≡ needed (wanted setting slots registry apid ctid request)
+wants-needs setting slots registry apid ctid (Ok Store) = refl
+wants-needs setting slots registry apid ctid (Ok Reset) = reset_needs (reset_requested setting slots registry)
+wants-needs setting slots registry apid ctid (Ok (Inject service body)) = inject_needs service body (injected setting registry apid ctid)
+wants-needs setting slots registry apid ctid _ = refl
 
 -- the same registry, done or not
 where_done-same : (answer : Done) (registry : Registry) → where_done answer registry registry ≡ registry

@@ -28,6 +28,7 @@ some_setting injection level = record {
   injection = injection;
   stored = record { level = None; own = [] };
   first = 0;
+  clients = 0;
 }
 
 pub wants_store : (injection : Bool) (level : ℕ) (kept : Kept) (target : List ℕ × List ℕ) (request : Result Request RequestFault) (want : Want)

@@ -11,7 +11,7 @@ use Rattle.dl_model.specs.declared.registry.Slot.{Slot}
 use Rattle.dl_model.specs.Registry.{App, Registry, app_of, context_of, owns_now}
 use Rattle.dl_model.specs.Reply.{injected, reset_requested}
 use Rattle.dl_model.specs.Setting.{Setting}
-use Rattle.dl_model.specs.Steps as steps
+use Rattle.dl_model.specs.Reply as reply
 use Rattle.dl_registry.specs.Kept.{Kept, slots}
 use Rattle.dl_services.specs.declared.wish.Want.{Want}
 use Rattle.dl_services.specs.declared.wish.Want.TheVariants as want
@@ -57,8 +57,8 @@ Wants injection level kept target request want =
     (setting : Setting) → IsSetTo injection level setting → want ≡ wanted setting (slots kept) kept.registry target.0 target.1 request
 
 -- whom that concerns: the folder, or the queue of an application
-abbrev pub needed : Want → steps.Need
-needed want.Nothing = steps.Nothing
-needed (want.Put text stored) = steps.Folder
-needed want.Remove = steps.Folder
-needed (want.Inject app injection) = steps.Queue app
+abbrev pub needed : Want → reply.Need
+needed want.Nothing = reply.Nothing
+needed (want.Put text stored) = reply.Folder
+needed want.Remove = reply.Folder
+needed (want.Inject app injection) = reply.Queue app

@@ -5,20 +5,17 @@ ghost use Rattle.dl_bytes.specs.declared.outcome.Done.{Done};
 ghost use Rattle.dl_bytes.specs.declared.outcome.Done.TheVariants as done;
 ghost use Rattle.dl_control.specs.declared.request.Request.{Request};
 ghost use Rattle.dl_control.specs.declared.request.RequestFault.{RequestFault};
-ghost use Rattle.dl_events.specs.declared.event.Event.{Event};
 ghost use Rattle.dl_model.specs.declared.registry.Slot.{Slot};
-ghost use Rattle.dl_model.specs.Journal.{registry_of, slots_of};
 ghost use Rattle.dl_model.specs.Registry.{Registry};
-ghost use Rattle.dl_model.specs.Reply.{apid_of, ctid_of, reply_to, served};
+ghost use Rattle.dl_model.specs.Reply.{need_of, reply_to, served};
 ghost use Rattle.dl_model.specs.Setting.{Setting};
-ghost use Rattle.dl_model.specs.Steps.{need_of};
 ghost use Rattle.dl_services.specs.Wish.{wanted, needed};
 ghost use Rattle.dl_services.specs.declared.wish.Want.TheVariants as want;
 
-/// What a request wants is what a run of steps asks for it: of the folder, or of the queue of the same application.
+/// What a request wants is what it needs by the definition: of the folder, or of the queue of the same application.
 pub fn wants_are_needs()
-    ensures { (setting : Setting) (events : List Event) (frame : List ℕ) (request : Result Request RequestFault) →
-        need_of setting events frame request ≡ needed (wanted setting (slots_of setting events) (registry_of setting events) (apid_of frame) (ctid_of frame) request) }
+    ensures { (setting : Setting) (slots : ℕ → Slot) (registry : Registry) (apid ctid : List ℕ) (request : Result Request RequestFault) →
+        need_of setting slots registry apid ctid request ≡ needed (wanted setting slots registry apid ctid request) }
 {}
 
 /// Where a request wants nothing, it makes no difference to the registry or the reply what came of it.

@@ -39,6 +39,14 @@ last_name files = option_map_or (λ file. file.name) (slice_get files (length fi
 abbrev pub names_of : List TraceFile → List (List ℕ)
 names_of files = map (λ (file : TraceFile). file.name) files
 
+-- the names of the files that go where one is begun
+abbrev pub gone_names : ℕ → List TraceFile → List (List ℕ)
+gone_names limit files = names_of (take (going limit files) files)
+
+-- the files where one was begun, and the oldest went
+abbrev pub with_new : ℕ → List ℕ → ℕ → List TraceFile → List TraceFile
+with_new limit name bytes files = drop (going limit files) files ++ record { name = name; bytes = bytes } ∷ []
+
 -- the folder without files of these names
 abbrev pub without : Files → List (List ℕ) → Files
 without folder [] = folder
@@ -98,7 +106,7 @@ next_name trace = trace_name trace.directory (trace.last + 1)
 -- the trace where a file was begun with so many bytes
 abbrev pub with_file : ℕ → Trace → Trace
 with_file bytes trace = record trace {
-  state = record { files = drop (going_of trace) trace.state.files ++ record { name = next_name trace; bytes = bytes } ∷ []; end = trace.state.end };
+  state = record { files = with_new (closed_limit trace) (next_name trace) bytes trace.state.files; end = trace.state.end };
   last = trace.last + 1;
   begun = true;
 }
@@ -111,7 +119,7 @@ ExtendsTrace old new told told_now result piece =
 abbrev pub BeginsFile : Trace → Trace → Option Files → Option Files → Result (Unit {0}) TraceEnd → List ℕ → Type 0
 BeginsFile old new told told_now result piece =
     (new ≡ (if is_ok result then with_file (length piece) old else old))
-    × Begins told told_now result (next_name old) piece (names_of (take (going_of old) old.state.files))
+    × Begins told told_now result (next_name old) piece (gone_names (closed_limit old) old.state.files)
 
 -- a piece was put where it goes, unless it would need a file with a number that none can have
 abbrev pub Places : Bool → Trace → Trace → Option Files → Option Files → Result (Unit {0}) TraceEnd → List ℕ → Type 0

@@ -5,6 +5,7 @@ use Rattle.dl_bytes.specs.declared.outcome.TraceEnd.{TraceEnd}
 use Rattle.dl_bytes.specs.declared.outcome.TraceEnd.TheVariants.{Failed, Spent, NoMemory}
 use Rattle.dl_outside.specs.Folder.{Files, with_more}
 use Rattle.dl_outside.specs.Outside.{HasRisen}
+use Rattle.dl_outside.specs.Told.{FolderTold}
 use Rattle.dl_model.specs.TraceFiles.{StoredFile, is_spent, trace_name}
 use Rattle.dl_trace.specs.State.{Trace, IsAfter, IsSameTrace, files_after, number_after}
 use Rattle.dl_trace.specs.Stands.{HasFiles, HasFilesBut}
@@ -77,3 +78,12 @@ pub record Stops (end : TraceEnd) (frames : List (List ℕ)) (old new : Trace) (
       → (now : Files) × (told_now ≡ Some now)
       × Leaves end old.directory (files_after old stood (done ++ frames_in stored)) (files_after old stood (done ++ frames_in stored ++ piece))
       (number_after old stood (done ++ frames_in stored ++ piece)) (concat piece) now)
+
+-- ---- by the answer
+
+-- what a call leaves that was to store these frames: all are stored, or it stopped at a piece, for the cause that it tells
+abbrev pub StoresOrStops : List (List ℕ) → Result (Unit {0}) TraceEnd → Trace → Trace → FolderTold → FolderTold → Type 0
+StoresOrStops frames (Ok done) old new folder folder_now =
+    IsStored frames old new folder.files folder_now.files × (folder_now.faults ≡ folder.faults)
+StoresOrStops frames (Err end) old new folder folder_now =
+    Stops end frames old new folder.files folder_now.files × HasCause {T = Unit {0}} folder.faults folder_now.faults (Err end)

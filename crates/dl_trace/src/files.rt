@@ -1,9 +1,9 @@
 //! The list of files beside a folder: what one piece more changes.
 
-ghost use Rattle.std.specs.Prelude.{◌≡◌, ◌≤◌, ◌<◌, ◌+◌, ◌-◌, ◌^◌, ◌++◌, ◌∷◌, [], ℕ, All, length, map, take, drop, is_ok, slice_get, slice_set, if◌then◌else◌, vec_len};
+ghost use Rattle.std.specs.Prelude.{◌≡◌, ◌≤◌, ◌<◌, ◌+◌, ◌-◌, ◌^◌, ℕ, All, length, is_ok, if◌then◌else◌};
 ghost use Rattle.std.specs.Str.{IsAscii};
 ghost use Rattle.dl_trace.specs.Pieces.{last_size};
-ghost use Rattle.dl_trace.specs.Steps.{Begins, Extends, RemovesAll, end_of, going, grown_last, last_name, names_of};
+ghost use Rattle.dl_trace.specs.Steps.{Begins, Extends, RemovesAll, end_of, going, gone_names, grown_last, last_name, names_of, with_new};
 ghost use Rattle.dl_trace.specs.Storing.{HasCause};
 
 use crate::name::as_text;
@@ -37,9 +37,9 @@ fn going(files: &[TraceFile], limit: u64) -> usize
 /// Takes files away, the oldest first.
 fn remove_all<F: Folder>(folder: &mut F, files: &[TraceFile]) -> Result<(), TraceEnd>
     requires { All (λ (file : TraceFile). IsAscii file.name) files.now }
-    ensures folder { RemovesAll (F.files folder.old) (F.files folder.new) result (names_of files.now) }
-    ensures cause { HasCause (F.faults folder.old) (F.faults folder.new) result }
-    ensures appends { F.appends folder.new ≡ F.appends folder.old }
+    ensures folder { RemovesAll (F.told folder.old).files (F.told folder.new).files result (names_of files.now) }
+    ensures cause { HasCause (F.told folder.old).faults (F.told folder.new).faults result }
+    ensures appends { (F.told folder.new).appends ≡ (F.told folder.old).appends }
 {
     for file in files {
         match folder.remove(as_text(file.name.all())) {
@@ -60,9 +60,9 @@ pub fn extend_file<F: Folder>(
     requires small { last_size files.old.items + length piece.now < 2 ^ 64 }
     requires text { All (λ (file : TraceFile). IsAscii file.name) files.old.items }
     ensures files { files.new.items ≡ (if is_ok result then grown_last (length piece.now) files.old.items else files.old.items) }
-    ensures folder { Extends (F.files folder.old) (F.files folder.new) result (last_name files.old.items) piece.now }
-    ensures cause { HasCause (F.faults folder.old) (F.faults folder.new) result }
-    ensures appends { F.appends folder.new ≤ F.appends folder.old + 1 }
+    ensures folder { Extends (F.told folder.old).files (F.told folder.new).files result (last_name files.old.items) piece.now }
+    ensures cause { HasCause (F.told folder.old).faults (F.told folder.new).faults result }
+    ensures appends { (F.told folder.new).appends ≤ (F.told folder.old).appends + 1 }
 {
     let newest = files.len() - 1;
     match folder.append(as_text(files[newest].name.all()), piece) {
@@ -84,10 +84,10 @@ pub fn begin_file<F: Folder>(
 ) -> Result<(), TraceEnd>
     requires name { IsAscii name }
     requires text { All (λ (file : TraceFile). IsAscii file.name) files.old.items }
-    ensures files { files.new.items ≡ (if is_ok result then drop (going limit files.old.items) files.old.items ++ (record { name = name; bytes = length piece.now }) ∷ [] else files.old.items) }
-    ensures folder { Begins (F.files folder.old) (F.files folder.new) result name piece.now (names_of (take (going limit files.old.items) files.old.items)) }
-    ensures cause { HasCause (F.faults folder.old) (F.faults folder.new) result }
-    ensures appends { F.appends folder.new ≤ F.appends folder.old + 1 }
+    ensures files { files.new.items ≡ (if is_ok result then with_new limit name (length piece.now) files.old.items else files.old.items) }
+    ensures folder { Begins (F.told folder.old).files (F.told folder.new).files result name piece.now (gone_names limit files.old.items) }
+    ensures cause { HasCause (F.told folder.old).faults (F.told folder.new).faults result }
+    ensures appends { (F.told folder.new).appends ≤ (F.told folder.old).appends + 1 }
 {
     if files.reserve(1).is_err() {
         return Err(TraceEnd::NoMemory);

@@ -1,6 +1,6 @@
 //! The trace itself: which file a piece goes into, and what is told of the files.
 
-ghost use Rattle.std.specs.Prelude.{◌≡◌, ◌≤◌, ◌<◌, ◌+◌, ◌-◌, ◌∷◌, ◌++◌, [], ℕ, List, true, false, codes, length, max, take, drop, sum, None, Some, Ok, Err, IfOk, IfErr, IfNone, IfSome, OnOk, if◌then◌else◌};
+ghost use Rattle.std.specs.Prelude.{◌≡◌, ◌≤◌, ◌<◌, ◌+◌, ◌-◌, ◌∷◌, ◌++◌, [], ℕ, List, true, false, codes, length, max, take, drop, sum, None, Some, Ok, Err, IfOk, IfErr, IfNone, IfSome, if◌then◌else◌};
 ghost use Rattle.dl_model.specs.TraceFiles.{StoredFile, number_limit, six_digits};
 ghost use Rattle.dl_outside.specs.Outside.{Stays};
 ghost use Rattle.dl_trace.specs.Batch.{AreSizes, IsNext, fit, parted};
@@ -10,7 +10,7 @@ ghost use Rattle.dl_trace.specs.Pieces.{pieces_of, room_of};
 ghost use Rattle.dl_trace.specs.Stands.{ChangesTraceFiles, HasFiles};
 ghost use Rattle.dl_trace.specs.State.{IsAfter};
 ghost use Rattle.dl_trace.specs.Steps.{BeginsFile, ExtendsTrace, Places};
-ghost use Rattle.dl_trace.specs.Storing.{HasCause, IsStored, Stops, StoresNext};
+ghost use Rattle.dl_trace.specs.Storing.{HasCause, Stops, StoresNext, StoresOrStops};
 
 use crate::batch::StoredBatch;
 use crate::files::{begin_file, extend_file};
@@ -156,9 +156,9 @@ impl Trace {
     fn extend<F: Folder>(&mut self, folder: &mut F, piece: &[u8]) -> Result<(), TraceEnd>
         requires open { self.old.begun ≡ true }
         requires room { length piece.now ≤ room_of self.old }
-        ensures trace { ExtendsTrace self.old self.new (F.files folder.old) (F.files folder.new) result piece.now }
-        ensures cause { HasCause (F.faults folder.old) (F.faults folder.new) result }
-        ensures appends { F.appends folder.new ≤ F.appends folder.old + 1 }
+        ensures trace { ExtendsTrace self.old self.new (F.told folder.old).files (F.told folder.new).files result piece.now }
+        ensures cause { HasCause (F.told folder.old).faults (F.told folder.new).faults result }
+        ensures appends { (F.told folder.new).appends ≤ (F.told folder.old).appends + 1 }
     {
         let none = Sequence::over(Vec::new(self.alloc));
         let mut files = replace(&mut self.state.files, none).into_vec();
@@ -171,9 +171,9 @@ impl Trace {
     fn begin<F: Folder>(&mut self, folder: &mut F, piece: &[u8]) -> Result<(), TraceEnd>
         requires number { self.old.last < number_limit }
         requires size { length piece.now ≤ self.old.file_size }
-        ensures trace { BeginsFile self.old self.new (F.files folder.old) (F.files folder.new) result piece.now }
-        ensures cause { HasCause (F.faults folder.old) (F.faults folder.new) result }
-        ensures appends { F.appends folder.new ≤ F.appends folder.old + 1 }
+        ensures trace { BeginsFile self.old self.new (F.told folder.old).files (F.told folder.new).files result piece.now }
+        ensures cause { HasCause (F.told folder.old).faults (F.told folder.new).faults result }
+        ensures appends { (F.told folder.new).appends ≤ (F.told folder.old).appends + 1 }
     {
         let Ok(name) = file_name(self.alloc, self.directory.all(), self.last + 1) else {
             return Err(TraceEnd::NoMemory);
@@ -199,9 +199,9 @@ impl Trace {
         requires open { begins ≡ false → self.old.begun ≡ true }
         requires room { begins ≡ false → length piece.now ≤ room_of self.old }
         requires size { length piece.now ≤ self.old.file_size }
-        ensures trace { Places begins self.old self.new (F.files folder.old) (F.files folder.new) result piece.now }
-        ensures cause { HasCause (F.faults folder.old) (F.faults folder.new) result }
-        ensures appends { F.appends folder.new ≤ F.appends folder.old + 1 }
+        ensures trace { Places begins self.old self.new (F.told folder.old).files (F.told folder.new).files result piece.now }
+        ensures cause { HasCause (F.told folder.old).faults (F.told folder.new).faults result }
+        ensures appends { (F.told folder.new).appends ≤ (F.told folder.old).appends + 1 }
     {
         if !begins {
             return self.extend(folder, piece);
@@ -232,11 +232,11 @@ impl Trace {
         requires some { 0 < length sizes.now }
         requires sizes { AreSizes sizes.now bytes.now }
         ensures next { IfOk result (λ piece. IsNext piece.frames piece.bytes sizes.now) }
-        ensures stored { IfOk result (λ piece. StoresNext piece.frames (parted sizes.now bytes.now) self.old self.new (F.files folder.old) (F.files folder.new)) }
-        ensures stopped { IfErr result (λ end. Stops end (parted sizes.now bytes.now) self.old self.new (F.files folder.old) (F.files folder.new)) }
-        ensures cause { HasCause (F.faults folder.old) (F.faults folder.new) result }
-        ensures appends { F.appends folder.new ≤ F.appends folder.old + 1 }
-        ensures others { ChangesTraceFiles self.old.directory (F.files folder.old) (F.files folder.new) }
+        ensures stored { IfOk result (λ next. StoresNext next.frames (parted sizes.now bytes.now) self.old self.new (F.told folder.old).files (F.told folder.new).files) }
+        ensures stopped { IfErr result (λ end. Stops end (parted sizes.now bytes.now) self.old self.new (F.told folder.old).files (F.told folder.new).files) }
+        ensures cause { HasCause (F.told folder.old).faults (F.told folder.new).faults result }
+        ensures appends { (F.told folder.new).appends ≤ (F.told folder.old).appends + 1 }
+        ensures others { ChangesTraceFiles self.old.directory (F.told folder.old).files (F.told folder.new).files }
     {
         let begins = self.begins(sizes[0]);
         let piece = front_of(sizes, room_for(begins, self.file_size, self.room()));
@@ -258,11 +258,9 @@ impl Trace {
     ) -> Result<(), TraceEnd>
         requires { AreSizes sizes.now bytes.now }
         ensures ended { IfSome self.old.state.end (λ end. (result ≡ Err end) × (self.new ≡ self.old) × (folder.new ≡ folder.old)) }
-        ensures stored { IfNone self.old.state.end (OnOk result (IsStored (parted sizes.now bytes.now) self.old self.new (F.files folder.old) (F.files folder.new))) }
-        ensures stopped { IfNone self.old.state.end (IfErr result (λ end. Stops end (parted sizes.now bytes.now) self.old self.new (F.files folder.old) (F.files folder.new))) }
-        ensures cause { IfNone self.old.state.end (HasCause (F.faults folder.old) (F.faults folder.new) result) }
-        ensures appends { F.appends folder.new ≤ F.appends folder.old + length (pieces_of self.old (parted sizes.now bytes.now)) }
-        ensures others { ChangesTraceFiles self.old.directory (F.files folder.old) (F.files folder.new) }
+        ensures stored { IfNone self.old.state.end (StoresOrStops (parted sizes.now bytes.now) result self.old self.new (F.told folder.old) (F.told folder.new)) }
+        ensures appends { (F.told folder.new).appends ≤ (F.told folder.old).appends + length (pieces_of self.old (parted sizes.now bytes.now)) }
+        ensures others { ChangesTraceFiles self.old.directory (F.told folder.old).files (F.told folder.new).files }
     {
         match self.state.end {
             Some(end) => return Err(end),
@@ -288,11 +286,9 @@ impl Trace {
         requires least { 17 ≤ length stored.now }
         requires most { length stored.now ≤ 2000 }
         ensures ended { IfSome self.old.state.end (λ end. (result ≡ Err end) × (self.new ≡ self.old) × (folder.new ≡ folder.old)) }
-        ensures stored { IfNone self.old.state.end (OnOk result (IsStored (stored.now ∷ []) self.old self.new (F.files folder.old) (F.files folder.new))) }
-        ensures stopped { IfNone self.old.state.end (IfErr result (λ end. Stops end (stored.now ∷ []) self.old self.new (F.files folder.old) (F.files folder.new))) }
-        ensures cause { IfNone self.old.state.end (HasCause (F.faults folder.old) (F.faults folder.new) result) }
-        ensures appends { F.appends folder.new ≤ F.appends folder.old + 1 }
-        ensures others { ChangesTraceFiles self.old.directory (F.files folder.old) (F.files folder.new) }
+        ensures stored { IfNone self.old.state.end (StoresOrStops (stored.now ∷ []) result self.old self.new (F.told folder.old) (F.told folder.new)) }
+        ensures appends { (F.told folder.new).appends ≤ (F.told folder.old).appends + 1 }
+        ensures others { ChangesTraceFiles self.old.directory (F.told folder.old).files (F.told folder.new).files }
     {
         self.store(folder, &[stored.len() as u16], stored)
     }
@@ -305,11 +301,9 @@ impl Trace {
         batch: &StoredBatch,
     ) -> Result<(), TraceEnd>
         ensures ended { IfSome self.old.state.end (λ end. (result ≡ Err end) × (self.new ≡ self.old) × (folder.new ≡ folder.old)) }
-        ensures stored { IfNone self.old.state.end (OnOk result (IsStored batch.now self.old self.new (F.files folder.old) (F.files folder.new))) }
-        ensures stopped { IfNone self.old.state.end (IfErr result (λ end. Stops end batch.now self.old self.new (F.files folder.old) (F.files folder.new))) }
-        ensures cause { IfNone self.old.state.end (HasCause (F.faults folder.old) (F.faults folder.new) result) }
-        ensures appends { F.appends folder.new ≤ F.appends folder.old + length (pieces_of self.old batch.now) }
-        ensures others { ChangesTraceFiles self.old.directory (F.files folder.old) (F.files folder.new) }
+        ensures stored { IfNone self.old.state.end (StoresOrStops batch.now result self.old self.new (F.told folder.old) (F.told folder.new)) }
+        ensures appends { (F.told folder.new).appends ≤ (F.told folder.old).appends + length (pieces_of self.old batch.now) }
+        ensures others { ChangesTraceFiles self.old.directory (F.told folder.old).files (F.told folder.new).files }
     {
         let (sizes, bytes) = batch.parts();
         self.store(folder, sizes, bytes)
@@ -339,12 +333,12 @@ fn ask<F: Folder>(
     name: &Name,
 ) -> Result<Option<(u32, u64)>, TraceFault>
     ensures found { IfOk result (λ found. IfSome found (λ file. (1 ≤ file.0) × (file.0 ≤ number_limit)
-        × (name.now ≡ front.now ++ six_digits file.0 ++ codes ".dlt") × IsSize (F.files folder.old) name.now file.1)) }
-    ensures none { IfOk result (λ found. IfNone found (IsNoFile (F.files folder.old) front.now name.now)) }
-    ensures stays { Stays (F.files folder.old) (F.files folder.new) }
-    ensures cause { HasFailed (F.faults folder.old) (F.faults folder.new) result }
-    ensures unchanged { F.changes folder.new ≡ F.changes folder.old }
-    ensures unappended { F.appends folder.new ≡ F.appends folder.old }
+        × (name.now ≡ front.now ++ six_digits file.0 ++ codes ".dlt") × IsSize (F.told folder.old).files name.now file.1)) }
+    ensures none { IfOk result (λ found. IfNone found (IsNoFile (F.told folder.old).files front.now name.now)) }
+    ensures stays { Stays (F.told folder.old).files (F.told folder.new).files }
+    ensures cause { HasFailed (F.told folder.old).faults (F.told folder.new).faults result }
+    ensures unchanged { (F.told folder.new).changes ≡ (F.told folder.old).changes }
+    ensures unappended { (F.told folder.new).appends ≡ (F.told folder.old).appends }
 {
     let Some(number) = number_of(front, name.as_str().as_bytes()) else {
         return Ok(None);
@@ -365,11 +359,11 @@ fn old_files<F: Folder>(
     names: &[Name],
 ) -> Result<OldFiles, TraceFault>
     requires { front.now ≡ directory.now ++ codes "/dlt_offlinetrace." }
-    ensures found { IfOk result (λ old. AreFound directory.now (F.files folder.old) names.now old.files.items old.last) }
-    ensures stays { Stays (F.files folder.old) (F.files folder.new) }
-    ensures cause { HasFailed (F.faults folder.old) (F.faults folder.new) result }
-    ensures unchanged { F.changes folder.new ≡ F.changes folder.old }
-    ensures unappended { F.appends folder.new ≡ F.appends folder.old }
+    ensures found { IfOk result (λ old. AreFound directory.now (F.told folder.old).files names.now old.files.items old.last) }
+    ensures stays { Stays (F.told folder.old).files (F.told folder.new).files }
+    ensures cause { HasFailed (F.told folder.old).faults (F.told folder.new).faults result }
+    ensures unchanged { (F.told folder.new).changes ≡ (F.told folder.old).changes }
+    ensures unappended { (F.told folder.new).appends ≡ (F.told folder.old).appends }
 {
     let mut files = Vec::new(alloc);
     let mut last = 0;
@@ -394,11 +388,11 @@ impl Trace {
         requires { 0 < length conf.now.directory }
         ensures made { IfOk result (λ trace. IsMade conf.now trace) }
         ensures stood { IfOk result (λ trace. (stood : List StoredFile) × IsAfter stood [] trace
-            × IfSome (F.files folder.old) (λ files. HasFiles conf.now.directory files stood)) }
-        ensures stays { Stays (F.files folder.old) (F.files folder.new) }
-        ensures cause { HasFailed (F.faults folder.old) (F.faults folder.new) result }
-        ensures unchanged { F.changes folder.new ≡ F.changes folder.old }
-        ensures unappended { F.appends folder.new ≡ F.appends folder.old }
+            × IfSome (F.told folder.old).files (λ files. HasFiles conf.now.directory files stood)) }
+        ensures stays { Stays (F.told folder.old).files (F.told folder.new).files }
+        ensures cause { HasFailed (F.told folder.old).faults (F.told folder.new).faults result }
+        ensures unchanged { (F.told folder.new).changes ≡ (F.told folder.old).changes }
+        ensures unappended { (F.told folder.new).appends ≡ (F.told folder.old).appends }
     {
         let directory = Vec::from_slice(alloc, conf.directory.all())?;
         let front = name_front(alloc, &directory)?;

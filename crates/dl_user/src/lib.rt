@@ -11,6 +11,3 @@ mod write;
 pub use cutter::{UserCut, UserCutter};
 pub use fault::UserFault;
 pub use write::write_user;
-
-#[cfg(test)]
-mod tests;

@@ -13,7 +13,8 @@ use Rattle.dl_trace.specs.State.{Trace}
 use Rattle.dl_core.specs.Serving.{Answers, stored_name}
 use Rattle.dl_core.specs.State.{Core}
 use Rattle.dl_core.proofs.Requested.{put_other, gone_other}
-use Rattle.dl_world.specs.Folders.{Told, Leaves}
+use Rattle.dl_outside.specs.Told.{FolderTold}
+use Rattle.dl_world.specs.Folders.{Leaves}
 use Rattle.dl_world.specs.Played.{ChangesOwnFiles}
 
 -- ---- the others stay
@@ -47,12 +48,12 @@ kept_removed (Some files) told_now (Ok gone) removes = (map.remove files stored_
 kept_removed (Some files) told_now (Err fault.Failed) removes = kept_but (Some files) told_now removes
 kept_removed (Some files) told_now (Err fault.OutOfMemory) removes = (files, removes, λ name other. refl)
 
-others_kept : (wants : Want) (pushed : Bool) (answer : Done) (told told_now : Option Files) (faults faults_now : ℕ) → Answers wants pushed answer told told_now faults faults_now
-    → KeepsOthers told told_now
-others_kept want.Nothing pushed answer told told_now faults faults_now acts = kept_as told told_now acts.1
-others_kept (want.Put text stored) pushed answer told told_now faults faults_now acts = kept_put told told_now acts.0 text acts.2
-others_kept want.Remove pushed answer told told_now faults faults_now acts = kept_removed told told_now acts.0 acts.2
-others_kept (want.Inject app injection) pushed answer told told_now faults faults_now acts = kept_as told told_now acts.1
+others_kept : (wants : Want) (pushed : Bool) (answer : Done) (told told_now : FolderTold) → Answers wants pushed answer told told_now
+    → KeepsOthers told.files told_now.files
+others_kept want.Nothing pushed answer told told_now acts = kept_as told.files told_now.files (ap (λ (f : FolderTold). f.files) acts.1)
+others_kept (want.Put text stored) pushed answer told told_now acts = kept_put told.files told_now.files acts.0 text acts.2
+others_kept want.Remove pushed answer told told_now acts = kept_removed told.files told_now.files acts.0 acts.2
+others_kept (want.Inject app injection) pushed answer told told_now acts = kept_as told.files told_now.files (ap (λ (f : FolderTold). f.files) acts.1)
 
 -- where a trace is kept, and where none is
 own_files : (trace : Option Trace) (told told_now : Option Files) → KeepsOthers told told_now → ChangesOwnFiles trace told told_now
@@ -67,19 +68,18 @@ caused (Ok made) faults faults_now cause = omega (arith, cause)
 caused (Err fault.Failed) faults faults_now cause = cause.0
 caused (Err fault.OutOfMemory) faults faults_now cause = omega (arith, cause)
 
-faults_later : (wants : Want) (pushed : Bool) (answer : Done) (told told_now : Option Files) (faults faults_now : ℕ) → Answers wants pushed answer told told_now faults faults_now
-    → faults ≤ faults_now
-faults_later want.Nothing pushed answer told told_now faults faults_now acts = omega (arith, acts.2)
-faults_later (want.Put text stored) pushed answer told told_now faults faults_now acts = caused acts.0 faults faults_now acts.3
-faults_later want.Remove pushed answer told told_now faults faults_now acts = caused acts.0 faults faults_now acts.3
-faults_later (want.Inject app injection) pushed answer told told_now faults faults_now acts = omega (arith, acts.2)
+faults_later : (wants : Want) (pushed : Bool) (answer : Done) (told told_now : FolderTold) → Answers wants pushed answer told told_now → told.faults ≤ told_now.faults
+faults_later want.Nothing pushed answer told told_now acts = omega (arith, ap (λ (f : FolderTold). f.faults) acts.1)
+faults_later (want.Put text stored) pushed answer told told_now acts = caused acts.0 told.faults told_now.faults acts.3
+faults_later want.Remove pushed answer told told_now acts = caused acts.0 told.faults told_now.faults acts.3
+faults_later (want.Inject app injection) pushed answer told told_now acts = omega (arith, ap (λ (f : FolderTold). f.faults) acts.1)
 
 -- ---- what a request leaves
 
-pub request_leaves : (wants : Want) (pushed : Bool) (answer : Done) (old new : Core) (told told_now : Told) → Answers wants pushed answer told.files told_now.files told.faults told_now.faults
+pub request_leaves : (wants : Want) (pushed : Bool) (answer : Done) (old new : Core) (told told_now : FolderTold) → Answers wants pushed answer told told_now
     → new.trace ≡ old.trace → Leaves old new told told_now
 request_leaves wants pushed answer old new told told_now acts same = record {
-  others = own_files old.trace told.files told_now.files (others_kept wants pushed answer told.files told_now.files told.faults told_now.faults acts);
+  others = own_files old.trace told.files told_now.files (others_kept wants pushed answer told told_now acts);
   same = ap (option_map (λ (t : Trace). t.directory)) same;
-  later = faults_later wants pushed answer told.files told_now.files told.faults told_now.faults acts;
+  later = faults_later wants pushed answer told told_now acts;
 }

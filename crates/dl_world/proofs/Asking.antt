@@ -9,13 +9,13 @@ use Rattle.dl_model.specs.Setting.{Setting}
 use Rattle.dl_model.specs.Journal.{is_request_of}
 use Rattle.dl_model.specs.Marks.{Mark, journal}
 use Rattle.dl_model.specs.Steps as steps
-use Rattle.dl_model.specs.Steps.{Act, ask, close, in_turn, when, hand_out, hand_out_now, request_now}
+use Rattle.dl_model.specs.Steps.{Act, ask, close, in_sequence, when, note_levels, note_levels_now, request_now}
 use Rattle.dl_hub.specs.State as hub
 use Rattle.dl_hub.specs.State.{client_of, outbox_of}
 use Rattle.dl_hub.proofs.Keeping.{found}
 use Rattle.dl_core.specs.Follows.{Run}
 use Rattle.dl_core.proofs.Answered.{replies_are}
-use Rattle.dl_world.specs.Folders.{Told}
+use Rattle.dl_outside.specs.Told.{FolderTold}
 use Rattle.dl_world.specs.Follows.{IsAfter, Deed, Does, Doing}
 use Rattle.dl_world.specs.State.{taken_by}
 use Rattle.dl_world.specs.declared.world.World.{World}
@@ -66,36 +66,36 @@ nothing_of true first second done o shut = rw shut refl
 nothing_of false first second done o shut = rw shut refl
 
 -- of one that is not open, nothing
-pub asks_nothing : (client : ℕ) (frame : List ℕ) (world : World) (told : Told) → ((run : Run) (done : List Mark) → IsAfter run done world → steps.is_open client done ≡ false)
+pub asks_nothing : (client : ℕ) (frame : List ℕ) (world : World) (told : FolderTold) → ((run : Run) (done : List Mark) → IsAfter run done world → steps.is_open client done ≡ false)
     → Does (λ setting answers. ask setting answers client frame) world world told told
 asks_nothing client frame world told shut =
     does_none (λ setting answers. ask setting answers client frame) world told
     (λ run done answers after.
-    nothing_of (nat_lt (count_by (is_request_of client) (journal done)) 1000) (in_turn (hand_out run.setting ∷ request_now run.setting answers client frame ∷ hand_out_now run.setting ∷ []))
+    nothing_of (nat_lt (count_by (is_request_of client) (journal done)) 1000) (in_sequence (note_levels run.setting ∷ request_now run.setting answers client frame ∷ note_levels_now run.setting ∷ []))
     (steps.note run.setting (λ _. event.Close client why.TooMany)) done (steps.is_open client done) (shut run done after))
 
 -- the 1001st closes the client
-pub asks_too_many : (client : ℕ) (frame : List ℕ) (count : ℕ) (old new : World) (told : Told) → IsSomeAnd (client_of old.core.hub client) (λ c. count ≡ c.replies) → 1000 ≤ count
+pub asks_too_many : (client : ℕ) (frame : List ℕ) (count : ℕ) (old new : World) (told : FolderTold) → IsSomeAnd (client_of old.core.hub client) (λ c. count ≡ c.replies) → 1000 ≤ count
     → Doing (λ setting. close setting client why.TooMany) old new → Does (λ setting answers. ask setting answers client frame) old new told told
 asks_too_many client frame count old new told counted many closes =
     does_as (λ setting answers. close setting client why.TooMany) (λ setting answers. ask setting answers client frame) old new told told
     (λ run done answers after.
-    ap (λ (b : Bool). if b then when (steps.is_open client done) (in_turn (hand_out run.setting ∷ request_now run.setting answers client frame ∷ hand_out_now run.setting ∷ [])) done else close run.setting client why.TooMany done)
+    ap (λ (b : Bool). if b then when (steps.is_open client done) (in_sequence (note_levels run.setting ∷ request_now run.setting answers client frame ∷ note_levels_now run.setting ∷ [])) done else close run.setting client why.TooMany done)
     (ap (λ (n : ℕ). nat_lt n 1000) (counted_so old client count counted run done after) ∙ many_tells count many))
     (closes told)
 
 -- any other is served, behind the Level events that wait
-pub asks : (client : ℕ) (frame : List ℕ) (count : ℕ) (old mid noted new : World) (told told_now : Told) → IsThere old client → IsSomeAnd (client_of old.core.hub client) (λ c. count ≡ c.replies) → count < 1000
-    → Doing hand_out old mid → Does (λ setting answers. request_now setting answers client frame) mid noted told told_now → Doing hand_out_now noted new
+pub asks : (client : ℕ) (frame : List ℕ) (count : ℕ) (old mid noted new : World) (told told_now : FolderTold) → IsThere old client → IsSomeAnd (client_of old.core.hub client) (λ c. count ≡ c.replies) → count < 1000
+    → Doing note_levels old mid → Does (λ setting answers. request_now setting answers client frame) mid noted told told_now → Doing note_levels_now noted new
     → Does (λ setting answers. ask setting answers client frame) old new told told_now
 asks client frame count old mid noted new told told_now there counted few before serves behind =
-    let first = λ (setting : Setting) (answers : List Done). hand_out setting in
+    let first = λ (setting : Setting) (answers : List Done). note_levels setting in
     let second = λ (setting : Setting) (answers : List Done). request_now setting answers client frame in
-    let third = λ (setting : Setting) (answers : List Done). hand_out_now setting in
-    let rest : Deed = λ setting answers. in_turn (second setting answers ∷ third setting answers ∷ []) in
+    let third = λ (setting : Setting) (answers : List Done). note_levels_now setting in
+    let rest : Deed = λ setting answers. in_sequence (second setting answers ∷ third setting answers ∷ []) in
     does_as (both first rest) (λ setting answers. ask setting answers client frame) old new told told_now
     (λ run done answers after.
-    ap (λ (b : Bool). if b then when (steps.is_open client done) (in_turn (hand_out run.setting ∷ request_now run.setting answers client frame ∷ hand_out_now run.setting ∷ [])) done else close run.setting client why.TooMany done)
+    ap (λ (b : Bool). if b then when (steps.is_open client done) (in_sequence (note_levels run.setting ∷ request_now run.setting answers client frame ∷ note_levels_now run.setting ∷ [])) done else close run.setting client why.TooMany done)
     (ap (λ (n : ℕ). nat_lt n 1000) (counted_so old client count counted run done after) ∙ few_tells count few)
-    ∙ ap (λ (b : Bool). when b (in_turn (hand_out run.setting ∷ request_now run.setting answers client frame ∷ hand_out_now run.setting ∷ [])) done) (open_so old client there run done after))
+    ∙ ap (λ (b : Bool). when b (in_sequence (note_levels run.setting ∷ request_now run.setting answers client frame ∷ note_levels_now run.setting ∷ [])) done) (open_so old client there run done after))
     (does_both first rest old mid new told told told_now (before told) (does_two second third mid noted new told told_now told_now serves (behind told_now)))

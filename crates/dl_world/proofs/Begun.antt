@@ -4,13 +4,14 @@ use Rattle.std.specs.Prelude.{slice_get, IfSome, Err}
 use Rattle.std.specs.List.{concat}
 use Rattle.std.specs.Option.{option_map_or}
 use Rattle.std.proofs.Math.Bridge.{le_prop}
+use Rattle.dl_bytes.specs.Limits.{client_limit}
 use Rattle.dl_bytes.specs.declared.moment.Moment.{Moment}
 use Rattle.dl_model.specs.Marks.{moment_at}
 use Rattle.dl_user.specs.declared.fault.Stop.TheVariants.{NeedMore}
 use Rattle.dl_user.specs.Reading.{little, kind_at, message_at}
 use Rattle.dl_user.proofs.FrontLemmas.{open_is}
-use Rattle.dl_calls.specs.Follows as calls
-use Rattle.dl_calls.specs.Injections.{AreAfter}
+use Rattle.dl_world_calls.specs.Follows as calls
+use Rattle.dl_world_calls.specs.Injections.{AreAfter}
 use Rattle.dl_core.specs.Follows as core
 use Rattle.dl_core.specs.Follows.{Run}
 use Rattle.dl_world.specs.State.{Client, Channel, client_at, channel_at, taken_by}
@@ -46,11 +47,12 @@ unheard channel = record {
   });
 }
 
-pub world_begins : (run : Run) (w : World) → length run.setting.ecu ≡ 4 → core.IsAfter run [] (λ (number : ℕ). []) w.core → w.core.hub.clients ≡ [] → calls.IsAfter [] w.calls → AreAfter [] w.injections
+pub world_begins : (run : Run) (w : World) → length run.setting.ecu ≡ 4 → run.setting.clients ≡ client_limit → core.IsAfter run [] (λ (number : ℕ). []) w.core → w.core.hub.clients ≡ [] → calls.IsAfter [] w.calls → AreAfter [] w.injections
     → w.journal.events ≡ [] → w.clients ≡ [] → w.channels ≡ [] → w.moment ≡ moment_at 0 0 → w.later ≡ false → IsAfter run [] w
-world_begins run w ecu_so core_so none_came calls_so injections_so events_so no_clients no_channels moment_so later_so = record {
+world_begins run w ecu_so limit_so core_so none_came calls_so injections_so events_so no_clients no_channels moment_so later_so = record {
   so_far = record {
     ecu_so = ecu_so;
+    limit_so = limit_so;
     calls_so = calls_so;
     few_so = omega arith;
     injections_so = injections_so;

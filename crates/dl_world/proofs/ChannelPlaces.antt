@@ -8,7 +8,7 @@ use Rattle.std.proofs.lemmas.List.Folds.{find_at, find-append, find-set, find_pa
 use Rattle.std.proofs.lemmas.List.Quantifiers.{position-Some}
 use Rattle.std.proofs.lemmas.List.Sums.{prefix_len-le-length}
 use Rattle.dl_user.specs.Channel as user
-use Rattle.dl_calls.proofs.Places.{position_to_len}
+use Rattle.dl_world_calls.proofs.Places.{position_to_len}
 use Rattle.dl_world.specs.State.{Channel, channel_at}
 use Rattle.dl_world.specs.Fed.{IsHeardBy, Tells, told_by}
 use Rattle.dl_bytes.specs.declared.user.UserMsg.{UserMsg}

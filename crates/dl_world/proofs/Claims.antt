@@ -7,19 +7,19 @@ use Rattle.std.specs.Str.{bytes_eq}
 use Rattle.std.proofs.lemmas.Bool.{lt-ltb}
 use Rattle.std.proofs.lemmas.List.{length-map}
 use Rattle.std.proofs.lemmas.List.Sums.{length-filter}
-use Rattle.dl_steps.specs.declared.line.AppLine.{AppLine}
-use Rattle.dl_steps.specs.declared.line.ContextLine.{ContextLine}
-use Rattle.dl_fields.specs.declared.kind.ScriptKind.{ScriptKind}
-use Rattle.dl_fields.specs.declared.kind.ScriptKind.TheVariants.{Order, Unknown, Twice, Limit}
+use Rattle.dl_script_lines.specs.declared.line.AppLine.{AppLine}
+use Rattle.dl_script_lines.specs.declared.line.ContextLine.{ContextLine}
+use Rattle.dl_script_fields.specs.declared.kind.ScriptKind.{ScriptKind}
+use Rattle.dl_script_fields.specs.declared.kind.ScriptKind.TheVariants.{Order, Unknown, Twice, Limit}
 use Rattle.dl_script.specs.Earlier.{Declared, first_of, refusal, is_app, is_context, is_of}
 use Rattle.dl_script.specs.declared.claim.Claim.TheVariants as claim
 use Rattle.dl_script.specs.declared.claim.ContextName.{ContextName}
 use Rattle.dl_model.specs.Marks.{Mark, apps, number_of, context_of, contexts_of}
-use Rattle.dl_calls.specs.Follows as calls
-use Rattle.dl_calls.specs.Follows.{no_app, is_named, contexts_in}
-use Rattle.dl_calls.specs.State.{App, Calls, numbered, app_named}
-use Rattle.dl_calls.proofs.Declaring.{number_is}
-use Rattle.dl_calls.proofs.Places.{position_to_len, position-map, there}
+use Rattle.dl_world_calls.specs.Follows as calls
+use Rattle.dl_world_calls.specs.Follows.{no_app, is_named, contexts_in}
+use Rattle.dl_world_calls.specs.State.{App, Calls, numbered, app_named}
+use Rattle.dl_world_calls.proofs.Declaring.{number_is}
+use Rattle.dl_world_calls.proofs.Places.{position_to_len, position-map, there}
 use Rattle.dl_world.specs.Known.{IsKnown, name_of}
 
 -- ---- causes that don't hold

@@ -3,7 +3,7 @@ use Rattle.std.proofs.Common.{◌≡◌, ℕ, zero, suc, ◌-◌, ◌≤◌, ◌
 use Rattle.std.proofs.lemmas.Bool.{ne_eqb, cond-false}
 use Rattle.std.specs.Prelude.{IfSome, IsSomeAnd, IfOk, OnOk}
 use Rattle.std.specs.Option.{option_map_or}
-use Rattle.dl_calls.proofs.Places.{slice_get-set}
+use Rattle.dl_world_calls.proofs.Places.{slice_get-set}
 use Rattle.dl_world.specs.Fed.{Asks, IsFedBy}
 use Rattle.dl_world.specs.State.{Client, client_at, with_client, with_cutter}
 

@@ -4,7 +4,7 @@ use Rattle.std.specs.Prelude.{IfSome, count_by}
 use Rattle.std.specs.List.{concat, range_with_len}
 use Rattle.std.specs.Option.{option_map_or}
 use Rattle.std.proofs.lemmas.Bool.{cases_lt, ne_eqb, eq-eqb}
-use Rattle.dl_bytes.specs.Limits.{client_limit}
+use Rattle.dl_bytes.specs.Limits.{message_limit}
 use Rattle.dl_events.specs.declared.event.Event.{Event}
 use Rattle.dl_events.specs.declared.event.Event.TheVariants as event
 use Rattle.dl_events.specs.Journal as notes
@@ -17,8 +17,8 @@ use Rattle.dl_model.specs.Traffic as traffic
 use Rattle.dl_model.specs.Journal.{is_connect, is_close, comes_or_goes}
 use Rattle.dl_model.specs.Marks.{Mark, Noted, journal, fed}
 use Rattle.dl_laws.proofs.Lists.{count_by-append, last_that-one}
-use Rattle.dl_calls.proofs.Changing.{no-call-stays}
-use Rattle.dl_frame_laws.proofs.Quiet.{open_in_journal, not_yet}
+use Rattle.dl_world_calls.proofs.Changing.{no-call-stays}
+use Rattle.dl_frames.proofs.Quiet.{open_in_journal, not_yet}
 use Rattle.dl_hub.specs.State as hub
 use Rattle.dl_hub.specs.Follows as hub_after
 use Rattle.dl_hub.proofs.Following.{one_more_number}
@@ -26,13 +26,13 @@ use Rattle.dl_core.specs.Follows as core
 use Rattle.dl_core.specs.Follows.{Run, AddsAlone, HoldsTrace, source_of}
 use Rattle.dl_core.specs.State.{Core}
 use Rattle.dl_world.specs.Fed.{IsFedBy}
-use Rattle.dl_outside.specs.Folder.{Files}
+use Rattle.dl_outside.specs.Told.{FolderTold}
 use Rattle.dl_core.specs.Follows.{stored_by, HoldsFiles}
 use Rattle.dl_world.specs.Follows.{IsAfter, IsBefore, Doing, noting, stream_in}
 use Rattle.dl_world.specs.State.{Client, new_client, client_at, taken_by}
 use Rattle.dl_world.specs.declared.world.World.{World}
 use Rattle.dl_world.proofs.ByNumber.{at_past, at-more, at-last}
-use Rattle.dl_world.proofs.Doings.{ComesTo, doing_by, holds_by, the_events}
+use Rattle.dl_world.proofs.Doings.{ComesTo, doing_by, holds_by, the_events, nothing_told}
 use Rattle.dl_world.proofs.Noting.{journal_noted, noted_where, same_counts, open_by_traffic, came_by_events, open_again}
 
 -- ---- one client more in a list
@@ -74,10 +74,10 @@ taken_same xs c none = λ i k. same k i where
       (at_past (xs ++ c ∷ []) k (omega (arith, above, length-append xs (c ∷ []))) ∙ sym (at_past xs k (omega (arith, above)))))
 
 -- one that sent nothing
-pub fed_nothing : IsFedBy [] (unfed client_limit)
+pub fed_nothing : IsFedBy [] (unfed message_limit)
 fed_nothing = record {
   limit = refl;
-  stands = inl (record { rest = refl; good = record { good = refl; ends = (its_cut client_limit []).ends }; room = omega arith; some = omega arith });
+  stands = inl (record { rest = refl; good = record { good = refl; ends = (its_cut message_limit []).ends }; room = omega arith; some = omega arith });
 }
 
 -- ---- the hub
@@ -126,7 +126,7 @@ pub connect_before : (run : Run) (done : List Mark) (old : World) (core_now : Co
 connect_before run done old core_now kept client number is number_is fresh core_noted events_noted =
     let e = event.Connect number in
     let frames_none : client.frames ≡ [] = ap (λ (c : Client). c.frames) fresh in
-    let cutter_is : client.cutter ≡ unfed client_limit = ap (λ (c : Client). c.cutter) fresh in
+    let cutter_is : client.cutter ≡ unfed message_limit = ap (λ (c : Client). c.cutter) fresh in
     let taken_is = taken_same old.clients client frames_none in
     let came = one_came run (journal done) number (taken_by old.clients) (taken_by old.clients) old.core.hub core_now.hub number_is is.so_far.core_so.hub core_noted.hub in
     let opens = one_opened run (journal done) number (taken_by old.clients) (taken_by old.clients) old.core.hub core_now.hub number_is is.so_far.core_so.hub core_noted.hub in
@@ -164,8 +164,8 @@ connect_does old new core_now made kept client links number number_is fresh link
 
       comes : (run : Run) (done : List Mark) → IsAfter run done old → ComesTo run done (Noted (event.Connect number) ∷ []) old new
       comes run done after =
-          let core_noted = λ (told : Option Files). adds told run (journal done) (taken_by old.clients) tt after.so_far.core_so in
-          let before = connect_before run done old core_now kept client number after number_is fresh (core_noted None).0 (the_events made.events kept.events old.journal.events (event.Connect number) made_is noted) in
+          let core_noted = λ (told : FolderTold). adds told run (journal done) (taken_by old.clients) tt after.so_far.core_so in
+          let before = connect_before run done old core_now kept client number after number_is fresh (core_noted nothing_told).0 (the_events made.events kept.events old.journal.events (event.Connect number) made_is noted) in
           record {
             after = takes run (done ++ Noted (event.Connect number) ∷ []) (subst (λ (ls : List Client). IsBefore run (done ++ Noted (event.Connect number) ∷ []) (record old { core = core_now; journal = kept; clients = ls })) (sym links_are) before);
             holds = λ told held. holds_by run (done ++ Noted (event.Connect number) ∷ []) core_now new.core told still

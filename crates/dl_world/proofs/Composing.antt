@@ -7,11 +7,11 @@ use Rattle.std.proofs.lemmas.List.Elements.{filter_map-append}
 use Rattle.dl_bytes.specs.declared.outcome.Done.{Done}
 use Rattle.dl_model.specs.Setting.{Setting}
 use Rattle.dl_model.specs.Marks.{Call, Mark, apps, app_of, call_of, journal}
-use Rattle.dl_model.specs.Steps.{Act, in_turn}
+use Rattle.dl_model.specs.Steps.{Act, in_sequence}
 use Rattle.dl_laws.proofs.Lists.{count_by-append}
 use Rattle.dl_core.specs.Follows.{Run, HoldsTrace}
-use Rattle.dl_frame_laws.proofs.KeptIds.{kept_id}
-use Rattle.dl_world.specs.Folders.{Told}
+use Rattle.dl_frames.proofs.KeptIds.{kept_id}
+use Rattle.dl_outside.specs.Told.{FolderTold}
 use Rattle.dl_world.specs.Follows.{GivesCall, IsRunOf, IsAfter, BeginWith, answers_in, is_failure, Deed, Goes, Does, Doing}
 use Rattle.dl_world.specs.Stored.{HoldsStored}
 use Rattle.dl_world.specs.declared.world.World.{World}
@@ -37,7 +37,7 @@ run_before run done more is_run = record {
 abbrev pub both : Deed → Deed → Deed
 both first second setting answers done = first setting answers done ++ second setting answers (done ++ first setting answers done)
 
-module _ (first second : Deed) (old mid new : World) (told told_mid told_now : Told) (one : Does first old mid told told_mid) (two : Does second mid new told_mid told_now) where
+module _ (first second : Deed) (old mid new : World) (told told_mid told_now : FolderTold) (one : Does first old mid told told_mid) (two : Does second mid new told_mid told_now) where
   -- the folder failed at no request of either
   none_failed : count_by is_failure (one.answered ++ two.answered) ≡ 0 → (count_by is_failure one.answered ≡ 0) × (count_by is_failure two.answered ≡ 0)
   none_failed fine = let parts = count_by-append is_failure one.answered two.answered in (omega (arith, parts, fine), omega (arith, parts, fine))
@@ -57,7 +57,7 @@ module _ (first second : Deed) (old mid new : World) (told told_mid told_now : T
       let rest = two.goes run (done ++ more) answers behind so_far.after here in
       record {
         after = subst (λ (ms : List Mark). IsAfter run ms new) apart rest.after;
-        holds = λ holds. subst (λ (ms : List Mark). HoldsTrace run (journal ms) new.core told_now.files) apart (rest.holds (so_far.holds holds));
+        holds = λ holds. subst (λ (ms : List Mark). HoldsTrace run (journal ms) new.core told_now) apart (rest.holds (so_far.holds holds));
         stored = λ first fine holds.
             let none = none_failed fine in
             subst (λ (ms : List Mark). HoldsStored run.setting first (journal ms) told_now.files) apart (rest.stored first none.1 (so_far.stored first none.0 holds));
@@ -74,12 +74,12 @@ module _ (first second : Deed) (old mid new : World) (told told_mid told_now : T
   }
 
 -- two acts in turn
-pub two_turns : (first second : Act) (done : List Mark) → in_turn (first ∷ second ∷ []) done ≡ first done ++ second (done ++ first done)
+pub two_turns : (first second : Act) (done : List Mark) → in_sequence (first ∷ second ∷ []) done ≡ first done ++ second (done ++ first done)
 two_turns first second done = ap (λ (ms : List Mark). first done ++ ms) (append-nil (second (done ++ first done)))
 
 -- two calls without a folder
 pub doing_two : (first second : Setting → Act) (old mid new : World) → Doing first old mid → Doing second mid new
-    → Doing (λ setting. in_turn (first setting ∷ second setting ∷ [])) old new
+    → Doing (λ setting. in_sequence (first setting ∷ second setting ∷ [])) old new
 doing_two first second old mid new one two told =
     subst (λ (deed : Deed). Does deed old new told told) (λ i setting answers done. sym (two_turns (first setting) (second setting) done) i)
     (does_both (λ setting answers. first setting) (λ setting answers. second setting) old mid new told told told (one told) (two told))

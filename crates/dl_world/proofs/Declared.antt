@@ -4,16 +4,16 @@ use Rattle.std.specs.List.{filter_map}
 use Rattle.std.proofs.lemmas.List.{length-map}
 use Rattle.std.proofs.lemmas.List.Elements.{filter_map-append}
 use Rattle.dl_bytes.specs.declared.outcome.Done.{Done}
-use Rattle.dl_steps.specs.declared.line.AppLine.{AppLine}
-use Rattle.dl_steps.specs.declared.line.ContextLine.{ContextLine}
+use Rattle.dl_script_lines.specs.declared.line.AppLine.{AppLine}
+use Rattle.dl_script_lines.specs.declared.line.ContextLine.{ContextLine}
 use Rattle.dl_model.specs.Setting.{Setting}
 use Rattle.dl_model.specs.Marks.{Mark, HasApp, HasContext, HasWriter, app_of, apps, clocked, waits_of}
-use Rattle.dl_model.specs.Steps.{Act, just, in_turn}
-use Rattle.dl_calls.specs.Follows as calls
-use Rattle.dl_calls.specs.Follows.{line_of}
-use Rattle.dl_calls.specs.State.{Calls}
-use Rattle.dl_calls.specs.Injections.{is_no_injection}
-use Rattle.dl_world.specs.Folders.{Told}
+use Rattle.dl_model.specs.Steps.{Act, just, in_sequence}
+use Rattle.dl_world_calls.specs.Follows as calls
+use Rattle.dl_world_calls.specs.Follows.{line_of}
+use Rattle.dl_world_calls.specs.State.{Calls}
+use Rattle.dl_world_calls.specs.Injections.{is_no_injection}
+use Rattle.dl_outside.specs.Told.{FolderTold}
 use Rattle.dl_world.specs.Follows.{Deed, Does, Doing}
 use Rattle.dl_world.specs.declared.world.World.{World}
 use Rattle.dl_world.proofs.Composing.{does_both, two_turns}
@@ -78,8 +78,8 @@ declares_writer apid old now does =
 
 -- ---- two acts in turn, where a folder is handed on
 
-pub does_two : (first second : Setting → List Done → Act) (old mid new : World) (told told_mid told_now : Told) → Does first old mid told told_mid → Does second mid new told_mid told_now
-    → Does (λ setting answers. in_turn (first setting answers ∷ second setting answers ∷ [])) old new told told_now
+pub does_two : (first second : Setting → List Done → Act) (old mid new : World) (told told_mid told_now : FolderTold) → Does first old mid told told_mid → Does second mid new told_mid told_now
+    → Does (λ setting answers. in_sequence (first setting answers ∷ second setting answers ∷ [])) old new told told_now
 does_two first second old mid new told told_mid told_now one two =
     subst (λ (deed : Deed). Does deed old new told told_now) (λ i setting answers done. sym (two_turns (first setting answers) (second setting answers) done) i)
     (does_both first second old mid new told told_mid told_now one two)

@@ -8,11 +8,11 @@ use Rattle.dl_events.specs.declared.event.Event.{Event}
 use Rattle.dl_model.specs.Setting.{Setting}
 use Rattle.dl_model.specs.Marks.{Mark, event_of, apps, journal, moment, is_later, fed, fed_of, heard, heard_of}
 use Rattle.dl_model.specs.Steps.{Act}
-use Rattle.dl_calls.specs.Follows as calls
-use Rattle.dl_calls.specs.Injections.{AreAfter}
+use Rattle.dl_world_calls.specs.Follows as calls
+use Rattle.dl_world_calls.specs.Injections.{AreAfter}
 use Rattle.dl_core.specs.Follows as core
 use Rattle.dl_core.specs.Follows.{Run, HoldsTrace}
-use Rattle.dl_world.specs.Folders.{Told}
+use Rattle.dl_outside.specs.Told.{FolderTold}
 use Rattle.dl_world.specs.Follows.{IsRunOf, IsSoFar, IsAfter, answer_of, answers_in, Deed, Goes, Does, Doing}
 use Rattle.dl_world.specs.Stored.{HoldsStored}
 use Rattle.dl_world.specs.State.{Client, client_at, taken_by}
@@ -21,7 +21,7 @@ use Rattle.dl_world.specs.declared.world.World.{World}
 -- ---- deeds
 
 -- a deed that comes to the same marks
-pub does_as : (first second : Deed) (old new : World) (told told_now : Told)
+pub does_as : (first second : Deed) (old new : World) (told told_now : FolderTold)
     → ((run : Run) (done : List Mark) (answers : List Done) → IsAfter run done old → second run.setting answers done ≡ first run.setting answers done)
     → Does first old new told told_now → Does second old new told told_now
 does_as first second old new told told_now same does = record {
@@ -36,14 +36,14 @@ does_as first second old new told told_now same does = record {
 }
 
 -- nothing comes of it
-pub does_nothing : (world : World) (told : Told) → Does (λ setting answers done. []) world world told told
+pub does_nothing : (world : World) (told : FolderTold) → Does (λ setting answers done. []) world world told told
 does_nothing world told = record {
   answered = [];
   goes = λ run done answers begins after is_run.
       let same : done ≡ done ++ [] = sym (append-nil done) in
       record {
         after = subst (λ (ms : List Mark). IsAfter run ms world) same after;
-        holds = λ holds. subst (λ (ms : List Mark). HoldsTrace run (journal ms) world.core told.files) same holds;
+        holds = λ holds. subst (λ (ms : List Mark). HoldsTrace run (journal ms) world.core told) same holds;
         stored = λ first fine holds. subst (λ (ms : List Mark). HoldsStored run.setting first (journal ms) told.files) same holds;
         answers = ap answers_in (append-nil done) ∙ sym (append-nil (answers_in done));
       };
@@ -53,7 +53,7 @@ does_nothing world told = record {
 }
 
 -- where a deed comes to nothing here
-pub does_none : (deed : Deed) (world : World) (told : Told)
+pub does_none : (deed : Deed) (world : World) (told : FolderTold)
     → ((run : Run) (done : List Mark) (answers : List Done) → IsAfter run done world → deed run.setting answers done ≡ [])
     → Does deed world world told told
 does_none deed world told none = does_as (λ setting answers done. []) deed world world told told none (does_nothing world told)
@@ -108,6 +108,7 @@ module _ (run : Run) (done more : List Mark) (old new : World) (alone : LeavesAl
   so_far_now : IsSoFar run (done ++ more) new
   so_far_now = record {
     ecu_so = after.so_far.ecu_so;
+    limit_so = after.so_far.limit_so;
     calls_so = turns.calls_now;
     few_so = turns.few_now;
     injections_so = turns.injections_now;
@@ -142,7 +143,7 @@ quiet_does act old new stays alone turns told = record {
       let events_same : journal (done ++ more) ≡ journal done = same_journal done more left.quiet in
       record {
         after = quiet_after run done more old new left stays (turns run done after) after;
-        holds = λ (held : HoldsTrace run (journal done) old.core told.files). rw (events_same, stays.core_is) held;
+        holds = λ (held : HoldsTrace run (journal done) old.core told). rw (events_same, stays.core_is) held;
         stored = λ first fine holds. subst (λ (es : List Event). HoldsStored run.setting first es told.files) (sym events_same) holds;
         answers = same_answers done more left.quiet ∙ sym (append-nil (answers_in done));
       };

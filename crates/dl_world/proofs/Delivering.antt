@@ -11,8 +11,8 @@ use Rattle.dl_events.specs.declared.event.Event.{Event}
 use Rattle.dl_model.specs.ClientStream.{traffic}
 use Rattle.dl_model.specs.Traffic.{Traffic}
 use Rattle.dl_model.specs.Marks.{Mark, journal}
-use Rattle.dl_cuts.specs.Frames.{TellsLen}
-use Rattle.dl_frame_laws.specs.FramesPut.{IsPut}
+use Rattle.dl_frames.specs.Frames.{TellsLen}
+use Rattle.dl_frames.specs.FramesPut.{IsPut}
 use Rattle.dl_hub.specs.State as hub
 use Rattle.dl_hub.specs.State.{Hub, Waiting, client_of, outbox_of, changed, without, consumed, bytes_before, is_open}
 use Rattle.dl_hub.specs.Follows.{took_more}
@@ -47,7 +47,7 @@ pub core_took : (run : Run) (events : List Event) (taken : ℕ → List ℕ) (no
     → outbox_of now.hub number ≡ Some w → count ≤ length w.bytes
     → core.IsAfter run events (took_more taken number (take count w.bytes)) (record now { hub = changed number (without count) now.hub })
 core_took run events taken now number count w is at fits = record {
-  set_to = record { ecu = is.set_to.ecu; unit = is.set_to.unit; buffer = is.set_to.buffer; level = is.set_to.level; injection = is.set_to.injection };
+  set_to = record { ecu = is.set_to.ecu; unit = is.set_to.unit; buffer = is.set_to.buffer; level = is.set_to.level; injection = is.set_to.injection; clients = is.set_to.clients };
   registry = is.registry;
   hub = hub_took (traffic (source_of run) events) taken now.hub number count w is.hub at fits;
   trace = is.trace;
@@ -169,6 +169,7 @@ module _ (old : World) (number : ℕ) (bytes : List ℕ) (core_now : Core) (link
     so_far_now : IsSoFar run done delivered
     so_far_now = record {
       ecu_so = is.so_far.ecu_so;
+      limit_so = is.so_far.limit_so;
       calls_so = is.so_far.calls_so;
       few_so = is.so_far.few_so;
       injections_so = is.so_far.injections_so;

@@ -8,7 +8,7 @@ use Rattle.dl_events.specs.declared.event.Event.{Event}
 use Rattle.dl_events.specs.declared.event.Event.TheVariants as event
 use Rattle.dl_events.specs.Journal as notes
 use Rattle.dl_events.specs.Journal.{Journaled}
-use Rattle.dl_outside.specs.Folder.{Files}
+use Rattle.dl_outside.specs.Told.{FolderTold}
 use Rattle.dl_model.specs.declared.registry.LevelChange.{LevelChange}
 use Rattle.dl_model.specs.Setting.{Setting}
 use Rattle.dl_model.specs.Marks.{Mark, Noted, journal}
@@ -17,8 +17,8 @@ use Rattle.dl_model.specs.ClientStream.{traffic, stream}
 use Rattle.dl_laws.proofs.Owed.{owed_first}
 use Rattle.dl_registry.specs.Kept.{owed_change}
 use Rattle.dl_registry.proofs.Following.{change_is_owed}
-use Rattle.dl_calls.proofs.Changing.{no-call-stays}
-use Rattle.dl_frame_laws.proofs.FramesBehind.{traffic-append}
+use Rattle.dl_world_calls.proofs.Changing.{no-call-stays}
+use Rattle.dl_frames.proofs.FramesBehind.{traffic-append}
 use Rattle.dl_trace.specs.State.{Trace}
 use Rattle.dl_core.specs.Follows.{Run, HoldsTrace, HoldsFiles, AddsAlone, source_of, stored_by}
 use Rattle.dl_core.specs.State.{Core}
@@ -29,12 +29,16 @@ use Rattle.dl_world.proofs.Quiet.{goes_on, held}
 use Rattle.dl_world.proofs.StoredFiles.{asked_in, holds_same, stored_unasked, unanswered}
 use Rattle.dl_world.proofs.Noting.{IsNoTurn, noted_before, journal_noted, if_some}
 
+-- a folder that tells nothing
+abbrev pub nothing_told : FolderTold
+nothing_told = record { files = None; faults = 0; changes = 0; appends = 0 }
+
 -- ---- calls that are handed no folder
 
 -- What a call comes to: marks after which the world is, and what holds of the folder goes on holding. No request is among them.
 pub record ComesTo (run : Run) (done more : List Mark) (old new : World) : Type 0 where
   pub after : IsAfter run (done ++ more) new
-  pub holds : (told : Option Files) → HoldsTrace run (journal done) old.core told → HoldsTrace run (journal (done ++ more)) new.core told
+  pub holds : (told : FolderTold) → HoldsTrace run (journal done) old.core told → HoldsTrace run (journal (done ++ more)) new.core told
   pub unasked : asked_in more ≡ []
 
 pub no_answers : (done more : List Mark) → answers_in more ≡ [] → answers_in (done ++ more) ≡ answers_in done ++ []
@@ -50,7 +54,7 @@ doing_by act old new same comes told = record {
       let more = act run.setting done in
       record {
         after = to.after;
-        holds = to.holds told.files;
+        holds = to.holds told;
         stored = λ first fine. holds_same run.setting first (journal done) (journal (done ++ more)) told.files (stored_unasked run.setting first done more to.unasked);
         answers = no_answers done more (unanswered more to.unasked);
       };
@@ -60,9 +64,9 @@ doing_by act old new same comes told = record {
 }
 
 -- what a core's trace holds, another one with the same trace holds
-pub holds_by : (run : Run) (done : List Mark) (one other : Core) (told : Option Files) → other.trace ≡ one.trace → HoldsTrace run (journal done) one told → HoldsTrace run (journal done) other told
+pub holds_by : (run : Run) (done : List Mark) (one other : Core) (told : FolderTold) → other.trace ≡ one.trace → HoldsTrace run (journal done) one told → HoldsTrace run (journal done) other told
 holds_by run done one other told same held =
-    subst (λ (trace : Option Trace). IfSome trace (λ kept. kept.state.end ≡ None → HoldsFiles run (stored_by run (journal done)) told)) (sym same) held
+    subst (λ (trace : Option Trace). IfSome trace (λ kept. kept.state.end ≡ None → HoldsFiles run (stored_by run (journal done)) told.files)) (sym same) held
 
 -- the events with the one that was noted
 pub the_events : (xs ys zs : List Event) (e : Event) → xs ≡ zs → Some ys ≡ Some (xs ++ e ∷ []) → ys ≡ zs ++ e ∷ []
@@ -137,10 +141,10 @@ module _ (old : World) (now : Core) (kept kept_now : Journaled) (events_kept : k
       → (run : Run) (done : List Mark) → IsAfter run done old → ComesTo run done (Noted (event.Level slot level) ∷ []) old new
   comes_level slot level adds noted run done after =
       let e = event.Level slot level in
-      let core_noted = λ (told : Option Files). adds told run (journal done) (taken_by old.clients) tt after.so_far.core_so in
+      let core_noted = λ (told : FolderTold). adds told run (journal done) (taken_by old.clients) tt after.so_far.core_so in
       let events_noted : kept_now.events ≡ old.journal.events ++ e ∷ [] = the_events kept.events kept_now.events old.journal.events e events_kept noted in
       let before = noted_before run done e old new (no_turn_level slot level) after (record {
-        core_noted = (core_noted None).0;
+        core_noted = (core_noted nothing_told).0;
         gives = tt;
         calls_noted = no-call-stays done (Noted e) old.calls refl after.so_far.calls_so;
         events_noted = events_noted;

@@ -1,10 +1,11 @@
 -- An outbox that is emptied, one piece after the other.
-use Rattle.std.proofs.Common.{◌≡◌, ℕ, ◌<◌, ◌≤◌, inl, inr, true, false, take, drop, List, [], ◌∷◌, ◌++◌, length, Some, refl, sym, ap, subst, ◌∙◌, length-drop, arith}
+use Rattle.std.proofs.Common.{◌≡◌, ℕ, ◌<◌, ◌≤◌, inl, inr, true, false, take, drop, List, [], ◌∷◌, ◌++◌, length, Some, None, refl, sym, ap, subst, ◌∙◌, length-drop, arith}
 use Rattle.std.specs.Prelude.{IsSome, IsSomeAnd, ◌==◌}
 use Rattle.std.specs.Option.{option_map_or}
 use Rattle.std.proofs.lemmas.List.{take_all}
 use Rattle.std.proofs.lemmas.Bool.Decides.{eqb_tells}
 use Rattle.dl_hub.specs.State.{Hub, outbox_of, changed, without, consumed}
+use Rattle.dl_outside.specs.Told.{LinkTold}
 use Rattle.dl_hub.specs.Pumping.{Pumps}
 use Rattle.dl_hub.proofs.Calls.{some_and}
 use Rattle.dl_hub.proofs.Following.{one_of}
@@ -12,16 +13,20 @@ use Rattle.dl_hub.proofs.Keeping.{found}
 use Rattle.dl_hub.proofs.Pumping.{nothing-sent, more-sent, outbox-after}
 use Rattle.dl_core.specs.State.{Core}
 
+-- what a link tells that took these bytes
+abbrev took : List ℕ → LinkTold
+took bytes = record { left = None; over = None; given = None; taken = Some bytes; faults = 0; idles = 0; waits = 0; is_shut = false }
+
 -- these bytes were taken from the front of a client's outbox, as a link takes them
 pub record IsEmptying (client : ℕ) (first now : Core) (bytes : List ℕ) : Type 0 where
   pub there : IsSome (outbox_of now.hub client)
-  pub sent : Pumps client first.hub now.hub (Some []) (Some bytes)
+  pub sent : Pumps client first.hub now.hub (took []) (took bytes)
   pub same : now ≡ record first { hub = now.hub }
 
 pub empties_nothing : (client : ℕ) (first : Core) (bytes : List ℕ) → bytes ≡ [] → IsSome (outbox_of first.hub client) → IsEmptying client first first bytes
 empties_nothing client first bytes none there = record {
   there = there;
-  sent = subst (λ (bs : List ℕ). Pumps client first.hub first.hub (Some []) (Some bs)) (sym none) (nothing-sent client first.hub (Some []) there);
+  sent = subst (λ (bs : List ℕ). Pumps client first.hub first.hub (took []) (took bs)) (sym none) (nothing-sent client first.hub (took []) there);
   same = refl;
 }
 
@@ -38,7 +43,7 @@ pub empties_more : (client : ℕ) (first now next : Core) (bytes bytes_now piece
     → IsEmptying client first next bytes_now × (left_in next client < left_in now client)
 empties_more client first now next bytes bytes_now piece is there front some grown taken =
     let hub_is : next.hub ≡ changed client (without (length piece)) now.hub = ap (λ (c : Core). c.hub) taken in
-    let more = more-sent client (length piece) first.hub now.hub next.hub (Some []) (Some bytes) (Some bytes_now) piece is.sent there front (omega arith) (not_none piece some)
+    let more = more-sent client (length piece) first.hub now.hub next.hub (took []) (took bytes) (took bytes_now) piece is.sent there front (omega arith) (not_none piece some)
     (ap Some (grown ∙ ap (λ (p : List ℕ). bytes ++ p) (sym (take_all (length piece) piece (omega arith))))) hub_is in (
       record {
         there = more.1;

@@ -8,12 +8,12 @@ use Rattle.dl_bytes.specs.declared.outcome.Done.{Done}
 use Rattle.dl_events.specs.declared.event.Event.{Event}
 use Rattle.dl_events.specs.declared.event.Event.TheVariants as event
 use Rattle.dl_events.specs.declared.event.Why.{Why}
-use Rattle.dl_outside.specs.Folder.{Files}
+use Rattle.dl_outside.specs.Told.{FolderTold}
 use Rattle.dl_model.specs.declared.registry.LevelChange.{LevelChange}
 use Rattle.dl_model.specs.Setting.{Setting}
 use Rattle.dl_model.specs.Journal.{is_connect, is_close}
 use Rattle.dl_model.specs.Marks.{Mark, Noted, event_of, journal, is_later}
-use Rattle.dl_model.specs.Steps.{Act, changes, level_noted, hand_out, hand_out_now, note, close, connect}
+use Rattle.dl_model.specs.Steps.{Act, changes, level_noted, note_levels, note_levels_now, note, close, connect}
 use Rattle.dl_laws.proofs.Lists.{count_by-append}
 use Rattle.dl_hub.specs.State.{Hub, outbox_of, is_open}
 use Rattle.dl_core.specs.Follows.{Run, source_of}
@@ -30,7 +30,7 @@ use Rattle.dl_world.proofs.StoredFiles.{asked_by, asked_in}
 
 -- ---- an event in its turn
 
-pub doing_note : (make : List Mark → Event) (old one two new : World) → Doing hand_out old one → Doing (noting make) one two → Doing hand_out_now two new → Doing (λ setting. note setting make) old new
+pub doing_note : (make : List Mark → Event) (old one two new : World) → Doing note_levels old one → Doing (noting make) one two → Doing note_levels_now two new → Doing (λ setting. note setting make) old new
 doing_note make old one two new before noted behind told = does_note make old one two new told told before (noted told) behind
 
 -- no request is among them
@@ -38,9 +38,9 @@ levels_unasked : (cs : List LevelChange) → asked_in (map level_noted cs) ≡ [
 levels_unasked [] = refl
 levels_unasked (c ∷ cs) = levels_unasked cs
 
-now_unasked : (setting : Setting) (done : List Mark) → asked_in (hand_out_now setting done) ≡ []
+now_unasked : (setting : Setting) (done : List Mark) → asked_in (note_levels_now setting done) ≡ []
 now_unasked setting done = by (is_later done) where
-  by : (b : Bool) → asked_in (cond b [] (hand_out setting done)) ≡ []
+  by : (b : Bool) → asked_in (cond b [] (note_levels setting done)) ≡ []
   by true = refl
   by false = levels_unasked (changes setting (journal done))
 
@@ -49,9 +49,9 @@ nothing_asked xs ys none nothing = filter_map-append asked_by xs ys ∙ ap (λ (
 
 note_unasked : (setting : Setting) (make : List Mark → Event) (done : List Mark) → ((now : List Mark) → asked_in (Noted (make now) ∷ []) ≡ []) → asked_in (note setting make done) ≡ []
 note_unasked setting make done none =
-    let waiting = hand_out setting done in
+    let waiting = note_levels setting done in
     let mark = Noted (make (done ++ waiting)) ∷ [] in
-    let behind = hand_out_now setting ((done ++ waiting) ++ mark) in
+    let behind = note_levels_now setting ((done ++ waiting) ++ mark) in
     nothing_asked waiting (mark ++ (behind ++ [])) (levels_unasked (changes setting (journal done)))
     (nothing_asked mark (behind ++ []) (none (done ++ waiting)) (nothing_asked behind [] (now_unasked setting ((done ++ waiting) ++ mark)) refl))
 
@@ -59,11 +59,10 @@ note_unasked setting make done none =
 pub comes_of : (act : Setting → Act) (old new : World) → Doing act old new → (run : Run) (done : List Mark) → IsAfter run done old → IsRunOf run (done ++ act run.setting done) → asked_in (act run.setting done) ≡ []
     → ComesTo run done (act run.setting done) old new
 comes_of act old new doing run done after is_run none =
-    let at = λ (files : Option Files). doing (record { files = files; faults = 0 }) in
-    let goes = λ (files : Option Files). (at files).goes run done (answers_in done ++ (at files).answered) ([], sym (append-nil (answers_in done ++ (at files).answered))) after is_run in
+    let goes = λ (told : FolderTold). (doing told).goes run done (answers_in done ++ (doing told).answered) ([], sym (append-nil (answers_in done ++ (doing told).answered))) after is_run in
     record {
-      after = (goes None).after;
-      holds = λ files held. (goes files).holds held;
+      after = (goes (record { files = None; faults = 0; changes = 0; appends = 0 })).after;
+      holds = λ told held. (goes told).holds held;
       unasked = none;
     }
 
@@ -129,14 +128,14 @@ pub connect_refused : (world : World) → (length world.clients ≡ 32) ⊎ (8 �
 connect_refused world full told = does_none (λ setting answers. connect setting) world told
     (λ run done answers after.
     let came = count_by is_connect (journal done) in
-    ap (λ (c : Bool). cond c (note run.setting (λ _. event.Connect (came + 1)) done) []) (not_so done (coming run done world after) full)) where
-      not_so : (done : List Mark) → IsComing done world → (length world.clients ≡ 32) ⊎ (8 ≤ open_among world)
-          → (nat_lt (count_by is_connect (journal done)) 32 && nat_lt (count_by is_connect (journal done)) (count_by is_close (journal done) + 8)) ≡ false
-      not_so done at (inl all) =
-          none_and (nat_lt (count_by is_connect (journal done)) 32) (nat_lt (count_by is_connect (journal done)) (count_by is_close (journal done) + 8))
-          (not_below (count_by is_connect (journal done)) 32 (omega (arith, at.came_is, all)))
-      not_so done at (inr many) =
-          and_none (nat_lt (count_by is_connect (journal done)) 32) (nat_lt (count_by is_connect (journal done)) (count_by is_close (journal done) + 8))
+    ap (λ (c : Bool). cond c (note run.setting (λ _. event.Connect (came + 1)) done) []) (not_so run.setting.clients after.so_far.limit_so done (coming run done world after) full)) where
+      not_so : (limit : ℕ) → limit ≡ 32 → (done : List Mark) → IsComing done world → (length world.clients ≡ 32) ⊎ (8 ≤ open_among world)
+          → (nat_lt (count_by is_connect (journal done)) limit && nat_lt (count_by is_connect (journal done)) (count_by is_close (journal done) + 8)) ≡ false
+      not_so limit limit_is done at (inl all) =
+          none_and (nat_lt (count_by is_connect (journal done)) limit) (nat_lt (count_by is_connect (journal done)) (count_by is_close (journal done) + 8))
+          (not_below (count_by is_connect (journal done)) limit (omega (arith, at.came_is, all, limit_is)))
+      not_so limit limit_is done at (inr many) =
+          and_none (nat_lt (count_by is_connect (journal done)) limit) (nat_lt (count_by is_connect (journal done)) (count_by is_close (journal done) + 8))
           (not_below (count_by is_connect (journal done)) (count_by is_close (journal done) + 8) (omega (arith, at.came_is, at.open_is, many)))
 
 -- Level events are nobody's coming
@@ -153,12 +152,12 @@ next_number now = event.Connect (1 + count_by is_connect (journal now))
 -- the event has the same number, whether the Level events before it are counted or not
 numbered_alike : (setting : Setting) (done : List Mark) → note setting next_number done ≡ note setting (λ _. event.Connect (count_by is_connect (journal done) + 1)) done
 numbered_alike setting done =
-    let waiting = hand_out setting done in
+    let waiting = note_levels setting done in
     let same : 1 + count_by is_connect (journal (done ++ waiting)) ≡ count_by is_connect (journal done) + 1 = omega (arith, levels_come done (changes setting (journal done))) in
-    ap (λ (n : ℕ). waiting ++ (Noted (event.Connect n) ∷ [] ++ (hand_out_now setting ((done ++ waiting) ++ Noted (event.Connect n) ∷ []) ++ []))) same
+    ap (λ (n : ℕ). waiting ++ (Noted (event.Connect n) ∷ [] ++ (note_levels_now setting ((done ++ waiting) ++ Noted (event.Connect n) ∷ []) ++ []))) same
 
-pub connect_accepted : (old one two new : World) → length old.clients < 32 → open_among old < 8 → Doing hand_out old one → one.clients ≡ old.clients → one.core.hub ≡ old.core.hub
-    → (MayConnect one → Doing (noting (λ now. event.Connect (1 + count_by is_connect (journal now)))) one two) → Doing hand_out_now two new → new.core.trace ≡ old.core.trace
+pub connect_accepted : (old one two new : World) → length old.clients < 32 → open_among old < 8 → Doing note_levels old one → one.clients ≡ old.clients → one.core.hub ≡ old.core.hub
+    → (MayConnect one → Doing (noting (λ now. event.Connect (1 + count_by is_connect (journal now)))) one two) → Doing note_levels_now two new → new.core.trace ≡ old.core.trace
     → Doing connect old new
 connect_accepted old one two new few open_few before clients_are hub_is noted behind same =
     doing_by connect old new same
@@ -166,11 +165,12 @@ connect_accepted old one two new few open_few before clients_are hub_is noted be
     let at = coming run done old after in
     let came = count_by is_connect (journal done) in
     let closes = count_by is_close (journal done) in
-    let test : (nat_lt came 32 && nat_lt came (closes + 8)) ≡ true =
-    and_both (nat_lt came 32) (nat_lt came (closes + 8)) (is_below came 32 (omega (arith, at.came_is, few))) (is_below came (closes + 8) (omega (arith, at.came_is, at.open_is, open_few))) in
+    let limit_is : run.setting.clients ≡ 32 = after.so_far.limit_so in
+    let test : (nat_lt came run.setting.clients && nat_lt came (closes + 8)) ≡ true =
+    and_both (nat_lt came run.setting.clients) (nat_lt came (closes + 8)) (is_below came run.setting.clients (omega (arith, at.came_is, few, limit_is))) (is_below came (closes + 8) (omega (arith, at.came_is, at.open_is, open_few))) in
     let marks : connect run.setting done ≡ note run.setting next_number done =
     ap (λ (c : Bool). cond c (note run.setting (λ _. event.Connect (came + 1)) done) []) test ∙ sym (numbered_alike run.setting done) in
-    let may : MayConnect one = (omega (arith, ap (λ (h : Hub). length h.clients) hub_is, at.hub_is, few), omega (arith, ap (λ (h : Hub). count_by is_open h.clients) hub_is, at.all_is, open_few)) in
+    let may : MayConnect one = (omega (arith, ap (λ (h : Hub). length h.clients) hub_is, ap (λ (h : Hub). h.limit) hub_is, after.so_far.core_so.set_to.clients, limit_is, at.hub_is, few), omega (arith, ap (λ (h : Hub). count_by is_open h.clients) hub_is, at.all_is, open_few)) in
     subst (λ (more : List Mark). ComesTo run done more old new) (sym marks)
     (comes_of (λ setting. note setting next_number) old new (doing_note next_number old one two new before (noted may) behind) run done after
     (subst (λ (more : List Mark). IsRunOf run (done ++ more)) marks is_run) (note_unasked run.setting next_number done (λ now. refl))))

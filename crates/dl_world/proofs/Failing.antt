@@ -5,10 +5,12 @@ use Rattle.std.specs.Option.{option_map_or}
 use Rattle.dl_bytes.specs.declared.outcome.TraceEnd.{TraceEnd}
 use Rattle.dl_bytes.specs.declared.outcome.TraceEnd.TheVariants.{Failed, Spent, NoMemory}
 use Rattle.dl_outside.specs.Folder.{Files}
+use Rattle.dl_trace.specs.Stands.{ChangesTraceFiles}
 use Rattle.dl_trace.specs.State.{Trace}
 use Rattle.dl_core.specs.Storing.{StoresTill, StoresIn, StoresEach, ChangesTraceAlone}
 use Rattle.dl_core.specs.State.{Core}
-use Rattle.dl_world.specs.Folders.{Told, Leaves}
+use Rattle.dl_outside.specs.Told.{FolderTold}
+use Rattle.dl_world.specs.Folders.{Leaves}
 use Rattle.dl_world.specs.Played.{ChangesOwnFiles, trace_failures}
 
 abbrev pub failed_in : Option Trace → ℕ
@@ -38,37 +40,37 @@ fails_both a b c x y z one two = record {
 }
 
 -- a call that stores frames
-by_end : (frames : List (List ℕ)) (old new : Trace) (told told_now : Option Files) (faults faults_now : ℕ) (end end_now : Option TraceEnd) → old.state.end ≡ end → new.state.end ≡ end_now
-    → StoresTill end end_now frames old new told told_now faults faults_now → Fails (Some old) (Some new) faults faults_now
-by_end frames old new told told_now faults faults_now (Some ended) end_now was is stores = record {
+by_end : (frames : List (List ℕ)) (old new : Trace) (told told_now : FolderTold) (end end_now : Option TraceEnd) → old.state.end ≡ end → new.state.end ≡ end_now
+    → StoresTill end end_now frames old new told told_now → Fails (Some old) (Some new) told.faults told_now.faults
+by_end frames old new told told_now (Some ended) end_now was is stores = record {
   trace_failed = 0;
   failures = ap (λ (t : Trace). trace_failures t.state.end) stores.0 ∙ omega arith;
-  rose = omega (arith, stores.2);
-  later = omega (arith, stores.2);
+  rose = omega (arith, ap (λ (f : FolderTold). f.faults) stores.1);
+  later = omega (arith, ap (λ (f : FolderTold). f.faults) stores.1);
   same = ap (λ (t : Trace). Some t.directory) stores.0;
 }
-by_end frames old new told told_now faults faults_now None None was is stores = record {
+by_end frames old new told told_now None None was is stores = record {
   trace_failed = 0;
   failures = omega (arith, ap trace_failures was, ap trace_failures is);
   rose = omega (arith, stores.1);
   later = omega (arith, stores.1);
   same = ap Some stores.0.same.directory;
 }
-by_end frames old new told told_now faults faults_now None (Some Failed) was is stores = record {
+by_end frames old new told told_now None (Some Failed) was is stores = record {
   trace_failed = 1;
   failures = omega (arith, ap trace_failures was, ap trace_failures is);
   rose = stores.1.1;
   later = stores.1.0;
   same = ap Some stores.0.same.directory;
 }
-by_end frames old new told told_now faults faults_now None (Some Spent) was is stores = record {
+by_end frames old new told told_now None (Some Spent) was is stores = record {
   trace_failed = 0;
   failures = omega (arith, ap trace_failures was, ap trace_failures is);
   rose = omega (arith, stores.1);
   later = omega (arith, stores.1);
   same = ap Some stores.0.same.directory;
 }
-by_end frames old new told told_now faults faults_now None (Some NoMemory) was is stores = record {
+by_end frames old new told told_now None (Some NoMemory) was is stores = record {
   trace_failed = 0;
   failures = omega (arith, ap trace_failures was, ap trace_failures is);
   rose = omega (arith, stores.1);
@@ -76,31 +78,39 @@ by_end frames old new told told_now faults faults_now None (Some NoMemory) was i
   same = ap Some stores.0.same.directory;
 }
 
-pub stores_in : (frames : List (List ℕ)) (old new : Option Trace) (told told_now : Option Files) (faults faults_now : ℕ) → StoresIn frames old new told told_now faults faults_now → Fails old new faults faults_now
-stores_in frames None new told told_now faults faults_now stores =
-    subst (λ (trace : Option Trace). Fails None trace faults faults_now) (sym stores.0) (subst (λ (n : ℕ). Fails None None faults n) (sym stores.2) (fails_none None faults))
-stores_in frames (Some old) None told told_now faults faults_now stores = absurd stores
-stores_in frames (Some old) (Some new) told told_now faults faults_now stores = by_end frames old new told told_now faults faults_now old.state.end new.state.end refl refl stores
+-- nothing was to be stored
+left_alone : (old new : Option Trace) (told told_now : FolderTold) → new ≡ old → told_now ≡ told → Fails old new told.faults told_now.faults
+left_alone old new told told_now same stands =
+    subst (λ (trace : Option Trace). Fails old trace told.faults told_now.faults) (sym same)
+    (subst (λ (f : FolderTold). Fails old old told.faults f.faults) (sym stands) (fails_none old told.faults))
 
-pub stores_each : (frames : List (List ℕ)) (old new : Option Trace) (told told_now : Option Files) (faults faults_now : ℕ) → StoresEach frames old new told told_now faults faults_now → Fails old new faults faults_now
-stores_each [] old new told told_now faults faults_now stores =
-    subst (λ (trace : Option Trace). Fails old trace faults faults_now) (sym stores.0) (subst (λ (n : ℕ). Fails old old faults n) (sym stores.2) (fails_none old faults))
-stores_each (frame ∷ frames) old new told told_now faults faults_now stores =
-    fails_both old stores.0 new faults stores.2 faults_now
-    (stores_in (frame ∷ []) old stores.0 told stores.1 faults stores.2 stores.3)
-    (stores_each frames stores.0 new stores.1 told_now stores.2 faults_now stores.4)
+pub stores_in : (frames : List (List ℕ)) (old new : Option Trace) (told told_now : FolderTold) → StoresIn frames old new told told_now → Fails old new told.faults told_now.faults
+stores_in frames None new told told_now stores = left_alone None new told told_now stores.0 stores.1
+stores_in frames (Some old) None told told_now stores = absurd stores
+stores_in frames (Some old) (Some new) told told_now stores = by_end frames old new told told_now old.state.end new.state.end refl refl stores
+
+pub stores_each : (frames : List (List ℕ)) (old new : Option Trace) (told told_now : FolderTold) → StoresEach frames old new told told_now → Fails old new told.faults told_now.faults
+stores_each [] old new told told_now stores = left_alone old new told told_now stores.0 stores.1
+stores_each (frame ∷ frames) old new told told_now stores =
+    fails_both old stores.0 new told.faults stores.1.faults told_now.faults
+    (stores_in (frame ∷ []) old stores.0 told stores.1 stores.2)
+    (stores_each frames stores.0 new stores.1 told_now stores.3)
 
 -- no file of others changes
-own_files : (trace : Option Trace) (told told_now : Option Files) → ChangesTraceAlone trace told told_now → ChangesOwnFiles trace told told_now
-own_files None None told_now changes = tt
-own_files None (Some folder) told_now changes = (folder, changes, λ name other. refl)
-own_files (Some trace) None told_now changes = tt
-own_files (Some trace) (Some folder) told_now changes = (changes.0, changes.1, λ name not_trace other. changes.2 name not_trace)
+own_files : (trace : Option Trace) (told told_now : FolderTold) → ChangesTraceAlone trace told told_now → ChangesOwnFiles trace told.files told_now.files
+own_files trace told told_now changes = by trace told.files refl changes where
+  by : (kept : Option Trace) (o : Option Files) → told.files ≡ o → ChangesTraceAlone kept told told_now → ChangesOwnFiles kept told.files told_now.files
+  by None None is changes = subst (λ (files : Option Files). ChangesOwnFiles None files told_now.files) (sym is) tt
+  by None (Some folder) is changes = subst (λ (files : Option Files). ChangesOwnFiles None files told_now.files) (sym is) (folder, changes ∙ is, λ name other. refl)
+  by (Some kept) None is changes = subst (λ (files : Option Files). ChangesOwnFiles (Some kept) files told_now.files) (sym is) tt
+  by (Some kept) (Some folder) is changes =
+      let there = subst (λ (files : Option Files). ChangesTraceFiles kept.directory files told_now.files) is changes in
+      subst (λ (files : Option Files). ChangesOwnFiles (Some kept) files told_now.files) (sym is) (there.0, there.1, λ name not_trace other. there.2 name not_trace)
 
-pub leaves_where : (old new : Core) (stored : Option Trace) (told told_now : Told) → ChangesTraceAlone old.trace told.files told_now.files → Fails old.trace stored told.faults told_now.faults → new.trace ≡ stored
+pub leaves_where : (old new : Core) (stored : Option Trace) (told told_now : FolderTold) → ChangesTraceAlone old.trace told told_now → Fails old.trace stored told.faults told_now.faults → new.trace ≡ stored
     → Leaves old new told told_now
 leaves_where old new stored told told_now changes fails still = record {
-  others = own_files old.trace told.files told_now.files changes;
+  others = own_files old.trace told told_now changes;
   same = ap stands_in still ∙ fails.same;
   later = fails.later;
 }

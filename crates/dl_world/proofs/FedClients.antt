@@ -5,7 +5,7 @@ use Rattle.std.specs.List.{All, filter}
 use Rattle.std.proofs.lemmas.List.{append-nil}
 use Rattle.std.proofs.lemmas.List.Elements.{All-push, filter-append}
 use Rattle.dl_bytes.specs.Cutting.{AreCut}
-use Rattle.dl_bytes.specs.Limits.{client_limit}
+use Rattle.dl_bytes.specs.Limits.{message_limit}
 use Rattle.dl_bytes.proofs.Cutting.{cut_on}
 use Rattle.dl_message.specs.Cut.{IsWholeMessage, IsOpen, rest_fault}
 use Rattle.dl_message.specs.Cutting.{Cutting, Begins, Cuts}
@@ -33,17 +33,17 @@ shorter old new cuts =
 -- the messages that were given of some bytes, and the requests among them behind those before
 pub record Gave (bytes rest : List ℕ) (before after : List (List ℕ)) : Type 0 where
   pub given : List (List ℕ)
-  pub cut : AreCut (Begins client_limit) bytes given rest
+  pub cut : AreCut (Begins message_limit) bytes given rest
   pub asked : after ≡ before ++ filter asks given
 
 pub gave_none : (bytes : List ℕ) (before : List (List ℕ)) → Gave bytes bytes before before
 gave_none bytes before = record { given = []; cut = refl; asked = sym (append-nil before) }
 
-module _ (bytes : List ℕ) (before after : List (List ℕ)) (old new : Cutting) (limit : old.limit ≡ client_limit) (cuts : Cuts old Message new) (gave : Gave bytes old.unread before after) where
-  cut_one : AreCut (Begins client_limit) bytes (gave.given ++ new.message ∷ []) new.unread
+module _ (bytes : List ℕ) (before after : List (List ℕ)) (old new : Cutting) (limit : old.limit ≡ message_limit) (cuts : Cuts old Message new) (gave : Gave bytes old.unread before after) where
+  cut_one : AreCut (Begins message_limit) bytes (gave.given ++ new.message ∷ []) new.unread
   cut_one =
       let begins = subst (λ (n : ℕ). Begins n old.unread new.message new.unread) limit cuts.0 in
-      cut_on (Begins client_limit) bytes old.unread new.unread gave.given (new.message ∷ []) gave.cut (new.unread, begins, refl)
+      cut_on (Begins message_limit) bytes old.unread new.unread gave.given (new.message ∷ []) gave.cut (new.unread, begins, refl)
 
   asked_with : (more : List (List ℕ)) → filter asks (new.message ∷ []) ≡ more → after ++ more ≡ before ++ filter asks (gave.given ++ new.message ∷ [])
   asked_with more is =
@@ -71,21 +71,21 @@ pub some_of : {A : Type 0} (x : Option A) → IsSome x → (y : A) × (x ≡ Som
 some_of None e = absurd cc
 some_of (Some x) e = (x, refl)
 
-pub stands_now : (old new : Cutting) (cut : Cut) → cut ≢ Message → old.limit ≡ client_limit → Cuts old cut new → Stands new
+pub stands_now : (old new : Cutting) (cut : Cut) → cut ≢ Message → old.limit ≡ message_limit → Cuts old cut new → Stands new
 stands_now old new Message other limit cuts = absurd (other refl)
 stands_now old new NeedMore other limit cuts =
     let unread : new.unread ≡ old.unread = ap (λ (c : Cutting). c.unread) cuts.2 in
     let room : new.room ≡ old.limit + 4 - length old.unread = ap (λ (c : Cutting). c.room) cuts.2 in
-    inl (subst (IsOpen client_limit) (sym unread) (subst (λ (n : ℕ). IsOpen n old.unread) limit cuts.0), omega (arith, room, limit, ap length unread), cuts.1)
+    inl (subst (IsOpen message_limit) (sym unread) (subst (λ (n : ℕ). IsOpen n old.unread) limit cuts.0), omega (arith, room, limit, ap length unread), cuts.1)
 stands_now old new (Bad fault) other limit cuts =
     let unread : new.unread ≡ old.unread = ap (λ (c : Cutting). c.unread) cuts.1 in
-    let bad : rest_fault client_limit new.unread ≡ Some fault = ap (rest_fault client_limit) unread ∙ ap (λ (n : ℕ). rest_fault n old.unread) (sym limit) ∙ cuts.0 in
-    inr (is_some_of (rest_fault client_limit new.unread) fault bad, ap (λ (c : Cutting). c.room) cuts.1)
+    let bad : rest_fault message_limit new.unread ≡ Some fault = ap (rest_fault message_limit) unread ∙ ap (λ (n : ℕ). rest_fault n old.unread) (sym limit) ∙ cuts.0 in
+    inr (is_some_of (rest_fault message_limit new.unread) fault bad, ap (λ (c : Cutting). c.room) cuts.1)
 
 -- what is given is a whole message within the limit of clients
-pub whole_now : (old new : Cutting) → Cuts old Message new → old.limit ≡ client_limit → IsWholeMessage new.limit new.message → IsWholeMessage client_limit new.message
+pub whole_now : (old new : Cutting) → Cuts old Message new → old.limit ≡ message_limit → IsWholeMessage new.limit new.message → IsWholeMessage message_limit new.message
 whole_now old new cuts limit whole = subst (λ (n : ℕ). IsWholeMessage n new.message) (limit_stays old new Message cuts ∙ limit) whole
 
 -- a whole message that asks is a request
-pub is_request_too : (requests : List (List ℕ)) (message : List ℕ) → IsWholeMessage client_limit message → asks message ≡ true → All IsRequest requests → All IsRequest (requests ++ message ∷ [])
+pub is_request_too : (requests : List (List ℕ)) (message : List ℕ) → IsWholeMessage message_limit message → asks message ≡ true → All IsRequest requests → All IsRequest (requests ++ message ∷ [])
 is_request_too requests message whole asks_so each = All-push IsRequest requests message each (record { whole = whole; request = asks_so })

@@ -14,21 +14,21 @@ use Rattle.dl_events.specs.declared.event.Why.{Why}
 use Rattle.dl_events.specs.declared.event.Why.TheVariants as why
 use Rattle.dl_events.specs.Journal as notes
 use Rattle.dl_events.specs.Journal.{Journaled}
-use Rattle.dl_outside.specs.Folder.{Files}
+use Rattle.dl_outside.specs.Told.{FolderTold}
 use Rattle.dl_model.specs.ClientStream.{traffic, stream}
 use Rattle.dl_model.specs.Traffic as traffic
-use Rattle.dl_model.specs.Traffic.{Traffic, Comes, Admit, Reply, Goes, comer_of, clients, is_coming, comes_or_goes}
+use Rattle.dl_model.specs.Traffic.{Traffic, Connected, Admitted, Reply, Closed, comer_of, clients, is_coming, comes_or_goes}
 use Rattle.dl_model.specs.Journal.{is_close}
 use Rattle.dl_model.specs.Marks.{Mark, Noted, journal}
 use Rattle.dl_model.specs.Steps as steps
 use Rattle.dl_laws.proofs.Lists.{count_by-append}
 use Rattle.dl_laws.proofs.ClientStreams.{is_open-one}
-use Rattle.dl_calls.proofs.Changing.{no-call-stays}
-use Rattle.dl_frame_laws.specs.FramesPut.{IsPut}
-use Rattle.dl_frame_laws.specs.FrameLengths.{CarriesLen}
-use Rattle.dl_frame_laws.proofs.Entries.{by_end}
-use Rattle.dl_frame_laws.proofs.FramesBehind.{put_by_events}
-use Rattle.dl_frame_laws.proofs.Quiet.{open_in_journal, closes_quietly}
+use Rattle.dl_world_calls.proofs.Changing.{no-call-stays}
+use Rattle.dl_frames.specs.FramesPut.{IsPut}
+use Rattle.dl_frames.specs.FrameLengths.{CarriesLen}
+use Rattle.dl_frames.proofs.Entries.{by_end}
+use Rattle.dl_frames.proofs.FramesBehind.{put_by_events}
+use Rattle.dl_frames.proofs.Quiet.{open_in_journal, closes_quietly}
 use Rattle.dl_hub.specs.State as hub
 use Rattle.dl_hub.specs.State.{Waiting, client_of, outbox_of, changed, shut}
 use Rattle.dl_hub.specs.Follows as hub_after
@@ -42,7 +42,7 @@ use Rattle.dl_world.specs.State.{Client, client_at, taken_by}
 use Rattle.dl_world.specs.declared.world.World.{World}
 use Rattle.dl_world.proofs.ByNumber.{at_place, at_zero, at_past}
 use Rattle.dl_world.proofs.Noting.{journal_noted, noted_where, missing}
-use Rattle.dl_world.proofs.Doings.{doing_by, holds_by, the_events, after_quiet_event}
+use Rattle.dl_world.proofs.Doings.{doing_by, holds_by, the_events, after_quiet_event, nothing_told}
 
 -- ---- a client's stream, by its link
 
@@ -117,9 +117,9 @@ never_came client ts = by_end (λ (es : List Traffic). list_any p (clients es) �
       or_none (list_any (λ d. eqb d client) (clients es)) (list_any (λ d. eqb d client) (clients (t ∷ []))) (sym (list_any-append (λ d. eqb d client) (clients es) (clients (t ∷ []))) ∙ split)
 
   last : (t : Traffic) (was : Bool) → was ≡ false → list_any (λ d. eqb d client) (clients (t ∷ [])) ≡ false → cond (comes_or_goes client t) (is_coming t) was ≡ false
-  last (Comes other) was shut none = ap (λ (b : Bool). cond b true was) (or_none (eqb other client) false none).0 ∙ shut
-  last (Goes other) was shut none = ap (cond (eqb other client) false) shut ∙ choice_same (eqb other client)
-  last (Admit frame) was shut none = shut
+  last (Connected other) was shut none = ap (λ (b : Bool). cond b true was) (or_none (eqb other client) false none).0 ∙ shut
+  last (Closed other) was shut none = ap (cond (eqb other client) false) shut ∙ choice_same (eqb other client)
+  last (Admitted frame) was shut none = shut
   last (Reply other frame) was shut none = shut
 
   more : (es : List Traffic) (t : Traffic) → (list_any (λ d. eqb d client) (clients es) ≡ false → traffic.is_open client es ≡ false) → list_any (λ d. eqb d client) (clients (es ++ t ∷ [])) ≡ false
@@ -239,10 +239,10 @@ close_does old mid new core_now made kept client cause there takes keeps same ma
     (λ run done after is_run.
     let before = before_of_after run done old after in
     let now : IsAfter run done mid = record { so_far = (takes run done before).0.so_far; taken = λ other. keeps run done other before (after.taken other) } in
-    let core_noted = λ (told : Option Files). adds told run (journal done) (taken_by mid.clients) tt now.so_far.core_so in
+    let core_noted = λ (told : FolderTold). adds told run (journal done) (taken_by mid.clients) tt now.so_far.core_so in
     record {
       after = subst (λ (w : World). IsAfter run (done ++ Noted e ∷ []) w) (sym new_is)
-          (close_after run done mid core_now kept client cause now there value (core_noted None).0 (the_events made.events kept.events mid.journal.events e made_is noted));
+          (close_after run done mid core_now kept client cause now there value (core_noted nothing_told).0 (the_events made.events kept.events mid.journal.events e made_is noted));
       holds = λ told held. subst (λ (w : World). HoldsTrace run (journal (done ++ Noted e ∷ [])) w.core told) (sym new_is)
           (subst (λ (es : List Event). HoldsTrace run es core_now told) (sym (journal_noted done e)) ((core_noted told).1 (holds_by run done old.core mid.core told same held)));
       unasked = refl;

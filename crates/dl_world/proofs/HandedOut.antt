@@ -4,7 +4,7 @@ use Rattle.std.specs.Prelude.{slice_index, nat_lt}
 use Rattle.dl_model.specs.Marks.{Mark, Handed, injections, journal}
 use Rattle.dl_model.specs.Steps.{just, when, take_injection}
 use Rattle.dl_core.specs.Follows.{Run, HoldsTrace}
-use Rattle.dl_calls.specs.Injections.{Counts}
+use Rattle.dl_world_calls.specs.Injections.{Counts}
 use Rattle.dl_world.specs.Follows.{IsAfter, Doing}
 use Rattle.dl_world.specs.declared.world.World.{World}
 use Rattle.dl_world.proofs.Deeds.{does_none}

@@ -7,7 +7,7 @@ use Rattle.dl_model.specs.declared.registry.LevelChange.{LevelChange}
 use Rattle.dl_model.specs.Setting.{Setting}
 use Rattle.dl_model.specs.Journal.{owed}
 use Rattle.dl_model.specs.Marks.{Mark, journal, is_later}
-use Rattle.dl_model.specs.Steps.{changes, level_noted, hand_out, hand_out_now}
+use Rattle.dl_model.specs.Steps.{changes, level_noted, note_levels, note_levels_now}
 use Rattle.dl_laws.proofs.Owed.{owed_first}
 use Rattle.dl_registry.specs.Kept.{owed_change}
 use Rattle.dl_registry.proofs.Following.{change_is_owed}
@@ -19,10 +19,10 @@ use Rattle.dl_world.proofs.Deeds.{does_as, does_none}
 use Rattle.dl_world.proofs.Noting.{journal_noted}
 
 -- the next one, and then all others, are all
-next_and_others : (setting : Setting) (done : List Mark) → next_level setting done ++ hand_out setting (done ++ next_level setting done) ≡ hand_out setting done
+next_and_others : (setting : Setting) (done : List Mark) → next_level setting done ++ note_levels setting (done ++ next_level setting done) ≡ note_levels setting done
 next_and_others setting done = by (changes setting (journal done)) refl where
-  by : (cs : List LevelChange) → changes setting (journal done) ≡ cs → take 1 (map level_noted cs) ++ hand_out setting (done ++ take 1 (map level_noted cs)) ≡ map level_noted cs
-  by [] none = ap (hand_out setting) (append-nil done) ∙ ap (map level_noted) none
+  by : (cs : List LevelChange) → changes setting (journal done) ≡ cs → take 1 (map level_noted cs) ++ note_levels setting (done ++ take 1 (map level_noted cs)) ≡ map level_noted cs
+  by [] none = ap (note_levels setting) (append-nil done) ∙ ap (map level_noted) none
   by (c ∷ cs) is =
       let owes : owed setting (journal done) ≡ Some c = owed_first setting (journal done) ∙ ap (λ (xs : List LevelChange). slice_get xs 0) is in
       let tail = tails c cs (changes setting (journal done ++ _)) (sym is ∙ changes-rest setting (journal done) c owes) in
@@ -31,26 +31,26 @@ next_and_others setting done = by (changes setting (journal done)) refl where
         tails c xs ys e = cc
 
 -- one call that notes the next, and another that hands out the others
-pub hands_next : (old mid new : World) → Doing next_level old mid → Doing hand_out mid new → Doing hand_out old new
+pub hands_next : (old mid new : World) → Doing next_level old mid → Doing note_levels mid new → Doing note_levels old new
 hands_next old mid new one rest told =
-    does_as (both (λ setting answers. next_level setting) (λ setting answers. hand_out setting)) (λ setting answers. hand_out setting) old new told told
+    does_as (both (λ setting answers. next_level setting) (λ setting answers. note_levels setting)) (λ setting answers. note_levels setting) old new told told
     (λ run done answers after. sym (next_and_others run.setting done))
-    (does_both (λ setting answers. next_level setting) (λ setting answers. hand_out setting) old mid new told told told (one told) (rest told))
+    (does_both (λ setting answers. next_level setting) (λ setting answers. note_levels setting) old mid new told told told (one told) (rest told))
 
 -- none waits
-pub hands_none : (old new : World) → Doing next_level old new → owed_change new.core.registry ≡ None → Doing hand_out old new
+pub hands_none : (old new : World) → Doing next_level old new → owed_change new.core.registry ≡ None → Doing note_levels old new
 hands_none old new last settled =
-    hands_next old new new last (λ told. does_none (λ setting answers. hand_out setting) new told
+    hands_next old new new last (λ told. does_none (λ setting answers. note_levels setting) new told
     (λ run done answers after. ap (map level_noted) (changes-none run.setting (journal done) (sym (change_is_owed run.setting (journal done) new.core.registry after.so_far.core_so.registry) ∙ settled))))
 
 -- where Level events are to wait
-pub hands_later : (world : World) → world.later ≡ true → Doing hand_out_now world world
-hands_later world later told = does_none (λ setting answers. hand_out_now setting) world told
+pub hands_later : (world : World) → world.later ≡ true → Doing note_levels_now world world
+hands_later world later told = does_none (λ setting answers. note_levels_now setting) world told
     (λ run done answers after. let waits : is_later done ≡ true = sym after.so_far.later_so ∙ later in rw waits refl)
 
 -- and where they aren't
-pub hands_now : (old new : World) → old.later ≡ false → Doing hand_out old new → Doing hand_out_now old new
-hands_now old new later all told = does_as (λ setting answers. hand_out setting) (λ setting answers. hand_out_now setting) old new told told
+pub hands_now : (old new : World) → old.later ≡ false → Doing note_levels old new → Doing note_levels_now old new
+hands_now old new later all told = does_as (λ setting answers. note_levels setting) (λ setting answers. note_levels_now setting) old new told told
     (λ run done answers after. let waits : is_later done ≡ false = sym after.so_far.later_so ∙ later in rw waits refl) (all told)
 
 -- ---- what such calls leave as it was

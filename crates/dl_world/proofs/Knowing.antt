@@ -4,32 +4,32 @@ use Rattle.std.specs.Prelude.{take, slice_get, negsuc, nat_lt, ◌&&◌, count_b
 use Rattle.std.specs.List.{filter_map, AllByRecursion}
 use Rattle.std.proofs.lemmas.List.{append-nil, map-append}
 use Rattle.std.proofs.lemmas.List.Elements.{filter_map-append}
+use Rattle.dl_bytes.specs.Limits.{message_limit}
 use Rattle.dl_bytes.specs.Level.{passes}
 use Rattle.dl_bytes.specs.declared.outcome.Done.{Done}
 use Rattle.dl_bytes.specs.declared.outcome.Done.TheVariants as did
 use Rattle.dl_message.specs.Cut.{rest_fault, rest_of}
-use Rattle.dl_message.specs.declared.cutter.TheConstants.{CLIENT_LIMIT}
 use Rattle.dl_bytes.specs.declared.user.UserMsg.{UserMsg}
 use Rattle.dl_bytes.specs.declared.user.UserMsg.TheVariants as user
 use Rattle.dl_events.specs.declared.event.Event.{Event}
 use Rattle.dl_events.specs.declared.event.Event.TheVariants as event
 use Rattle.dl_events.specs.declared.event.Why.{Why}
 use Rattle.dl_events.specs.declared.event.Why.TheVariants as why
-use Rattle.dl_steps.specs.declared.line.AppLine.{AppLine}
-use Rattle.dl_steps.specs.declared.line.CallLine.{CallLine}
-use Rattle.dl_steps.specs.declared.line.ContextLine.{ContextLine}
-use Rattle.dl_steps.specs.declared.step.Step.{Step}
-use Rattle.dl_steps.specs.declared.step.Step.TheVariants as line
-use Rattle.dl_steps.specs.declared.step.LevelEvents.TheVariants as levels
+use Rattle.dl_script_lines.specs.declared.line.AppLine.{AppLine}
+use Rattle.dl_script_lines.specs.declared.line.CallLine.{CallLine}
+use Rattle.dl_script_lines.specs.declared.line.ContextLine.{ContextLine}
+use Rattle.dl_script_lines.specs.declared.step.Step.{Step}
+use Rattle.dl_script_lines.specs.declared.step.Step.TheVariants as line
+use Rattle.dl_script_lines.specs.declared.step.LevelEvents.TheVariants as levels
 use Rattle.dl_script.specs.Earlier.{Declared, nothing, noted, refusal}
 use Rattle.dl_script.specs.Spelled.{MayFollow, step_claim}
 use Rattle.dl_script.specs.declared.claim.ContextName.{ContextName}
 use Rattle.dl_model.specs.declared.registry.LevelChange.{LevelChange}
 use Rattle.dl_model.specs.Setting.{Setting}
 use Rattle.dl_model.specs.Marks.{Call, Mark, HasApp, HasContext, HasWriter, Filtered, Passed, Queued, Refused, Counted, Noted, Fed, Heard, Injected, Handed, app_of, context_of, writer_of, apps, writers, journal, number_of, app_of_writer, to_push, to_count, queued, taken, is_full, pending, moment, is_later, fed, injections}
-use Rattle.dl_model.specs.Journal.{is_connect, is_close, is_request_of}
-use Rattle.dl_model.specs.Reply.{asked as asked_for}
-use Rattle.dl_model.specs.Steps.{Act, in_turn, just, for_some, when, changes, level_noted, hand_out, hand_out_now, note, loaded, load, push, count, finish, begin_call, whole_call, take_log, take_losses, is_open, close, connect, Need, Nothing, Folder, Queue, need_of, served, request_now, ask, new_requests, close_malformed, receive, new_messages, tell, hear, take_injection, on_app, act_of}
+use Rattle.dl_model.specs.Journal.{is_connect, is_close, is_request_of, need_after}
+use Rattle.dl_model.specs.Reply.{asked as asked_for, Need, Nothing, Folder, Queue}
+use Rattle.dl_model.specs.Steps.{Act, in_sequence, just, for_some, when, changes, level_noted, note_levels, note_levels_now, note, loaded, load, push, count, finish, begin_call, whole_call, take_log, take_losses, is_open, close, connect, served, request_now, ask, new_requests, close_malformed, receive, new_messages, tell, hear, take_injection, on_app, act_of}
 use Rattle.dl_world.specs.Known.{IsKnown, name_of}
 
 -- ---- marks that declare nothing
@@ -52,9 +52,9 @@ both_plain xs ys first second = record {
   no_writers = filter_map-append writer_of xs ys ∙ ap (λ (l : List (List ℕ)). l ++ writers ys) first.no_writers ∙ second.no_writers;
 }
 
-turns : (acts : List Act) → AllByRecursion IsPlain acts → IsPlain (in_turn acts)
+turns : (acts : List Act) → AllByRecursion IsPlain acts → IsPlain (in_sequence acts)
 turns [] plain done = none
-turns (act ∷ acts) plain done = both_plain (act done) (in_turn acts (done ++ act done)) (plain.0 done) (turns acts plain.1 (done ++ act done))
+turns (act ∷ acts) plain done = both_plain (act done) (in_sequence acts (done ++ act done)) (plain.0 done) (turns acts plain.1 (done ++ act done))
 
 each : {A : Type 0} (act : A → Act) → ((x : A) → IsPlain (act x)) → (xs : List A) → AllByRecursion IsPlain (map act xs)
 each act plain [] = tt
@@ -88,17 +88,17 @@ first_levels zero (x ∷ changed) = none
 first_levels (suc n) [] = none
 first_levels (suc n) (x ∷ changed) = let rest = first_levels n changed in record { no_apps = rest.no_apps; no_contexts = rest.no_contexts; no_writers = rest.no_writers }
 
-levels_out : (setting : Setting) → IsPlain (hand_out setting)
+levels_out : (setting : Setting) → IsPlain (note_levels setting)
 levels_out setting done = noted_levels (changes setting (journal done))
 
-levels_now : (setting : Setting) → IsPlain (hand_out_now setting)
-levels_now setting done = either (is_later done) [] (hand_out setting done) none (levels_out setting done)
+levels_now : (setting : Setting) → IsPlain (note_levels_now setting)
+levels_now setting done = either (is_later done) [] (note_levels setting done) none (levels_out setting done)
 
 an_event : (e : Event) → ArePlain (Noted e ∷ [])
 an_event e = record { no_apps = refl; no_contexts = refl; no_writers = refl }
 
 notes : (setting : Setting) (make : List Mark → Event) → IsPlain (note setting make)
-notes setting make = turns (hand_out setting ∷ (λ done. Noted (make done) ∷ []) ∷ hand_out_now setting ∷ []) (levels_out setting, (λ done. an_event (make done), (levels_now setting, tt)))
+notes setting make = turns (note_levels setting ∷ (λ done. Noted (make done) ∷ []) ∷ note_levels_now setting ∷ []) (levels_out setting, (λ done. an_event (make done), (levels_now setting, tt)))
 
 closes : (setting : Setting) (client : ℕ) (why : Why) → IsPlain (close setting client why)
 closes setting client why done =
@@ -151,15 +151,15 @@ serves answers client frame (Queue app) done =
 
 asks : (setting : Setting) (answers : List Done) (client : ℕ) (frame : List ℕ) → IsPlain (ask setting answers client frame)
 asks setting answers client frame done =
-    let served_now : Act = in_turn (hand_out setting ∷ request_now setting answers client frame ∷ hand_out_now setting ∷ []) in
-    let plain : IsPlain served_now = turns (hand_out setting ∷ request_now setting answers client frame ∷ hand_out_now setting ∷ [])
-    (levels_out setting, ((λ again. serves answers client frame (need_of setting (journal again) frame (asked_for frame)) again), (levels_now setting, tt))) in
+    let served_now : Act = in_sequence (note_levels setting ∷ request_now setting answers client frame ∷ note_levels_now setting ∷ []) in
+    let plain : IsPlain served_now = turns (note_levels setting ∷ request_now setting answers client frame ∷ note_levels_now setting ∷ [])
+    (levels_out setting, ((λ again. serves answers client frame (need_after setting (journal again) frame) again), (levels_now setting, tt))) in
     either (nat_lt (count_by (is_request_of client) (journal done)) 1000) (when (is_open client done) served_now done) (close setting client why.TooMany done)
     (where_so (is_open client done) served_now done plain) (closes setting client why.TooMany done)
 
 malformed : (setting : Setting) (client : ℕ) → IsPlain (close_malformed setting client)
 malformed setting client done =
-    where_so (is_some (rest_fault CLIENT_LIMIT (rest_of CLIENT_LIMIT (fed client done)))) (close setting client why.Malformed) done (closes setting client why.Malformed)
+    where_so (is_some (rest_fault message_limit (rest_of message_limit (fed client done)))) (close setting client why.Malformed) done (closes setting client why.Malformed)
 
 receives : (setting : Setting) (answers : List Done) (client : ℕ) (bytes : List ℕ) → IsPlain (receive setting answers client bytes)
 receives setting answers client bytes done =
@@ -169,7 +169,7 @@ receives setting answers client bytes done =
       (λ again. record { no_apps = refl; no_contexts = refl; no_writers = refl }),
       and_more requests_now (close_malformed setting client ∷ []) (each (ask setting answers client) (asks setting answers client) (new_requests client bytes done)) (malformed setting client, tt),
     ) in
-    where_so (is_open client done) (in_turn acts) done (turns acts plain)
+    where_so (is_open client done) (in_sequence acts) done (turns acts plain)
 
 told_plain : (setting : Setting) (channel : ℕ) (msg : UserMsg) → IsPlain (tell setting channel msg)
 told_plain setting channel msg = notes setting (λ now. event.User channel msg (moment now))
@@ -187,7 +187,7 @@ connects : (setting : Setting) → IsPlain (connect setting)
 connects setting done =
     let here = count_by is_connect (journal done) in
     let make : List Mark → Event = λ now. event.Connect (here + 1) in
-    where_so (nat_lt here 32 && nat_lt here (count_by is_close (journal done) + 8)) (note setting make) done (notes setting make)
+    where_so (nat_lt here setting.clients && nat_lt here (count_by is_close (journal done) + 8)) (note setting make) done (notes setting make)
 
 injects : (app : ℕ) → IsPlain (take_injection app)
 injects app done = where_so (nat_lt 0 (injections app done)) (just (Handed app)) done (λ again. record { no_apps = refl; no_contexts = refl; no_writers = refl })
@@ -284,12 +284,12 @@ known_after known [] = known
 known_after known (step ∷ steps) = known_after (noted known (step_claim step)) steps
 
 pub lines_known : (setting : Setting) (answers : List Done) (steps : List Step) (known : Declared) (done : List Mark) → IsKnown known done
-    → IsKnown (known_after known steps) (done ++ in_turn (map (act_of setting answers) steps) done)
+    → IsKnown (known_after known steps) (done ++ in_sequence (map (act_of setting answers) steps) done)
 lines_known setting answers [] known done is = subst (λ (ms : List Mark). IsKnown known ms) (sym (append-nil done)) is
 lines_known setting answers (step ∷ steps) known done is =
     let more = act_of setting answers step done in
     let now = noted known (step_claim step) in
-    subst (λ (ms : List Mark). IsKnown (known_after now steps) ms) (append_assoc done more (in_turn (map (act_of setting answers) steps) (done ++ more)))
+    subst (λ (ms : List Mark). IsKnown (known_after now steps) ms) (append_assoc done more (in_sequence (map (act_of setting answers) steps) (done ++ more)))
     (lines_known setting answers steps now (done ++ more) (one_known setting answers step known done is))
 
 pub nothing_known : IsKnown nothing []

@@ -11,14 +11,14 @@ use Rattle.std.proofs.lemmas.Simd.{map-map}
 use Rattle.dl_bytes.specs.declared.conf.AppSpec.{AppSpec}
 use Rattle.dl_bytes.specs.declared.outcome.Backlog.{Backlog}
 use Rattle.dl_bytes.specs.declared.outcome.LinkEnd.{LinkEnd}
-use Rattle.dl_steps.specs.declared.line.AppLine.{AppLine}
+use Rattle.dl_script_lines.specs.declared.line.AppLine.{AppLine}
 use Rattle.dl_model.specs.Backlog.{fitting, left, refused, size_of, waiting}
 use Rattle.dl_model.specs.ClientStream.{sent, traffic}
 use Rattle.dl_model.specs.Marks.{Mark, journal, records, records_of}
 use Rattle.dl_model.specs.Replay.{clients, specs_of}
-use Rattle.dl_frame_laws.proofs.FramesBehind.{length-concat}
-use Rattle.dl_calls.specs.State.{App, Writer}
-use Rattle.dl_calls.specs.Follows.{no_writer, writer_at, line_of}
+use Rattle.dl_frames.proofs.FramesBehind.{length-concat}
+use Rattle.dl_world_calls.specs.State.{App, Writer}
+use Rattle.dl_world_calls.specs.Follows.{no_writer, writer_at, line_of}
 use Rattle.dl_hub.specs.State as state
 use Rattle.dl_hub.specs.State.{Hub, client_of}
 use Rattle.dl_core.specs.Follows.{Run, source_of}
@@ -114,7 +114,7 @@ module _ (run : Run) (done : List Mark) (w : World) (after : IsAfter run done w)
   stream_as number = rw (after.so_far.core_so.set_to.unit, after.so_far.core_so.set_to.buffer) refl
 
   abbrev nobody : state.Client
-  nobody = record { outbox = None; frames = 0; bytes = 0; replies = 0 }
+  nobody = record { outbox = None; frames = 0; bytes = 0; replies = 0; left = 0 }
 
   link_left : (place : ℕ) → place < length w.core.hub.clients → link_after run done (1 + place) ≡ link_in w.core.hub (1 + place)
   link_left place below =

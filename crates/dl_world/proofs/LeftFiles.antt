@@ -5,7 +5,8 @@ use Rattle.dl_outside.specs.Folder.{Files}
 use Rattle.dl_trace.specs.State.{Trace}
 use Rattle.dl_trace.specs.Stands.{IsTraceName}
 use Rattle.dl_core.specs.State.{Core}
-use Rattle.dl_world.specs.Folders.{Told, Leaves}
+use Rattle.dl_outside.specs.Told.{FolderTold}
+use Rattle.dl_world.specs.Folders.{Leaves}
 use Rattle.dl_world.specs.Played.{ChangesOwnFiles}
 
 abbrev directory_in : Option Trace → Option (List ℕ)
@@ -18,7 +19,7 @@ changes_none (Some trace) None = tt
 changes_none (Some trace) (Some folder) = (folder, refl, λ name not_trace other. refl)
 
 -- the folder is as it was, and the trace too
-pub leaves_alone : (old new : Core) (told : Told) → new.trace ≡ old.trace → Leaves old new told told
+pub leaves_alone : (old new : Core) (told : FolderTold) → new.trace ≡ old.trace → Leaves old new told told
 leaves_alone old new told same = record {
   others = changes_none old.trace told.files;
   same = ap directory_in same;
@@ -43,7 +44,7 @@ changes_both (Some s) (Some t) (Some folder) y z dir one two =
     )
 
 -- two calls, one after the other
-pub leaves_both : (a b c : Core) (x y z : Told) → Leaves a b x y → Leaves b c y z → Leaves a c x z
+pub leaves_both : (a b c : Core) (x y z : FolderTold) → Leaves a b x y → Leaves b c y z → Leaves a c x z
 leaves_both a b c x y z one two = record {
   others = changes_both a.trace b.trace x.files y.files z.files one.same one.others two.others;
   same = two.same ∙ one.same;
@@ -51,5 +52,5 @@ leaves_both a b c x y z one two = record {
 }
 
 -- the same where the trace is the one that was handed in
-pub changes_since : (first now : Core) (handed : Option Trace) (told told_now : Told) → first.trace ≡ handed → Leaves first now told told_now → ChangesOwnFiles handed told.files told_now.files
+pub changes_since : (first now : Core) (handed : Option Trace) (told told_now : FolderTold) → first.trace ≡ handed → Leaves first now told told_now → ChangesOwnFiles handed told.files told_now.files
 changes_since first now handed told told_now same leaves = subst (λ (trace : Option Trace). ChangesOwnFiles trace told.files told_now.files) same leaves.others

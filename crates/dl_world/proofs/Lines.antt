@@ -3,9 +3,9 @@ use Rattle.std.proofs.Common.{◌≡◌, ℕ, ◌+◌, ◌<◌, ◌≤◌, get_o
 use Rattle.std.specs.Prelude.{slice_get, Some}
 use Rattle.std.proofs.lemmas.List.{map-append, take_all, take_more}
 use Rattle.std.proofs.lemmas.Option.{slice_get-get_or}
-use Rattle.dl_steps.specs.declared.step.Step.{Step}
-use Rattle.dl_model.specs.Steps.{Act, in_turn, act_of, end_of}
-use Rattle.dl_world.specs.Folders.{Told}
+use Rattle.dl_script_lines.specs.declared.step.Step.{Step}
+use Rattle.dl_model.specs.Steps.{Act, in_sequence, act_of, end_of}
+use Rattle.dl_outside.specs.Told.{FolderTold}
 use Rattle.dl_world.specs.Follows.{Deed, Does}
 use Rattle.dl_world.specs.declared.world.World.{World}
 use Rattle.dl_world.proofs.Composing.{both, does_both}
@@ -14,26 +14,26 @@ use Rattle.dl_world.proofs.Turning.{turns-one}
 
 -- what lines come to
 abbrev pub lines : List Step → Deed
-lines steps setting answers done = in_turn (map (act_of setting answers) steps) done
+lines steps setting answers done = in_sequence (map (act_of setting answers) steps) done
 
-pub no_lines : (world : World) (told : Told) → Does (lines []) world world told told
+pub no_lines : (world : World) (told : FolderTold) → Does (lines []) world world told told
 no_lines world told = does_nothing world told
 
 -- one line more
-pub one_line : (steps : List Step) (step : Step) (old mid new : World) (told told_mid told_now : Told)
+pub one_line : (steps : List Step) (step : Step) (old mid new : World) (told told_mid told_now : FolderTold)
     → Does (lines steps) old mid told told_mid → Does (λ setting answers. act_of setting answers step) mid new told_mid told_now → Does (lines (steps ++ step ∷ [])) old new told told_now
 one_line steps step old mid new told told_mid told_now before one =
     does_as (both (lines steps) (λ setting answers. act_of setting answers step)) (lines (steps ++ step ∷ [])) old new told told_now
     (λ run done answers after.
-    ap (λ (acts : List Act). in_turn acts done) (map-append (act_of run.setting answers) steps (step ∷ []))
+    ap (λ (acts : List Act). in_sequence acts done) (map-append (act_of run.setting answers) steps (step ∷ []))
     ∙ turns-one (map (act_of run.setting answers) steps) (act_of run.setting answers step) done)
     (does_both (lines steps) (λ setting answers. act_of setting answers step) old mid new told told_mid told_now before one)
 
 -- all lines, and the end
 abbrev pub whole : List Step → Deed
-whole steps setting answers done = in_turn (map (act_of setting answers) steps ++ end_of setting ∷ []) done
+whole steps setting answers done = in_sequence (map (act_of setting answers) steps ++ end_of setting ∷ []) done
 
-pub and_end : (steps : List Step) (old mid new : World) (told told_mid told_now : Told)
+pub and_end : (steps : List Step) (old mid new : World) (told told_mid told_now : FolderTold)
     → Does (lines steps) old mid told told_mid → Does (λ setting answers. end_of setting) mid new told_mid told_now → Does (whole steps) old new told told_now
 and_end steps old mid new told told_mid told_now before one =
     does_as (both (lines steps) (λ setting answers. end_of setting)) (whole steps) old new told told_now

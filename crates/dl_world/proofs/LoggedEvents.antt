@@ -17,20 +17,20 @@ use Rattle.dl_events.specs.Journal.{Journaled}
 use Rattle.dl_message.specs.Frames.{log_message}
 use Rattle.dl_model.specs.Marks.{Call, Mark, Queued, Noted, queued_of, queued, taken, journal, moment, apps, apid_of}
 use Rattle.dl_model.specs.Steps.{just}
-use Rattle.dl_cuts.specs.Frames.{TellsLen}
-use Rattle.dl_calls.specs.State.{Calls, next_item}
-use Rattle.dl_calls.specs.Follows as calls
-use Rattle.dl_calls.proofs.Places.{there}
-use Rattle.dl_steps.specs.declared.line.AppLine.{AppLine}
-use Rattle.dl_calls.proofs.Changing.{next_tells, no-call-stays}
-use Rattle.dl_frame_laws.proofs.OneCall.{given_in_rings}
-use Rattle.dl_frame_laws.proofs.Spellings.{log_tells}
+use Rattle.dl_frames.specs.Frames.{TellsLen}
+use Rattle.dl_world_calls.specs.State.{Calls, next_item}
+use Rattle.dl_world_calls.specs.Follows as calls
+use Rattle.dl_world_calls.proofs.Places.{there}
+use Rattle.dl_script_lines.specs.declared.line.AppLine.{AppLine}
+use Rattle.dl_world_calls.proofs.Changing.{next_tells, no-call-stays}
+use Rattle.dl_frames.proofs.OneCall.{given_in_rings}
+use Rattle.dl_frames.proofs.Spellings.{log_tells}
 use Rattle.dl_hub.proofs.Following.{one_of}
 use Rattle.dl_core.specs.Admission.{log_event, GivesFrame, GivesApid}
 use Rattle.dl_core.specs.Follows.{Run, Adds, HoldsTrace, source_of}
 use Rattle.dl_core.specs.State.{Core}
 use Rattle.dl_world.specs.Fed.{CanBeTold}
-use Rattle.dl_world.specs.Folders.{Told}
+use Rattle.dl_outside.specs.Told.{FolderTold}
 use Rattle.dl_world.specs.Follows.{IsRunOf, IsAfter, IsBefore, Does, noting}
 use Rattle.dl_world.specs.State.{taken_by}
 use Rattle.dl_world.specs.declared.world.World.{World}
@@ -43,12 +43,12 @@ use Rattle.dl_world.proofs.StoredFiles.{KeepsStored, asked_in, holds_on, stored_
 -- ---- an event that the folder may see
 
 -- what is known once it is noted, and before the links took what it put
-pub record IsPutBy (run : Run) (done : List Mark) (e : Event) (old : Core) (mid : World) (told told_now : Told) : Type 0 where
+pub record IsPutBy (run : Run) (done : List Mark) (e : Event) (old : Core) (mid : World) (told told_now : FolderTold) : Type 0 where
   pub before : IsBefore run (done ++ Noted e ∷ []) mid
-  pub holds : HoldsTrace run (journal done) old told.files → HoldsTrace run (journal done ++ e ∷ []) mid.core told_now.files
+  pub holds : HoldsTrace run (journal done) old told → HoldsTrace run (journal done ++ e ∷ []) mid.core told_now
   pub unasked : asked_in (Noted e ∷ []) ≡ []
 
-pub does_event : (make : List Mark → Event) (old mid new : World) (told told_now : Told) → Fails old.core.trace mid.core.trace told.faults told_now.faults → KeepsStored told.files told_now.files → new.core.trace ≡ mid.core.trace
+pub does_event : (make : List Mark → Event) (old mid new : World) (told told_now : FolderTold) → Fails old.core.trace mid.core.trace told.faults told_now.faults → KeepsStored told.files told_now.files → new.core.trace ≡ mid.core.trace
     → ((run : Run) (done : List Mark) → IsAfter run done old → IsRunOf run (done ++ Noted (make done) ∷ []) → IsPutBy run done (make done) old.core mid told told_now)
     → ((run : Run) (done : List Mark) → IsBefore run done mid → IsAfter run done new)
     → Does (λ setting answers. noting make setting) old new told told_now
@@ -58,8 +58,8 @@ does_event make old mid new told told_now fails keeps still puts takes = record 
       let put = puts run done after is_run in
       record {
         after = takes run (done ++ Noted (make done) ∷ []) put.before;
-        holds = λ held. holds_by run (done ++ Noted (make done) ∷ []) mid.core new.core told_now.files still
-            (subst (λ (es : List Event). HoldsTrace run es mid.core told_now.files) (sym (journal_noted done (make done))) (put.holds held));
+        holds = λ held. holds_by run (done ++ Noted (make done) ∷ []) mid.core new.core told_now still
+            (subst (λ (es : List Event). HoldsTrace run es mid.core told_now) (sym (journal_noted done (make done))) (put.holds held));
         stored = λ first fine. holds_on run.setting first (journal done) (journal (done ++ Noted (make done) ∷ [])) told.files told_now.files
             (stored_unasked run.setting first done (Noted (make done) ∷ []) put.unasked) keeps;
         answers = no_answers done (Noted (make done) ∷ []) refl;
@@ -110,9 +110,9 @@ next_call run done old app item after is_run known next = by (slice_get (queued 
       subst (λ (i : Item). IsNextCall run done app i) same
       (record { app_is = queued_at app done (taken app done) call at; frame_is = given_in_rings run.setting.ecu run.frame done is_run.frames app (taken app done) call at })
 
-module _ (old new : World) (app : ℕ) (item : Item) (core_now : Core) (made kept : Journaled) (calls_now : Calls) (told told_now : Told)
+module _ (old new : World) (app : ℕ) (item : Item) (core_now : Core) (made kept : Journaled) (calls_now : Calls) (told told_now : FolderTold)
     (known : app < length old.calls.apps) (next : next_item old.calls app ≡ Some item) (sizes : HasSizes item) (made_is : made.events ≡ old.journal.events)
-    (adds : Adds (log_event old.moment item ∷ []) (GivesFrame item) old.core core_now told.files told_now.files)
+    (adds : Adds (log_event old.moment item ∷ []) (GivesFrame item) old.core core_now told told_now)
     (noted : notes.Adds (Some made.events) (Some kept.events) (log_event old.moment item))
     (took : (writer call : ℕ) (at : Moment) → calls.Does (just (Noted (event.Log app writer call at))) old.calls calls_now)
     (fails : Fails old.core.trace core_now.trace told.faults told_now.faults) (keeps : KeepsStored told.files told_now.files) (still : new.core.trace ≡ core_now.trace)
@@ -135,7 +135,7 @@ module _ (old new : World) (app : ℕ) (item : Item) (core_now : Core) (made kep
           events_noted = the_events made.events kept.events old.journal.events e made_is (subst (λ (x : Event). Some kept.events ≡ Some (made.events ++ x ∷ [])) same noted);
           rest = record { injections_rest = refl; clients_rest = refl; channels_rest = refl; moment_rest = refl; later_rest = refl };
         });
-        holds = λ held. subst (λ (x : Event). HoldsTrace run (journal done ++ x ∷ []) core_now told_now.files) same (core_noted.1 held);
+        holds = λ held. subst (λ (x : Event). HoldsTrace run (journal done ++ x ∷ []) core_now told_now) same (core_noted.1 held);
         unasked = refl;
       }
 
@@ -157,9 +157,9 @@ apid_there done all app is known = (
       (ap (λ (lines : List AppLine). slice_get lines app) (sym is.apps_are) ∙ slice_get-map calls.line_of all.apps app ∙ ap (option_map calls.line_of) (there all.apps app calls.no_app known)),
 )
 
-module _ (old new : World) (app count : ℕ) (apid : List ℕ) (core_now : Core) (made kept : Journaled) (calls_now : Calls) (told told_now : Told)
+module _ (old new : World) (app count : ℕ) (apid : List ℕ) (core_now : Core) (made kept : Journaled) (calls_now : Calls) (told told_now : FolderTold)
     (known : app < length old.calls.apps) (apid_is : apid ≡ (get_or old.calls.apps app calls.no_app).spec.apid) (long : length apid ≡ 4) (made_is : made.events ≡ old.journal.events)
-    (adds : Adds (event.Lost app count old.moment ∷ []) (GivesApid app apid) old.core core_now told.files told_now.files)
+    (adds : Adds (event.Lost app count old.moment ∷ []) (GivesApid app apid) old.core core_now told told_now)
     (noted : notes.Adds (Some made.events) (Some kept.events) (event.Lost app count old.moment))
     (tells : (lost : ℕ) (at : Moment) → calls.Does (just (Noted (event.Lost app lost at))) old.calls calls_now)
     (fails : Fails old.core.trace core_now.trace told.faults told_now.faults) (keeps : KeepsStored told.files told_now.files) (still : new.core.trace ≡ core_now.trace)
@@ -180,7 +180,7 @@ module _ (old new : World) (app count : ℕ) (apid : List ℕ) (core_now : Core)
           events_noted = the_events made.events kept.events old.journal.events e made_is (subst (λ (x : Event). Some kept.events ≡ Some (made.events ++ x ∷ [])) same noted);
           rest = record { injections_rest = refl; clients_rest = refl; channels_rest = refl; moment_rest = refl; later_rest = refl };
         });
-        holds = λ held. subst (λ (x : Event). HoldsTrace run (journal done ++ x ∷ []) core_now told_now.files) same (core_noted.1 held);
+        holds = λ held. subst (λ (x : Event). HoldsTrace run (journal done ++ x ∷ []) core_now told_now) same (core_noted.1 held);
         unasked = refl;
       }
 
@@ -192,9 +192,9 @@ module _ (old new : World) (app count : ℕ) (apid : List ℕ) (core_now : Core)
 no_turn_user : (channel : ℕ) (msg : UserMsg) (at : Moment) → IsNoTurn (event.User channel msg at)
 no_turn_user channel msg at = record { connects = refl; closes = refl; nobody = λ number. refl }
 
-module _ (old new : World) (channel : ℕ) (msg : UserMsg) (core_now : Core) (made kept : Journaled) (told told_now : Told)
+module _ (old new : World) (channel : ℕ) (msg : UserMsg) (core_now : Core) (made kept : Journaled) (told told_now : FolderTold)
     (fit : CanBeTold msg) (made_is : made.events ≡ old.journal.events)
-    (adds : Adds (event.User channel msg old.moment ∷ []) (λ run. Unit {0}) old.core core_now told.files told_now.files)
+    (adds : Adds (event.User channel msg old.moment ∷ []) (λ run. Unit {0}) old.core core_now told told_now)
     (noted : notes.Adds (Some made.events) (Some kept.events) (event.User channel msg old.moment))
     (fails : Fails old.core.trace core_now.trace told.faults told_now.faults) (keeps : KeepsStored told.files told_now.files) (still : new.core.trace ≡ core_now.trace)
     (takes : (run : Run) (done : List Mark) → IsBefore run done (record old { core = core_now; journal = kept }) → IsAfter run done new) where
@@ -212,7 +212,7 @@ module _ (old new : World) (channel : ℕ) (msg : UserMsg) (core_now : Core) (ma
           events_noted = the_events made.events kept.events old.journal.events e made_is (subst (λ (x : Event). Some kept.events ≡ Some (made.events ++ x ∷ [])) same noted);
           rest = record { injections_rest = refl; clients_rest = refl; channels_rest = refl; moment_rest = refl; later_rest = refl };
         });
-        holds = λ held. subst (λ (x : Event). HoldsTrace run (journal done ++ x ∷ []) core_now told_now.files) same (core_noted.1 held);
+        holds = λ held. subst (λ (x : Event). HoldsTrace run (journal done ++ x ∷ []) core_now told_now) same (core_noted.1 held);
         unasked = refl;
       }
 

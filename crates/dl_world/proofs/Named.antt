@@ -5,12 +5,12 @@ use Rattle.std.proofs.lemmas.List.{length-map}
 use Rattle.dl_model.specs.Setting.{Setting}
 use Rattle.dl_model.specs.Marks.{Mark, number_of}
 use Rattle.dl_model.specs.Steps.{Act, for_some, on_app, take_injection}
-use Rattle.dl_calls.specs.State.{numbered}
-use Rattle.dl_calls.specs.Follows.{line_of}
-use Rattle.dl_calls.proofs.Declaring.{number_is}
+use Rattle.dl_world_calls.specs.State.{numbered}
+use Rattle.dl_world_calls.specs.Follows.{line_of}
+use Rattle.dl_world_calls.proofs.Declaring.{number_is}
 use Rattle.dl_core.specs.Follows.{Run}
 use Rattle.dl_core.specs.State.{Core}
-use Rattle.dl_world.specs.Folders.{Told}
+use Rattle.dl_outside.specs.Told.{FolderTold}
 use Rattle.dl_world.specs.Follows.{IsAfter, Does, Doing}
 use Rattle.dl_world.specs.declared.world.World.{World}
 use Rattle.dl_world.proofs.Deeds.{does_as, does_none}
@@ -20,14 +20,14 @@ number_in : (run : Run) (done : List Mark) (world : World) (apid : List ℕ) →
 number_in run done world apid after = sym (number_is done world.calls apid after.so_far.calls_so.apps_are)
 
 -- the application of this id
-pub does_on_app : (apid : List ℕ) (act : Setting → ℕ → Act) (app : ℕ) (old new : World) (told told_now : Told) → numbered old.calls apid ≡ Some app
+pub does_on_app : (apid : List ℕ) (act : Setting → ℕ → Act) (app : ℕ) (old new : World) (told told_now : FolderTold) → numbered old.calls apid ≡ Some app
     → Does (λ setting answers. act setting app) old new told told_now → Does (λ setting answers. on_app apid (act setting)) old new told told_now
 does_on_app apid act app old new told told_now is does =
     does_as (λ setting answers. act setting app) (λ setting answers. on_app apid (act setting)) old new told told_now
     (λ run done answers after. ap (λ (o : Option ℕ). for_some o (act run.setting) done) (number_in run done old apid after ∙ is)) does
 
 -- nobody has this id
-pub does_on_nobody : (apid : List ℕ) (act : Setting → ℕ → Act) (world : World) (told : Told) → numbered world.calls apid ≡ None
+pub does_on_nobody : (apid : List ℕ) (act : Setting → ℕ → Act) (world : World) (told : FolderTold) → numbered world.calls apid ≡ None
     → Does (λ setting answers. on_app apid (act setting)) world world told told
 does_on_nobody apid act world told is =
     does_none (λ setting answers. on_app apid (act setting)) world told

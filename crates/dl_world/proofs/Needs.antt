@@ -16,9 +16,8 @@ use Rattle.dl_model.specs.declared.registry.Context.{Context}
 use Rattle.dl_model.specs.declared.registry.Slot.{Slot}
 use Rattle.dl_model.specs.Journal.{registry_of, slots_of}
 use Rattle.dl_model.specs.Registry.{App, Registry, IsInOrder, app_of, context_of, reset}
-use Rattle.dl_model.specs.Reply.{apid_of, asked, ctid_of, injected, reset_requested}
+use Rattle.dl_model.specs.Reply.{apid_of, asked, ctid_of, injected, reset_requested, need_of}
 use Rattle.dl_model.specs.Setting.{Setting}
-use Rattle.dl_model.specs.Steps.{need_of}
 use Rattle.dl_model.proofs.Order.{app_of_found, in_order-registry_of}
 use Rattle.dl_services.specs.Wish.{wanted, needed, removes, sends}
 use Rattle.dl_services.specs.declared.wish.Want.TheVariants as want
@@ -49,12 +48,12 @@ wanted_is setting other events slots registry frame level mode slots_are registr
     ∙ ap (λ (r : Registry). wanted other slots r (apid_of frame) (ctid_of frame) (asked frame)) (sym registry_is)
 
 -- and a run of steps asks for it
-pub needs_are : (setting : Setting) (events : List Event) (frame : List ℕ) (request : Result Request RequestFault)
-    → need_of setting events frame request ≡ needed (wanted setting (slots_of setting events) (registry_of setting events) (apid_of frame) (ctid_of frame) request)
-needs_are setting events frame (Ok Store) = refl
-needs_are setting events frame (Ok Reset) = reset_needs (reset_requested setting (slots_of setting events) (registry_of setting events))
-needs_are setting events frame (Ok (Inject service body)) = inject_needs service body (injected setting (registry_of setting events) (apid_of frame) (ctid_of frame))
-needs_are setting events frame _ = refl
+pub needs_are : (setting : Setting) (slots : ℕ → Slot) (registry : Registry) (apid ctid : List ℕ) (request : Result Request RequestFault)
+    → need_of setting slots registry apid ctid request ≡ needed (wanted setting slots registry apid ctid request)
+needs_are setting slots registry apid ctid (Ok Store) = refl
+needs_are setting slots registry apid ctid (Ok Reset) = reset_needs (reset_requested setting slots registry)
+needs_are setting slots registry apid ctid (Ok (Inject service body)) = inject_needs service body (injected setting registry apid ctid)
+needs_are setting slots registry apid ctid _ = refl
 
 -- ---- the application of an injection is one of 16
 

@@ -16,16 +16,16 @@ use Rattle.dl_model.specs.Traffic.{Traffic, clients}
 use Rattle.dl_model.specs.ClientStream.{traffic, stream}
 use Rattle.dl_model.specs.Marks.{Mark, Noted, event_of, journal, fed}
 use Rattle.dl_laws.proofs.Lists.{last_that-one, count_by-append}
-use Rattle.dl_calls.specs.Follows as calls
-use Rattle.dl_calls.proofs.InjectionCounts.{no-injection-stays}
+use Rattle.dl_world_calls.specs.Follows as calls
+use Rattle.dl_world_calls.proofs.InjectionCounts.{no-injection-stays}
 use Rattle.dl_hub.specs.State as hub
 use Rattle.dl_hub.specs.State.{Hub, Waiting, client_of, outbox_of}
 use Rattle.dl_hub.specs.Follows as hub_after
-use Rattle.dl_frame_laws.specs.FrameLengths.{CarriesLen, GivesLengths}
-use Rattle.dl_frame_laws.specs.FramesPut.{IsPut}
-use Rattle.dl_frame_laws.proofs.FramesBehind.{put_by_events}
-use Rattle.dl_frame_laws.proofs.Traffics.{journal_goes_on}
-use Rattle.dl_frame_laws.proofs.Quiet.{open_in_journal, came_in_journal, shut_after}
+use Rattle.dl_frames.specs.FrameLengths.{CarriesLen, GivesLengths}
+use Rattle.dl_frames.specs.FramesPut.{IsPut}
+use Rattle.dl_frames.proofs.FramesBehind.{put_by_events}
+use Rattle.dl_frames.proofs.Traffics.{journal_goes_on}
+use Rattle.dl_frames.proofs.Quiet.{open_in_journal, came_in_journal, shut_after}
 use Rattle.dl_core.specs.Follows as core
 use Rattle.dl_core.specs.Follows.{Run, source_of}
 use Rattle.dl_core.specs.State.{Core}
@@ -226,6 +226,7 @@ noted_where run done e old new is noted =
     record {
       so_far = record {
         ecu_so = is.so_far.ecu_so;
+        limit_so = is.so_far.limit_so;
         calls_so = noted.calls_noted;
         few_so = rw (apps_same done (Noted e ∷ []) refl) is.so_far.few_so;
         injections_so = rw noted.injections_rest (no-injection-stays done (Noted e) old.injections refl is.so_far.injections_so);

@@ -11,10 +11,10 @@ use Rattle.dl_events.specs.declared.event.Event.{Event}
 use Rattle.dl_model.specs.Along.{last_that}
 use Rattle.dl_model.specs.Marks.{Mark, Clocked, LevelsWait, Answered, Injected, Handed, event_of, app_of, clocked, waits_of, fed_of, heard_of, journal, apps, moment, moment_at, is_later, fed, heard}
 use Rattle.dl_laws.proofs.Lists.{last_that-one}
-use Rattle.dl_calls.specs.Follows as calls
-use Rattle.dl_calls.specs.Injections.{AreAfter}
-use Rattle.dl_calls.proofs.Changing.{no-call-stays}
-use Rattle.dl_calls.proofs.InjectionCounts.{no-injection-stays}
+use Rattle.dl_world_calls.specs.Follows as calls
+use Rattle.dl_world_calls.specs.Injections.{AreAfter}
+use Rattle.dl_world_calls.proofs.Changing.{no-call-stays}
+use Rattle.dl_world_calls.proofs.InjectionCounts.{no-injection-stays}
 use Rattle.dl_core.specs.Follows.{Run}
 use Rattle.dl_world.specs.Fed.{IsFedBy, IsHeardBy}
 use Rattle.dl_world.specs.Follows.{IsAfter, stream_in}
@@ -78,6 +78,7 @@ module _ (run : Run) (done more : List Mark) (old new : World) (is : IsAfter run
   goes_on_where core_is journal_is came_is taken_is frames_are = record {
     so_far = record {
       ecu_so = is.so_far.ecu_so;
+      limit_so = is.so_far.limit_so;
       calls_so = kept.calls_held;
       few_so = kept.few_held;
       injections_so = kept.injections_held;

@@ -7,25 +7,26 @@ use Rattle.std.proofs.lemmas.Bool.{ne_eqb}
 use Rattle.std.proofs.lemmas.Bool.Decides.{eqb_tells}
 use Rattle.std.proofs.lemmas.Grind.{flat_map-append}
 use Rattle.std.proofs.lemmas.List.{append-nil, map-append}
+use Rattle.dl_bytes.specs.Limits.{message_limit}
 use Rattle.dl_bytes.specs.declared.outcome.Done.{Done}
 use Rattle.dl_bytes.specs.declared.outcome.Done.TheVariants as did
 use Rattle.dl_events.specs.declared.event.Event.{Event}
 use Rattle.dl_events.specs.declared.event.Event.TheVariants as event
 use Rattle.dl_events.specs.declared.event.Why.TheVariants as why
 use Rattle.dl_message.specs.Cut.{rest_fault, rest_of}
-use Rattle.dl_message.specs.declared.cutter.TheConstants.{CLIENT_LIMIT}
 use Rattle.dl_model.specs.declared.registry.LevelChange.{LevelChange}
 use Rattle.dl_model.specs.Setting.{Setting}
-use Rattle.dl_model.specs.Journal.{is_request_of}
+use Rattle.dl_model.specs.Journal.{is_request_of, need_after}
 use Rattle.dl_model.specs.Marks.{Mark, Noted, Fed, Injected, fed, fed_of, injections, is_later, journal}
-use Rattle.dl_model.specs.Reply.{asked}
+use Rattle.dl_model.specs.Reply.{asked, Need}
+use Rattle.dl_model.specs.Reply as needs
 use Rattle.dl_model.specs.Steps as steps
-use Rattle.dl_model.specs.Steps.{Act, Need, in_turn, ask, changes, close, close_malformed, hand_out, hand_out_now, just, level_noted, need_of, new_requests, note, receive, request_now, served, when}
-use Rattle.dl_calls.proofs.Changing.{no-call-stays}
-use Rattle.dl_calls.proofs.InjectionCounts.{no-injection-stays}
+use Rattle.dl_model.specs.Steps.{Act, in_sequence, ask, changes, close, close_malformed, note_levels, note_levels_now, just, level_noted, new_requests, note, receive, request_now, served, when}
+use Rattle.dl_world_calls.proofs.Changing.{no-call-stays}
+use Rattle.dl_world_calls.proofs.InjectionCounts.{no-injection-stays}
 use Rattle.dl_core.specs.Follows.{Run, HoldsTrace}
 use Rattle.dl_world.specs.Fed.{Asks, IsFedBy}
-use Rattle.dl_world.specs.Folders.{Told}
+use Rattle.dl_outside.specs.Told.{FolderTold}
 use Rattle.dl_world.specs.Follows.{IsAfter, Deed, Does, Doing, stream_in}
 use Rattle.dl_world.specs.State.{Client, client_at, taken_by, with_client, with_cutter}
 use Rattle.dl_world.specs.declared.world.World.{World}
@@ -41,16 +42,16 @@ use Rattle.dl_world.proofs.Turning.{turns-one}
 
 -- whole requests of a client, one after the other
 abbrev pub ask_all : ℕ → List (List ℕ) → Deed
-ask_all client requests setting answers = in_turn (map (ask setting answers client) requests)
+ask_all client requests setting answers = in_sequence (map (ask setting answers client) requests)
 
 -- one request more
-pub does_asked : (client : ℕ) (before : List (List ℕ)) (frame : List ℕ) (old mid new : World) (told told_mid told_now : Told) → Does (ask_all client before) old mid told told_mid
+pub does_asked : (client : ℕ) (before : List (List ℕ)) (frame : List ℕ) (old mid new : World) (told told_mid told_now : FolderTold) → Does (ask_all client before) old mid told told_mid
     → Does (λ setting answers. ask setting answers client frame) mid new told_mid told_now → Does (ask_all client (before ++ frame ∷ [])) old new told told_now
 does_asked client before frame old mid new told told_mid told_now one two =
     let last : Deed = λ setting answers. ask setting answers client frame in
     does_as (both (ask_all client before) last) (ask_all client (before ++ frame ∷ [])) old new told told_now
     (λ run done answers after.
-    ap (λ (acts : List Act). in_turn acts done) (map-append (ask run.setting answers client) before (frame ∷ []))
+    ap (λ (acts : List Act). in_sequence acts done) (map-append (ask run.setting answers client) before (frame ∷ []))
     ∙ turns-one (map (ask run.setting answers client) before) (ask run.setting answers client frame) done)
     (does_both (ask_all client before) last old mid new told told_mid told_now one two)
 
@@ -63,50 +64,50 @@ module _ (client : ℕ) where
   unfed_both : (xs ys : List Mark) → fed client xs ≡ [] → fed client ys ≡ [] → fed client (xs ++ ys) ≡ []
   unfed_both xs ys one two = flat_map-append (fed_of client) xs ys ∙ rw (one, two) refl
 
-  unfed_turns : (acts : List Act) → AllByRecursion IsUnfed acts → IsUnfed (in_turn acts)
+  unfed_turns : (acts : List Act) → AllByRecursion IsUnfed acts → IsUnfed (in_sequence acts)
   unfed_turns [] all done = refl
-  unfed_turns (act ∷ acts) all done = unfed_both (act done) (in_turn acts (done ++ act done)) (all.0 done) (unfed_turns acts all.1 (done ++ act done))
+  unfed_turns (act ∷ acts) all done = unfed_both (act done) (in_sequence acts (done ++ act done)) (all.0 done) (unfed_turns acts all.1 (done ++ act done))
 
   unfed_levels : (cs : List LevelChange) → fed client (map level_noted cs) ≡ []
   unfed_levels [] = refl
   unfed_levels (c ∷ cs) = unfed_levels cs
 
-  unfed_hand_out : (setting : Setting) → IsUnfed (hand_out setting)
+  unfed_hand_out : (setting : Setting) → IsUnfed (note_levels setting)
   unfed_hand_out setting done = unfed_levels (changes setting (journal done))
 
-  unfed_hand_out_now : (setting : Setting) → IsUnfed (hand_out_now setting)
+  unfed_hand_out_now : (setting : Setting) → IsUnfed (note_levels_now setting)
   unfed_hand_out_now setting done = by (is_later done) where
-    by : (b : Bool) → fed client (if b then [] else hand_out setting done) ≡ []
+    by : (b : Bool) → fed client (if b then [] else note_levels setting done) ≡ []
     by true = refl
     by false = unfed_hand_out setting done
 
   unfed_note : (setting : Setting) (make : List Mark → Event) → IsUnfed (note setting make)
-  unfed_note setting make = unfed_turns (hand_out setting ∷ (λ done. Noted (make done) ∷ []) ∷ hand_out_now setting ∷ []) (unfed_hand_out setting, ((λ done. refl), (unfed_hand_out_now setting, tt)))
+  unfed_note setting make = unfed_turns (note_levels setting ∷ (λ done. Noted (make done) ∷ []) ∷ note_levels_now setting ∷ []) (unfed_hand_out setting, ((λ done. refl), (unfed_hand_out_now setting, tt)))
 
   unfed_when : (b : Bool) (act : Act) → IsUnfed act → IsUnfed (when b act)
   unfed_when true act unfed done = unfed done
   unfed_when false act unfed done = refl
 
   unfed_served : (answers : List Done) (frame : List ℕ) (need : Need) → IsUnfed (served answers client frame need)
-  unfed_served answers frame steps.Nothing done = refl
-  unfed_served answers frame steps.Folder done = refl
-  unfed_served answers frame (steps.Queue app) done = by (nat_lt (injections app done) 16) where
+  unfed_served answers frame needs.Nothing done = refl
+  unfed_served answers frame needs.Folder done = refl
+  unfed_served answers frame (needs.Queue app) done = by (nat_lt (injections app done) 16) where
     by : (b : Bool) → fed client (if b then Injected app ∷ Noted (event.Request client frame did.Yes) ∷ [] else Noted (event.Request client frame did.Failed) ∷ []) ≡ []
     by true = refl
     by false = refl
 
   unfed_request : (setting : Setting) (answers : List Done) (frame : List ℕ) → IsUnfed (request_now setting answers client frame)
-  unfed_request setting answers frame done = unfed_served answers frame (need_of setting (journal done) frame (asked frame)) done
+  unfed_request setting answers frame done = unfed_served answers frame (need_after setting (journal done) frame) done
 
   unfed_ask : (setting : Setting) (answers : List Done) (frame : List ℕ) → IsUnfed (ask setting answers client frame)
   unfed_ask setting answers frame done = by (nat_lt (count_by (is_request_of client) (journal done)) 1000) where
-    by : (b : Bool) → fed client (if b then when (steps.is_open client done) (in_turn (hand_out setting ∷ request_now setting answers client frame ∷ hand_out_now setting ∷ [])) done else close setting client why.TooMany done) ≡ []
+    by : (b : Bool) → fed client (if b then when (steps.is_open client done) (in_sequence (note_levels setting ∷ request_now setting answers client frame ∷ note_levels_now setting ∷ [])) done else close setting client why.TooMany done) ≡ []
     by true =
-        unfed_when (steps.is_open client done) (in_turn (hand_out setting ∷ request_now setting answers client frame ∷ hand_out_now setting ∷ []))
-        (unfed_turns (hand_out setting ∷ request_now setting answers client frame ∷ hand_out_now setting ∷ []) (unfed_hand_out setting, (unfed_request setting answers frame, (unfed_hand_out_now setting, tt)))) done
+        unfed_when (steps.is_open client done) (in_sequence (note_levels setting ∷ request_now setting answers client frame ∷ note_levels_now setting ∷ []))
+        (unfed_turns (note_levels setting ∷ request_now setting answers client frame ∷ note_levels_now setting ∷ []) (unfed_hand_out setting, (unfed_request setting answers frame, (unfed_hand_out_now setting, tt)))) done
     by false = unfed_when (steps.is_open client done) (note setting (λ _. event.Close client why.TooMany)) (unfed_note setting (λ _. event.Close client why.TooMany)) done
 
-  unfed_asks : (setting : Setting) (answers : List Done) (requests : List (List ℕ)) → IsUnfed (in_turn (map (ask setting answers client) requests))
+  unfed_asks : (setting : Setting) (answers : List Done) (requests : List (List ℕ)) → IsUnfed (in_sequence (map (ask setting answers client) requests))
   unfed_asks setting answers requests = unfed_turns (map (ask setting answers client) requests) (each requests) where
     each : (frames : List (List ℕ)) → AllByRecursion IsUnfed (map (ask setting answers client) frames)
     each [] = tt
@@ -213,9 +214,9 @@ module _ (client : ℕ) (bytes : List ℕ) (made : List (List ℕ)) (bad : Bool)
     new_requests_are = sym asks_now.asked
 
     -- the bytes that came show a bad header, or none, whatever was asked since
-    shows_bad : (more : List Mark) → fed client more ≡ [] → is_some (rest_fault CLIENT_LIMIT (rest_of CLIENT_LIMIT (fed client ((done ++ marks) ++ more)))) ≡ bad
+    shows_bad : (more : List Mark) → fed client more ≡ [] → is_some (rest_fault message_limit (rest_of message_limit (fed client ((done ++ marks) ++ more)))) ≡ bad
     shows_bad more none =
-        ap (λ (s : List ℕ). is_some (rest_fault CLIENT_LIMIT (rest_of CLIENT_LIMIT s))) (fed_same client (done ++ marks) more none ∙ fed_here done client bytes) ∙ sym asks_now.bad_is
+        ap (λ (s : List ℕ). is_some (rest_fault message_limit (rest_of message_limit s))) (fed_same client (done ++ marks) more none ∙ fed_here done client bytes) ∙ sym asks_now.bad_is
 
   fed_does : Doing (λ setting. just (Fed client bytes)) old mid
   fed_does = doing_by (λ setting. just (Fed client bytes)) old mid refl (λ run done after is_run. record {
@@ -225,7 +226,7 @@ module _ (client : ℕ) (bytes : List ℕ) (made : List (List ℕ)) (bad : Bool)
   })
 
   -- and the requests that they make whole were asked, and a bad header closed it
-  pub does_receive : (asked new : World) (told told_now : Told) → ((run : Run) (done : List Mark) → IsAfter run done old → steps.is_open client done ≡ true)
+  pub does_receive : (asked new : World) (told told_now : FolderTold) → ((run : Run) (done : List Mark) → IsAfter run done old → steps.is_open client done ≡ true)
       → Does (ask_all client made) mid asked told told_now → Does (λ setting answers. when bad (close setting client why.Malformed)) asked new told_now told_now
       → Does (λ setting answers. receive setting answers client bytes) old new told told_now
   does_receive asked new told told_now opens asks ends =
@@ -235,17 +236,17 @@ module _ (client : ℕ) (bytes : List ℕ) (made : List (List ℕ)) (bad : Bool)
       (λ run done answers after.
       let since : List Mark = done ++ Fed client bytes ∷ [] in
       let each : List (List ℕ) → List Act = map (ask run.setting answers client) in
-      let more : List Mark = in_turn (each made) since in
-      ap (λ (b : Bool). when b (in_turn (just (Fed client bytes) ∷ (each (new_requests client bytes done) ++ close_malformed run.setting client ∷ []))) done) (opens run done after)
-      ∙ ap (λ (frames : List (List ℕ)). Fed client bytes ∷ in_turn (each frames ++ close_malformed run.setting client ∷ []) since) (new_requests_are run done after)
+      let more : List Mark = in_sequence (each made) since in
+      ap (λ (b : Bool). when b (in_sequence (just (Fed client bytes) ∷ (each (new_requests client bytes done) ++ close_malformed run.setting client ∷ []))) done) (opens run done after)
+      ∙ ap (λ (frames : List (List ℕ)). Fed client bytes ∷ in_sequence (each frames ++ close_malformed run.setting client ∷ []) since) (new_requests_are run done after)
       ∙ ap (λ (ms : List Mark). Fed client bytes ∷ ms) (turns-one (each made) (close_malformed run.setting client) since)
       ∙ ap (λ (b : Bool). Fed client bytes ∷ (more ++ when b (close run.setting client why.Malformed) (since ++ more))) (shows_bad run done after more (unfed_asks client run.setting answers made since)))
       (does_both first (both (ask_all client made) ending) old mid new told told told_now (fed_does told) (does_both (ask_all client made) ending mid asked new told told_now told_now asks ends))
 
 -- of a client that is not open, nothing
-pub receives_nothing : (client : ℕ) (bytes : List ℕ) (world : World) (told : Told) → ((run : Run) (done : List Mark) → IsAfter run done world → steps.is_open client done ≡ false)
+pub receives_nothing : (client : ℕ) (bytes : List ℕ) (world : World) (told : FolderTold) → ((run : Run) (done : List Mark) → IsAfter run done world → steps.is_open client done ≡ false)
     → Does (λ setting answers. receive setting answers client bytes) world world told told
 receives_nothing client bytes world told shut =
     does_none (λ setting answers. receive setting answers client bytes) world told
     (λ run done answers after.
-    ap (λ (b : Bool). when b (in_turn (just (Fed client bytes) ∷ (map (ask run.setting answers client) (new_requests client bytes done) ++ close_malformed run.setting client ∷ []))) done) (shut run done after))
+    ap (λ (b : Bool). when b (in_sequence (just (Fed client bytes) ∷ (map (ask run.setting answers client) (new_requests client bytes done) ++ close_malformed run.setting client ∷ []))) done) (shut run done after))

@@ -14,24 +14,24 @@ use Rattle.dl_outside.specs.Folder.{Files, HasCause}
 use Rattle.dl_outside.specs.declared.folder.FolderFault.{FolderFault}
 use Rattle.dl_outside.specs.declared.folder.FolderFault.TheVariants as fault
 use Rattle.dl_trace.specs.State.{Trace}
-use Rattle.dl_model.specs.Journal.{registry_of, slots_of}
-use Rattle.dl_model.specs.Reply.{apid_of, asked, ctid_of}
+use Rattle.dl_model.specs.Journal.{registry_of, slots_of, need_after}
+use Rattle.dl_model.specs.Reply.{apid_of, asked, ctid_of, Need, Folder}
 use Rattle.dl_model.specs.Marks.{Mark, Noted, Answered, Injected, event_of, journal, injections, is_answer}
-use Rattle.dl_model.specs.Steps.{Need, Folder, need_of, request_now, served}
+use Rattle.dl_model.specs.Steps.{request_now, served}
 use Rattle.dl_laws.proofs.Lists.{count_by-append}
-use Rattle.dl_calls.proofs.Changing.{no-call-stays}
-use Rattle.dl_calls.proofs.Places.{slice_get-end, slice_get-more}
+use Rattle.dl_world_calls.proofs.Changing.{no-call-stays}
+use Rattle.dl_world_calls.proofs.Places.{slice_get-end, slice_get-more}
 use Rattle.dl_registry.specs.Kept.{slots}
 use Rattle.dl_hub.specs.State.{Hub, Waiting, HasRoom, outbox_of}
 use Rattle.dl_services.specs.Wish.{needed, wanted}
 use Rattle.dl_services.specs.declared.wish.Want.{Want}
 use Rattle.dl_services.specs.declared.wish.Want.TheVariants as want
-use Rattle.dl_frame_laws.proofs.Answered.{every_reply_tells}
+use Rattle.dl_frames.proofs.Answered.{every_reply_tells}
 use Rattle.dl_core.specs.State.{Core}
 use Rattle.dl_core.specs.Follows.{Run, Adds, HoldsTrace, HoldsFiles, stored_by}
 use Rattle.dl_core.specs.Serving.{Answers, Ready, IsReady, Serves, done_by, injection_in, reply_now, wanted_now}
 use Rattle.dl_core.specs.Settings.{seen}
-use Rattle.dl_world.specs.Folders.{Told}
+use Rattle.dl_outside.specs.Told.{FolderTold}
 use Rattle.dl_world.specs.Follows.{IsAfter, IsBefore, BeginWith, answer_of, answers_in, is_failure, failures_of, Goes, Does, Queues}
 use Rattle.dl_world.specs.State.{taken_by}
 use Rattle.dl_world.specs.Stored.{HoldsStored}
@@ -43,11 +43,11 @@ use Rattle.dl_world.proofs.StoredFiles.{request_stored}
 
 -- ---- the trace alone counts for what the folder holds
 
-pub holds_as : (run : Run) (events events_now : List Event) (old new : Core) (told : Option Files) → events_now ≡ events → new.trace ≡ old.trace
+pub holds_as : (run : Run) (events events_now : List Event) (old new : Core) (told : FolderTold) → events_now ≡ events → new.trace ≡ old.trace
     → HoldsTrace run events old told → HoldsTrace run events_now new told
 holds_as run events events_now old new told same trace held =
     subst (λ (es : List Event). HoldsTrace run es new told) (sym same)
-    (subst (λ (o : Option Trace). IfSome o (λ kept. kept.state.end ≡ None → HoldsFiles run (stored_by run events) told)) (sym trace) held)
+    (subst (λ (o : Option Trace). IfSome o (λ kept. kept.state.end ≡ None → HoldsFiles run (stored_by run events) told.files)) (sym trace) held)
 
 -- ---- the event of a request
 
@@ -55,8 +55,8 @@ no_turn : (client : ℕ) (frame : List ℕ) (answer : Done) → IsNoTurn (event.
 no_turn client frame answer = record { connects = refl; closes = refl; nobody = λ number. refl }
 
 -- what serving a request did to the parts of a world, and what its delivery makes of them
-pub record HasServed (client : ℕ) (frame : List ℕ) (answer : Done) (old mid new : World) (told told_now : Told) : Type 0 where
-  pub adds : Adds (event.Request client frame answer ∷ []) (λ run. Unit {0}) old.core mid.core told.files told_now.files
+pub record HasServed (client : ℕ) (frame : List ℕ) (answer : Done) (old mid new : World) (told told_now : FolderTold) : Type 0 where
+  pub adds : Adds (event.Request client frame answer ∷ []) (λ run. Unit {0}) old.core mid.core told told_now
   pub notes : mid.journal.events ≡ old.journal.events ++ event.Request client frame answer ∷ []
   pub calls_kept : mid.calls ≡ old.calls
   pub clients_kept : mid.clients ≡ old.clients
@@ -67,7 +67,7 @@ pub record HasServed (client : ℕ) (frame : List ℕ) (answer : Done) (old mid 
   pub trace_mid : mid.core.trace ≡ old.core.trace
   pub trace_new : new.core.trace ≡ mid.core.trace
 
-module _ (client : ℕ) (frame : List ℕ) (answer : Done) (old mid new : World) (told told_now : Told) (is : HasServed client frame answer old mid new told told_now) where
+module _ (client : ℕ) (frame : List ℕ) (answer : Done) (old mid new : World) (told told_now : FolderTold) (is : HasServed client frame answer old mid new told told_now) where
   abbrev e : Event
   e = event.Request client frame answer
 
@@ -94,7 +94,7 @@ module _ (client : ℕ) (frame : List ℕ) (answer : Done) (old mid new : World)
       ap journal (sym all) ∙ journal_noted (done ++ front) e ∙ ap (λ (es : List Event). es ++ e ∷ []) events in
       record {
         after = subst (λ (ms : List Mark). IsAfter run ms new) all (is.delivers run ((done ++ front) ++ Noted e ∷ []) before);
-        holds = λ held. holds_as run (journal done ++ e ∷ []) (journal (done ++ (front ++ Noted e ∷ []))) mid.core new.core told_now.files whole is.trace_new (core_noted.1 held);
+        holds = λ held. holds_as run (journal done ++ e ∷ []) (journal (done ++ (front ++ Noted e ∷ []))) mid.core new.core told_now whole is.trace_new (core_noted.1 held);
         stored = λ first fine holds. subst (λ (es : List Event). HoldsStored run.setting first es told_now.files) (sym whole) (stores first fine holds);
         answers = filter_map-append answer_of done (front ++ Noted e ∷ []) ∙ ap (λ (xs : List Done). answers_in done ++ xs) answered_is;
       }
@@ -140,12 +140,12 @@ none_failed did.NoMemory fine = refl
 
 -- what is known of each run: what it asks for is what the request wants, and an injection is for one of 16 applications
 pub record IsWanted (frame : List ℕ) (wants : Want) (old : World) : Type 0 where
-  pub needs : (run : Run) (done : List Mark) → IsAfter run done old → need_of run.setting (journal done) frame (asked frame) ≡ needed wants
+  pub needs : (run : Run) (done : List Mark) → IsAfter run done old → need_after run.setting (journal done) frame ≡ needed wants
   pub is_what : (run : Run) (done : List Mark) → IsAfter run done old
       → wanted run.setting (slots_of run.setting (journal done)) (registry_of run.setting (journal done)) (apid_of frame) (ctid_of frame) (asked frame) ≡ wants
   pub below : (app : ℕ) (injection : Injection) (run : Run) (done : List Mark) → IsAfter run done old → wants ≡ want.Inject app injection → app < 16
 
-module _ (client : ℕ) (frame : List ℕ) (answer : Done) (old mid new : World) (told told_now : Told) (is : HasServed client frame answer old mid new told told_now) where
+module _ (client : ℕ) (frame : List ℕ) (answer : Done) (old mid new : World) (told told_now : FolderTold) (is : HasServed client frame answer old mid new told told_now) where
   abbrev noted : Done → Mark
   noted what = Noted (event.Request client frame what)
 
@@ -154,9 +154,9 @@ module _ (client : ℕ) (frame : List ℕ) (answer : Done) (old mid new : World)
   Stores wants = (needed wants ≡ Folder → is_failure answer ≡ false) → (run : Run) (done : List Mark) → IsAfter run done old → (first : Option (List ℕ))
       → HoldsStored run.setting first (journal done) told.files → HoldsStored run.setting first (journal done ++ event.Request client frame answer ∷ []) told_now.files
 
-  stores_so : (wants : Want) (pushed : Bool) → IsWanted frame wants old → Answers wants pushed answer told.files told_now.files told.faults told_now.faults → Stores wants
+  stores_so : (wants : Want) (pushed : Bool) → IsWanted frame wants old → Answers wants pushed answer told told_now → Stores wants
   stores_so wants pushed known acts fine run done after first =
-      request_stored run.setting first (journal done) client frame answer wants pushed told.files told_now.files told.faults told_now.faults (known.is_what run done after) acts fine
+      request_stored run.setting first (journal done) client frame answer wants pushed told told_now (known.is_what run done after) acts fine
 
   -- the queues are as they were
   same_queues : (run : Run) (done : List Mark) → mid.injections ≡ old.injections → IsAfter run done old → IsAfter run done (record old { injections = mid.injections })
@@ -238,21 +238,21 @@ module _ (client : ℕ) (frame : List ℕ) (answer : Done) (old mid new : World)
   }
 
   -- whatever is wanted
-  pub does_request : (wants : Want) (pushed : Bool) → IsWanted frame wants old → Answers wants pushed answer told.files told_now.files told.faults told_now.faults
+  pub does_request : (wants : Want) (pushed : Bool) → IsWanted frame wants old → Answers wants pushed answer told told_now
       → Queues (option_map (λ (i : ℕ × Injection). i.0) (injection_in wants)) pushed old.injections mid.injections
       → Does (λ setting answers. request_now setting answers client frame) old new told told_now
-  does_request want.Nothing pushed known acts queues = does_alone known (stores_so want.Nothing pushed known acts) acts.0 acts.2 queues.1
+  does_request want.Nothing pushed known acts queues = does_alone known (stores_so want.Nothing pushed known acts) acts.0 (ap (λ (f : FolderTold). f.faults) acts.1) queues.1
   does_request (want.Put text stored) pushed known acts queues =
       does_asking (want.Put text stored) known (stores_so (want.Put text stored) pushed known acts) refl acts.0 acts.1 acts.3 queues.1
   does_request want.Remove pushed known acts queues = does_asking want.Remove known (stores_so want.Remove pushed known acts) refl acts.0 acts.1 acts.3 queues.1
   does_request (want.Inject app injection) pushed known acts queues =
-      does_sending app injection pushed known (stores_so (want.Inject app injection) pushed known acts) acts.0 acts.2 queues
+      does_sending app injection pushed known (stores_so (want.Inject app injection) pushed known acts) acts.0 (ap (λ (f : FolderTold). f.faults) acts.1) queues
 
 -- ---- what the core's call tells
 
 pub wanted_by : (frame : List ℕ) (ready : Ready) (old : World) → IsReady old.core ready → ready.frame ≡ frame → IsWanted frame ready.want old
 wanted_by frame ready old is same = record {
-  needs = λ run done after. needs_are run.setting (journal done) frame (asked frame) ∙ ap needed (what run done after);
+  needs = λ run done after. needs_are run.setting (slots_of run.setting (journal done)) (registry_of run.setting (journal done)) (apid_of frame) (ctid_of frame) (asked frame) ∙ ap needed (what run done after);
   is_what = what;
   below = λ app injection run done after here.
       injection_below run.setting (seen old.core) (journal done) (slots old.core.registry) old.core.registry.registry (apid_of frame) (ctid_of frame) (asked frame) app injection
@@ -268,16 +268,16 @@ wanted_by frame ready old is same = record {
       let kept = after.so_far.core_so.registry in
       wanted_is run.setting (seen old.core) (journal done) (slots old.core.registry) old.core.registry.registry frame (sym set_to.level) (sym set_to.injection) kept.slots kept.registry ∙ sym want_is
 
-pub has_served : (client : ℕ) (frame : List ℕ) (ready : Ready) (pushed : Bool) (old mid new : World) (before : Core) (told told_now : Told) (events : List Event)
-    → (serves : Serves ready pushed before mid.core told.files told_now.files told.faults told_now.faults (Some events) (Some mid.journal.events))
+pub has_served : (client : ℕ) (frame : List ℕ) (ready : Ready) (pushed : Bool) (old mid new : World) (before : Core) (told told_now : FolderTold) (events : List Event)
+    → (serves : Serves ready pushed before mid.core told told_now (Some events) (Some mid.journal.events))
     → before ≡ old.core → ready.client ≡ client → ready.frame ≡ frame → events ≡ old.journal.events → mid.core.trace ≡ before.trace
     → mid.calls ≡ old.calls → mid.clients ≡ old.clients → mid.channels ≡ old.channels → mid.moment ≡ old.moment → mid.later ≡ old.later
     → ((run : Run) (done : List Mark) → IsBefore run done mid → IsAfter run done new) → new.core.trace ≡ mid.core.trace
     → HasServed client frame serves.answer old mid new told told_now
 has_served client frame ready pushed old mid new before told told_now events serves core_is client_is frame_is events_are trace calls_are clients_are channels_are moment_is later_is delivers delivered =
     record {
-      adds = subst (λ (core : Core). Adds (event.Request client frame serves.answer ∷ []) (λ run. Unit {0}) core mid.core told.files told_now.files) core_is
-          (subst (λ (e : Event). Adds (e ∷ []) (λ run. Unit {0}) before mid.core told.files told_now.files) same_event serves.after);
+      adds = subst (λ (core : Core). Adds (event.Request client frame serves.answer ∷ []) (λ run. Unit {0}) core mid.core told told_now) core_is
+          (subst (λ (e : Event). Adds (e ∷ []) (λ run. Unit {0}) before mid.core told told_now) same_event serves.after);
       notes = the_events events mid.journal.events (event.Request ready.client ready.frame serves.answer) serves.notes ∙ ap (λ (es : List Event). es ++ event.Request ready.client ready.frame serves.answer ∷ []) events_are
           ∙ ap (λ (e : Event). old.journal.events ++ e ∷ []) same_event;
       calls_kept = calls_are;

@@ -15,18 +15,18 @@ use Rattle.dl_events.specs.declared.event.Event.{Event}
 use Rattle.dl_events.specs.declared.event.Event.TheVariants as event
 use Rattle.dl_model.specs.Journal.{registry_of, slots_of}
 use Rattle.dl_model.specs.Marks.{Mark, Noted, Answered, journal}
-use Rattle.dl_model.specs.Reply.{apid_of, asked, ctid_of}
+use Rattle.dl_model.specs.Reply.{apid_of, asked, ctid_of, Folder}
 use Rattle.dl_model.specs.Setting.{Setting}
-use Rattle.dl_model.specs.Steps.{Folder}
 use Rattle.dl_model.specs.TraceFiles.{six_digits}
 use Rattle.dl_outside.specs.Folder.{Files, Puts, Removes}
+use Rattle.dl_outside.specs.Told.{FolderTold}
 use Rattle.dl_outside.specs.declared.folder.FolderFault.{FolderFault}
 use Rattle.dl_outside.specs.declared.folder.FolderFault.TheVariants as fault
 use Rattle.dl_services.specs.Wish.{needed, wanted}
 use Rattle.dl_services.specs.declared.wish.Want.{Want}
 use Rattle.dl_services.specs.declared.wish.Want.TheVariants as want
 use Rattle.dl_trace.specs.State.{Trace}
-use Rattle.dl_trace.specs.Stands.{IsTraceName}
+use Rattle.dl_trace.specs.Stands.{ChangesTraceFiles, IsTraceName}
 use Rattle.dl_core.specs.Serving.{Answers, done_by, stored_name}
 use Rattle.dl_core.specs.Storing.{ChangesTraceAlone}
 use Rattle.dl_world.specs.Follows.{answer_of, answers_in, is_failure}
@@ -118,11 +118,16 @@ no_trace_name : (directory : List ℕ) → IsTraceName directory stored_name →
 no_trace_name directory is = name_length directory (six_digits is.0) refl (ap length (sym is.3))
 
 -- what the trace writes leaves it alone
-pub traced_keeps : (trace : Option Trace) (told told_now : Option Files) → ChangesTraceAlone trace told told_now → KeepsStored told told_now
-traced_keeps trace None told_now changes = tt
-traced_keeps None (Some folder) told_now changes = subst (Has (map.get folder stored_name)) (sym changes) refl
-traced_keeps (Some trace) (Some folder) told_now changes =
-    subst (Has (map.get folder stored_name)) (sym changes.1) (changes.2 stored_name (no_trace_name trace.directory))
+pub traced_keeps : (trace : Option Trace) (told told_now : FolderTold) → ChangesTraceAlone trace told told_now → KeepsStored told.files told_now.files
+traced_keeps trace told told_now changes = by trace told.files refl changes where
+  by : (kept : Option Trace) (o : Option Files) → told.files ≡ o → ChangesTraceAlone kept told told_now → KeepsStored told.files told_now.files
+  by kept None is changes = subst (λ (files : Option Files). KeepsStored files told_now.files) (sym is) tt
+  by None (Some folder) is changes =
+      subst (λ (files : Option Files). KeepsStored files told_now.files) (sym is) (subst (Has (map.get folder stored_name)) (sym (changes ∙ is)) refl)
+  by (Some kept) (Some folder) is changes =
+      let there = subst (λ (files : Option Files). ChangesTraceFiles kept.directory files told_now.files) is changes in
+      subst (λ (files : Option Files). KeepsStored files told_now.files) (sym is)
+      (subst (Has (map.get folder stored_name)) (sym there.1) (there.2 stored_name (no_trace_name kept.directory)))
 
 -- where the events make the same of it
 pub holds_same : (setting : Setting) (first : Option (List ℕ)) (events events_now : List Event) (told : Option Files) → stored_after setting first events_now ≡ stored_after setting first events
@@ -167,23 +172,26 @@ gone_has (Some folder) told_now (Err fault.Failed) was gone fine has = absurd cc
 gone_has (Some folder) told_now (Err fault.OutOfMemory) was gone fine has = subst (Has was) (sym gone) has
 
 -- whatever it wants, where the folder did not fail
-answer_has : (wants : Want) (pushed : Bool) (answer : Done) (told told_now : Option Files) (faults faults_now : ℕ) (was : Option (List ℕ)) → Answers wants pushed answer told told_now faults faults_now
-    → (needed wants ≡ Folder → is_failure answer ≡ false) → Has was told → Has (file_by answer wants was) told_now
-answer_has want.Nothing pushed answer told told_now faults faults_now was acts fine has = has_same (file_by answer want.Nothing was) was told told_now acts.1 (nothing_by answer was) has
-answer_has (want.Put text stored) pushed answer told told_now faults faults_now was acts fine has =
-    subst (λ (what : Done). Has (file_by what (want.Put text stored) was) told_now) (sym acts.1) (put_has told told_now acts.0 text stored was acts.2 (ap is_failure (sym acts.1) ∙ fine refl) has)
-answer_has want.Remove pushed answer told told_now faults faults_now was acts fine has =
-    subst (λ (what : Done). Has (file_by what want.Remove was) told_now) (sym acts.1) (gone_has told told_now acts.0 was acts.2 (ap is_failure (sym acts.1) ∙ fine refl) has)
-answer_has (want.Inject app injection) pushed answer told told_now faults faults_now was acts fine has =
-    has_same (file_by answer (want.Inject app injection) was) was told told_now acts.1 (injection_by answer app injection was) has
+answer_has : (wants : Want) (pushed : Bool) (answer : Done) (told told_now : FolderTold) (was : Option (List ℕ)) → Answers wants pushed answer told told_now
+    → (needed wants ≡ Folder → is_failure answer ≡ false) → Has was told.files → Has (file_by answer wants was) told_now.files
+answer_has want.Nothing pushed answer told told_now was acts fine has =
+    has_same (file_by answer want.Nothing was) was told.files told_now.files (ap (λ (f : FolderTold). f.files) acts.1) (nothing_by answer was) has
+answer_has (want.Put text stored) pushed answer told told_now was acts fine has =
+    subst (λ (what : Done). Has (file_by what (want.Put text stored) was) told_now.files) (sym acts.1)
+    (put_has told.files told_now.files acts.0 text stored was acts.2 (ap is_failure (sym acts.1) ∙ fine refl) has)
+answer_has want.Remove pushed answer told told_now was acts fine has =
+    subst (λ (what : Done). Has (file_by what want.Remove was) told_now.files) (sym acts.1)
+    (gone_has told.files told_now.files acts.0 was acts.2 (ap is_failure (sym acts.1) ∙ fine refl) has)
+answer_has (want.Inject app injection) pushed answer told told_now was acts fine has =
+    has_same (file_by answer (want.Inject app injection) was) was told.files told_now.files (ap (λ (f : FolderTold). f.files) acts.1) (injection_by answer app injection was) has
 
 -- the event of a request that wanted this makes of the file what the folder did
-pub request_stored : (setting : Setting) (first : Option (List ℕ)) (events : List Event) (client : ℕ) (frame : List ℕ) (answer : Done) (wants : Want) (pushed : Bool) (told told_now : Option Files) (faults faults_now : ℕ)
-    → wanted setting (slots_of setting events) (registry_of setting events) (apid_of frame) (ctid_of frame) (asked frame) ≡ wants → Answers wants pushed answer told told_now faults faults_now
+pub request_stored : (setting : Setting) (first : Option (List ℕ)) (events : List Event) (client : ℕ) (frame : List ℕ) (answer : Done) (wants : Want) (pushed : Bool) (told told_now : FolderTold)
+    → wanted setting (slots_of setting events) (registry_of setting events) (apid_of frame) (ctid_of frame) (asked frame) ≡ wants → Answers wants pushed answer told told_now
     → (needed wants ≡ Folder → is_failure answer ≡ false)
-    → HoldsStored setting first events told → HoldsStored setting first (events ++ event.Request client frame answer ∷ []) told_now
-request_stored setting first events client frame answer wants pushed told told_now faults faults_now is acts fine holds =
+    → HoldsStored setting first events told.files → HoldsStored setting first (events ++ event.Request client frame answer ∷ []) told_now.files
+request_stored setting first events client frame answer wants pushed told told_now is acts fine holds =
     let was = stored_after setting first events in
-    subst (λ (content : Option (List ℕ)). Has content told_now)
+    subst (λ (content : Option (List ℕ)). Has content told_now.files)
     (sym (stored-one setting first events (event.Request client frame answer) ∙ ap (λ (w : Want). file_by answer w was) is))
-    (answer_has wants pushed answer told told_now faults faults_now was acts fine holds)
+    (answer_has wants pushed answer told told_now was acts fine holds)

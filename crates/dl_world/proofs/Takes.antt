@@ -8,13 +8,13 @@ use Rattle.dl_events.specs.declared.event.Event.TheVariants as event
 use Rattle.dl_model.specs.declared.registry.LevelChange.{LevelChange}
 use Rattle.dl_model.specs.Setting.{Setting}
 use Rattle.dl_model.specs.Marks.{Call, Mark, Noted, journal, queued, taken, held_by, pending, moment}
-use Rattle.dl_model.specs.Steps.{in_turn, for_some, when, changes, level_noted, hand_out, hand_out_now, note, take_log, take_losses}
-use Rattle.dl_calls.specs.Follows as calls
-use Rattle.dl_calls.specs.Follows.{no_app, as_queued}
-use Rattle.dl_calls.specs.Queue.{waiting}
-use Rattle.dl_calls.specs.State.{App, Calls, next_item, record_at}
-use Rattle.dl_calls.proofs.Changing.{no-call-stays, next_tells}
-use Rattle.dl_world.specs.Folders.{Told}
+use Rattle.dl_model.specs.Steps.{in_sequence, for_some, when, changes, level_noted, note_levels, note_levels_now, note, take_log, take_losses}
+use Rattle.dl_world_calls.specs.Follows as calls
+use Rattle.dl_world_calls.specs.Follows.{no_app, as_queued}
+use Rattle.dl_world_calls.specs.Queue.{waiting}
+use Rattle.dl_world_calls.specs.State.{App, Calls, next_item, record_at}
+use Rattle.dl_world_calls.proofs.Changing.{no-call-stays, next_tells}
+use Rattle.dl_outside.specs.Told.{FolderTold}
 use Rattle.dl_world.specs.Follows.{Does}
 use Rattle.dl_world.specs.declared.world.World.{World}
 use Rattle.dl_world.proofs.Deeds.{does_as, does_none}
@@ -56,23 +56,23 @@ not_declared done kept app is over = ap (λ (cs : List Call). slice_get cs (take
 pub no_ring : (done : List Mark) (kept : Calls) (app : ℕ) → calls.IsAfter done kept → length kept.apps ≤ app → held_by app done ≡ 0
 no_ring done kept app is over = omega (arith, ap length (empty_ring done kept app is over))
 
-pub takes_nothing : (world : World) (told : Told) (app : ℕ) → ((done : List Mark) → calls.IsAfter done world.calls → slice_get (queued app done) (taken app done) ≡ None)
+pub takes_nothing : (world : World) (told : FolderTold) (app : ℕ) → ((done : List Mark) → calls.IsAfter done world.calls → slice_get (queued app done) (taken app done) ≡ None)
     → Does (λ setting answers. take_log setting app) world world told told
 takes_nothing world told app none =
     does_none (λ setting answers. take_log setting app) world told
     (λ run done answers after.
     ap (λ (o : Option Call). for_some o (λ c. note run.setting (λ now. event.Log app c.item.writer c.item.call (moment now))) done) (none done after.so_far.calls_so))
 
-pub takes_of_nobody : (world : World) (told : Told) (app : ℕ) → length world.calls.apps ≤ app → Does (λ setting answers. take_log setting app) world world told told
+pub takes_of_nobody : (world : World) (told : FolderTold) (app : ℕ) → length world.calls.apps ≤ app → Does (λ setting answers. take_log setting app) world world told told
 takes_of_nobody world told app over = takes_nothing world told app (λ done is. not_declared done world.calls app is over)
 
-pub takes_no_call : (world : World) (told : Told) (app : ℕ) → app < length world.calls.apps → next_item world.calls app ≡ None → Does (λ setting answers. take_log setting app) world world told told
+pub takes_no_call : (world : World) (told : FolderTold) (app : ℕ) → app < length world.calls.apps → next_item world.calls app ≡ None → Does (λ setting answers. take_log setting app) world world told told
 takes_no_call world told app below none =
     takes_nothing world told app (λ done is. none_left (slice_get (queued app done) (taken app done)) (sym (next_tells done world.calls app below is) ∙ none))
 
 -- ---- a call
 
-pub takes_call : (old new : World) (told told_now : Told) (app : ℕ) (item : Item) → app < length old.calls.apps → next_item old.calls app ≡ Some item
+pub takes_call : (old new : World) (told told_now : FolderTold) (app : ℕ) (item : Item) → app < length old.calls.apps → next_item old.calls app ≡ Some item
     → Does (λ setting answers. note setting (λ now. event.Log app item.writer item.call (moment now))) old new told told_now → Does (λ setting answers. take_log setting app) old new told told_now
 takes_call old new told told_now app item below next does =
     does_as (λ setting answers. note setting (λ now. event.Log app item.writer item.call (moment now))) (λ setting answers. take_log setting app) old new told told_now
@@ -89,14 +89,14 @@ none_lost done kept app is over =
     let its : get_or kept.apps app no_app ≡ no_app = get_or_past kept.apps app no_app over in
     (is.each_app app).pending_is ∙ ap (λ (a : App). waiting a.losses) its
 
-pub loses_nothing : (world : World) (told : Told) (app : ℕ) → ((done : List Mark) → calls.IsAfter done world.calls → 0 ≡ pending app done)
+pub loses_nothing : (world : World) (told : FolderTold) (app : ℕ) → ((done : List Mark) → calls.IsAfter done world.calls → 0 ≡ pending app done)
     → Does (λ setting answers. take_losses setting app) world world told told
 loses_nothing world told app none =
     does_none (λ setting answers. take_losses setting app) world told
     (λ run done answers after.
     ap (λ (n : ℕ). when (nat_lt 0 n) (note run.setting (λ now. event.Lost app (pending app now) (moment now))) done) (sym (none done after.so_far.calls_so)))
 
-pub loses_of_nobody : (world : World) (told : Told) (app : ℕ) → length world.calls.apps ≤ app → Does (λ setting answers. take_losses setting app) world world told told
+pub loses_of_nobody : (world : World) (told : FolderTold) (app : ℕ) → length world.calls.apps ≤ app → Does (λ setting answers. take_losses setting app) world world told told
 loses_of_nobody world told app over = loses_nothing world told app (λ done is. sym (none_lost done world.calls app is over))
 
 -- Level events change no count
@@ -106,20 +106,20 @@ levels_stay kept (change ∷ changed) done is =
     subst (λ (ms : List Mark). calls.IsAfter ms kept) (append_assoc done (level_noted change ∷ []) (map level_noted changed))
     (levels_stay kept changed (done ++ level_noted change ∷ []) (no-call-stays done (level_noted change) kept refl is))
 
-same_note : (setting : Setting) (a b : List Mark → Event) (done : List Mark) → a (done ++ hand_out setting done) ≡ b (done ++ hand_out setting done) → note setting a done ≡ note setting b done
+same_note : (setting : Setting) (a b : List Mark → Event) (done : List Mark) → a (done ++ note_levels setting done) ≡ b (done ++ note_levels setting done) → note setting a done ≡ note setting b done
 same_note setting a b done same =
-    ap (λ (e : Event). hand_out setting done ++ ((Noted e ∷ []) ++ in_turn (hand_out_now setting ∷ []) ((done ++ hand_out setting done) ++ Noted e ∷ []))) same
+    ap (λ (e : Event). note_levels setting done ++ ((Noted e ∷ []) ++ in_sequence (note_levels_now setting ∷ []) ((done ++ note_levels setting done) ++ Noted e ∷ []))) same
 
 some_tell : (n : ℕ) → 0 < n → nat_lt 0 n ≡ true
 some_tell n some = grind arith
 
-pub loses_some : (old new : World) (told told_now : Told) (app count : ℕ) → 0 < count → ((done : List Mark) → calls.IsAfter done old.calls → count ≡ pending app done)
+pub loses_some : (old new : World) (told told_now : FolderTold) (app count : ℕ) → 0 < count → ((done : List Mark) → calls.IsAfter done old.calls → count ≡ pending app done)
     → Does (λ setting answers. note setting (λ now. event.Lost app count (moment now))) old new told told_now → Does (λ setting answers. take_losses setting app) old new told told_now
 loses_some old new told told_now app count some tells does =
     does_as (λ setting answers. note setting (λ now. event.Lost app count (moment now))) (λ setting answers. take_losses setting app) old new told told_now
     (λ run done answers after.
     let there : nat_lt 0 (pending app done) ≡ true = ap (nat_lt 0) (sym (tells done after.so_far.calls_so)) ∙ some_tell count some in
-    let here = done ++ hand_out run.setting done in
+    let here = done ++ note_levels run.setting done in
     let later : pending app here ≡ count = sym (tells here (levels_stay old.calls (changes run.setting (journal done)) done after.so_far.calls_so)) in
     ap (λ (b : Bool). when b (note run.setting (λ now. event.Lost app (pending app now) (moment now))) done) there
     ∙ same_note run.setting (λ now. event.Lost app (pending app now) (moment now)) (λ now. event.Lost app count (moment now)) done (ap (λ (n : ℕ). event.Lost app n (moment here)) later))

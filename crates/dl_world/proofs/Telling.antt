@@ -8,12 +8,12 @@ use Rattle.std.proofs.lemmas.List.{append-nil, map-append}
 use Rattle.dl_bytes.specs.declared.user.UserMsg.{UserMsg}
 use Rattle.dl_events.specs.declared.event.Event.{Event}
 use Rattle.dl_model.specs.Marks.{Mark, Heard, heard, heard_of}
-use Rattle.dl_model.specs.Steps.{Act, in_turn, just, note, tell, hear, new_messages, hand_out, hand_out_now}
-use Rattle.dl_calls.proofs.Changing.{no-call-stays}
-use Rattle.dl_calls.proofs.InjectionCounts.{no-injection-stays}
+use Rattle.dl_model.specs.Steps.{Act, in_sequence, just, note, tell, hear, new_messages, note_levels, note_levels_now}
+use Rattle.dl_world_calls.proofs.Changing.{no-call-stays}
+use Rattle.dl_world_calls.proofs.InjectionCounts.{no-injection-stays}
 use Rattle.dl_core.specs.Follows.{Run, HoldsTrace}
 use Rattle.dl_world.specs.Fed.{IsHeardBy, Tells}
-use Rattle.dl_world.specs.Folders.{Told}
+use Rattle.dl_outside.specs.Told.{FolderTold}
 use Rattle.dl_world.specs.Follows.{IsAfter, Deed, Does, Doing, noting}
 use Rattle.dl_world.specs.State.{Channel, channel_at}
 use Rattle.dl_world.specs.declared.world.World.{World}
@@ -26,35 +26,35 @@ use Rattle.dl_world.proofs.Turning.{turns-one}
 -- ---- three acts in turn
 
 three_turns : (first second third : Act) (done : List Mark)
-    → in_turn (first ∷ second ∷ third ∷ []) done ≡ first done ++ (second (done ++ first done) ++ third ((done ++ first done) ++ second (done ++ first done)))
+    → in_sequence (first ∷ second ∷ third ∷ []) done ≡ first done ++ (second (done ++ first done) ++ third ((done ++ first done) ++ second (done ++ first done)))
 three_turns first second third done =
     ap (λ (ms : List Mark). first done ++ (second (done ++ first done) ++ ms)) (append-nil (third ((done ++ first done) ++ second (done ++ first done))))
 
 -- the Level events that wait, an event, and those that it owes
-pub does_note : (make : List Mark → Event) (old mid noted new : World) (told told_now : Told) → Doing hand_out old mid → Does (λ setting answers. noting make setting) mid noted told told_now
-    → Doing hand_out_now noted new → Does (λ setting answers. note setting make) old new told told_now
+pub does_note : (make : List Mark → Event) (old mid noted new : World) (told told_now : FolderTold) → Doing note_levels old mid → Does (λ setting answers. noting make setting) mid noted told told_now
+    → Doing note_levels_now noted new → Does (λ setting answers. note setting make) old new told told_now
 does_note make old mid noted new told told_now before event behind =
-    let first : Deed = λ setting answers. hand_out setting in
+    let first : Deed = λ setting answers. note_levels setting in
     let second : Deed = λ setting answers. noting make setting in
-    let third : Deed = λ setting answers. hand_out_now setting in
+    let third : Deed = λ setting answers. note_levels_now setting in
     does_as (both first (both second third)) (λ setting answers. note setting make) old new told told_now
-    (λ run done answers after. three_turns (hand_out run.setting) (noting make run.setting) (hand_out_now run.setting) done)
+    (λ run done answers after. three_turns (note_levels run.setting) (noting make run.setting) (note_levels_now run.setting) done)
     (does_both first (both second third) old mid new told told told_now (before told) (does_both second third mid noted new told told_now told_now event (behind told_now)))
 
 -- ---- messages in turn
 
 -- messages that come on a channel, one after the other
 abbrev pub tell_all : ℕ → List UserMsg → Deed
-tell_all channel messages setting answers = in_turn (map (tell setting channel) messages)
+tell_all channel messages setting answers = in_sequence (map (tell setting channel) messages)
 
 -- one message more
-pub does_message : (channel : ℕ) (before : List UserMsg) (msg : UserMsg) (old mid new : World) (told told_mid told_now : Told) → Does (tell_all channel before) old mid told told_mid
+pub does_message : (channel : ℕ) (before : List UserMsg) (msg : UserMsg) (old mid new : World) (told told_mid told_now : FolderTold) → Does (tell_all channel before) old mid told told_mid
     → Does (λ setting answers. tell setting channel msg) mid new told_mid told_now → Does (tell_all channel (before ++ msg ∷ [])) old new told told_now
 does_message channel before msg old mid new told told_mid told_now one two =
     let last : Deed = λ setting answers. tell setting channel msg in
     does_as (both (tell_all channel before) last) (tell_all channel (before ++ msg ∷ [])) old new told told_now
     (λ run done answers after.
-    ap (λ (acts : List Act). in_turn acts done) (map-append (tell run.setting channel) before (msg ∷ []))
+    ap (λ (acts : List Act). in_sequence acts done) (map-append (tell run.setting channel) before (msg ∷ []))
     ∙ turns-one (map (tell run.setting channel) before) (tell run.setting channel msg) done)
     (does_both (tell_all channel before) last old mid new told told_mid told_now one two)
 
@@ -114,10 +114,10 @@ module _ (channel : ℕ) (bytes : List ℕ) (messages : List UserMsg) (old : Wor
   })
 
   -- and the messages that they make whole were told
-  pub does_hear : (new : World) (told told_now : Told) → Does (tell_all channel messages) mid new told told_now → Does (λ setting answers. hear setting channel bytes) old new told told_now
+  pub does_hear : (new : World) (told told_now : FolderTold) → Does (tell_all channel messages) mid new told told_now → Does (λ setting answers. hear setting channel bytes) old new told told_now
   does_hear new told told_now rest =
       let first : Deed = λ setting answers. just (Heard channel bytes) in
       does_as (both first (tell_all channel messages)) (λ setting answers. hear setting channel bytes) old new told told_now
       (λ run done answers after.
-      ap (λ (ms : List UserMsg). Heard channel bytes ∷ in_turn (map (tell run.setting channel) ms) (done ++ Heard channel bytes ∷ [])) (new_messages_are run done after))
+      ap (λ (ms : List UserMsg). Heard channel bytes ∷ in_sequence (map (tell run.setting channel) ms) (done ++ Heard channel bytes ∷ [])) (new_messages_are run done after))
       (does_both first (tell_all channel messages) old mid new told told told_now (heard_does told) rest)

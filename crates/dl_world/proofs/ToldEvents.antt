@@ -7,12 +7,12 @@ use Rattle.dl_events.specs.declared.event.Event.TheVariants as event
 use Rattle.dl_events.specs.Journal as notes
 use Rattle.dl_events.specs.Journal.{Journaled}
 use Rattle.dl_model.specs.Marks.{Mark, Noted, journal, moment}
-use Rattle.dl_calls.proofs.Changing.{no-call-stays}
+use Rattle.dl_world_calls.proofs.Changing.{no-call-stays}
 use Rattle.dl_core.specs.Follows as core
 use Rattle.dl_core.specs.Follows.{Run, Adds, HoldsTrace}
 use Rattle.dl_core.specs.State.{Core}
 use Rattle.dl_world.specs.Fed.{CanBeTold}
-use Rattle.dl_world.specs.Folders.{Told}
+use Rattle.dl_outside.specs.Told.{FolderTold}
 use Rattle.dl_world.specs.Follows.{IsRunOf, IsAfter, IsBefore, Does, noting}
 use Rattle.dl_world.specs.State.{taken_by}
 use Rattle.dl_world.specs.declared.world.World.{World}
@@ -25,8 +25,8 @@ use Rattle.dl_world.proofs.StoredFiles.{KeepsStored}
 no_turn_message : (channel : ℕ) (msg : UserMsg) (at : Moment) → IsNoTurn (event.User channel msg at)
 no_turn_message channel msg at = record { connects = refl; closes = refl; nobody = λ number. refl }
 
-module _ (old new : World) (channel : ℕ) (msg : UserMsg) (core_now : Core) (made kept : Journaled) (told told_now : Told) (fit : CanBeTold msg) (made_is : made.events ≡ old.journal.events)
-    (adds : Adds (event.User channel msg old.moment ∷ []) (λ run. Unit {0}) old.core core_now told.files told_now.files)
+module _ (old new : World) (channel : ℕ) (msg : UserMsg) (core_now : Core) (made kept : Journaled) (told told_now : FolderTold) (fit : CanBeTold msg) (made_is : made.events ≡ old.journal.events)
+    (adds : Adds (event.User channel msg old.moment ∷ []) (λ run. Unit {0}) old.core core_now told told_now)
     (noted : notes.Adds (Some made.events) (Some kept.events) (event.User channel msg old.moment))
     (fails : Fails old.core.trace core_now.trace told.faults told_now.faults) (keeps : KeepsStored told.files told_now.files) (still : new.core.trace ≡ core_now.trace)
     (takes : (run : Run) (done : List Mark) → IsBefore run done (record old { core = core_now; journal = kept }) → IsAfter run done new) where
@@ -47,7 +47,7 @@ module _ (old new : World) (channel : ℕ) (msg : UserMsg) (core_now : Core) (ma
           events_noted = the_events made.events kept.events old.journal.events e made_is (subst (λ (x : Event). Some kept.events ≡ Some (made.events ++ x ∷ [])) same noted);
           rest = record { injections_rest = refl; clients_rest = refl; channels_rest = refl; moment_rest = refl; later_rest = refl };
         });
-        holds = λ held. subst (λ (x : Event). HoldsTrace run (journal done ++ x ∷ []) core_now told_now.files) same (core_noted.1 held);
+        holds = λ held. subst (λ (x : Event). HoldsTrace run (journal done ++ x ∷ []) core_now told_now) same (core_noted.1 held);
         unasked = refl;
       }
 

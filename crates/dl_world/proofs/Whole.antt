@@ -11,7 +11,7 @@ use Rattle.dl_bytes.specs.declared.conf.Stored.{Stored}
 use Rattle.dl_bytes.specs.declared.outcome.Done.{Done}
 use Rattle.dl_bytes.specs.declared.outcome.Done.TheVariants as did
 use Rattle.dl_bytes.specs.declared.outcome.TraceState.{TraceState}
-use Rattle.dl_steps.specs.declared.step.Step.{Step}
+use Rattle.dl_script_lines.specs.declared.step.Step.{Step}
 use Rattle.dl_script.specs.Earlier.{nothing}
 use Rattle.dl_model.specs.Setting.{Setting}
 use Rattle.dl_model.specs.Marks.{Mark, HasApp, HasContext, HasWriter, Filtered, Passed, Queued, Refused, Counted, Noted, Clocked, LevelsWait, Fed, Heard, Answered, Injected, Handed, apid_of, call_of, journal}
@@ -19,9 +19,9 @@ use Rattle.dl_model.specs.Replay.{frame_of_call}
 use Rattle.dl_model.specs.Steps.{after_lines, run}
 use Rattle.dl_model.specs.TraceFiles.{StoredFile}
 use Rattle.dl_laws.proofs.Founded.{lines_founded, run_founded}
-use Rattle.dl_frame_laws.specs.CallFrame.{HasItsFrame}
-use Rattle.dl_frame_laws.proofs.Entries.{all_at}
-use Rattle.dl_frame_laws.proofs.OneCall.{frames_now}
+use Rattle.dl_frames.specs.CallFrame.{HasItsFrame}
+use Rattle.dl_frames.proofs.Entries.{all_at}
+use Rattle.dl_frames.proofs.OneCall.{frames_now}
 use Rattle.dl_outside.specs.Folder.{Files}
 use Rattle.dl_trace.specs.Made.{IsMade}
 use Rattle.dl_trace.specs.Stands.{HasFiles}
@@ -31,11 +31,12 @@ use Rattle.dl_core.specs.Settings.{setting_of}
 use Rattle.dl_core.specs.Serving.{stored_name}
 use Rattle.dl_core.specs.State.{Core}
 use Rattle.dl_core.specs.Follows.{Run, IsTraceAfter, HoldsTrace, stored_by}
-use Rattle.dl_world.specs.Folders.{Told, directory_of}
+use Rattle.dl_outside.specs.Told.{FolderTold}
+use Rattle.dl_world.specs.Folders.{directory_of}
 use Rattle.dl_world.specs.Follows.{IsRunOf, IsAfter, Goes, Does, BeginWith, answer_of, answers_in, is_failure, failures_of}
 use Rattle.dl_world.specs.Known.{MayCome}
 use Rattle.dl_world.specs.Left.{IsLeft, told_of}
-use Rattle.dl_script_laws.specs.Playable.{HasShortText, IsPlayable}
+use Rattle.dl_script.specs.Playable.{HasShortText, IsPlayable}
 use Rattle.dl_world.specs.Played.{frames_in, files_with, IsTraced, TellsOf, Holds, is_failed, trace_failures, IsPlayed}
 use Rattle.dl_world.specs.Stored.{HoldsStored}
 use Rattle.dl_world.specs.declared.played.Played.{Played}
@@ -110,7 +111,7 @@ module _ (conf : Conf) (kept : Stored) (handed : Option Trace) (stood : List Sto
   begin_with answered = ([], sym (append-nil answered))
 
   -- after lines
-  pub after_some : (steps : List Step) (now : World) (told told_now : Told) (does : Does (lines steps) first now told told_now)
+  pub after_some : (steps : List Step) (now : World) (told told_now : FolderTold) (does : Does (lines steps) first now told told_now)
       → IsAfter (run_of (after_lines setting does.answered steps)) (after_lines setting does.answered steps) now
   after_some steps now told told_now does =
       let done = after_lines setting does.answered steps in
@@ -118,7 +119,7 @@ module _ (conf : Conf) (kept : Stored) (handed : Option Trace) (stood : List Sto
       goes.after
 
   -- the next line may come
-  pub next_comes : (steps : List Step) (place : ℕ) (step : Step) (now : World) (told told_now : Told) → IsPlayable steps → slice_get steps place ≡ Some step
+  pub next_comes : (steps : List Step) (place : ℕ) (step : Step) (now : World) (told told_now : FolderTold) → IsPlayable steps → slice_get steps place ≡ Some step
       → Does (lines (take place steps)) first now told told_now → MayCome step now
   next_comes steps place step now told told_now playable is does = record {
     run = run_of (after_lines setting does.answered (take place steps));
@@ -131,7 +132,7 @@ module _ (conf : Conf) (kept : Stored) (handed : Option Trace) (stood : List Sto
   }
 
   -- after all
-  pub after_all : (steps : List Step) (last : World) (told told_now : Told) (does : Does (whole steps) first last told told_now)
+  pub after_all : (steps : List Step) (last : World) (told told_now : FolderTold) (does : Does (whole steps) first last told told_now)
       → Goes (run_of (run setting does.answered steps)) [] (run setting does.answered steps) first last told told_now does.answered
   after_all steps last told told_now does =
       let done = run setting does.answered steps in
@@ -174,9 +175,9 @@ module _ (conf : Conf) (kept : Stored) (handed : Option Trace) (stood : List Sto
     stored_at_end None told_now goes = tt
     stored_at_end (Some folder) told_now goes = goes (map.get folder stored_name) refl
 
-  begun_holds : (r : Run) (core : Core) (told : Option Files) → IsSomeAnd told (λ folder. HasFiles r.setting.directory folder r.stood) → HoldsTrace r [] core told
+  begun_holds : (r : Run) (core : Core) (told : FolderTold) → IsSomeAnd told.files (λ folder. HasFiles r.setting.directory folder r.stood) → HoldsTrace r [] core told
   begun_holds r core told holds = by_trace core.trace where
-    by_trace : (o : Option Trace) → IfSome o (λ (kept : Trace). kept.state.end ≡ None → IsSomeAnd told (λ folder. HasFiles r.setting.directory folder r.stood))
+    by_trace : (o : Option Trace) → IfSome o (λ (kept : Trace). kept.state.end ≡ None → IsSomeAnd told.files (λ folder. HasFiles r.setting.directory folder r.stood))
     by_trace None = tt
     by_trace (Some kept) = λ goes_on. holds
 
@@ -190,10 +191,10 @@ module _ (conf : Conf) (kept : Stored) (handed : Option Trace) (stood : List Sto
   none_failed None made = refl
   none_failed (Some old) made = ap trace_failures made.goes_on
 
-  pub is_played : (steps : List Step) (last : World) (told told_now : Told) (does : Does (whole steps) first last told told_now)
+  pub is_played : (steps : List Step) (last : World) (told told_now : FolderTold) (does : Does (whole steps) first last told told_now)
       → first.core.trace ≡ handed → IfSome handed (IsMade conf) → directory_of last.core ≡ directory_of first.core
       → (played : Played) → ((r : Run) (done : List Mark) → IsAfter r done last → IsLeft r done last.core played)
-      → IsPlayed setting stood steps handed played told.files told_now.files told.faults told_now.faults
+      → IsPlayed setting stood steps handed played told told_now
   is_played steps last told told_now does handed_so made same played leaves =
       let done = run setting does.answered steps in
       let r = run_of done in
@@ -216,7 +217,7 @@ module _ (conf : Conf) (kept : Stored) (handed : Option Trace) (stood : List Sto
         backlog_is = left.backlog_is;
         trace_is = tells_of done handed last.core.trace played.ends.trace directories traces_so left.trace_is;
         holds = holds_at_end done handed last.core.trace played.ends.trace told.files told_now.files directories left.trace_is
-            (λ stands. goes.holds (begun_holds r first.core told.files stands));
+            (λ stands. goes.holds (begun_holds r first.core told stands));
         stored = λ none. stored_at_end done told.files told_now.files (λ first. goes.stored first (sym failed ∙ none));
         faults_rose = omega (arith, does.rose, does.failures, zero_before, at_end, failed);
       }

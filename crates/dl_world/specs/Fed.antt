@@ -1,13 +1,13 @@
 -- What a client or a channel sent: what its cutter holds of it, and what more bytes make whole.
 use Rattle.std.specs.Prelude.{◌≡◌, ℕ, ◌+◌, ◌-◌, ◌<◌, ◌⊎◌, Bool, List, ◌++◌, length, drop, is_some, IsSome}
 use Rattle.dl_bytes.specs.Bytes.{IsBytes}
-use Rattle.dl_bytes.specs.Limits.{client_limit}
+use Rattle.dl_bytes.specs.Limits.{message_limit}
 use Rattle.dl_bytes.specs.UserMessage.{IsFit}
 use Rattle.dl_bytes.specs.declared.user.UserMsg.{UserMsg}
 use Rattle.dl_message.specs.Cut.{IsOpen, rest_fault, rest_of}
 use Rattle.dl_message.specs.Cutting.{Cutting}
 use Rattle.dl_message.specs.Requests.{requests}
-use Rattle.dl_frame_laws.specs.FrameLengths.{HasId}
+use Rattle.dl_frames.specs.FrameLengths.{HasId}
 use Rattle.dl_user.specs.Channel.{Channel, longest}
 use Rattle.dl_user.specs.Cut as user
 use Rattle.dl_user.specs.Faults.{Shows}
@@ -17,9 +17,9 @@ use Rattle.dl_user.specs.declared.fault.UserFault.{UserFault}
 
 -- the cutter took all, and waits for more of a message
 pub record Waits (stream : List ℕ) (cutter : Cutting) : Type 0 where
-  pub rest : cutter.unread ≡ rest_of client_limit stream
-  pub good : IsOpen client_limit cutter.unread
-  pub room : cutter.room ≡ client_limit + 4 - length cutter.unread
+  pub rest : cutter.unread ≡ rest_of message_limit stream
+  pub good : IsOpen message_limit cutter.unread
+  pub room : cutter.room ≡ message_limit + 4 - length cutter.unread
   pub some : 0 < cutter.room
 
 -- it met a bad header, and takes nothing behind it
@@ -27,19 +27,19 @@ pub record IsShut (stream : List ℕ) (cutter : Cutting) : Type 0 where
   pub part : List ℕ
   pub untaken : List ℕ
   pub stream_is : stream ≡ part ++ untaken
-  pub rest : cutter.unread ≡ rest_of client_limit part
-  pub bad : IsSome (rest_fault client_limit cutter.unread)
+  pub rest : cutter.unread ≡ rest_of message_limit part
+  pub bad : IsSome (rest_fault message_limit cutter.unread)
   pub full : cutter.room ≡ 0
 
 -- a client sent these bytes, and all requests that they make whole were given
 pub record IsFedBy (stream : List ℕ) (cutter : Cutting) : Type 0 where
-  pub limit : cutter.limit ≡ client_limit
+  pub limit : cutter.limit ≡ message_limit
   pub stands : Waits stream cutter ⊎ IsShut stream cutter
 
 -- it gives no more: it waits for more of a message, with room for it, or it met a bad header
 abbrev pub Stands : Cutting → Type 0
-Stands cutter = (IsOpen client_limit cutter.unread × (cutter.room ≡ client_limit + 4 - length cutter.unread) × (0 < cutter.room))
-    ⊎ (IsSome (rest_fault client_limit cutter.unread) × (cutter.room ≡ 0))
+Stands cutter = (IsOpen message_limit cutter.unread × (cutter.room ≡ message_limit + 4 - length cutter.unread) × (0 < cutter.room))
+    ⊎ (IsSome (rest_fault message_limit cutter.unread) × (cutter.room ≡ 0))
 
 -- the requests that more bytes make whole
 abbrev pub made_whole : List ℕ → List ℕ → List (List ℕ)
@@ -50,7 +50,7 @@ made_whole stream bytes = drop (length (requests stream)) (requests (stream ++ b
 pub record Asks (stream bytes : List ℕ) (bad : Bool) (before after : List (List ℕ)) (cutter : Cutting) : Type 0 where
   pub fed : IsFedBy (stream ++ bytes) cutter
   pub asked : after ≡ before ++ made_whole stream bytes
-  pub bad_is : bad ≡ is_some (rest_fault client_limit (rest_of client_limit (stream ++ bytes)))
+  pub bad_is : bad ≡ is_some (rest_fault message_limit (rest_of message_limit (stream ++ bytes)))
 
 -- ---- channels
 

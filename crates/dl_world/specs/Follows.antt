@@ -2,23 +2,25 @@
 use Rattle.std.specs.Prelude.{◌≡◌, ℕ, ◌+◌, ◌-◌, ◌^◌, ◌<◌, ◌≤◌, min, Bool, true, false, List, [], ◌∷◌, ◌++◌, length, take, count_by, Option, Some, None, IfSome, IsSome, slice_index}
 use Rattle.std.specs.List.{filter_map, AllByRecursion}
 use Rattle.std.specs.Option.{option_map_or}
+use Rattle.dl_bytes.specs.Limits.{client_limit}
 use Rattle.dl_bytes.specs.declared.outcome.Done.{Done}
 use Rattle.dl_bytes.specs.declared.outcome.Done.TheVariants as did
 use Rattle.dl_events.specs.declared.event.Event.{Event}
 use Rattle.dl_message.specs.Frames.{log_message}
 use Rattle.dl_events.specs.declared.event.Why.{Why}
 use Rattle.dl_events.specs.declared.event.Why.TheVariants as why
-use Rattle.dl_steps.specs.declared.line.CallLine.{CallLine}
+use Rattle.dl_script_lines.specs.declared.line.CallLine.{CallLine}
 use Rattle.dl_model.specs.Setting.{Setting}
 use Rattle.dl_model.specs.ClientStream.{traffic, stream}
 use Rattle.dl_model.specs.Journal.{is_close}
 use Rattle.dl_model.specs.Marks.{Call, Mark, Noted, Answered, Injected, journal, to_push, to_count, apps, apid_of, call_of, moment, is_later, fed, heard}
-use Rattle.dl_model.specs.Steps.{Act, hand_out, load}
-use Rattle.dl_frame_laws.specs.FrameLengths.{CarriesLen}
-use Rattle.dl_frame_laws.specs.FramesPut.{IsPut}
-use Rattle.dl_calls.specs.Follows as calls
-use Rattle.dl_calls.specs.Injections.{AreAfter}
-use Rattle.dl_hub.specs.State.{Waiting, outbox_of, is_open}
+use Rattle.dl_model.specs.Steps.{Act, note_levels, load}
+use Rattle.dl_frames.specs.FrameLengths.{CarriesLen}
+use Rattle.dl_frames.specs.FramesPut.{IsPut}
+use Rattle.dl_world_calls.specs.Follows as calls
+use Rattle.dl_world_calls.specs.Injections.{AreAfter}
+use Rattle.dl_outside.specs.Told.{FolderTold}
+use Rattle.dl_hub.specs.State.{HasPlace, Waiting, outbox_of, is_open}
 use Rattle.dl_trace.specs.State.{Trace}
 use Rattle.dl_core.specs.Follows as core
 use Rattle.dl_core.specs.Follows.{Run, HoldsTrace}
@@ -27,7 +29,6 @@ use Rattle.dl_world.specs.State.{Client, client_at, channel_at, taken_by}
 use Rattle.dl_world.specs.Fed.{IsFedBy, IsHeardBy}
 use Rattle.dl_world.specs.Played.{trace_failures}
 use Rattle.dl_world.specs.Stored.{HoldsStored}
-use Rattle.dl_world.specs.Folders.{Told}
 use Rattle.dl_world.specs.declared.world.World.{World}
 
 -- ---- the run of these marks
@@ -50,6 +51,7 @@ stream_in run done number = stream (core.source_of run) run.setting.buffer numbe
 -- all but what the links took: the log calls, the injections, the core, what clients and channels sent, and the clock
 pub record IsSoFar (run : Run) (done : List Mark) (world : World) : Type 0 where
   pub ecu_so : length run.setting.ecu ≡ 4
+  pub limit_so : run.setting.clients ≡ client_limit
   pub calls_so : calls.IsAfter done world.calls
   pub few_so : length (apps done) ≤ 16
   pub injections_so : AreAfter done world.injections
@@ -119,16 +121,16 @@ Deed = Setting → List Done → Act
 
 -- What holds before a call holds after it, of the marks and of the folder; of the stored configuration, where the folder failed at no
 -- request meanwhile.
-pub record Goes (run : Run) (done more : List Mark) (old new : World) (told told_now : Told) (answered : List Done) : Type 0 where
+pub record Goes (run : Run) (done more : List Mark) (old new : World) (told told_now : FolderTold) (answered : List Done) : Type 0 where
   pub after : IsAfter run (done ++ more) new
-  pub holds : HoldsTrace run (journal done) old.core told.files → HoldsTrace run (journal (done ++ more)) new.core told_now.files
+  pub holds : HoldsTrace run (journal done) old.core told → HoldsTrace run (journal (done ++ more)) new.core told_now
   pub stored : (first : Option (List ℕ)) → count_by is_failure answered ≡ 0
       → HoldsStored run.setting first (journal done) told.files → HoldsStored run.setting first (journal (done ++ more)) told_now.files
   pub answers : answers_in (done ++ more) ≡ answers_in done ++ answered
 
 -- The call is this act: whatever marks came before, it comes to the marks of the act after them. The folder answered so to the requests
 -- that asked it meanwhile, and its count of faults rose by as many as it failed, at least.
-pub record Does (deed : Deed) (old new : World) (told told_now : Told) : Type 0 where
+pub record Does (deed : Deed) (old new : World) (told told_now : FolderTold) : Type 0 where
   pub answered : List Done
   pub goes : (run : Run) (done : List Mark) (answers : List Done) → BeginWith (answers_in done ++ answered) answers
       → IsAfter run done old → IsRunOf run (done ++ deed run.setting answers done)
@@ -139,11 +141,11 @@ pub record Does (deed : Deed) (old new : World) (told told_now : Told) : Type 0 
 
 -- the same of a call that is handed no folder
 abbrev pub Doing : (Setting → Act) → World → World → Type 0
-Doing act old new = (told : Told) → Does (λ setting answers. act setting) old new told told
+Doing act old new = (told : FolderTold) → Does (λ setting answers. act setting) old new told told
 
 -- the next Level event that waits
 abbrev pub next_level : Setting → Act
-next_level setting done = take 1 (hand_out setting done)
+next_level setting done = take 1 (note_levels setting done)
 
 -- an event is noted
 abbrev pub noting : (List Mark → Event) → Setting → Act
@@ -164,7 +166,7 @@ open_among world = count_by is_open (take (length world.clients) world.core.hub.
 
 -- a client may come
 abbrev pub MayConnect : World → Type 0
-MayConnect world = (length world.core.hub.clients < 32) × (count_by is_open world.core.hub.clients < 8)
+MayConnect world = HasPlace world.core.hub
 
 -- a cause that says nothing of the client's outbox, or that it is empty
 abbrev pub IsPlain : Why → Type 0

@@ -1,8 +1,8 @@
 -- What the lines so far declare, in the marks of a run, and which line may follow.
 use Rattle.std.specs.Prelude.{◌≡◌, List, map, None}
-use Rattle.dl_steps.specs.declared.line.AppLine.{AppLine}
-use Rattle.dl_steps.specs.declared.line.ContextLine.{ContextLine}
-use Rattle.dl_steps.specs.declared.step.Step.{Step}
+use Rattle.dl_script_lines.specs.declared.line.AppLine.{AppLine}
+use Rattle.dl_script_lines.specs.declared.line.ContextLine.{ContextLine}
+use Rattle.dl_script_lines.specs.declared.step.Step.{Step}
 use Rattle.dl_script.specs.Earlier.{Declared, refusal}
 use Rattle.dl_script.specs.Spelled.{step_claim}
 use Rattle.dl_script.specs.declared.claim.ContextName.{ContextName}
@@ -10,7 +10,7 @@ use Rattle.dl_model.specs.Marks.{Mark, apps, writers, context_of}
 use Rattle.std.specs.List.{filter_map}
 use Rattle.dl_core.specs.Follows.{Run}
 use Rattle.dl_world.specs.Follows.{IsAfter}
-use Rattle.dl_script_laws.specs.Playable.{HasShortText}
+use Rattle.dl_script.specs.Playable.{HasShortText}
 use Rattle.dl_world.specs.declared.world.World.{World}
 
 abbrev pub name_of : ContextLine → ContextName

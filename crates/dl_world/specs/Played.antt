@@ -1,12 +1,14 @@
 -- What a run of steps leaves: its records and its journal, what each client was sent, the backlog, and the trace files.
-use Rattle.std.specs.Prelude.{◌≡◌, ◌≢◌, ℕ, ◌+◌, ◌-◌, ◌^◌, ◌<◌, ◌≤◌, min, Bool, true, false, List, [], ◌++◌, length, map, count_by, Option, Some, None, IfSome, IsSomeAnd}
+use Rattle.std.specs.Prelude.{◌≡◌, ◌≢◌, ℕ, ◌+◌, ◌-◌, ◌^◌, ◌<◌, ◌≤◌, min, Bool, true, false, List, [], ◌++◌, length, map, count_by, Option, Some, None, IfSome, IsSomeAnd, IfOk, Result}
 use Rattle.std.specs.FinMap as files
+use Rattle.dl_bytes.specs.declared.conf.Conf.{Conf}
+use Rattle.dl_bytes.specs.declared.conf.Stored.{Stored}
 use Rattle.dl_bytes.specs.declared.outcome.Done.{Done}
 use Rattle.dl_bytes.specs.declared.outcome.Done.TheVariants as did
 use Rattle.dl_bytes.specs.declared.outcome.TraceEnd.{TraceEnd}
 use Rattle.dl_bytes.specs.declared.outcome.TraceEnd.TheVariants.{Failed, Spent}
 use Rattle.dl_bytes.specs.declared.outcome.TraceState.{TraceState}
-use Rattle.dl_steps.specs.declared.step.Step.{Step}
+use Rattle.dl_script_lines.specs.declared.step.Step.{Step}
 use Rattle.dl_model.specs.Setting.{Setting}
 use Rattle.dl_model.specs.Marks.{Mark, Answered, journal, records}
 use Rattle.dl_model.specs.Frames.{stored_frames}
@@ -16,9 +18,11 @@ use Rattle.dl_model.specs.TraceFiles.{StoredFile, trace_files, is_spent}
 use Rattle.dl_model.specs.Replay.{source_of, stream_of, clients, specs_of, ends_of}
 use Rattle.dl_model.specs.Steps.{run}
 use Rattle.dl_outside.specs.Folder.{Files}
-use Rattle.dl_trace.specs.State.{Trace, listed}
+use Rattle.dl_outside.specs.Told.{FolderTold}
+use Rattle.dl_trace.specs.State.{IsAfter, Trace, listed}
 use Rattle.dl_trace.specs.Stands.{HasFiles, IsTraceName}
 use Rattle.dl_core.specs.Serving.{stored_name}
+use Rattle.dl_core.specs.Settings.{setting_of}
 use Rattle.dl_world.specs.Stored.{HoldsStored}
 use Rattle.dl_world.specs.declared.played.Played.{Played}
 
@@ -85,7 +89,7 @@ failures done state = count_by is_failed done + trace_failures state.end
 -- A run was played: for some answers of the folder to the requests that asked it, records, journal, streams, backlog and trace files
 -- are those of the run of the steps. Where the folder failed at none of these requests, the stored configuration is what the journal made of
 -- the file that stood there. The folder's count of faults rose by as many as it failed, at least.
-pub record IsPlayed (setting : Setting) (stood : List StoredFile) (steps : List Step) (trace : Option Trace) (played : Played) (told told_now : Option Files) (faults faults_now : ℕ) : Type 0 where
+pub record IsPlayed (setting : Setting) (stood : List StoredFile) (steps : List Step) (trace : Option Trace) (played : Played) (told told_now : FolderTold) : Type 0 where
   pub answers : List Done
   pub done : List Mark
   pub run_is : done ≡ run setting answers steps
@@ -96,6 +100,12 @@ pub record IsPlayed (setting : Setting) (stood : List StoredFile) (steps : List 
   pub ends_are : played.ends ≡ ends_of setting done played.ends.trace
   pub backlog_is : played.backlog ≡ left setting.buffer (traffic (source_of setting done) (journal done))
   pub trace_is : TellsOf setting stood done trace played.ends.trace
-  pub holds : Holds setting stood done trace played.ends.trace told told_now
-  pub stored : count_by is_failed done ≡ 0 → IfSome told (λ folder. HoldsStored setting (files.get folder stored_name) (journal done) told_now)
-  pub faults_rose : min (faults + failures done played.ends.trace) (2 ^ 64 - 1) ≤ faults_now
+  pub holds : Holds setting stood done trace played.ends.trace told.files told_now.files
+  pub stored : count_by is_failed done ≡ 0 → IfSome told.files (λ folder. HoldsStored setting (files.get folder stored_name) (journal done) told_now.files)
+  pub faults_rose : min (told.faults + failures done played.ends.trace) (2 ^ 64 - 1) ≤ told_now.faults
+
+-- what playing comes to, where it had memory, of a configuration, a stored one and a trace that was made of them
+abbrev pub Plays : {E : Type 0} → Conf → Stored → Option Trace → List Step → FolderTold → FolderTold → Result Played E → Type 0
+Plays conf stored trace steps told told_now result =
+    IfOk result (λ played. (stood : List StoredFile) → IfSome trace (IsAfter stood [])
+    → IsPlayed (setting_of conf stored 0) stood steps trace played told told_now)

@@ -2,7 +2,7 @@
 use Rattle.std.specs.Prelude.{ℕ, ◌-◌, ◌==◌, List, [], ◌++◌, map, slice_get, slice_set, Option, None, if◌then◌else◌}
 use Rattle.std.specs.List.{concat, find}
 use Rattle.std.specs.Option.{option_map_or}
-use Rattle.dl_bytes.specs.Limits.{client_limit}
+use Rattle.dl_bytes.specs.Limits.{message_limit}
 use Rattle.dl_message.specs.Cutting.{Cutting, unfed}
 use Rattle.dl_user.specs.Channel as user
 use Rattle.dl_core.specs.State.{Core}
@@ -15,7 +15,7 @@ pub record Client : Type 0 where
 
 -- a client that sent nothing, and was sent nothing
 abbrev pub new_client : Client
-new_client = record { cutter = unfed client_limit; frames = [] }
+new_client = record { cutter = unfed message_limit; frames = [] }
 
 -- the client of a number from 1
 abbrev pub client_at : List Client → ℕ → Option Client

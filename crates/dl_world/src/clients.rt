@@ -3,23 +3,20 @@
 ghost use Rattle.std.specs.Prelude.{◌≡◌, ◌≤◌, ◌<◌, ◌++◌, ◌∷◌, [], ℕ, List, IfOk, OnOk, IfSome, IsSomeAnd, is_some, length, map};
 ghost use Rattle.std.specs.List.{All, AllByRecursion, concat, filter};
 ghost use Rattle.dl_bytes.specs.Cutting.{AreCut};
-ghost use Rattle.dl_bytes.specs.Limits.{client_limit};
+ghost use Rattle.dl_bytes.specs.Limits.{message_limit};
 ghost use Rattle.dl_message.specs.Cut.{IsWholeMessage, rest_fault, rest_of};
 ghost use Rattle.dl_message.specs.Cutting.{Begins};
 ghost use Rattle.dl_message.specs.Requests.{asks};
 ghost use Rattle.dl_core.specs.Serving.{IsRequest};
-ghost use Rattle.dl_cuts.specs.Frames.{TellsLen};
+ghost use Rattle.dl_frames.specs.Frames.{TellsLen};
 ghost use Rattle.dl_world.specs.Fed.{Asks, IsFedBy, Stands, made_whole};
 ghost use Rattle.dl_world.specs.State.{client_at, with_client, with_cutter, with_frames, new_client, cutters_of};
 
-use dl_bytes::{Bytes, OutOfMemory, Sequence};
-use dl_cuts::add_frames;
-use dl_message::{CLIENT_LIMIT, Cut, Cutter, read_message};
+use dl_bytes::{Bytes, MESSAGE_LIMIT, OutOfMemory, Sequence};
+use dl_frames::add_frames;
+use dl_message::{Cut, Cutter, read_message};
 use std::alloc::Global;
 use std::marker::Model;
-
-/// The most clients that come in one run.
-pub const MOST_CLIENTS: usize = 32;
 
 /// A client.
 #[derive(Drop)]
@@ -30,14 +27,14 @@ pub struct Client {
 
 impl Model for Client {
     ghost use Rattle.std.specs.Prelude.{◌≡◌};
-    ghost use Rattle.dl_bytes.specs.Limits.{client_limit};
+    ghost use Rattle.dl_bytes.specs.Limits.{message_limit};
     ghost use Rattle.dl_world.specs.State as state;
 
     ghost Value = { state.Client };
 
     ghost view = { λ c. record { cutter = c.cutter; frames = c.frames.items } };
 
-    ghost invariant = { λ c. c.cutter.limit ≡ client_limit };
+    ghost invariant = { λ c. c.cutter.limit ≡ message_limit };
 }
 
 impl Client {
@@ -46,7 +43,7 @@ impl Client {
         ensures value { IfOk result (λ client. client ≡ new_client) }
     {
         Ok(Client {
-            cutter: Cutter::make(alloc, CLIENT_LIMIT)?,
+            cutter: Cutter::make(alloc, MESSAGE_LIMIT)?,
             frames: Vec::new(alloc),
         })
     }
@@ -72,7 +69,7 @@ impl Client {
 fn is_bad(cutter: &mut Cutter) -> bool
     ensures limit { cutter.new.limit ≡ cutter.old.limit }
     ensures stands { (stream : List ℕ) → IsFedBy stream cutter.old → IsFedBy stream cutter.new }
-    ensures bad { (stream : List ℕ) → IsFedBy stream cutter.old → result ≡ is_some (rest_fault client_limit (rest_of client_limit stream)) }
+    ensures bad { (stream : List ℕ) → IsFedBy stream cutter.old → result ≡ is_some (rest_fault message_limit (rest_of message_limit stream)) }
 {
     matches!(cutter.next(), Cut::Bad(_))
 }
@@ -84,8 +81,8 @@ fn feed(
     bytes: &[u8],
     requests: &mut Vec<Bytes>,
 ) -> Result<(), OutOfMemory>
-    requires { cutter.old.limit ≡ client_limit }
-    ensures limit { cutter.new.limit ≡ client_limit }
+    requires { cutter.old.limit ≡ message_limit }
+    ensures limit { cutter.new.limit ≡ message_limit }
     ensures fed { OnOk result ((stream : List ℕ) → IsFedBy stream cutter.old → IsFedBy (stream ++ bytes.now) cutter.new) }
     ensures asks { OnOk result ((stream : List ℕ) → IsFedBy stream cutter.old → requests.new.items ≡ requests.old.items ++ made_whole stream bytes.now) }
     ensures each { OnOk result (All IsRequest requests.old.items → All IsRequest requests.new.items) }
@@ -109,9 +106,9 @@ fn cut_whole(
     cutter: &mut Cutter,
     requests: &mut Vec<Bytes>,
 ) -> Result<(), OutOfMemory>
-    requires { cutter.old.limit ≡ client_limit }
-    ensures limit { cutter.new.limit ≡ client_limit }
-    ensures gives { OnOk result ((given : List (List ℕ)) × AreCut (Begins client_limit) cutter.old.unread given cutter.new.unread
+    requires { cutter.old.limit ≡ message_limit }
+    ensures limit { cutter.new.limit ≡ message_limit }
+    ensures gives { OnOk result ((given : List (List ℕ)) × AreCut (Begins message_limit) cutter.old.unread given cutter.new.unread
         × (requests.new.items ≡ requests.old.items ++ filter asks given)) }
     ensures stops { OnOk result (Stands cutter.new) }
     ensures each { OnOk result (All IsRequest requests.old.items → All IsRequest requests.new.items) }
@@ -127,7 +124,7 @@ fn cut_whole(
 
 /// Whether a whole message asks for something.
 fn is_request(message: &[u8]) -> bool
-    requires { IsWholeMessage client_limit message.now }
+    requires { IsWholeMessage message_limit message.now }
     ensures { result ≡ asks message.now }
 {
     match read_message(message) {

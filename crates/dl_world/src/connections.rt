@@ -9,13 +9,10 @@ ghost use Rattle.dl_registry.specs.Kept.{owed_change};
 ghost use Rattle.dl_hub.specs.State.{outbox_of};
 ghost use Rattle.dl_world.specs.Follows.{Doing, IsPlain, MayConnect, noting, open_among};
 
-use crate::clients::{Client, MOST_CLIENTS};
+use crate::clients::Client;
 use crate::world::World;
-use dl_bytes::OutOfMemory;
+use dl_bytes::{CLIENT_LIMIT, OPEN_CLIENT_LIMIT, OutOfMemory};
 use dl_events::{Journal, Why};
-
-/// The most clients that are open at once.
-const MOST_OPEN: u32 = 8;
 
 impl World {
     /// How many clients are open.
@@ -36,12 +33,12 @@ impl World {
         ensures does { OnOk result (Doing connect self.old self.new) }
         ensures trace { self.new.core.trace ≡ self.old.core.trace }
     {
-        if self.clients.len() as usize == MOST_CLIENTS || self.open_clients() >= MOST_OPEN {
+        if self.clients.len() == CLIENT_LIMIT || self.open_clients() as usize >= OPEN_CLIENT_LIMIT {
             return Ok(());
         }
-        self.hand_out()?;
+        self.note_levels()?;
         self.note_connect()?;
-        self.hand_out_now()
+        self.note_levels_now()
     }
 
     /// Notes that a client comes.
@@ -69,9 +66,9 @@ impl World {
         if !self.is_open(client) {
             return Ok(());
         }
-        self.hand_out()?;
+        self.note_levels()?;
         self.note_close(client, why)?;
-        self.hand_out_now()
+        self.note_levels_now()
     }
 
     /// Notes that a client goes, once its link took all that was in its outbox.

@@ -1,6 +1,7 @@
 //! What the core puts into outboxes goes to the clients at once: a script's links take all.
 
 ghost use Rattle.std.specs.Prelude.{◌≡◌, ◌≤◌, ◌+◌, ◌^◌, ◌↔◌, IsTrue, [], ℕ, List, IfOk, OnOk, IsSome, IsSomeAnd, length};
+ghost use Rattle.dl_bytes.specs.Limits.{admitted_limit};
 ghost use Rattle.dl_model.specs.Marks.{Mark};
 ghost use Rattle.dl_core.specs.Follows.{Run};
 ghost use Rattle.dl_hub.specs.State.{EachHasRoom, changed, outbox_of, without};
@@ -12,9 +13,6 @@ use dl_core::Core;
 use dl_events::{Journal, Kept};
 use std::alloc::Global;
 
-/// The most frames that a core admits: no run of so many has memory.
-const FRAME_LIMIT: u64 = 1 << 40;
-
 /// Looks whether there is room for an event that admits this many frames with this many bytes together, and makes it in the journal. Since outboxes
 /// are empty before each event, and no script has so many calls, want of room is want of memory.
 pub fn make_room(
@@ -24,12 +22,11 @@ pub fn make_room(
     bytes: u64,
 ) -> Result<(), OutOfMemory>
     ensures room { OnOk result (EachHasRoom bytes core.now.hub) }
-    ensures few { OnOk result (core.now.hub.admitted + frames ≤ 2 ^ 40) }
+    ensures few { OnOk result (core.now.hub.admitted + frames ≤ admitted_limit) }
     ensures spare { OnOk result (1 ≤ journal.new.spare) }
     ensures events { journal.new.events ≡ journal.old.events }
 {
-    let hub = core.hub();
-    if hub.admitted().saturating_add(frames) > FRAME_LIMIT || !hub.each_has_room(bytes) {
+    if !core.may_admit(frames) || !core.hub().each_has_room(bytes) {
         return Err(OutOfMemory);
     }
     journal.reserve(1)

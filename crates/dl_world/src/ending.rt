@@ -5,9 +5,9 @@ ghost use Rattle.std.specs.List.{range_with_len};
 ghost use Rattle.dl_events.specs.declared.event.Why.TheVariants as why;
 ghost use Rattle.dl_model.specs.Journal.{is_connect};
 ghost use Rattle.dl_model.specs.Marks.{Mark, apps, journal, writer_numbers};
-ghost use Rattle.dl_model.specs.Steps.{close, drain, end_of, finish, in_turn};
+ghost use Rattle.dl_model.specs.Steps.{close, drain, end_of, finish, in_sequence};
 ghost use Rattle.dl_core.specs.Follows.{Run};
-ghost use Rattle.dl_world.specs.Folders.{Leaves, tells};
+ghost use Rattle.dl_world.specs.Folders.{Leaves};
 ghost use Rattle.dl_world.specs.Follows.{Does, Doing, IsAfter};
 ghost use Rattle.dl_world.specs.Left.{IsLeft, links_in, told_of};
 
@@ -24,18 +24,18 @@ use std::alloc::Global;
 impl World {
     /// Open calls are finished, rings and losses are emptied, Level events no longer wait, and the clients are closed.
     pub fn end<F: Folder>(&mut self, folder: &mut F) -> Result<(), OutOfMemory>
-        ensures does { OnOk result (Does (λ setting answers. end_of setting) self.old self.new (tells (F.files folder.old) (F.faults folder.old)) (tells (F.files folder.new) (F.faults folder.new))) }
-        ensures leaves { Leaves self.old.core self.new.core (tells (F.files folder.old) (F.faults folder.old)) (tells (F.files folder.new) (F.faults folder.new)) }
+        ensures does { OnOk result (Does (λ setting answers. end_of setting) self.old self.new (F.told folder.old) (F.told folder.new)) }
+        ensures leaves { Leaves self.old.core self.new.core (F.told folder.old) (F.told folder.new) }
     {
         self.finish_all()?;
         self.drain_all(folder)?;
-        self.hand_out()?;
+        self.note_levels()?;
         self.close_all()
     }
 
     /// What the open call of each writer still needs.
     fn finish_all(&mut self) -> Result<(), OutOfMemory>
-        ensures does { OnOk result (Doing (λ setting done. in_turn (map finish (writer_numbers done)) done) self.old self.new) }
+        ensures does { OnOk result (Doing (λ setting done. in_sequence (map finish (writer_numbers done)) done) self.old self.new) }
         ensures core { self.new.core ≡ self.old.core }
     {
         for writer in 1..self.calls.writers() + 1 {
@@ -46,8 +46,8 @@ impl World {
 
     /// Application by application, what is still in the ring is taken, and then the losses.
     fn drain_all<F: Folder>(&mut self, folder: &mut F) -> Result<(), OutOfMemory>
-        ensures does { OnOk result (Does (λ setting answers done. in_turn (map (drain setting) (range_with_len 0 (length (apps done)))) done) self.old self.new (tells (F.files folder.old) (F.faults folder.old)) (tells (F.files folder.new) (F.faults folder.new))) }
-        ensures leaves { Leaves self.old.core self.new.core (tells (F.files folder.old) (F.faults folder.old)) (tells (F.files folder.new) (F.faults folder.new)) }
+        ensures does { OnOk result (Does (λ setting answers done. in_sequence (map (drain setting) (range_with_len 0 (length (apps done)))) done) self.old self.new (F.told folder.old) (F.told folder.new)) }
+        ensures leaves { Leaves self.old.core self.new.core (F.told folder.old) (F.told folder.new) }
     {
         for app in 0..self.calls.apps() {
             self.drain(app, folder)?;
@@ -57,7 +57,7 @@ impl World {
 
     /// The clients that are open are closed, in the order of their numbers.
     fn close_all(&mut self) -> Result<(), OutOfMemory>
-        ensures does { OnOk result (Doing (λ setting done. in_turn (map (λ client. close setting client why.Stopped) (range_with_len 1 (count_by is_connect (journal done)))) done) self.old self.new) }
+        ensures does { OnOk result (Doing (λ setting done. in_sequence (map (λ client. close setting client why.Stopped) (range_with_len 1 (count_by is_connect (journal done)))) done) self.old self.new) }
         ensures trace { self.new.core.trace ≡ self.old.core.trace }
     {
         for client in 1..self.clients.len() + 1 {

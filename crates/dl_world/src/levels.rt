@@ -1,7 +1,7 @@
 //! Level events: those that wait are noted before the next event, and those that an event owes behind it, unless they are to wait.
 
 ghost use Rattle.std.specs.Prelude.{◌≡◌, ◌+◌, true, false, None, Ok, OnOk, take};
-ghost use Rattle.dl_model.specs.Steps.{hand_out, hand_out_now};
+ghost use Rattle.dl_model.specs.Steps.{note_levels, note_levels_now};
 ghost use Rattle.dl_registry.specs.Kept.{owed_change};
 ghost use Rattle.dl_core.specs.Waiting.{waiting};
 ghost use Rattle.dl_world.specs.Follows.{Doing, next_level};
@@ -24,8 +24,8 @@ impl World {
     }
 
     /// Notes all Level events that wait.
-    pub fn hand_out(&mut self) -> Result<(), OutOfMemory>
-        ensures does { OnOk result (Doing hand_out self.old self.new) }
+    pub fn note_levels(&mut self) -> Result<(), OutOfMemory>
+        ensures does { OnOk result (Doing note_levels self.old self.new) }
         ensures settled { OnOk result (owed_change self.new.core.registry ≡ None) }
         ensures rest { self.new ≡ record self.old { core = record self.old.core { registry = self.new.core.registry }; journal = self.new.journal } }
     {
@@ -34,13 +34,13 @@ impl World {
     }
 
     /// The same, unless they are to wait until they are asked for.
-    pub fn hand_out_now(&mut self) -> Result<(), OutOfMemory>
-        ensures does { OnOk result (Doing hand_out_now self.old self.new) }
+    pub fn note_levels_now(&mut self) -> Result<(), OutOfMemory>
+        ensures does { OnOk result (Doing note_levels_now self.old self.new) }
         ensures rest { self.new ≡ record self.old { core = record self.old.core { registry = self.new.core.registry }; journal = self.new.journal } }
     {
         if self.later {
             return Ok(());
         }
-        self.hand_out()
+        self.note_levels()
     }
 }

@@ -2,22 +2,19 @@
 
 ghost use Rattle.std.specs.Prelude.{◌≡◌, ◌≤◌, ◌<◌, None, Some, OnOk, length};
 ghost use Rattle.dl_events.specs.declared.event.Event.TheVariants as event;
-ghost use Rattle.dl_steps.specs.declared.step.Step.TheVariants as line;
+ghost use Rattle.dl_script_lines.specs.declared.step.Step.TheVariants as line;
 ghost use Rattle.dl_model.specs.Marks.{moment};
 ghost use Rattle.dl_model.specs.Steps.{act_of, begin_call, count, drain, finish, push, take_injection, take_log, take_losses, whole_call};
-ghost use Rattle.dl_calls.specs.State.{next_item};
+ghost use Rattle.dl_world_calls.specs.State.{next_item};
 ghost use Rattle.dl_registry.specs.Kept.{owed_change};
-ghost use Rattle.dl_world.specs.Folders.{Leaves, tells};
+ghost use Rattle.dl_world.specs.Folders.{Leaves};
 ghost use Rattle.dl_world.specs.Follows.{Does, Doing, Loads, noting};
 
 use crate::delivery::make_room;
 use crate::world::World;
-use dl_bytes::{Item, OutOfMemory};
+use dl_bytes::{APP_LIMIT, Item, OutOfMemory};
 use dl_outside::Folder;
-use dl_steps::CallLine;
-
-/// The most applications.
-const APP_LIMIT: u8 = 16;
+use dl_script_lines::CallLine;
 
 impl World {
     /// What a writer's open call still needs.
@@ -61,7 +58,7 @@ impl World {
         let Some(context) = self.calls.context_of(call) else {
             return Ok(());
         };
-        let slot = 64 * context.app() as u16 + context.place() as u16;
+        let slot = context.slot();
         let seen = self.core.registry().held(slot);
         self.calls.load(call, context, seen)
     }
@@ -77,8 +74,8 @@ impl World {
 
     /// A whole call, and the daemon's take of the next call of its ring.
     pub fn log<F: Folder>(&mut self, call: &CallLine, folder: &mut F) -> Result<(), OutOfMemory>
-        ensures does { OnOk result (Does (λ setting answers. act_of setting answers (line.Log call.now)) self.old self.new (tells (F.files folder.old) (F.faults folder.old)) (tells (F.files folder.new) (F.faults folder.new))) }
-        ensures leaves { Leaves self.old.core self.new.core (tells (F.files folder.old) (F.faults folder.old)) (tells (F.files folder.new) (F.faults folder.new)) }
+        ensures does { OnOk result (Does (λ setting answers. act_of setting answers (line.Log call.now)) self.old self.new (F.told folder.old) (F.told folder.new)) }
+        ensures leaves { Leaves self.old.core self.new.core (F.told folder.old) (F.told folder.new) }
     {
         self.whole_call(call)?;
         match self.calls.owner(call.writer) {
@@ -89,23 +86,23 @@ impl World {
 
     /// The daemon takes the next call of an application's ring, where there is one.
     pub fn take_log<F: Folder>(&mut self, app: u8, folder: &mut F) -> Result<(), OutOfMemory>
-        ensures does { OnOk result (Does (λ setting answers. take_log setting app) self.old self.new (tells (F.files folder.old) (F.faults folder.old)) (tells (F.files folder.new) (F.faults folder.new))) }
-        ensures leaves { Leaves self.old.core self.new.core (tells (F.files folder.old) (F.faults folder.old)) (tells (F.files folder.new) (F.faults folder.new)) }
+        ensures does { OnOk result (Does (λ setting answers. take_log setting app) self.old self.new (F.told folder.old) (F.told folder.new)) }
+        ensures leaves { Leaves self.old.core self.new.core (F.told folder.old) (F.told folder.new) }
     {
         if self.calls.apps() <= app || self.calls.next(app).is_none() {
             return Ok(());
         }
-        self.hand_out()?;
+        self.note_levels()?;
         self.note_log(app, folder)?;
-        self.hand_out_now()
+        self.note_levels_now()
     }
 
     /// Notes the next call of an application's ring, which is there.
     fn note_log<F: Folder>(&mut self, app: u8, folder: &mut F) -> Result<(), OutOfMemory>
         requires settled { owed_change self.old.core.registry ≡ None }
         requires known { app < length self.old.calls.apps }
-        ensures does { OnOk result ((item : Item) → next_item self.old.calls app ≡ Some item → Does (λ setting answers. noting (λ now. event.Log app item.writer item.call (moment now)) setting) self.old self.new (tells (F.files folder.old) (F.faults folder.old)) (tells (F.files folder.new) (F.faults folder.new))) }
-        ensures leaves { Leaves self.old.core self.new.core (tells (F.files folder.old) (F.faults folder.old)) (tells (F.files folder.new) (F.faults folder.new)) }
+        ensures does { OnOk result ((item : Item) → next_item self.old.calls app ≡ Some item → Does (λ setting answers. noting (λ now. event.Log app item.writer item.call (moment now)) setting) self.old self.new (F.told folder.old) (F.told folder.new)) }
+        ensures leaves { Leaves self.old.core self.new.core (F.told folder.old) (F.told folder.new) }
     {
         let Some(item) = self.calls.next(app) else {
             return Ok(());
@@ -120,8 +117,8 @@ impl World {
 
     /// The daemon takes the count of an application's lost calls, where there are some.
     pub fn take_losses<F: Folder>(&mut self, app: u8, folder: &mut F) -> Result<(), OutOfMemory>
-        ensures does { OnOk result (Does (λ setting answers. take_losses setting app) self.old self.new (tells (F.files folder.old) (F.faults folder.old)) (tells (F.files folder.new) (F.faults folder.new))) }
-        ensures leaves { Leaves self.old.core self.new.core (tells (F.files folder.old) (F.faults folder.old)) (tells (F.files folder.new) (F.faults folder.new)) }
+        ensures does { OnOk result (Does (λ setting answers. take_losses setting app) self.old self.new (F.told folder.old) (F.told folder.new)) }
+        ensures leaves { Leaves self.old.core self.new.core (F.told folder.old) (F.told folder.new) }
     {
         if self.calls.apps() <= app {
             return Ok(());
@@ -130,9 +127,9 @@ impl World {
         if count == 0 {
             return Ok(());
         }
-        self.hand_out()?;
+        self.note_levels()?;
         self.note_losses(app, count, folder)?;
-        self.hand_out_now()
+        self.note_levels_now()
     }
 
     /// Notes so many lost calls of an application.
@@ -145,8 +142,8 @@ impl World {
         requires settled { owed_change self.old.core.registry ≡ None }
         requires known { app < length self.old.calls.apps }
         requires some { 1 ≤ count }
-        ensures does { OnOk result (Does (λ setting answers. noting (λ now. event.Lost app count (moment now)) setting) self.old self.new (tells (F.files folder.old) (F.faults folder.old)) (tells (F.files folder.new) (F.faults folder.new))) }
-        ensures leaves { Leaves self.old.core self.new.core (tells (F.files folder.old) (F.faults folder.old)) (tells (F.files folder.new) (F.faults folder.new)) }
+        ensures does { OnOk result (Does (λ setting answers. noting (λ now. event.Lost app count (moment now)) setting) self.old self.new (F.told folder.old) (F.told folder.new)) }
+        ensures leaves { Leaves self.old.core self.new.core (F.told folder.old) (F.told folder.new) }
     {
         let need = self.core.lost_need(count);
         make_room(&self.core, &mut self.journal, count, need)?;
@@ -161,8 +158,8 @@ impl World {
 
     /// What is still in an application's ring is taken, and then its losses.
     pub fn drain<F: Folder>(&mut self, app: u8, folder: &mut F) -> Result<(), OutOfMemory>
-        ensures does { OnOk result (Does (λ setting answers. drain setting app) self.old self.new (tells (F.files folder.old) (F.faults folder.old)) (tells (F.files folder.new) (F.faults folder.new))) }
-        ensures leaves { Leaves self.old.core self.new.core (tells (F.files folder.old) (F.faults folder.old)) (tells (F.files folder.new) (F.faults folder.new)) }
+        ensures does { OnOk result (Does (λ setting answers. drain setting app) self.old self.new (F.told folder.old) (F.told folder.new)) }
+        ensures leaves { Leaves self.old.core self.new.core (F.told folder.old) (F.told folder.new) }
     {
         if self.calls.apps() <= app {
             return Ok(());
@@ -178,7 +175,7 @@ impl World {
         ensures does { app < 16 → Doing (λ setting. take_injection app) self.old self.new }
         ensures core { self.new.core ≡ self.old.core }
     {
-        if app < APP_LIMIT && self.injections.waiting(app) > 0 {
+        if (app as usize) < APP_LIMIT && self.injections.waiting(app) > 0 {
             self.injections.go(app);
         }
     }

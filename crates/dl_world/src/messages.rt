@@ -4,10 +4,10 @@ ghost use Rattle.std.specs.Prelude.{◌≡◌, None, OnOk, map};
 ghost use Rattle.std.specs.List.{All};
 ghost use Rattle.dl_events.specs.declared.event.Event.TheVariants as event;
 ghost use Rattle.dl_model.specs.Marks.{moment};
-ghost use Rattle.dl_model.specs.Steps.{hear, in_turn, tell};
+ghost use Rattle.dl_model.specs.Steps.{hear, in_sequence, tell};
 ghost use Rattle.dl_registry.specs.Kept.{owed_change};
 ghost use Rattle.dl_world.specs.Fed.{CanBeTold};
-ghost use Rattle.dl_world.specs.Folders.{Leaves, tells};
+ghost use Rattle.dl_world.specs.Folders.{Leaves};
 ghost use Rattle.dl_world.specs.Follows.{Does, noting};
 
 use crate::delivery::make_room;
@@ -24,12 +24,12 @@ impl World {
         folder: &mut F,
     ) -> Result<(), OutOfMemory>
         requires fit { CanBeTold msg }
-        ensures does { OnOk result (Does (λ setting answers. tell setting channel msg) self.old self.new (tells (F.files folder.old) (F.faults folder.old)) (tells (F.files folder.new) (F.faults folder.new))) }
-        ensures leaves { Leaves self.old.core self.new.core (tells (F.files folder.old) (F.faults folder.old)) (tells (F.files folder.new) (F.faults folder.new)) }
+        ensures does { OnOk result (Does (λ setting answers. tell setting channel msg) self.old self.new (F.told folder.old) (F.told folder.new)) }
+        ensures leaves { Leaves self.old.core self.new.core (F.told folder.old) (F.told folder.new) }
     {
-        self.hand_out()?;
+        self.note_levels()?;
         self.note_message(channel, msg, folder)?;
-        self.hand_out_now()
+        self.note_levels_now()
     }
 
     /// Notes a user message.
@@ -41,8 +41,8 @@ impl World {
     ) -> Result<(), OutOfMemory>
         requires fit { CanBeTold msg }
         requires settled { owed_change self.old.core.registry ≡ None }
-        ensures does { OnOk result (Does (λ setting answers. noting (λ now. event.User channel msg (moment now)) setting) self.old self.new (tells (F.files folder.old) (F.faults folder.old)) (tells (F.files folder.new) (F.faults folder.new))) }
-        ensures leaves { Leaves self.old.core self.new.core (tells (F.files folder.old) (F.faults folder.old)) (tells (F.files folder.new) (F.faults folder.new)) }
+        ensures does { OnOk result (Does (λ setting answers. noting (λ now. event.User channel msg (moment now)) setting) self.old self.new (F.told folder.old) (F.told folder.new)) }
+        ensures leaves { Leaves self.old.core self.new.core (F.told folder.old) (F.told folder.new) }
     {
         let need = self.core.user_need(&msg);
         make_room(&self.core, &mut self.journal, 1, need)?;
@@ -59,8 +59,8 @@ impl World {
         bytes: &[u8],
         folder: &mut F,
     ) -> Result<(), OutOfMemory>
-        ensures does { OnOk result (Does (λ setting answers. hear setting channel bytes.now) self.old self.new (tells (F.files folder.old) (F.faults folder.old)) (tells (F.files folder.new) (F.faults folder.new))) }
-        ensures leaves { Leaves self.old.core self.new.core (tells (F.files folder.old) (F.faults folder.old)) (tells (F.files folder.new) (F.faults folder.new)) }
+        ensures does { OnOk result (Does (λ setting answers. hear setting channel bytes.now) self.old self.new (F.told folder.old) (F.told folder.new)) }
+        ensures leaves { Leaves self.old.core self.new.core (F.told folder.old) (F.told folder.new) }
     {
         let messages = self.channels.cut(self.alloc, channel, bytes)?;
         self.tell_each(channel as u16, messages, folder)
@@ -74,8 +74,8 @@ impl World {
         folder: &mut F,
     ) -> Result<(), OutOfMemory>
         requires fit { All CanBeTold messages.items }
-        ensures does { OnOk result (Does (λ setting answers. in_turn (map (tell setting channel) messages.items)) self.old self.new (tells (F.files folder.old) (F.faults folder.old)) (tells (F.files folder.new) (F.faults folder.new))) }
-        ensures leaves { Leaves self.old.core self.new.core (tells (F.files folder.old) (F.faults folder.old)) (tells (F.files folder.new) (F.faults folder.new)) }
+        ensures does { OnOk result (Does (λ setting answers. in_sequence (map (tell setting channel) messages.items)) self.old self.new (F.told folder.old) (F.told folder.new)) }
+        ensures leaves { Leaves self.old.core self.new.core (F.told folder.old) (F.told folder.new) }
     {
         for msg in messages {
             self.tell(channel, msg, folder)?;

@@ -1,18 +1,17 @@
 //! A run of steps, from the first to the end.
 
-ghost use Rattle.std.specs.Prelude.{◌≡◌, ◌≤◌, [], List, IfOk, IfSome};
+ghost use Rattle.std.specs.Prelude.{◌≤◌, [], List, IfSome};
 ghost use Rattle.dl_model.specs.TraceFiles.{StoredFile};
 ghost use Rattle.dl_trace.specs.Made.{IsMade};
 ghost use Rattle.dl_trace.specs.State as traces;
-ghost use Rattle.dl_core.specs.Settings.{setting_of};
-ghost use Rattle.dl_script_laws.specs.Playable.{IsPlayable};
-ghost use Rattle.dl_world.specs.Played.{IsPlayed, ChangesOwnFiles};
+ghost use Rattle.dl_script.specs.Playable.{IsPlayable};
+ghost use Rattle.dl_world.specs.Played.{ChangesOwnFiles, Plays};
 
 use crate::played::Played;
 use crate::world::World;
 use dl_bytes::{Conf, OutOfMemory, Stored};
 use dl_outside::Folder;
-use dl_steps::StepList;
+use dl_script_lines::StepList;
 use dl_trace::Trace;
 use std::alloc::Global;
 
@@ -29,10 +28,9 @@ pub fn play<F: Folder>(
     requires trace { IfSome trace (IsMade conf.now) }
     requires stood { IfSome trace (λ made. (stood : List StoredFile) × traces.IsAfter stood [] made) }
     requires playable { IsPlayable steps.now }
-    ensures played { IfOk result (λ played. (stood : List StoredFile) → IfSome trace (traces.IsAfter stood [])
-        → IsPlayed (setting_of conf.now stored 0) stood steps.now trace played (F.files folder.old) (F.files folder.new) (F.faults folder.old) (F.faults folder.new)) }
-    ensures others { ChangesOwnFiles trace (F.files folder.old) (F.files folder.new) }
-    ensures later { F.faults folder.old ≤ F.faults folder.new }
+    ensures played { Plays conf.now stored trace steps.now (F.told folder.old) (F.told folder.new) result }
+    ensures others { ChangesOwnFiles trace (F.told folder.old).files (F.told folder.new).files }
+    ensures later { (F.told folder.old).faults ≤ (F.told folder.new).faults }
 {
     let mut world = World::make(alloc, conf, stored, trace)?;
     for step in steps.all() {

@@ -2,27 +2,19 @@
 
 ghost use Rattle.std.specs.Prelude.{◌≡◌, ◌≤◌, ◌<◌, None, Some, OnOk, IsSome, IsSomeAnd, length, map, option_map};
 ghost use Rattle.std.specs.List.{All};
-ghost use Rattle.dl_model.specs.Steps.{ask, in_turn, receive, request_now};
+ghost use Rattle.dl_model.specs.Steps.{ask, in_sequence, receive, request_now};
 ghost use Rattle.dl_registry.specs.Kept.{owed_change};
 ghost use Rattle.dl_hub.specs.State.{client_of, outbox_of};
 ghost use Rattle.dl_core.specs.Serving.{IsRequest, injection_in};
-ghost use Rattle.dl_world.specs.Folders.{Leaves, tells};
+ghost use Rattle.dl_world.specs.Folders.{Leaves};
 ghost use Rattle.dl_world.specs.Follows.{Does, Queues};
 
 use crate::world::World;
-use dl_bytes::{Bytes, OutOfMemory};
-use dl_calls::Injections;
+use dl_bytes::{APP_LIMIT, Bytes, INJECTION_LIMIT, OutOfMemory, REQUEST_LIMIT};
 use dl_core::Ready;
 use dl_events::Why;
 use dl_outside::Folder;
-
-/// The most requests of one client.
-const REQUEST_LIMIT: u32 = 1000;
-
-/// The most injections that wait for an application, and the most applications.
-const QUEUE_LIMIT: u8 = 16;
-
-const APP_LIMIT: u8 = 16;
+use dl_world_calls::Injections;
 
 /// Puts the injection that a request wants into its application's queue. Answers whether the queue took one.
 fn push_injection(injections: &mut Injections, ready: &Ready) -> bool
@@ -38,7 +30,7 @@ fn push_injection(injections: &mut Injections, ready: &Ready) -> bool
 fn push(injections: &mut Injections, app: u8) -> bool
     ensures { Queues (Some app) result injections.old injections.new }
 {
-    if app >= APP_LIMIT || injections.waiting(app) >= QUEUE_LIMIT {
+    if app as usize >= APP_LIMIT || injections.waiting(app) as usize >= INJECTION_LIMIT {
         return false;
     }
     injections.come(app);
@@ -54,8 +46,8 @@ impl World {
         bytes: &[u8],
         folder: &mut F,
     ) -> Result<(), OutOfMemory>
-        ensures does { OnOk result (Does (λ setting answers. receive setting answers client bytes.now) self.old self.new (tells (F.files folder.old) (F.faults folder.old)) (tells (F.files folder.new) (F.faults folder.new))) }
-        ensures leaves { Leaves self.old.core self.new.core (tells (F.files folder.old) (F.faults folder.old)) (tells (F.files folder.new) (F.faults folder.new)) }
+        ensures does { OnOk result (Does (λ setting answers. receive setting answers client bytes.now) self.old self.new (F.told folder.old) (F.told folder.new)) }
+        ensures leaves { Leaves self.old.core self.new.core (F.told folder.old) (F.told folder.new) }
     {
         if !self.is_open(client) {
             return Ok(());
@@ -77,8 +69,8 @@ impl World {
         folder: &mut F,
     ) -> Result<(), OutOfMemory>
         requires requests { All IsRequest requests.items }
-        ensures does { OnOk result (Does (λ setting answers. in_turn (map (ask setting answers client) requests.items)) self.old self.new (tells (F.files folder.old) (F.faults folder.old)) (tells (F.files folder.new) (F.faults folder.new))) }
-        ensures leaves { Leaves self.old.core self.new.core (tells (F.files folder.old) (F.faults folder.old)) (tells (F.files folder.new) (F.faults folder.new)) }
+        ensures does { OnOk result (Does (λ setting answers. in_sequence (map (ask setting answers client) requests.items)) self.old self.new (F.told folder.old) (F.told folder.new)) }
+        ensures leaves { Leaves self.old.core self.new.core (F.told folder.old) (F.told folder.new) }
     {
         for frame in requests {
             self.ask(client, frame, folder)?;
@@ -94,8 +86,8 @@ impl World {
         folder: &mut F,
     ) -> Result<(), OutOfMemory>
         requires request { IsRequest frame }
-        ensures does { OnOk result (Does (λ setting answers. ask setting answers client frame) self.old self.new (tells (F.files folder.old) (F.faults folder.old)) (tells (F.files folder.new) (F.faults folder.new))) }
-        ensures leaves { Leaves self.old.core self.new.core (tells (F.files folder.old) (F.faults folder.old)) (tells (F.files folder.new) (F.faults folder.new)) }
+        ensures does { OnOk result (Does (λ setting answers. ask setting answers client frame) self.old self.new (F.told folder.old) (F.told folder.new)) }
+        ensures leaves { Leaves self.old.core self.new.core (F.told folder.old) (F.told folder.new) }
     {
         if !self.is_open(client) {
             return Ok(());
@@ -103,9 +95,9 @@ impl World {
         if self.core.hub().replies(client) >= REQUEST_LIMIT {
             return self.close(client, Why::TooMany);
         }
-        self.hand_out()?;
+        self.note_levels()?;
         self.serve(client, frame, folder)?;
-        self.hand_out_now()
+        self.note_levels_now()
     }
 
     /// Serves a request of an open client: the folder or an application's queue does what it wants, and the reply is put.
@@ -119,8 +111,8 @@ impl World {
         requires settled { owed_change self.old.core.registry ≡ None }
         requires open { (1 ≤ client) × (client ≤ length self.old.clients) × IsSome (outbox_of self.old.core.hub client) }
         requires few { IsSomeAnd (client_of self.old.core.hub client) (λ c. c.replies < 1000) }
-        ensures does { OnOk result (Does (λ setting answers. request_now setting answers client frame) self.old self.new (tells (F.files folder.old) (F.faults folder.old)) (tells (F.files folder.new) (F.faults folder.new))) }
-        ensures leaves { Leaves self.old.core self.new.core (tells (F.files folder.old) (F.faults folder.old)) (tells (F.files folder.new) (F.faults folder.new)) }
+        ensures does { OnOk result (Does (λ setting answers. request_now setting answers client frame) self.old self.new (F.told folder.old) (F.told folder.new)) }
+        ensures leaves { Leaves self.old.core self.new.core (F.told folder.old) (F.told folder.new) }
     {
         let need = self.core.request_need(frame.all())?;
         if self.core.hub().room(client) < need {

@@ -1,11 +1,11 @@
 //! The lines of a script, each as what it does to the world.
 
 ghost use Rattle.std.specs.Prelude.{◌≡◌, ◌≤◌, ◌<◌, [], OnOk, IsSomeAnd, length};
-ghost use Rattle.dl_steps.specs.declared.step.Step.TheVariants as line;
+ghost use Rattle.dl_script_lines.specs.declared.step.Step.TheVariants as line;
 ghost use Rattle.dl_model.specs.Marks.{Clocked, moment_at};
 ghost use Rattle.dl_model.specs.Steps.{act_of, just};
-ghost use Rattle.dl_calls.specs.State.{app_named};
-ghost use Rattle.dl_world.specs.Folders.{Leaves, tells};
+ghost use Rattle.dl_world_calls.specs.State.{app_named};
+ghost use Rattle.dl_world.specs.Folders.{Leaves};
 ghost use Rattle.dl_world.specs.Follows.{Does, Doing, next_level};
 ghost use Rattle.dl_world.specs.Known.{MayCome};
 
@@ -13,7 +13,7 @@ use crate::world::World;
 use dl_bytes::{Bytes, Id, Moment, OutOfMemory, UserMsg};
 use dl_events::Why;
 use dl_outside::Folder;
-use dl_steps::{AppLine, ContextLine, LevelEvents, Step};
+use dl_script_lines::{AppLine, ContextLine, LevelEvents, Step};
 
 /// How many microseconds a second has.
 const SECOND: u32 = 1_000_000;
@@ -22,8 +22,8 @@ impl World {
     /// What a line of a script does.
     pub fn step<F: Folder>(&mut self, step: &Step, folder: &mut F) -> Result<(), OutOfMemory>
         requires known { MayCome step.now self.old }
-        ensures does { OnOk result (Does (λ setting answers. act_of setting answers step.now) self.old self.new (tells (F.files folder.old) (F.faults folder.old)) (tells (F.files folder.new) (F.faults folder.new))) }
-        ensures leaves { Leaves self.old.core self.new.core (tells (F.files folder.old) (F.faults folder.old)) (tells (F.files folder.new) (F.faults folder.new)) }
+        ensures does { OnOk result (Does (λ setting answers. act_of setting answers step.now) self.old self.new (F.told folder.old) (F.told folder.new)) }
+        ensures leaves { Leaves self.old.core self.new.core (F.told folder.old) (F.told folder.new) }
     {
         match step {
             Step::App(app) => self.declare_app(app, folder),
@@ -51,8 +51,8 @@ impl World {
     fn declare_app<F: Folder>(&mut self, app: &AppLine, folder: &mut F) -> Result<(), OutOfMemory>
         requires few { length self.old.calls.apps < 16 }
         requires text { length app.now.text ≤ 255 }
-        ensures does { OnOk result (Does (λ setting answers. act_of setting answers (line.App app.now)) self.old self.new (tells (F.files folder.old) (F.faults folder.old)) (tells (F.files folder.new) (F.faults folder.new))) }
-        ensures leaves { Leaves self.old.core self.new.core (tells (F.files folder.old) (F.faults folder.old)) (tells (F.files folder.new) (F.faults folder.new)) }
+        ensures does { OnOk result (Does (λ setting answers. act_of setting answers (line.App app.now)) self.old self.new (F.told folder.old) (F.told folder.new)) }
+        ensures leaves { Leaves self.old.core self.new.core (F.told folder.old) (F.told folder.new) }
     {
         self.calls.add_app(app)?;
         let text = Bytes::over(Vec::from_slice(self.alloc, app.text.all())?);
@@ -72,8 +72,8 @@ impl World {
     ) -> Result<(), OutOfMemory>
         requires few { IsSomeAnd (app_named self.old.calls context.now.apid) (λ app. length app.contexts < 64) }
         requires text { length context.now.text ≤ 255 }
-        ensures does { OnOk result (Does (λ setting answers. act_of setting answers (line.Context context.now)) self.old self.new (tells (F.files folder.old) (F.faults folder.old)) (tells (F.files folder.new) (F.faults folder.new))) }
-        ensures leaves { Leaves self.old.core self.new.core (tells (F.files folder.old) (F.faults folder.old)) (tells (F.files folder.new) (F.faults folder.new)) }
+        ensures does { OnOk result (Does (λ setting answers. act_of setting answers (line.Context context.now)) self.old self.new (F.told folder.old) (F.told folder.new)) }
+        ensures leaves { Leaves self.old.core self.new.core (F.told folder.old) (F.told folder.new) }
     {
         self.calls.add_context(context)?;
         let text = Bytes::over(Vec::from_slice(self.alloc, context.text.all())?);
@@ -122,8 +122,8 @@ impl World {
 
     /// The daemon takes the next call of the ring of the application of this id.
     fn take_of<F: Folder>(&mut self, apid: Id, folder: &mut F) -> Result<(), OutOfMemory>
-        ensures does { OnOk result (Does (λ setting answers. act_of setting answers (line.Take apid)) self.old self.new (tells (F.files folder.old) (F.faults folder.old)) (tells (F.files folder.new) (F.faults folder.new))) }
-        ensures leaves { Leaves self.old.core self.new.core (tells (F.files folder.old) (F.faults folder.old)) (tells (F.files folder.new) (F.faults folder.new)) }
+        ensures does { OnOk result (Does (λ setting answers. act_of setting answers (line.Take apid)) self.old self.new (F.told folder.old) (F.told folder.new)) }
+        ensures leaves { Leaves self.old.core self.new.core (F.told folder.old) (F.told folder.new) }
     {
         match self.calls.number_of(apid) {
             Some(app) => self.take_log(app, folder),
@@ -133,8 +133,8 @@ impl World {
 
     /// The daemon takes the count of its lost calls.
     fn losses_of<F: Folder>(&mut self, apid: Id, folder: &mut F) -> Result<(), OutOfMemory>
-        ensures does { OnOk result (Does (λ setting answers. act_of setting answers (line.Losses apid)) self.old self.new (tells (F.files folder.old) (F.faults folder.old)) (tells (F.files folder.new) (F.faults folder.new))) }
-        ensures leaves { Leaves self.old.core self.new.core (tells (F.files folder.old) (F.faults folder.old)) (tells (F.files folder.new) (F.faults folder.new)) }
+        ensures does { OnOk result (Does (λ setting answers. act_of setting answers (line.Losses apid)) self.old self.new (F.told folder.old) (F.told folder.new)) }
+        ensures leaves { Leaves self.old.core self.new.core (F.told folder.old) (F.told folder.new) }
     {
         match self.calls.number_of(apid) {
             Some(app) => self.take_losses(app, folder),

@@ -10,10 +10,10 @@ ghost use Rattle.dl_world.specs.Follows.{IsAfter};
 use crate::channels::Channels;
 use crate::clients::Clients;
 use dl_bytes::{Conf, Moment, OutOfMemory, Stored};
-use dl_calls::{Calls, Injections};
 use dl_core::Core;
 use dl_events::Kept;
 use dl_trace::Trace;
+use dl_world_calls::{Calls, Injections};
 use std::alloc::Global;
 
 /// The moment before a script's clock told one.

@@ -9,7 +9,7 @@ use Rattle.std.proofs.Math.Seq.{get_or-append_seam}
 use Rattle.std.proofs.lemmas.Option.{slice_get_read, slice_get-map}
 use Rattle.dl_events.specs.Records.{given}
 use Rattle.dl_events.proofs.Given.{there-at, not-none}
-use Rattle.dl_views.specs.Views.{bit, times}
+use Rattle.dl_thread_rules.specs.Views.{bit, times}
 use Rattle.dl_writer.specs.State.{BookState, numbers}
 
 never_first : {A : Type 0} (xs : List (Option A)) (ys : List A) → None ∷ xs ≡ map Some ys → ⊥

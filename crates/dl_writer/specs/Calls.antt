@@ -1,7 +1,7 @@
 -- One call of a writer: when it is refused, what its record tells, and what it leaves.
 use Rattle.std.specs.Prelude.{◌≡◌, ℕ, ◌+◌, ◌%◌, ◌^◌, ◌==◌, Bool, not, List, [], ◌∷◌, ◌++◌, length, Option, Some, None, if◌then◌else◌}
 use Rattle.std.specs.Option.{option_map}
-use Rattle.dl_bytes.specs.Context.{Context}
+use Rattle.dl_bytes.specs.Context.{Context, slot_of}
 use Rattle.dl_bytes.specs.Level.{passes}
 use Rattle.dl_bytes.specs.Payload.{Arguments}
 use Rattle.dl_bytes.specs.declared.item.Item.{Item}
@@ -10,7 +10,6 @@ use Rattle.dl_bytes.specs.declared.level.Severity.{Severity}
 use Rattle.dl_events.specs.declared.record.Answer.{Answer}
 use Rattle.dl_events.specs.declared.record.Answer.TheVariants as answer
 use Rattle.dl_events.specs.declared.record.Record.{Record}
-use Rattle.dl_model.specs.Registry.{slot_of}
 use Rattle.dl_model.specs.Report.{is_answer}
 use Rattle.dl_ring.specs.Order.{MetFull}
 use Rattle.dl_levels.specs.declared.history.Read.{Read}
@@ -34,10 +33,6 @@ abbrev pub record_fault : BookState → Context → Option BookFault
 record_fault b ctx = if length b.records == b.room then Some book.Full else option_map book_fault (call_fault b.writer ctx)
 
 -- ---- what its record tells
-
--- the slot of a context in the level words
-abbrev pub slot : Context → ℕ
-slot ctx = slot_of ctx.app ctx.place
 
 -- how many calls of a writer passed their level: each was queued or lost
 abbrev pub passed : WriterState → ℕ
@@ -63,7 +58,7 @@ item_of w ctx severity at payload = record {
 -- where it was lost, that its push met a full ring.
 pub record Tells (w : WriterState) (ctx : Context) (severity : Severity) (at : ℕ) (payload : Arguments) (r : Record) : Type 0 where
   pub message : r.item ≡ item_of w ctx severity at payload
-  pub place : r.slot ≡ slot ctx
+  pub place : r.slot ≡ slot_of ctx
   pub newest : NoneAbove r.slot r.version w.reader.reads
   pub filtered : is_answer answer.Filtered r.answer ≡ not (passes severity r.held)
   pub full : r.answer ≡ answer.Lost → MetFull w.push.capacity w.push.number w.push.pushed
@@ -107,6 +102,13 @@ answered w what item = record w {
 abbrev pub after : WriterState → Record → WriterState
 after w r = record (answered w r.answer r.item) { calls = w.calls + 1; reader = with_read w.reader (read_of r) }
 
+-- What a call with this answer leaves where no record is made of it: there is one that tells of it, and that is all it leaves.
+pub record Sends (old : WriterState) (ctx : Context) (severity : Severity) (at : ℕ) (payload : Arguments) (what : Answer) (new : WriterState) : Type 0 where
+  pub made : Record
+  pub answer : made.answer ≡ what
+  pub told : Tells old ctx severity at payload made
+  pub left : new ≡ after old made
+
 -- What a call leaves of a book: one record more, with the answer that the caller got, which tells of the call.
 pub record Keeps (old : BookState) (ctx : Context) (severity : Severity) (at : ℕ) (payload : Arguments) (what : Answer) (new : BookState) : Type 0 where
   pub made : Record
@@ -121,8 +123,8 @@ pub record Keeps (old : BookState) (ctx : Context) (severity : Severity) (at : �
 pub record LooksUp (old : WriterState) (ctx : Context) (severity : Severity) (answer : Bool) (new : WriterState) : Type 0 where
   pub version : ℕ
   pub level : ℕ
-  pub newest : NoneAbove (slot ctx) version old.reader.reads
-  pub loaded : new ≡ record old { reader = with_read old.reader (read (slot ctx) version level) }
+  pub newest : NoneAbove (slot_of ctx) version old.reader.reads
+  pub loaded : new ≡ record old { reader = with_read old.reader (read (slot_of ctx) version level) }
   pub passing : answer ≡ passes severity level
 
 -- ---- injections

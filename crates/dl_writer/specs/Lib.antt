@@ -1,7 +1,7 @@
-pub mod Items
 pub mod Faults
 pub mod State
 pub mod Calls
+pub mod Met
 pub mod Records
 pub mod WriterInside
 pub mod BookInside

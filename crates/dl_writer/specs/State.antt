@@ -6,7 +6,7 @@ use Rattle.dl_levels.specs.States.{ReaderState}
 use Rattle.dl_losses.specs.States as losses
 use Rattle.dl_injections.specs.State.{TakeState}
 
--- A writer: its application's number; how many calls it made; and its ends of the ring, of the level words, of the loss
+-- A writer: its application's number; how many calls it made; and its handles of the ring, of the level words, of the loss
 -- words and of the queue of injections, which show what it pushed, read, counted and took. Its number is that of its push.
 pub record WriterState : Type 0 where
   pub app : ℕ

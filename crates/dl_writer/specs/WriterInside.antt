@@ -7,7 +7,7 @@ use Rattle.dl_writer.specs.Calls.{passed}
 abbrev pub writer_state : writer.Inside → WriterState
 writer_state w = record { app = w.app; calls = w.calls; push = w.push; reader = w.reader; losses = w.losses; injections = w.injections }
 
--- the counts are of what its ends show, and its slots and its application's words are there
+-- the counts are of what its handles show, and its slots and its application's words are there
 pub record IsWriter (w : writer.Inside) : Type 0 where
   pub app : w.app < 16
   pub number : w.number ≡ w.push.number

@@ -21,15 +21,13 @@
 
 mod book;
 mod book_list;
-mod call;
 mod fault;
 pub mod laws;
-#[cfg(test)]
-mod tests;
 mod writer;
 
 pub use book::Book;
 pub use book_list::BookList;
+pub use dl_bytes::WRITER_CALL_LIMIT;
 pub use dl_events::{Answer, Record};
 pub use fault::{BookFault, LogFault};
-pub use writer::{CALL_LIMIT, Writer, WriterEnds};
+pub use writer::{Writer, WriterHandles};

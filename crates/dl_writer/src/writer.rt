@@ -2,33 +2,31 @@
 
 ghost use Rattle.std.specs.Prelude.{◌≡◌, ◌+◌, ◌*◌, ◌<◌, ◌≤◌, ◌^◌, ◌%◌, ℕ, false, not, [], IfOk, IfSome, IfNone, OnErr, OnSome, length};
 ghost use Rattle.std.specs.Result.{result_err};
+ghost use Rattle.dl_bytes.specs.Context.{slot_of};
 ghost use Rattle.dl_bytes.specs.Level.{passes};
 ghost use Rattle.dl_model.specs.Report.{is_answer};
+ghost use Rattle.dl_ring.specs.Items.{item_with};
 ghost use Rattle.dl_ring.specs.Order.{MetFull};
 ghost use Rattle.dl_ring.specs.State.{unused_push};
 ghost use Rattle.dl_injections.specs.Order.{Rises, MetEmpty};
 ghost use Rattle.dl_injections.specs.State.{unused_take};
-ghost use Rattle.dl_writer.specs.Items.{item_with};
-ghost use Rattle.dl_writer.specs.Calls.{after, answered, asked, call_fault, item_of, passed, slot, with_empty, with_injection, LooksUp, Tells};
+ghost use Rattle.dl_writer.specs.Met.{last_call, record_of};
+ghost use Rattle.dl_writer.specs.Calls.{after, answered, asked, call_fault, passed, with_empty, with_injection, LooksUp, Sends, Tells};
 
-use crate::call::Call;
 use crate::fault::LogFault;
-use dl_bytes::{Ctx, Injection, Level, Payload, Severity};
+use dl_bytes::{Ctx, Injection, Level, Payload, Severity, WRITER_CALL_LIMIT};
 use dl_events::{Answer, Record};
 use dl_injections::InjectTake;
-use dl_levels::LevelReader;
+use dl_levels::{LevelReader, Seen};
 use dl_losses::LossWriter;
-use dl_ring::RingPush;
-use dl_views::one_more;
+use dl_ring::{Call, RingPush};
+use dl_thread_rules::one_more;
 use std::marker::Model;
 use std::sync::Wait;
 
-/// The most calls of one writer, 2^40.
-pub const CALL_LIMIT: u64 = 0x100_0000_0000;
-
-/// What a writer shares with the daemon: its ends of the objects of its application.
+/// What a writer shares with the daemon: its handles of the objects of its application.
 #[derive(Drop)]
-pub struct WriterEnds {
+pub struct WriterHandles {
     /// The ring into which it pushes, under its own number.
     pub push: RingPush,
     /// The level words of all contexts.
@@ -37,6 +35,13 @@ pub struct WriterEnds {
     pub losses: LossWriter,
     /// The queue of the application's injections.
     pub injections: InjectTake,
+}
+
+// What a call met, and what became of it.
+struct Met {
+    // the level that its one load found
+    seen: Seen,
+    answer: Answer,
 }
 
 /// Logs for one thread of an application. Its calls take no memory and no lock.
@@ -70,23 +75,23 @@ impl Model for Writer {
 }
 
 impl Writer {
-    /// A writer of this application, 0 to 15, with this number, 1 to 32. Its ends were not used yet.
-    pub fn of(app: u8, number: u8, ends: WriterEnds) -> Writer
+    /// A writer of this application, 0 to 15, with this number, 1 to 32. Its handles were not used yet.
+    pub fn of(app: u8, number: u8, handles: WriterHandles) -> Writer
         requires app { app < 16 }
         requires number { (1 ≤ number) × (number ≤ 32) }
-        requires push { ends.push ≡ unused_push ends.push.ring ends.push.capacity number false }
-        requires reader { 64 * app + 64 ≤ ends.reader.slots }
-        requires apps { app < ends.losses.apps }
-        requires losses { ends.losses.counted ≡ [] }
-        requires injections { ends.injections ≡ unused_take ends.injections.queue false }
-        ensures { result ≡ record { app = app; calls = 0; push = ends.push; reader = ends.reader; losses = ends.losses; injections = ends.injections } }
+        requires push { handles.push ≡ unused_push handles.push.ring handles.push.capacity number false }
+        requires reader { 64 * app + 64 ≤ handles.reader.slots }
+        requires apps { app < handles.losses.apps }
+        requires losses { handles.losses.counted ≡ [] }
+        requires injections { handles.injections ≡ unused_take handles.injections.queue false }
+        ensures { result ≡ record { app = app; calls = 0; push = handles.push; reader = handles.reader; losses = handles.losses; injections = handles.injections } }
     {
-        let WriterEnds {
+        let WriterHandles {
             push,
             reader,
             losses,
             injections,
-        } = ends;
+        } = handles;
         Writer {
             app,
             number,
@@ -117,24 +122,35 @@ impl Writer {
         ensures told { IfOk result (λ r. Tells self.old ctx.now severity at payload.now r) }
         ensures made { IfOk result (λ r. self.new ≡ after self.old r) }
     {
-        if ctx.app() != self.app {
-            return Err(LogFault::Foreign);
-        }
-        if self.calls == CALL_LIMIT {
-            return Err(LogFault::Spent);
-        }
-        let slot = slot_of(ctx);
-        let seen = self.reader.load(slot);
-        let call = self.next_call(ctx, severity, at);
-        self.calls += 1;
-        let answer = self.answer(rt, seen.level, &call, payload);
+        let mcnt = self.mcnt;
+        let Met { seen, answer } = self.call(rt, ctx, severity, at, payload)?;
+        let mut call = self.last_call(ctx, severity, at);
+        call.mcnt = mcnt;
         Ok(Record {
             item: call.item(payload),
-            slot,
+            slot: slot_of(ctx),
             version: seen.version,
             held: seen.level,
             answer,
         })
+    }
+
+    /// Logs a message as `log` does, and answers only what became of it. What `log` tells by its record is so all the same;
+    /// none is made.
+    pub fn send<R: Wait>(
+        &mut self,
+        rt: &R,
+        ctx: &Ctx,
+        severity: Severity,
+        at: u32,
+        payload: &Payload,
+    ) -> Result<Answer, LogFault>
+        ensures fault { result_err result ≡ call_fault self.old ctx.now }
+        ensures refused { OnErr result (self.new ≡ self.old) }
+        ensures sent { IfOk result (λ answer. Sends self.old ctx.now severity at payload.now answer self.new) }
+    {
+        let Met { seen: _, answer } = self.call(rt, ctx, severity, at, payload)?;
+        Ok(answer)
     }
 
     /// Whether a message of this severity would pass now, by a load of its own. It is not a call, and it never waits.
@@ -190,8 +206,8 @@ impl Writer {
         self.injected
     }
 
-    /// Its ends, for the daemon to take back.
-    pub fn into_ends(self) -> WriterEnds
+    /// Its handles, for the daemon to take back.
+    pub fn into_handles(self) -> WriterHandles
         ensures { result ≡ record { push = self.push; reader = self.reader; losses = self.losses; injections = self.injections } }
     {
         let Writer {
@@ -206,7 +222,7 @@ impl Writer {
             losses,
             injections,
         } = self;
-        WriterEnds {
+        WriterHandles {
             push,
             reader,
             losses,
@@ -216,54 +232,84 @@ impl Writer {
 }
 
 impl Writer {
-    // The next call, with the message counter of the next that passes.
-    fn next_call(&self, ctx: &Ctx, severity: Severity, at: u32) -> Call
-        requires { self.now.calls < 2 ^ 40 }
-        ensures { result ≡ record { app = self.now.app; writer = self.now.push.number; number = self.now.calls + 1; apid = ctx.now.apid; ctid = ctx.now.ctid; severity = severity; at = at; mcnt = passed self.now % 256 } }
+    // A call without its record.
+    fn call<R: Wait>(
+        &mut self,
+        rt: &R,
+        ctx: &Ctx,
+        severity: Severity,
+        at: u32,
+        payload: &Payload,
+    ) -> Result<Met, LogFault>
+        ensures fault { result_err result ≡ call_fault self.old ctx.now }
+        ensures refused { OnErr result (self.new ≡ self.old) }
+        ensures told { IfOk result (λ met. Tells self.old ctx.now severity at payload.now (record_of self.old ctx.now severity at payload.now met)) }
+        ensures made { IfOk result (λ met. self.new ≡ after self.old (record_of self.old ctx.now severity at payload.now met)) }
+    {
+        if ctx.app() != self.app {
+            return Err(LogFault::Foreign);
+        }
+        if self.calls == WRITER_CALL_LIMIT {
+            return Err(LogFault::Spent);
+        }
+        let seen = self.reader.load(slot_of(ctx));
+        self.calls += 1;
+        let answer = self.answer(rt, seen.level, ctx, severity, at, payload);
+        Ok(Met { seen, answer })
+    }
+
+    // What becomes of the call that was just counted and found this level: where that lets it through, it is pushed once,
+    // and counted once where the ring was full.
+    fn answer<R: Wait>(
+        &mut self,
+        rt: &R,
+        level: Level,
+        ctx: &Ctx,
+        severity: Severity,
+        at: u32,
+        payload: &Payload,
+    ) -> Answer
+        requires number { passed self.old < self.old.calls }
+        ensures filtered { is_answer Answer.Filtered result ≡ not (passes severity level) }
+        ensures full { result ≡ Answer.Lost → MetFull self.old.push.capacity self.old.push.number self.old.push.pushed }
+        ensures made { self.new ≡ answered self.old result (item_with (last_call self.old ctx.now severity at) payload.now) }
+    {
+        if !level.passes(severity) {
+            return Answer::Filtered;
+        }
+        let call = self.last_call(ctx, severity, at);
+        self.mcnt = self.mcnt.wrapping_add(1);
+        if self.push.push_call(rt, &call, payload) {
+            self.queued += 1;
+            Answer::Queued
+        } else {
+            self.losses.count(self.app);
+            Answer::Lost
+        }
+    }
+
+    // The call that was just counted, with the message counter of the next that passes.
+    fn last_call(&self, ctx: &Ctx, severity: Severity, at: u32) -> Call
+        ensures { result ≡ last_call self.now ctx.now severity at }
     {
         Call {
             app: self.app,
             writer: self.number,
-            number: self.calls + 1,
+            severity,
+            mcnt: self.mcnt,
+            at,
             apid: ctx.apid(),
             ctid: ctx.ctid(),
-            severity,
-            at,
-            mcnt: self.mcnt,
-        }
-    }
-
-    // What becomes of a call that found this level: where that lets it through, it is pushed once, and counted once where
-    // the ring was full.
-    fn answer<R: Wait>(&mut self, rt: &R, level: Level, call: &Call, payload: &Payload) -> Answer
-        requires writer { call.now.writer ≡ self.old.push.number }
-        requires app { call.now.app ≡ self.old.app }
-        requires number { passed self.old < self.old.calls }
-        ensures filtered { is_answer Answer.Filtered result ≡ not (passes call.now.severity level) }
-        ensures full { result ≡ Answer.Lost → MetFull self.old.push.capacity self.old.push.number self.old.push.pushed }
-        ensures made { self.new ≡ answered self.old result (item_with call.now payload.now) }
-    {
-        if !level.passes(call.severity) {
-            return Answer::Filtered;
-        }
-        self.mcnt = self.mcnt.wrapping_add(1);
-        match self.push.push(rt, call.item(payload)) {
-            Ok(()) => {
-                self.queued += 1;
-                Answer::Queued
-            }
-            Err(_refused) => {
-                self.losses.count(self.app);
-                Answer::Lost
-            }
+            number: self.calls,
         }
     }
 }
 
-// The slot of a context in the level words.
+// The slot of a context, which is one of its application's.
 fn slot_of(ctx: &Ctx) -> u16
-    ensures value { result ≡ slot ctx.now }
+    ensures value { result ≡ slot_of ctx.now }
     ensures range { result < 64 * ctx.now.app + 64 }
 {
-    64 * u16::from(ctx.app()) + u16::from(ctx.place())
+    let _place = ctx.place();
+    ctx.slot()
 }

@@ -8,7 +8,7 @@ use dl_injections::make_injections;
 use dl_levels::make_levels;
 use dl_losses::make_losses;
 use dl_ring::{RingTake, make_ring};
-use dl_writer::{Writer, WriterEnds};
+use dl_writer::{Writer, WriterHandles};
 use std::alloc::Global;
 use std::sync::Wait;
 
@@ -51,7 +51,7 @@ fn writer(alloc: Global) -> Option<(Writer, RingTake)> {
     let Ok(()) = keeper.set(0, Level::from(Severity::Info)) else {
         return None;
     };
-    let ends = WriterEnds {
+    let ends = WriterHandles {
         push: passes.split(1),
         reader: readers.split(),
         losses: losses.split(),

@@ -1,6 +1,7 @@
-use Rattle.std.proofs.Common.{◌≡◌, ◌++◌, map, take, drop}
-use Rattle.dl_hub.specs.State.{with_frame}
+use Rattle.std.proofs.Common.{◌≡◌}
+use Rattle.dl_hub.proofs.Places.{put_first}
 use Rattle.dl_hub.proofs.hub.put_each.Given as goal
 
-abbrev pub invariant-loop-client : goal.invariant-loop-client
-invariant-loop-client l = l.clients ≡ map (with_frame l.frame) (take l.client-index l.fn.clients) ++ drop l.client-index l.fn.clients
+-- those at the places so far were sent it
+abbrev pub invariant-loop-place : goal.invariant-loop-place
+invariant-loop-place l = l.clients ≡ put_first l.frame l.place-index l.fn.clients

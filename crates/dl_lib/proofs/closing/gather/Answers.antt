@@ -1,5 +1,5 @@
 use Rattle.std.proofs.Common.{◌≡◌, length, ap, ◌∙◌, arith}
-use Rattle.dl_desk.specs.Ends.{EndsState}
+use Rattle.dl_desk.specs.Handles.{HandlesState}
 use Rattle.dl_lib.proofs.Gathering.{all_shared, books_fit, closes, firsts_fit, keeps, long_settled, words_fit}
 use Rattle.dl_lib.proofs.Joined.{AreReady}
 use Rattle.dl_lib.proofs.closing.gather.Goals as goal
@@ -9,37 +9,37 @@ join_books-records-requires-clause-fit c =
     let p = c.into_parts-apps.result in
     let parts = c.into_parts-apps.ensures in
     let ready : AreReady c.args.desk c.args.books = record { kept = parts.kept; made = c.requires.made; numbered = c.requires.numbered; all = c.requires.all } in
-    books_fit c.args.desk c.args.books ready p.ends p.ends p.ends p.ends p.ends p.ends p.ends p.firsts.items p.readers p.counters parts.ends parts.firsts parts.readers parts.counters
+    books_fit c.args.desk c.args.books ready p.handles p.handles p.handles p.handles p.handles p.handles p.handles p.firsts.items p.readers p.counters parts.handles parts.firsts parts.readers parts.counters
 
 pub join_firsts-requires-clause-fit : goal.join_firsts-requires-clause-fit
 join_firsts-requires-clause-fit c =
     let p = c.into_parts-apps.result in
     let parts = c.into_parts-apps.ensures in
     let ready : AreReady c.args.desk c.args.books = record { kept = parts.kept; made = c.requires.made; numbered = c.requires.numbered; all = c.requires.all } in
-    firsts_fit c.args.desk c.args.books ready p.ends c.join_books-records.new.ends c.join_books-records.new.ends c.join_books-records.new.ends c.join_books-records.new.ends c.join_books-records.new.ends c.join_books-records.new.ends p.firsts.items p.readers p.counters parts.ends parts.firsts parts.readers parts.counters c.join_books-records.ensures.ends
+    firsts_fit c.args.desk c.args.books ready p.handles c.join_books-records.new.handles c.join_books-records.new.handles c.join_books-records.new.handles c.join_books-records.new.handles c.join_books-records.new.handles c.join_books-records.new.handles p.firsts.items p.readers p.counters parts.handles parts.firsts parts.readers parts.counters c.join_books-records.ensures.handles
 
 pub join_words-requires-clause-levels : goal.join_words-requires-clause-levels
 join_words-requires-clause-levels c =
     let p = c.into_parts-apps.result in
     let parts = c.into_parts-apps.ensures in
     let ready : AreReady c.args.desk c.args.books = record { kept = parts.kept; made = c.requires.made; numbered = c.requires.numbered; all = c.requires.all } in
-    (words_fit c.args.desk c.args.books ready p.ends c.join_books-records.new.ends c.join_firsts.new.ends c.join_firsts.new.ends c.join_firsts.new.ends c.join_firsts.new.ends c.join_firsts.new.ends p.firsts.items p.readers p.counters parts.ends parts.firsts parts.readers parts.counters c.join_books-records.ensures.ends c.join_firsts.ensures).0
+    (words_fit c.args.desk c.args.books ready p.handles c.join_books-records.new.handles c.join_firsts.new.handles c.join_firsts.new.handles c.join_firsts.new.handles c.join_firsts.new.handles c.join_firsts.new.handles p.firsts.items p.readers p.counters parts.handles parts.firsts parts.readers parts.counters c.join_books-records.ensures.handles c.join_firsts.ensures).0
 
 pub join_words-requires-clause-losses : goal.join_words-requires-clause-losses
 join_words-requires-clause-losses c =
     let p = c.into_parts-apps.result in
     let parts = c.into_parts-apps.ensures in
     let ready : AreReady c.args.desk c.args.books = record { kept = parts.kept; made = c.requires.made; numbered = c.requires.numbered; all = c.requires.all } in
-    (words_fit c.args.desk c.args.books ready p.ends c.join_books-records.new.ends c.join_firsts.new.ends c.join_firsts.new.ends c.join_firsts.new.ends c.join_firsts.new.ends c.join_firsts.new.ends p.firsts.items p.readers p.counters parts.ends parts.firsts parts.readers parts.counters c.join_books-records.ensures.ends c.join_firsts.ensures).1
+    (words_fit c.args.desk c.args.books ready p.handles c.join_books-records.new.handles c.join_firsts.new.handles c.join_firsts.new.handles c.join_firsts.new.handles c.join_firsts.new.handles c.join_firsts.new.handles p.firsts.items p.readers p.counters parts.handles parts.firsts parts.readers parts.counters c.join_books-records.ensures.handles c.join_firsts.ensures).1
 
-pub look_at_ends-requires : goal.look_at_ends-requires
-look_at_ends-requires c =
+pub look_at_handles-requires : goal.look_at_handles-requires
+look_at_handles-requires c =
     let p = c.into_parts-apps.result in
     let parts = c.into_parts-apps.ensures in
     let ready : AreReady c.args.desk c.args.books = record { kept = parts.kept; made = c.requires.made; numbered = c.requires.numbered; all = c.requires.all } in
     let r = c.settle.ensures.reads in
     let counts : c.len-count.result ≡ length c.args.desk.apps = c.len-count.ensures ∙ p.firsts.ok.0 ∙ ap length parts.firsts ∙ parts.kept.firsts in
-    let long = long_settled c.args.desk c.args.books ready p.ends c.join_books-records.new.ends c.join_firsts.new.ends c.join_words.new.self c.settle.new.self c.settle.new.self c.settle.new.self p.firsts.items p.readers p.counters parts.ends parts.firsts parts.readers parts.counters c.join_books-records.ensures.ends c.join_firsts.ensures c.join_words.ensures r.0 r.1 c.len-count.result counts in
+    let long = long_settled c.args.desk c.args.books ready p.handles c.join_books-records.new.handles c.join_firsts.new.handles c.join_words.new.self c.settle.new.self c.settle.new.self c.settle.new.self p.firsts.items p.readers p.counters parts.handles parts.firsts parts.readers parts.counters c.join_books-records.ensures.handles c.join_firsts.ensures c.join_words.ensures r.0 r.1 c.len-count.result counts in
     let few = parts.kept.few in
     (omega (arith, counts, few), omega (arith, long))
 
@@ -50,9 +50,9 @@ losses_waiting-losses-requires-clause-there c =
     let ready : AreReady c.args.desk c.args.books = record { kept = parts.kept; made = c.requires.made; numbered = c.requires.numbered; all = c.requires.all } in
     let r = c.settle.ensures.reads in
     let counts : c.len-count.result ≡ length c.args.desk.apps = c.len-count.ensures ∙ p.firsts.ok.0 ∙ ap length parts.firsts ∙ parts.kept.firsts in
-    let long = long_settled c.args.desk c.args.books ready p.ends c.join_books-records.new.ends c.join_firsts.new.ends c.join_words.new.self c.settle.new.self c.look_at_ends.new.ends c.look_at_ends.new.ends p.firsts.items p.readers p.counters parts.ends parts.firsts parts.readers parts.counters c.join_books-records.ensures.ends c.join_firsts.ensures c.join_words.ensures r.0 r.1 c.len-count.result counts in
+    let long = long_settled c.args.desk c.args.books ready p.handles c.join_books-records.new.handles c.join_firsts.new.handles c.join_words.new.self c.settle.new.self c.look_at_handles.new.handles c.look_at_handles.new.handles p.firsts.items p.readers p.counters parts.handles parts.firsts parts.readers parts.counters c.join_books-records.ensures.handles c.join_firsts.ensures c.join_words.ensures r.0 r.1 c.len-count.result counts in
     let few = parts.kept.few in
-    let same = ap (λ (e : EndsState). length e.apps) c.look_at_ends.ensures.same in
+    let same = ap (λ (e : HandlesState). length e.apps) c.look_at_handles.ensures.same in
     (omega (arith, counts, few), omega (arith, long, same))
 
 pub losses_waiting-losses-requires-clause-shares : goal.losses_waiting-losses-requires-clause-shares
@@ -62,7 +62,7 @@ losses_waiting-losses-requires-clause-shares c =
     let ready : AreReady c.args.desk c.args.books = record { kept = parts.kept; made = c.requires.made; numbered = c.requires.numbered; all = c.requires.all } in
     let r = c.settle.ensures.reads in
     let counts : c.len-count.result ≡ length c.args.desk.apps = c.len-count.ensures ∙ p.firsts.ok.0 ∙ ap length parts.firsts ∙ parts.kept.firsts in
-    ap (λ (e : EndsState). e.losses.shares) c.look_at_ends.ensures.same ∙ all_shared c.args.desk c.args.books ready p.ends c.join_books-records.new.ends c.join_firsts.new.ends c.join_words.new.self c.settle.new.self c.look_at_ends.new.ends c.look_at_ends.new.ends p.firsts.items p.readers p.counters parts.ends parts.firsts parts.readers parts.counters c.join_books-records.ensures.ends c.join_firsts.ensures c.join_words.ensures r.0 r.1 c.len-count.result counts
+    ap (λ (e : HandlesState). e.losses.shares) c.look_at_handles.ensures.same ∙ all_shared c.args.desk c.args.books ready p.handles c.join_books-records.new.handles c.join_firsts.new.handles c.join_words.new.self c.settle.new.self c.look_at_handles.new.handles c.look_at_handles.new.handles p.firsts.items p.readers p.counters parts.handles parts.firsts parts.readers parts.counters c.join_books-records.ensures.handles c.join_firsts.ensures c.join_words.ensures r.0 r.1 c.len-count.result counts
 
 pub invariant_of-result : goal.invariant_of-result
 invariant_of-result c =
@@ -71,10 +71,10 @@ invariant_of-result c =
     let ready : AreReady c.args.desk c.args.books = record { kept = parts.kept; made = c.requires.made; numbered = c.requires.numbered; all = c.requires.all } in
     let r = c.settle.ensures.reads in
     let counts : c.len-count.result ≡ length c.args.desk.apps = c.len-count.ensures ∙ p.firsts.ok.0 ∙ ap length parts.firsts ∙ parts.kept.firsts in
-    closes c.args.desk c.args.books ready p.ends c.join_books-records.new.ends c.join_firsts.new.ends c.join_words.new.self c.settle.new.self c.look_at_ends.new.ends c.losses_waiting-losses.new.ends p.firsts.items p.readers p.counters parts.ends parts.firsts parts.readers parts.counters c.join_books-records.ensures.ends c.join_firsts.ensures c.join_words.ensures r.0 r.1 c.len-count.result counts c.look_at_ends.ensures.same c.losses_waiting-losses.ensures.same p.apps c.of-seen.result.value parts.apps c.of-seen.ensures
+    closes c.args.desk c.args.books ready p.handles c.join_books-records.new.handles c.join_firsts.new.handles c.join_words.new.self c.settle.new.self c.look_at_handles.new.handles c.losses_waiting-losses.new.handles p.firsts.items p.readers p.counters parts.handles parts.firsts parts.readers parts.counters c.join_books-records.ensures.handles c.join_firsts.ensures c.join_words.ensures r.0 r.1 c.len-count.result counts c.look_at_handles.ensures.same c.losses_waiting-losses.ensures.same p.apps c.of-seen.result.value parts.apps c.of-seen.ensures
     c.calls_waiting-calls.result c.losses_waiting-losses.result c.injections_given-injected.result.items c.join_books-records.result
     c.calls_waiting-calls.ensures c.losses_waiting-losses.ensures.each c.injections_given-injected.ensures c.join_books-records.ensures.records c.join_books-records.ensures.told
-    c.settle.ensures.entries c.look_at_ends.ensures.rings c.look_at_ends.ensures.queues c.look_at_ends.ensures.range
+    c.settle.ensures.entries c.look_at_handles.ensures.rings c.look_at_handles.ensures.queues c.look_at_handles.ensures.range
 
 pub returns-clause-kept : goal.returns-clause-kept
 returns-clause-kept c =
@@ -83,4 +83,4 @@ returns-clause-kept c =
     let ready : AreReady c.args.desk c.args.books = record { kept = parts.kept; made = c.requires.made; numbered = c.requires.numbered; all = c.requires.all } in
     let r = c.settle.ensures.reads in
     let counts : c.len-count.result ≡ length c.args.desk.apps = c.len-count.ensures ∙ p.firsts.ok.0 ∙ ap length parts.firsts ∙ parts.kept.firsts in
-    keeps c.args.desk c.args.books ready p.ends c.join_books-records.new.ends c.join_firsts.new.ends c.join_words.new.self c.settle.new.self c.look_at_ends.new.ends c.losses_waiting-losses.new.ends p.firsts.items p.readers p.counters parts.ends parts.firsts parts.readers parts.counters c.join_books-records.ensures.ends c.join_firsts.ensures c.join_words.ensures r.0 r.1 c.len-count.result counts c.look_at_ends.ensures.same c.losses_waiting-losses.ensures.same p.apps c.of-seen.result.value parts.apps c.of-seen.ensures
+    keeps c.args.desk c.args.books ready p.handles c.join_books-records.new.handles c.join_firsts.new.handles c.join_words.new.self c.settle.new.self c.look_at_handles.new.handles c.losses_waiting-losses.new.handles p.firsts.items p.readers p.counters parts.handles parts.firsts parts.readers parts.counters c.join_books-records.ensures.handles c.join_firsts.ensures c.join_words.ensures r.0 r.1 c.len-count.result counts c.look_at_handles.ensures.same c.losses_waiting-losses.ensures.same p.apps c.of-seen.result.value parts.apps c.of-seen.ensures

@@ -15,7 +15,7 @@ loop-app-preserved c =
     let waits : ℕ = (c.queued_by.result + (2 ^ 64 - c.taken.result)) % 2 ^ 64 in
     record {
       long = length-put c.loop-app.calls c.from.result waits ∙ i.long;
-      each = table_upto (λ app count. At c.args.ends.now.apps app (λ e. length e.ring.taken ≤ queued_of app c.args.books.now → length e.ring.taken + count ≡ queued_of app c.args.books.now))
+      each = table_upto (λ app count. At c.args.handles.now.apps app (λ e. length e.ring.taken ≤ queued_of app c.args.books.now → length e.ring.taken + count ≡ queued_of app c.args.books.now))
           c.loop-app.calls c.loop-app.app c.from.result waits c.from.ensures
           (let few = c.requires.there.0 in let long = i.long in let below = c.loop-app-test.true in omega (arith, few, long, below))
           i.each

@@ -7,5 +7,5 @@ use Rattle.dl_lib.proofs.waiting.calls_waiting.Given as goal
 abbrev pub invariant-loop-app : goal.invariant-loop-app
 invariant-loop-app l = record {
   long : length l.calls ≡ 16;
-  each : (app : ℕ) → app < l.app → At l.ends.apps app (λ e. length e.ring.taken ≤ queued_of app l.books → length e.ring.taken + slice_index l.calls app ≡ queued_of app l.books);
+  each : (app : ℕ) → app < l.app → At l.handles.apps app (λ e. length e.ring.taken ≤ queued_of app l.books → length e.ring.taken + slice_index l.calls app ≡ queued_of app l.books);
 }

@@ -5,7 +5,7 @@ use Rattle.dl_lib.proofs.waiting.losses_waiting.Given as goal
 
 abbrev pub invariant-loop-app : goal.invariant-loop-app
 invariant-loop-app l = record {
-  same : l.ends ≡ l.fn.ends;
+  same : l.handles ≡ l.fn.handles;
   long : length l.losses ≡ 16;
-  each : (app : ℕ) → app < l.app → reported_of app l.ends.losses.reported + slice_index l.losses app ≡ counted_of app l.ends.losses.counted;
+  each : (app : ℕ) → app < l.app → reported_of app l.handles.losses.reported + slice_index l.losses app ≡ counted_of app l.handles.losses.counted;
 }

@@ -5,7 +5,7 @@ use Rattle.dl_model.proofs.registry_examples.well_formed_journals.Goals as goal
 
 pub returns-clause-good : goal.returns-clause-good
 unfolding request_of log_level_at
-returns-clause-good c = λ sending at. (
+returns-clause-good c = λ source at. (
   (refl, refl),
   (
     (refl, refl),
@@ -18,7 +18,7 @@ returns-clause-good c = λ sending at. (
           (
             record { settled = refl; running = refl; number = refl; limit = lit≤ tt; at_most = lit< tt },
             (
-              record { settled = refl; is_open = refl; limit = lit< tt },
+              record { settled = refl; is_open = refl; limit = lit< tt; answered = refl },
               (
                 refl,
                 (

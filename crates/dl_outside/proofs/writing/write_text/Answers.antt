@@ -9,10 +9,10 @@ pub loop-done-preserved : goal.loop-done-preserved
 loop-done-preserved g c =
     let whole : take (length c.args.text.now - c.loop-done.done) (drop c.loop-done.done c.args.text.now) ≡ drop c.loop-done.done c.args.text.now =
     take_all _ _ (omega (arith, length-drop c.loop-done.done c.args.text.now)) in
-    let taken : Takes (g.O.Sink.held c.loop-done.out) (g.O.Sink.held c.write.new.self) (Bytes c.in-Bytes.n) (drop c.loop-done.done c.args.text.now) =
+    let taken : Takes (g.O.Sink.told c.loop-done.out).held (g.O.Sink.told c.write.new.self).held (Bytes c.in-Bytes.n) (drop c.loop-done.done c.args.text.now) =
     rw whole at c.in-Bytes.ensures.bytes in
     record {
       within = omega (arith, taken.1, length-drop c.loop-done.done c.args.text.now);
-      held = wrote (g.O.Sink.held c.args.out.now) (g.O.Sink.held c.loop-done.out) (g.O.Sink.held c.write.new.self) c.args.text.now c.loop-done.done c.in-Bytes.n c.loop-done.invariant.held taken;
+      held = wrote (g.O.Sink.told c.args.out.now).held (g.O.Sink.told c.loop-done.out).held (g.O.Sink.told c.write.new.self).held c.args.text.now c.loop-done.done c.in-Bytes.n c.loop-done.invariant.held taken;
       well = c.in-Bytes.ensures.cause ∙ c.loop-done.invariant.well;
     }

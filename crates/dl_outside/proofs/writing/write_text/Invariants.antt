@@ -6,8 +6,8 @@ use Rattle.dl_outside.proofs.writing.write_text.Given as goal
 abbrev pub invariant-loop-done : goal.invariant-loop-done
 invariant-loop-done g l = record {
   within : l.done ≤ length l.text;
-  held : IfSome (g.O.Sink.held l.initial.out) (λ bytes. g.O.Sink.held l.out ≡ Some (bytes ++ take l.done l.text));
-  well : g.O.Sink.faults l.out ≡ g.O.Sink.faults l.initial.out;
+  held : IfSome (g.O.Sink.told l.initial.out).held (λ bytes. (g.O.Sink.told l.out).held ≡ Some (bytes ++ take l.done l.text));
+  well : (g.O.Sink.told l.out).faults ≡ (g.O.Sink.told l.initial.out).faults;
 }
 
 abbrev pub decreases-loop-done : goal.decreases-loop-done

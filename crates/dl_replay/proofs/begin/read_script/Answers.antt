@@ -5,7 +5,7 @@ use Rattle.dl_replay.proofs.begin.read_script.Goals as goal
 pub returns-in-Err-Long-clause-steps : goal.returns-in-Err-Long-clause-steps
 returns-in-Err-Long-clause-steps g c =
     let fails = rw c.in-Err-Long.field-0-is at c.in-Err-Long.ensures.failed in
-    (refl, too_long (g.I.Source.left c.args.input.now) fails.1, fails.0)
+    (refl, too_long (g.I.Source.told c.args.input.now).left fails.1, fails.0)
 
 pub returns-in-Ok-read_steps-clause-playable :
     goal.returns-in-Ok-read_steps-clause-playable

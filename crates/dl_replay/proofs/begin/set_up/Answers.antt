@@ -5,9 +5,9 @@ use Rattle.dl_replay.proofs.begin.set_up.Goals as goal
 
 pub returns-in-Ok-stored_in : goal.returns-in-Ok-stored_in
 returns-in-Ok-stored_in g c =
-    let old : FolderTold = record { files = g.F.Folder.files c.args.folder.now; failed = g.F.Folder.faults c.args.folder.now; changes = g.F.Folder.changes c.args.folder.now } in
-    let mid : FolderTold = record { files = g.F.Folder.files c.conf_in.new.folder; failed = g.F.Folder.faults c.conf_in.new.folder; changes = g.F.Folder.changes c.conf_in.new.folder } in
-    let new : FolderTold = record { files = g.F.Folder.files c.stored_in.new.folder; failed = g.F.Folder.faults c.stored_in.new.folder; changes = g.F.Folder.changes c.stored_in.new.folder } in
+    let old : FolderTold = g.F.Folder.told c.args.folder.now in
+    let mid : FolderTold = g.F.Folder.told c.conf_in.new.folder in
+    let new : FolderTold = g.F.Folder.told c.stored_in.new.folder in
     let first = c.in-Ok.ensures in
     let second = c.in-Ok-stored_in.ensures in (
       both_said old.files mid.files (record { conf = c.in-Ok.conf; stored = c.in-Ok-stored_in.stored }) first.said first.stays second.said,
@@ -16,9 +16,9 @@ returns-in-Ok-stored_in g c =
 
 pub returns-in-Err-Fault-stored_in : goal.returns-in-Err-Fault-stored_in
 returns-in-Err-Fault-stored_in g c =
-    let old : FolderTold = record { files = g.F.Folder.files c.args.folder.now; failed = g.F.Folder.faults c.args.folder.now; changes = g.F.Folder.changes c.args.folder.now } in
-    let mid : FolderTold = record { files = g.F.Folder.files c.conf_in.new.folder; failed = g.F.Folder.faults c.conf_in.new.folder; changes = g.F.Folder.changes c.conf_in.new.folder } in
-    let new : FolderTold = record { files = g.F.Folder.files c.stored_in.new.folder; failed = g.F.Folder.faults c.stored_in.new.folder; changes = g.F.Folder.changes c.stored_in.new.folder } in
+    let old : FolderTold = g.F.Folder.told c.args.folder.now in
+    let mid : FolderTold = g.F.Folder.told c.conf_in.new.folder in
+    let new : FolderTold = g.F.Folder.told c.stored_in.new.folder in
     let first = c.in-Ok.ensures in
     let said = rw c.in-Err-Fault-stored_in.field-0-is at c.in-Err-Fault-stored_in.ensures.said in
     let cause = rw c.in-Err-Fault-stored_in.field-0-is at c.in-Err-Fault-stored_in.ensures.cause in (

@@ -5,9 +5,9 @@ use Rattle.dl_replay.proofs.program.perform.Goals as goal
 
 pub returns-clause-ends : goal.returns-clause-ends
 returns-clause-ends g c =
-    let out : SinkTold = record { held = g.O.Sink.held c.args.out.now; failed = g.O.Sink.faults c.args.out.now } in
-    let out_now : SinkTold = record { held = g.O.Sink.held c.finish.new.out; failed = g.O.Sink.faults c.finish.new.out } in
-    let old : FolderTold = record { files = g.F.Folder.files c.args.folder.now; failed = g.F.Folder.faults c.args.folder.now; changes = g.F.Folder.changes c.args.folder.now } in
-    let new : FolderTold = record { files = g.F.Folder.files c.play_start.new.folder; failed = g.F.Folder.faults c.play_start.new.folder; changes = g.F.Folder.changes c.play_start.new.folder } in
+    let out : SinkTold = g.O.Sink.told c.args.out.now in
+    let out_now : SinkTold = g.O.Sink.told c.finish.new.out in
+    let old : FolderTold = g.F.Folder.told c.args.folder.now in
+    let new : FolderTold = g.F.Folder.told c.play_start.new.folder in
     ended {start = c.args.start} {old = old} {new = new} c.args.task c.in-Ok.ensures.plays.0.0 c.in-Ok.played out out_now (nat_lt c.faults-before.result c.faults.result) c.finish.result c.in-Ok.ensures.plays.0.1 c.in-Ok.ensures.plays.1
     (λ i. nat_lt (c.faults-before.ensures i) (c.faults.ensures i)) c.finish.ensures

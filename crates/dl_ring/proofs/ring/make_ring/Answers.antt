@@ -1,7 +1,9 @@
 use Rattle.std.proofs.Common.{rules, ◌∙◌, ap, subst, sym, ℕ, List}
 use Rattle.std.specs.Arc.{arc_value}
 use Rattle.dl_ring.specs.declared.view.View.{View}
-use Rattle.dl_ring.specs.Ends.{HasOwners}
+use Rattle.dl_ring.specs.Passes.{HasOwners}
+use Rattle.dl_ring.specs.Rule.{Keeps}
+use Rattle.dl_ring.proofs.Boxing.{boxed_forks}
 use Rattle.dl_ring.proofs.Keeping.{begins, opens}
 use Rattle.dl_ring.proofs.Owners.{all_owned, first_is_pusher}
 use Rattle.dl_ring.proofs.ring.make_ring.Goals as goal
@@ -10,7 +12,7 @@ pub ruled-requires-clause-rule : goal.ruled-requires-clause-rule
 ruled-requires-clause-rule c = begins
 
 pub another-taker-requires-clause-rule : goal.another-taker-requires-clause-rule
-another-taker-requires-clause-rule c = opens _ _ c.in_ok-queue.ensures.3
+another-taker-requires-clause-rule c = boxed_forks Keeps _ _ _ _ (opens _ _ c.in_ok-queue.ensures.3)
 
 pub invariant_of-push : goal.invariant_of-push
 invariant_of-push c =

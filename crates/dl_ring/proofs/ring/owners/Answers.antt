@@ -1,7 +1,7 @@
 use Rattle.std.proofs.Common.{refl, arith}
 use Rattle.std.specs.Arc.{arc_value}
 use Rattle.std.proofs.lemmas.List.Elements.{All-push}
-use Rattle.dl_ring.specs.Ends.{Owns}
+use Rattle.dl_ring.specs.Passes.{Owns}
 use Rattle.dl_ring.proofs.ring.owners.Goals as goal
 
 pub loop-number-preserved : goal.loop-number-preserved

@@ -1,7 +1,7 @@
 use Rattle.std.proofs.Common.{◌≡◌, vec_len}
 use Rattle.std.specs.List.{All}
 use Rattle.std.specs.Arc.{arc_value}
-use Rattle.dl_ring.specs.Ends.{Owns}
+use Rattle.dl_ring.specs.Passes.{Owns}
 use Rattle.dl_ring.proofs.ring.owners.Given as goal
 
 abbrev pub invariant-loop-number : goal.invariant-loop-number

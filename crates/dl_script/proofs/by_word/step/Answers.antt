@@ -1,5 +1,5 @@
 use Rattle.std.proofs.Common.{subst}
-use Rattle.dl_fields.specs.Kind.{Says}
+use Rattle.dl_script_fields.specs.Kind.{Says}
 use Rattle.dl_script.specs.Line.{step_word, step_by_word}
 use Rattle.dl_script.proofs.Texts.{no_text, text_says}
 use Rattle.dl_script.proofs.by_word.step.Goals as goal

@@ -17,13 +17,13 @@ pub returns-in-Ok-clause-folder : goal.returns-in-Ok-clause-folder
 returns-in-Ok-clause-folder g c =
     let files = c.args.files.now.items in
     let at : c.len-newest.result - 1 ≡ length files - 1 = omega (arith, c.len-newest.ensures, c.args.files.now.ok.0) in
-    extends_by (g.F.Folder.files c.args.folder.now) (g.F.Folder.files c.append.new.self) c.as_text.result.now (last_name files) c.args.piece.now
+    extends_by (g.F.Folder.told c.args.folder.now).files (g.F.Folder.told c.append.new.self).files c.as_text.result.now (last_name files) c.args.piece.now
     (c.as_text.ensures ∙ c.all.ensures ∙ last_named files c.index.result.now c.requires.some (c.index.ensures ∙ ap (λ (k : ℕ). get_or files k c.index.result.now) at)) c.in-Ok.ensures.files
 
 pub returns-in-Err-clause-folder : goal.returns-in-Err-clause-folder
 returns-in-Err-clause-folder g c =
     let files = c.args.files.now.items in
     let at : c.len-newest.result - 1 ≡ length files - 1 = omega (arith, c.len-newest.ensures, c.args.files.now.ok.0) in
-    subst (λ (end : TraceEnd). Extends (g.F.Folder.files c.args.folder.now) (g.F.Folder.files c.append.new.self) (Err end) (last_name files) c.args.piece.now) (sym c.end_of.ensures)
-    (extends_not (g.F.Folder.files c.args.folder.now) (g.F.Folder.files c.append.new.self) c.as_text.result.now (last_name files) c.args.piece.now c.in-Err.fault
+    subst (λ (end : TraceEnd). Extends (g.F.Folder.told c.args.folder.now).files (g.F.Folder.told c.append.new.self).files (Err end) (last_name files) c.args.piece.now) (sym c.end_of.ensures)
+    (extends_not (g.F.Folder.told c.args.folder.now).files (g.F.Folder.told c.append.new.self).files c.as_text.result.now (last_name files) c.args.piece.now c.in-Err.fault
     (c.as_text.ensures ∙ c.all.ensures ∙ last_named files c.index.result.now c.requires.some (c.index.ensures ∙ ap (λ (k : ℕ). get_or files k c.index.result.now) at)) c.in-Err.ensures.files)

@@ -6,5 +6,5 @@ use Rattle.dl_trace.proofs.files.remove_all.Given as goal
 
 abbrev pub invariant-loop-file : goal.invariant-loop-file
 invariant-loop-file g l =
-    IfSome (g.F.Folder.files l.fn.folder) (λ (folder : Files). g.F.Folder.files l.folder ≡ Some (without folder (names_of (take l.file-index l.files))))
-    × (g.F.Folder.faults l.folder ≡ g.F.Folder.faults l.fn.folder) × (g.F.Folder.appends l.folder ≡ g.F.Folder.appends l.fn.folder)
+    IfSome (g.F.Folder.told l.fn.folder).files (λ (folder : Files). (g.F.Folder.told l.folder).files ≡ Some (without folder (names_of (take l.file-index l.files))))
+    × ((g.F.Folder.told l.folder).faults ≡ (g.F.Folder.told l.fn.folder).faults) × ((g.F.Folder.told l.folder).appends ≡ (g.F.Folder.told l.fn.folder).appends)

@@ -1,6 +1,6 @@
 use Rattle.std.proofs.Common.{◌≡◌, ℕ, List, true, false, ◌++◌, ◌∷◌, [], sym, ap, subst, ◌∙◌}
 use Rattle.std.specs.List.{All}
-use Rattle.dl_bytes.specs.Limits.{client_limit}
+use Rattle.dl_bytes.specs.Limits.{message_limit}
 use Rattle.dl_core.specs.Serving.{IsRequest}
 use Rattle.dl_message.specs.Cut.{IsWholeMessage}
 use Rattle.dl_message.specs.Requests.{asks}
@@ -13,7 +13,7 @@ loop-cutter-init c = record { limit = c.requires; gave = gave_none c.args.cutter
 
 pub is_request-requires : goal.is_request-requires
 is_request-requires c =
-    subst (IsWholeMessage client_limit) (sym c.message-message.ensures) (whole_now c.loop-cutter.cutter c.next.new.self c.in-Message.ensures.answer c.loop-cutter.invariant.limit (c.next.ensures.whole c.in-Message.is))
+    subst (IsWholeMessage message_limit) (sym c.message-message.ensures) (whole_now c.loop-cutter.cutter c.next.new.self c.in-Message.ensures.answer c.loop-cutter.invariant.limit (c.next.ensures.whole c.in-Message.is))
 
 pub loop-cutter-preserved : goal.loop-cutter-preserved
 loop-cutter-preserved c =

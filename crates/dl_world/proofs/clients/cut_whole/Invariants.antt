@@ -1,6 +1,6 @@
 use Rattle.std.proofs.Common.{◌≡◌, length}
 use Rattle.std.specs.List.{All}
-use Rattle.dl_bytes.specs.Limits.{client_limit}
+use Rattle.dl_bytes.specs.Limits.{message_limit}
 use Rattle.dl_core.specs.Serving.{IsRequest}
 use Rattle.dl_world.proofs.FedClients.{Gave}
 use Rattle.dl_world.proofs.clients.cut_whole.Given as goal
@@ -8,7 +8,7 @@ use Rattle.dl_world.proofs.clients.cut_whole.Given as goal
 -- the messages so far were given
 abbrev pub invariant-loop-cutter : goal.invariant-loop-cutter
 invariant-loop-cutter l = record {
-  limit : l.cutter.limit ≡ client_limit;
+  limit : l.cutter.limit ≡ message_limit;
   gave : Gave l.fn.cutter.unread l.cutter.unread l.fn.requests.items l.requests.items;
   each : All IsRequest l.fn.requests.items → All IsRequest l.requests.items;
 }

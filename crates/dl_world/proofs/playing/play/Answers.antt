@@ -1,6 +1,5 @@
 use Rattle.std.proofs.Common.{◌<◌, ◌≤◌, length, take, List, refl, subst, arith}
-use Rattle.dl_steps.specs.declared.step.Step.{Step}
-use Rattle.dl_world.specs.Folders.{tells}
+use Rattle.dl_script_lines.specs.declared.step.Step.{Step}
 use Rattle.dl_world.specs.Follows.{Does}
 use Rattle.dl_world.proofs.LeftFiles.{leaves_alone, leaves_both, changes_none, changes_since}
 use Rattle.dl_world.proofs.Lines.{lines, no_lines, one_line, and_end, at_place, with_place, all_taken}
@@ -40,7 +39,7 @@ loop-step-preserved g c =
     let below : k < length xs = omega arith in
     record {
       so_far = subst (λ (ss : List Step). Does (lines ss) c.in_ok-world.world c.step.new.self
-          (tells (g.F.Folder.files c.args.folder.now) (g.F.Folder.faults c.args.folder.now)) (tells (g.F.Folder.files c.step.new.folder) (g.F.Folder.faults c.step.new.folder)))
+          (g.F.Folder.told c.args.folder.now) (g.F.Folder.told c.step.new.folder))
           (with_place xs c.args.steps.now k step c.all-step-items.ensures below c.step-item.is)
           (one_line (take k c.args.steps.now) step c.in_ok-world.world c.loop-step.world c.step.new.self _ _ _ c.loop-step.invariant.so_far c.in_ok-step.ensures.does);
       leaves = leaves_both _ _ _ _ _ _ c.loop-step.invariant.leaves c.step.ensures.leaves;
@@ -57,10 +56,10 @@ into_played-requires g c =
     let over : length xs ≤ k = omega arith in
     let stood = some_stood c.args.trace c.requires.stood in
     let all = subst (λ (ss : List Step). Does (lines ss) c.in_ok-world.world c.loop-step.world
-    (tells (g.F.Folder.files c.args.folder.now) (g.F.Folder.faults c.args.folder.now)) (tells (g.F.Folder.files c.loop-step.folder) (g.F.Folder.faults c.loop-step.folder)))
+    (g.F.Folder.told c.args.folder.now) (g.F.Folder.told c.loop-step.folder))
     (all_taken xs c.args.steps.now k c.all-step-items.ensures over) c.loop-step.invariant.so_far in
     let whole_so = and_end c.args.steps.now c.in_ok-world.world c.loop-step.world c.end.new.self _ _
-    (tells (g.F.Folder.files c.end.new.folder) (g.F.Folder.faults c.end.new.folder)) all c.in_ok-end.ensures.does in
+    (g.F.Folder.told c.end.new.folder) all c.in_ok-end.ensures.does in
     let goes = after_all c.args.conf.now c.args.stored c.args.trace stood.0 c.in_ok-world.world c.in_ok-world.ensures.after stood.1 c.args.steps.now c.end.new.self _ _ whole_so in
     record { came = omega (arith, goes.after.so_far.came_so) }
 
@@ -70,10 +69,10 @@ returns-clause-played g c =
     let xs = c.all-step-items.result.now in
     let over : length xs ≤ k = omega arith in
     let all = subst (λ (ss : List Step). Does (lines ss) c.in_ok-world.world c.loop-step.world
-    (tells (g.F.Folder.files c.args.folder.now) (g.F.Folder.faults c.args.folder.now)) (tells (g.F.Folder.files c.loop-step.folder) (g.F.Folder.faults c.loop-step.folder)))
+    (g.F.Folder.told c.args.folder.now) (g.F.Folder.told c.loop-step.folder))
     (all_taken xs c.args.steps.now k c.all-step-items.ensures over) c.loop-step.invariant.so_far in
     let whole_so = and_end c.args.steps.now c.in_ok-world.world c.loop-step.world c.end.new.self _ _
-    (tells (g.F.Folder.files c.end.new.folder) (g.F.Folder.faults c.end.new.folder)) all c.in_ok-end.ensures.does in
+    (g.F.Folder.told c.end.new.folder) all c.in_ok-end.ensures.does in
     let leaves = leaves_both _ _ _ _ _ _ c.loop-step.invariant.leaves c.end.ensures.leaves in
     if_ok c.into_played.result _ _
     (λ played left stood stood_so.

@@ -1,5 +1,5 @@
 use Rattle.std.proofs.Common.{take}
-use Rattle.dl_world.specs.Folders.{Leaves, tells}
+use Rattle.dl_world.specs.Folders.{Leaves}
 use Rattle.dl_world.specs.Follows.{Does}
 use Rattle.dl_world.proofs.Lines.{lines}
 use Rattle.dl_world.proofs.playing.play.Given as goal
@@ -7,7 +7,7 @@ use Rattle.dl_world.proofs.playing.play.Given as goal
 abbrev pub invariant-loop-step : goal.invariant-loop-step
 invariant-loop-step g l = record {
   so_far : Does (lines (take l.step-index l.steps)) l.initial.world l.world
-      (tells (g.F.Folder.files l.fn.folder) (g.F.Folder.faults l.fn.folder)) (tells (g.F.Folder.files l.folder) (g.F.Folder.faults l.folder));
+      (g.F.Folder.told l.fn.folder) (g.F.Folder.told l.folder);
   leaves : Leaves l.initial.world.core l.world.core
-      (tells (g.F.Folder.files l.fn.folder) (g.F.Folder.faults l.fn.folder)) (tells (g.F.Folder.files l.folder) (g.F.Folder.faults l.folder));
+      (g.F.Folder.told l.fn.folder) (g.F.Folder.told l.folder);
 }

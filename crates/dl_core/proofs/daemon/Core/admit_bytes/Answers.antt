@@ -1,11 +1,25 @@
-use Rattle.std.proofs.Common.{◌≡◌, ℕ, List, [], ◌∷◌, ◌++◌, subst, sym, rules}
-use Rattle.dl_model.specs.Traffic.{Admit}
-use Rattle.dl_hub.specs.Follows.{IsAfter}
+use Rattle.std.proofs.Common.{◌≡◌, ℕ, List, [], ◌∷◌, subst, rules}
+use Rattle.dl_model.specs.Frames.{stored}
+use Rattle.dl_core.specs.Noting.{AdmitsFrames, TakesIn}
 use Rattle.dl_core.specs.State.{Core}
+use Rattle.dl_core.specs.Writer.{trace_in}
+use Rattle.dl_core.proofs.Admitted.{each-alone}
+use Rattle.dl_core.proofs.Parts.{core_of}
 use Rattle.dl_core.proofs.daemon.Core.admit_bytes.Goals as goal
 
-pub returns-clause-hub : goal.returns-clause-hub
-returns-clause-hub g c =
+pub returns-clause-admits : goal.returns-clause-admits
+returns-clause-admits g c =
+    let i = c.self.inside in
+    let new = core_of i.ecu i.level i.injection i.registry c.admit.new.hub c.admit.new.writer in
+    let told = g.F.Folder.told c.args.folder.now in
+    let now = g.F.Folder.told c.admit.new.folder in
     let frame : c.extend_from_slice.new.self ≡ c.args.message.now = search rules in
-    λ traffic taken is. subst (λ (f : List ℕ). IsAfter (traffic ++ Admit f ∷ []) taken c.admit.new.hub) frame
-    (c.admit.ensures.adds traffic taken (subst (λ (core : Core). IsAfter traffic taken core.hub) (sym c.self.view_is) is))
+    subst (λ (k : Core). AdmitsFrames c.args.moment (c.args.message.now ∷ []) k new told now) c.self.view_is
+    (subst (λ (f : List ℕ). TakesIn i.ecu c.args.moment (f ∷ []) i.hub c.admit.new.hub (trace_in i.trace) (trace_in c.admit.new.writer) told now) frame (record {
+      adds = c.admit.ensures.adds;
+      same = c.admit.ensures.same;
+      still_open = c.admit.ensures.open;
+      admitted = c.admit.ensures.admitted;
+      stores = each-alone (stored i.ecu c.args.moment c.extend_from_slice.new.self) (trace_in i.trace) (trace_in c.admit.new.writer) told now c.admit.ensures.stored;
+      others = c.admit.ensures.others;
+    }))

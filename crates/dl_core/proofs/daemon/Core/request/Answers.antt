@@ -30,14 +30,12 @@ answer-requires-clause-room g c =
 pub returns-clause-served : goal.returns-clause-served
 returns-clause-served g c =
     let core = c.args.self.now in
-    let told = g.F.Folder.files c.args.folder.now in
-    let told_now = g.F.Folder.files c.carry_out-done.new.folder in
-    let faults = g.F.Folder.faults c.args.folder.now in
-    let faults_now = g.F.Folder.faults c.carry_out-done.new.folder in
+    let told = g.F.Folder.told c.args.folder.now in
+    let told_now = g.F.Folder.told c.carry_out-done.new.folder in
     let events = g.J.Journal.events c.args.journal.now in
     let events_now = g.J.Journal.events c.note.new.self in
     let is = subst (λ (ready : Ready). IsReady core ready) (sym c.ready.view_is) c.requires.ready in
-    subst (λ (ready : Ready). Serves ready c.args.pushed core c.answer.new.self told told_now faults faults_now events events_now) c.ready.view_is
+    subst (λ (ready : Ready). Serves ready c.args.pushed core c.answer.new.self told told_now events events_now) c.ready.view_is
     (serves core _ c.ready.inside.request c.ready.inside.target is c.ready.invariant.0 c.ready.invariant.1
-    c.answer.new.self c.args.pushed c.carry_out-done.result told told_now faults faults_now events events_now
+    c.answer.new.self c.args.pushed c.carry_out-done.result told told_now events events_now
     c.carry_out-done.ensures.answers c.note.ensures.events c.answer.ensures.registry c.answer.ensures.reply c.answer.ensures.value c.answer.ensures.rest)

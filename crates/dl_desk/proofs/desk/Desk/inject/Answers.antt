@@ -11,5 +11,5 @@ invariant_of-self g c = (injected (desk_state c.self.inside) c.self.invariant c.
 pub returns-clause-later : goal.returns-clause-later
 returns-clause-later g c =
     let old = desk_state c.self.inside in
-    subst (λ (s : DeskState). IsLater s (record old { ends = c.inject.new.self })) c.self.view_is
+    subst (λ (s : DeskState). IsLater s (record old { handles = c.inject.new.self })) c.self.view_is
     (injected old c.self.invariant c.args.app c.inject.result c.args.item c.inject.new.self c.inject.ensures.pushed c.inject.ensures.refused).1

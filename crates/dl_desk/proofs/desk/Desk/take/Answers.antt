@@ -11,5 +11,5 @@ invariant_of-self g c = (took (desk_state c.self.inside) c.self.invariant c.args
 pub returns-clause-later : goal.returns-clause-later
 returns-clause-later g c =
     let old = desk_state c.self.inside in
-    subst (λ (s : DeskState). IsLater s (record old { ends = c.take.new.self })) c.self.view_is
+    subst (λ (s : DeskState). IsLater s (record old { handles = c.take.new.self })) c.self.view_is
     (took old c.self.invariant c.args.app c.take.result c.take.new.self c.take.ensures.taken c.take.ensures.none).1

@@ -1,21 +1,22 @@
-use Rattle.std.proofs.Common.{◌≡◌, ℕ, ◌*◌, ◌≤◌, [], length, sym, ap, ◌∙◌, subst}
+use Rattle.std.proofs.Common.{◌≡◌, ℕ, ◌*◌, ◌≤◌, [], length, sym, ap, ◌∙◌, subst, arith}
 use Rattle.dl_levels.specs.States as levels
 use Rattle.dl_losses.specs.States as losses
 use Rattle.dl_losses.specs.Losses.{reported_of}
-use Rattle.dl_desk.specs.EndsInside.{words_for}
+use Rattle.dl_desk.specs.HandlesInside.{words_for}
 use Rattle.dl_desk.proofs.Assembling.{begins, new, lengths, length-apps}
 use Rattle.dl_desk.proofs.parts.Parts.into_desk.Goals as goal
 
 pub invariant_of-desk : goal.invariant_of-desk
 invariant_of-desk c =
-    let long = (lengths c.args.self.apps.items c.args.self.ends.items c.args.self.firsts.items c.requires.parts.ends).0 in
-    let words : c.words_for-count.result ≡ words_for (length c.args.self.ends.items) = c.words_for-count.ensures.value ∙ ap words_for (c.len.ensures ∙ c.args.self.apps.ok.0 ∙ sym long) in
+    let long = (lengths c.args.self.apps.items c.args.self.handles.items c.args.self.firsts.items c.requires.parts.handles).0 in
+    let words : c.words_for-count.result ≡ words_for (length c.args.self.handles.items) = c.words_for-count.ensures.value ∙ ap words_for (c.len.ensures ∙ c.args.self.apps.ok.0 ∙ sym long) in
     let few : length c.args.self.apps.items ≤ 16 = subst (λ (n : ℕ). n ≤ 16) c.args.self.apps.ok.0 c.requires.few in
     record {
       few = subst (λ (n : ℕ). n ≤ 16) (sym long) few;
       slots = ap (λ (k : levels.KeeperState). k.slots) c.in_ok-levels.ensures.keeper ∙ ap (λ (n : ℕ). 64 * n) (c.from.ensures ∙ words);
       words = ap (λ (k : losses.KeeperState). k.apps) c.in_ok-losses.ensures.keeper ∙ words;
       reports = λ app past. ap (λ (k : losses.KeeperState). reported_of app k.reported) c.in_ok-losses.ensures.keeper;
+      small = λ app. let none : reported_of app c.in_ok-losses.losses.reported ≡ 0 = ap (λ (k : losses.KeeperState). reported_of app k.reported) c.in_ok-losses.ensures.keeper in omega (arith, none);
     }
 
 pub invariant_of-desk-2 : goal.invariant_of-desk-2
@@ -27,12 +28,12 @@ invariant_of-desk-2 c =
     rw c.over.ensures
     (begins (record {
       apps = c.args.self.apps.items;
-      ends = record { apps = c.args.self.ends.items; levels = c.in_ok-levels.levels; losses = c.in_ok-losses.losses };
+      handles = record { apps = c.args.self.handles.items; levels = c.in_ok-levels.levels; losses = c.in_ok-losses.losses };
       firsts = c.args.self.firsts.items;
       readers = c.in_ok-levels.readers;
       counters = c.in_ok-losses.counters;
       owners = c.new.result.items;
-    }) few c.requires.parts.ends c.new.ensures readers counters
+    }) few c.requires.parts.handles c.new.ensures readers counters
     (ap (λ (k : losses.KeeperState). k.counted) c.in_ok-losses.ensures.keeper) (ap (λ (k : losses.KeeperState). k.shares) c.in_ok-losses.ensures.keeper))
 
 pub invariant_of-result : goal.invariant_of-result
@@ -43,10 +44,10 @@ pub returns-clause-desk : goal.returns-clause-desk
 returns-clause-desk c =
     new (record {
       apps = c.over.result;
-      ends = record { apps = c.args.self.ends.items; levels = c.in_ok-levels.levels; losses = c.in_ok-losses.losses };
+      handles = record { apps = c.args.self.handles.items; levels = c.in_ok-levels.levels; losses = c.in_ok-losses.losses };
       firsts = c.args.self.firsts.items;
       readers = c.in_ok-levels.readers;
       counters = c.in_ok-losses.counters;
       owners = c.new.result.items;
-    }) c.args.self.apps.items c.over.ensures c.requires.parts.ends c.new.ensures
+    }) c.args.self.apps.items c.over.ensures c.requires.parts.handles c.new.ensures
     (ap (λ (k : levels.KeeperState). k.sets) c.in_ok-levels.ensures.keeper) (ap (λ (k : levels.KeeperState). k.first) c.in_ok-levels.ensures.keeper) (ap (λ (k : losses.KeeperState). k.reported) c.in_ok-losses.ensures.keeper)

@@ -1,7 +1,7 @@
 use Rattle.std.proofs.Common.{rules, arith, ◌∙◌, ◌<◌, ◌+◌, set, sym, subst}
 use Rattle.atomic_table.specs.Seated.{TableId}
 use Rattle.dl_levels.specs.declared.words.View.{View}
-use Rattle.dl_levels.specs.Ends.{AreLast}
+use Rattle.dl_levels.specs.Passes.{AreLast}
 use Rattle.dl_levels.proofs.Keeping.{swaps}
 use Rattle.dl_levels.proofs.Counting.{counts_next, version_at}
 use Rattle.dl_levels.proofs.keeper.LevelKeeper.set.Goals as goal

@@ -7,7 +7,7 @@ use Rattle.dl_lib.proofs.account.Account.records.Goals as goal
 pub returns-clause-settled : goal.returns-clause-settled
 returns-clause-settled c =
     let inside = c.self.inside in
-    subst IsSettled c.self.view_is (settled (settled_side inside) inside.journal.events inside.ends c.self.invariant.books c.self.invariant.ends c.self.invariant.drained)
+    subst IsSettled c.self.view_is (settled (settled_side inside) inside.journal.events inside.ends c.self.invariant.books c.self.invariant.handles c.self.invariant.drained c.reports.ensures.small)
 
 pub returns-clause-losses : goal.returns-clause-losses
 returns-clause-losses c whole = losses_told c.args.self.now (returns-clause-settled c) whole

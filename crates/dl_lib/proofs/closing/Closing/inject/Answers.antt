@@ -1,6 +1,6 @@
 use Rattle.std.proofs.Common.{◌≡◌, ◌<◌, length, sym, subst}
 use Rattle.std.specs.Prelude.{OnErr, OnOk}
-use Rattle.dl_desk.specs.Ends.{EndsState, with_injected, with_refusal}
+use Rattle.dl_desk.specs.Handles.{HandlesState, with_injected, with_refusal}
 use Rattle.dl_lib.specs.ClosingInside.{closing_state}
 use Rattle.dl_lib.specs.State.{ClosingState}
 use Rattle.dl_lib.proofs.Stepping.{injects, within_after}
@@ -16,6 +16,6 @@ pub invariant_of-self : goal.invariant_of-self
 invariant_of-self g c =
     let i = c.self.inside in
     injects (closing_state i) i.calls i.losses i.injected.items i.records c.self.invariant c.args.app c.inject-answer.result c.args.item c.look.new.self
-    (subst (λ (e : EndsState). OnOk c.inject-answer.result (e ≡ with_injected i.ends c.args.app c.args.item)) (sym c.look.ensures.same) c.inject-answer.ensures.pushed)
-    (subst (λ (e : EndsState). OnErr c.inject-answer.result (e ≡ with_refusal i.ends c.args.app)) (sym c.look.ensures.same) c.inject-answer.ensures.refused)
+    (subst (λ (e : HandlesState). OnOk c.inject-answer.result (e ≡ with_injected i.handles c.args.app c.args.item)) (sym c.look.ensures.same) c.inject-answer.ensures.pushed)
+    (subst (λ (e : HandlesState). OnErr c.inject-answer.result (e ≡ with_refusal i.handles c.args.app)) (sym c.look.ensures.same) c.inject-answer.ensures.refused)
     c.look.ensures.queue c.look.ensures.range

@@ -26,7 +26,7 @@ invariant_of-result g c =
       two_files = conf.two_files;
       last = made.within;
       named = subst (λ (fs : List TraceFile). All (λ (file : TraceFile). IsTraceName c.over.result file.name) fs) (sym (c.over-2.ensures ∙ made.files_are ∙ ap (λ (d : List ℕ). map (listed d) made.stood) same))
-          (found_named c.over.result (g.F.Folder.files c.names.new.self) c.all-2.result.now made.stood (subst (λ (d : List ℕ). Found d (g.F.Folder.files c.names.new.self) c.all-2.result.now made.stood) same made.found));
+          (found_named c.over.result (g.F.Folder.told c.names.new.self).files c.all-2.result.now made.stood (subst (λ (d : List ℕ). Found d (g.F.Folder.told c.names.new.self).files c.all-2.result.now made.stood) same made.found));
       some = λ e. absurd (false≢true e);
       room = λ e. absurd (false≢true e);
     }
@@ -36,16 +36,16 @@ returns-clause-stood g c =
     let conf = c.args.conf.now in
     let directory : c.over.result ≡ conf.directory = c.over.ensures ∙ c.in_ok-directory.ensures.items ∙ c.all.ensures in
     let same : c.deref-3.result.now ≡ c.over.result = c.deref-3.ensures.value ∙ sym c.over.ensures in
-    let made : AreFound c.over.result (g.F.Folder.files c.names.new.self) c.all-2.result.now c.over-2.result c.in_ok-stood.stood.last =
-    subst (λ (fs : List TraceFile). AreFound c.over.result (g.F.Folder.files c.names.new.self) c.all-2.result.now fs c.in_ok-stood.stood.last) (sym c.over-2.ensures)
-    (subst (λ (d : List ℕ). AreFound d (g.F.Folder.files c.names.new.self) c.all-2.result.now c.in_ok-stood.stood.files.items c.in_ok-stood.stood.last) same c.in_ok-stood.ensures.found) in
+    let made : AreFound c.over.result (g.F.Folder.told c.names.new.self).files c.all-2.result.now c.over-2.result c.in_ok-stood.stood.last =
+    subst (λ (fs : List TraceFile). AreFound c.over.result (g.F.Folder.told c.names.new.self).files c.all-2.result.now fs c.in_ok-stood.stood.last) (sym c.over-2.ensures)
+    (subst (λ (d : List ℕ). AreFound d (g.F.Folder.told c.names.new.self).files c.all-2.result.now c.in_ok-stood.stood.files.items c.in_ok-stood.stood.last) same c.in_ok-stood.ensures.found) in
     let trace : Trace = record { directory = c.over.result; file_size = conf.file_size; max_size = conf.max_size; state = record { files = c.over-2.result; end = None }; last = c.in_ok-stood.stood.last; begun = false } in
     let prefix : c.as_text.result.now ≡ front_of c.over.result =
     c.as_text.ensures ∙ c.deref-2.ensures.value ∙ c.in_ok-front.ensures ∙ ap (λ (d : List ℕ). d ++ codes "/dlt_offlinetrace.") (c.deref.ensures.value ∙ sym c.over.ensures) in
-    let all : IfSome (g.F.Folder.files c.args.folder.now) (λ (folder : Files). c.all-2.result.now ≡ names_with (front_of c.over.result) folder) =
-    IfSome_then (g.F.Folder.files c.args.folder.now) c.in_ok-names.ensures.found (λ folder e. c.all-2.ensures ∙ e ∙ ap (λ (p : List ℕ). names_with p folder) prefix) in (
+    let all : IfSome (g.F.Folder.told c.args.folder.now).files (λ (folder : Files). c.all-2.result.now ≡ names_with (front_of c.over.result) folder) =
+    IfSome_then (g.F.Folder.told c.args.folder.now).files c.in_ok-names.ensures.found (λ folder e. c.all-2.ensures ∙ e ∙ ap (λ (p : List ℕ). names_with p folder) prefix) in (
       made.stood,
-      after_nothing trace (g.F.Folder.files c.names.new.self) c.all-2.result.now refl made,
-      subst (λ (d : List ℕ). IfSome (g.F.Folder.files c.args.folder.now) (λ (folder : Files). HasFiles d folder made.stood)) directory
-          (holds_made c.over.result (g.F.Folder.files c.args.folder.now) (g.F.Folder.files c.names.new.self) c.all-2.result.now c.over-2.result c.in_ok-stood.stood.last c.in_ok-names.ensures.stays all made),
+      after_nothing trace (g.F.Folder.told c.names.new.self).files c.all-2.result.now refl made,
+      subst (λ (d : List ℕ). IfSome (g.F.Folder.told c.args.folder.now).files (λ (folder : Files). HasFiles d folder made.stood)) directory
+          (holds_made c.over.result (g.F.Folder.told c.args.folder.now).files (g.F.Folder.told c.names.new.self).files c.all-2.result.now c.over-2.result c.in_ok-stood.stood.last c.in_ok-names.ensures.stays all made),
     )

@@ -1,6 +1,5 @@
 use Rattle.std.proofs.Common.{◌≡◌, ℕ, List, refl, subst, arith}
 use Rattle.std.proofs.lemmas.Grind.{common_steps}
-use Rattle.dl_world.specs.Folders.{tells}
 use Rattle.dl_world.specs.Follows.{Does}
 use Rattle.dl_world.proofs.Deeds.{does_nothing}
 use Rattle.dl_world.proofs.LeftFiles.{leaves_alone, leaves_both}
@@ -27,8 +26,8 @@ returns-in_err-ask-clause-leaves g c = leaves_both c.args.self.now.core c.loop-f
 pub returns-clause-does : goal.returns-clause-does
 returns-clause-does g c =
     let all : c.loop-frame.yielded ≡ c.args.requests.items = grind (arith, common_steps) in
-    subst (λ (requests : List (List ℕ)). Does (ask_all c.args.client requests) c.args.self.now c.loop-frame.self (tells (g.F.Folder.files c.args.folder.now) (g.F.Folder.faults c.args.folder.now))
-    (tells (g.F.Folder.files c.loop-frame.folder) (g.F.Folder.faults c.loop-frame.folder))) all c.loop-frame.invariant.does
+    subst (λ (requests : List (List ℕ)). Does (ask_all c.args.client requests) c.args.self.now c.loop-frame.self (g.F.Folder.told c.args.folder.now)
+    (g.F.Folder.told c.loop-frame.folder)) all c.loop-frame.invariant.does
 
 pub returns-clause-leaves : goal.returns-clause-leaves
 returns-clause-leaves g c = c.loop-frame.invariant.leaves

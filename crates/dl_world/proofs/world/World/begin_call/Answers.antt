@@ -1,4 +1,4 @@
-use Rattle.dl_calls.proofs.Acts.{on_ok}
+use Rattle.dl_world_calls.proofs.Acts.{on_ok}
 use Rattle.dl_world.specs.Follows.{Loads}
 use Rattle.dl_world.proofs.CallSteps.{begins_call}
 use Rattle.dl_world.proofs.world.World.begin_call.Goals as goal

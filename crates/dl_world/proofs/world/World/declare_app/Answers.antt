@@ -2,8 +2,7 @@ use Rattle.std.proofs.Common.{◌≡◌, ℕ, List, ◌∙◌, refl, subst}
 use Rattle.dl_bytes.specs.declared.user.UserMsg.TheVariants as user
 use Rattle.dl_model.specs.Marks.{HasApp}
 use Rattle.dl_model.specs.Steps.{just, tell}
-use Rattle.dl_calls.proofs.Acts.{on_ok}
-use Rattle.dl_world.specs.Folders.{tells}
+use Rattle.dl_world_calls.proofs.Acts.{on_ok}
 use Rattle.dl_world.specs.Follows.{Does}
 use Rattle.dl_world.specs.declared.world.World.{World}
 use Rattle.dl_world.proofs.Declared.{declares_app, does_two}
@@ -21,8 +20,8 @@ returns-clause-does g c =
     let old : World = c.args.self.now in
     let app = c.args.app.now in
     let mid : World = record old { calls = c.add_app.new.self } in
-    let told = tells (g.F.Folder.files c.args.folder.now) (g.F.Folder.faults c.args.folder.now) in
-    let told_now = tells (g.F.Folder.files c.tell.new.folder) (g.F.Folder.faults c.tell.new.folder) in
+    let told = (g.F.Folder.told c.args.folder.now) in
+    let told_now = (g.F.Folder.told c.tell.new.folder) in
     let same : c.over-text.result ≡ app.text = c.over-text.ensures ∙ c.in_ok-from_slice.ensures.items ∙ c.all.ensures in
     let first = declares_app app old c.add_app.new.self c.requires.few c.in_ok-add_app.ensures.does told in
     on_ok c.tell.result _ _

@@ -1,4 +1,4 @@
-use Rattle.dl_calls.proofs.Acts.{on_ok}
+use Rattle.dl_world_calls.proofs.Acts.{on_ok}
 use Rattle.dl_world.proofs.Delivering.{delivery_takes, delivery_keeps, delivery_rest, always}
 use Rattle.dl_world.proofs.world.World.deliver_to.Goals as goal
 

@@ -1,9 +1,8 @@
 use Rattle.std.proofs.Common.{◌≡◌, List, refl, ◌∙◌, arith}
 use Rattle.dl_model.specs.Marks.{Mark, held_by}
 use Rattle.dl_model.specs.Steps.{take_losses}
-use Rattle.dl_calls.specs.Follows as calls
-use Rattle.dl_calls.proofs.Acts.{on_ok}
-use Rattle.dl_world.specs.Folders.{tells}
+use Rattle.dl_world_calls.specs.Follows as calls
+use Rattle.dl_world_calls.proofs.Acts.{on_ok}
 use Rattle.dl_world.specs.Follows.{Does}
 use Rattle.dl_world.proofs.LeftFiles.{leaves_alone, leaves_both}
 use Rattle.dl_world.proofs.Turning.{does_first, does_next}
@@ -39,7 +38,7 @@ returns-clause-does g c =
     let all : k ≡ c.held-call-end.result = omega arith in
     let held : (done : List Mark) → calls.IsAfter done old.calls → k ≡ held_by c.args.app done = λ done is. all ∙ c.held-call-end.ensures done is in
     let made = λ (losses : Does (λ setting answers. take_losses setting c.args.app) c.loop-call.self c.take_losses.new.self
-    (tells (g.F.Folder.files c.loop-call.folder) (g.F.Folder.faults c.loop-call.folder)) (tells (g.F.Folder.files c.take_losses.new.folder) (g.F.Folder.faults c.take_losses.new.folder))).
+    (g.F.Folder.told c.loop-call.folder) (g.F.Folder.told c.take_losses.new.folder)).
     drains old c.loop-call.self c.take_losses.new.self _ _ _ c.args.app k held c.loop-call.invariant.so_far losses in
     on_ok c.take_losses.result _ _ made c.take_losses.ensures.does
 

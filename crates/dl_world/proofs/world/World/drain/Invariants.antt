@@ -1,4 +1,4 @@
-use Rattle.dl_world.specs.Folders.{Leaves, tells}
+use Rattle.dl_world.specs.Folders.{Leaves}
 use Rattle.dl_world.specs.Follows.{Does}
 use Rattle.dl_world.proofs.Turning.{from}
 use Rattle.dl_world.proofs.Drains.{takes}
@@ -7,7 +7,7 @@ use Rattle.dl_world.proofs.world.World.drain.Given as goal
 abbrev pub invariant-loop-call : goal.invariant-loop-call
 invariant-loop-call g l = record {
   so_far : Does (from 0 l._call (takes l.app)) l.fn.self l.self
-      (tells (g.F.Folder.files l.fn.folder) (g.F.Folder.faults l.fn.folder)) (tells (g.F.Folder.files l.folder) (g.F.Folder.faults l.folder));
+      (g.F.Folder.told l.fn.folder) (g.F.Folder.told l.folder);
   leaves : Leaves l.fn.self.core l.self.core
-      (tells (g.F.Folder.files l.fn.folder) (g.F.Folder.faults l.fn.folder)) (tells (g.F.Folder.files l.folder) (g.F.Folder.faults l.folder));
+      (g.F.Folder.told l.fn.folder) (g.F.Folder.told l.folder);
 }

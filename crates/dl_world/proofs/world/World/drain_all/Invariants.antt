@@ -1,5 +1,5 @@
 use Rattle.dl_model.specs.Steps.{drain}
-use Rattle.dl_world.specs.Folders.{Leaves, tells}
+use Rattle.dl_world.specs.Folders.{Leaves}
 use Rattle.dl_world.specs.Follows.{Does}
 use Rattle.dl_world.proofs.Turning.{from}
 use Rattle.dl_world.proofs.world.World.drain_all.Given as goal
@@ -7,7 +7,7 @@ use Rattle.dl_world.proofs.world.World.drain_all.Given as goal
 abbrev pub invariant-loop-app : goal.invariant-loop-app
 invariant-loop-app g l = record {
   so_far : Does (from 0 l.app (λ app setting answers. drain setting app)) l.fn.self l.self
-      (tells (g.F.Folder.files l.fn.folder) (g.F.Folder.faults l.fn.folder)) (tells (g.F.Folder.files l.folder) (g.F.Folder.faults l.folder));
+      (g.F.Folder.told l.fn.folder) (g.F.Folder.told l.folder);
   leaves : Leaves l.fn.self.core l.self.core
-      (tells (g.F.Folder.files l.fn.folder) (g.F.Folder.faults l.fn.folder)) (tells (g.F.Folder.files l.folder) (g.F.Folder.faults l.folder));
+      (g.F.Folder.told l.fn.folder) (g.F.Folder.told l.folder);
 }

@@ -4,8 +4,8 @@ use Rattle.dl_model.specs.Journal.{is_connect}
 use Rattle.std.specs.Prelude.{map, count_by}
 use Rattle.std.specs.List.{range_with_len}
 use Rattle.dl_model.specs.Marks.{journal}
-use Rattle.dl_model.specs.Steps.{in_turn, close}
-use Rattle.dl_calls.proofs.Acts.{on_ok}
+use Rattle.dl_model.specs.Steps.{in_sequence, close}
+use Rattle.dl_world_calls.proofs.Acts.{on_ok}
 use Rattle.dl_core.specs.State.{Core}
 use Rattle.dl_world.specs.Follows.{Doing}
 use Rattle.dl_world.proofs.LeftFiles.{leaves_alone}
@@ -17,7 +17,7 @@ returns-in_err-finish_all-clause-leaves g c = leaves_alone _ _ _ (ap (λ (k : Co
 
 pub returns-clause-does : goal.returns-clause-does
 returns-clause-does g c =
-    let made = λ (last : Doing (λ setting done. in_turn (map (λ client. close setting client why.Stopped) (range_with_len 1 (count_by is_connect (journal done)))) done) c.hand_out.new.self c.close_all.new.self).
-    ended c.args.self.now c.finish_all.new.self c.drain_all.new.self c.hand_out.new.self c.close_all.new.self _ _
-    c.in_ok-finish_all.ensures.does c.in_ok-drain_all.ensures.does c.in_ok-hand_out.ensures.does last in
+    let made = λ (last : Doing (λ setting done. in_sequence (map (λ client. close setting client why.Stopped) (range_with_len 1 (count_by is_connect (journal done)))) done) c.note_levels.new.self c.close_all.new.self).
+    ended c.args.self.now c.finish_all.new.self c.drain_all.new.self c.note_levels.new.self c.close_all.new.self _ _
+    c.in_ok-finish_all.ensures.does c.in_ok-drain_all.ensures.does c.in_ok-note_levels.ensures.does last in
     on_ok c.close_all.result _ _ made c.close_all.ensures.does

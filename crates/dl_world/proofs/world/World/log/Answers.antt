@@ -1,8 +1,7 @@
 use Rattle.std.proofs.Common.{ap, sym, ◌∙◌}
 use Rattle.dl_core.specs.State.{Core}
-use Rattle.dl_calls.proofs.Acts.{on_ok}
+use Rattle.dl_world_calls.proofs.Acts.{on_ok}
 use Rattle.dl_model.specs.Steps.{take_log}
-use Rattle.dl_world.specs.Folders.{tells}
 use Rattle.dl_world.specs.Follows.{Does}
 use Rattle.dl_world.proofs.LeftFiles.{leaves_alone}
 use Rattle.dl_world.proofs.Drains.{logs_with_take, logs_alone}
@@ -20,6 +19,6 @@ returns-in-None-clause-leaves g c = leaves_alone _ _ _ (ap (λ (k : Core). k.tra
 pub returns-in-Some-clause-does : goal.returns-in-Some-clause-does
 returns-in-Some-clause-does g c =
     let made = λ (takes : Does (λ setting answers. take_log setting c.in-Some.app) c.whole_call.new.self c.take_log.new.self
-    (tells (g.F.Folder.files c.args.folder.now) (g.F.Folder.faults c.args.folder.now)) (tells (g.F.Folder.files c.take_log.new.folder) (g.F.Folder.faults c.take_log.new.folder))).
+    (g.F.Folder.told c.args.folder.now) (g.F.Folder.told c.take_log.new.folder)).
     logs_with_take c.args.call.now c.args.self.now c.whole_call.new.self c.take_log.new.self _ _ c.in-Some.app c.in_ok-whole_call.ensures.does (sym c.owner.ensures ∙ c.in-Some.is) takes in
     on_ok c.take_log.result _ _ made c.take_log.ensures.does

@@ -1,5 +1,5 @@
 use Rattle.std.proofs.Common.{ap}
-use Rattle.dl_calls.proofs.Acts.{on_ok}
+use Rattle.dl_world_calls.proofs.Acts.{on_ok}
 use Rattle.dl_core.specs.State.{Core}
 use Rattle.dl_hub.proofs.Following.{one_of}
 use Rattle.dl_world.proofs.Coming.{connect_does}

@@ -2,9 +2,8 @@ use Rattle.std.proofs.Common.{Bool, ℕ, List, refl, sym, subst}
 use Rattle.std.specs.Prelude.{IfSome}
 use Rattle.dl_events.specs.declared.event.Why.TheVariants as why
 use Rattle.dl_model.specs.Steps.{close, when}
-use Rattle.dl_calls.proofs.Acts.{on_ok}
+use Rattle.dl_world_calls.proofs.Acts.{on_ok}
 use Rattle.dl_world.specs.Fed.{Asks, IsFedBy}
-use Rattle.dl_world.specs.Folders.{tells}
 use Rattle.dl_world.specs.Follows.{Does}
 use Rattle.dl_world.specs.State.{client_at}
 use Rattle.dl_world.specs.declared.world.World.{World}
@@ -28,8 +27,8 @@ pub returns-then-is_bad-clause-does : goal.returns-then-is_bad-clause-does
 returns-then-is_bad-clause-does g c =
     let old : World = c.args.self.now in
     let client = c.args.client in
-    let told = tells (g.F.Folder.files c.args.folder.now) (g.F.Folder.faults c.args.folder.now) in
-    let told_now = tells (g.F.Folder.files c.ask_each.new.folder) (g.F.Folder.faults c.ask_each.new.folder) in
+    let told = (g.F.Folder.told c.args.folder.now) in
+    let told_now = (g.F.Folder.told c.ask_each.new.folder) in
     let there = c.is_open.ensures.0 c.if-not-is_open.false in
     let asks_so = subst (λ (before : List (List ℕ)). (stream : List ℕ) → IfSome (client_at old.clients client) (λ k. IsFedBy stream k.cutter)
     → IfSome (client_at c.cut.new.self client) (λ k. Asks stream c.args.bytes.now c.in_ok-is_bad.is_bad before c.cut.new.requests.items k.cutter)) c.new-requests.ensures.items c.in_ok-is_bad.ensures.asks in
@@ -44,8 +43,8 @@ pub returns-clause-does : goal.returns-clause-does
 returns-clause-does g c =
     let old : World = c.args.self.now in
     let client = c.args.client in
-    let told = tells (g.F.Folder.files c.args.folder.now) (g.F.Folder.faults c.args.folder.now) in
-    let told_now = tells (g.F.Folder.files c.ask_each.new.folder) (g.F.Folder.faults c.ask_each.new.folder) in
+    let told = (g.F.Folder.told c.args.folder.now) in
+    let told_now = (g.F.Folder.told c.ask_each.new.folder) in
     let there = c.is_open.ensures.0 c.if-not-is_open.false in
     let asks_so = subst (λ (before : List (List ℕ)). (stream : List ℕ) → IfSome (client_at old.clients client) (λ k. IsFedBy stream k.cutter)
     → IfSome (client_at c.cut.new.self client) (λ k. Asks stream c.args.bytes.now c.in_ok-is_bad.is_bad before c.cut.new.requests.items k.cutter)) c.new-requests.ensures.items c.in_ok-is_bad.ensures.asks in

@@ -2,11 +2,10 @@ use Rattle.std.proofs.Common.{List, ◌∙◌, refl, ap, arith}
 use Rattle.dl_bytes.specs.declared.outcome.Done.TheVariants as did
 use Rattle.dl_model.specs.Marks.{Mark}
 use Rattle.dl_hub.proofs.Following.{one_of}
-use Rattle.dl_calls.proofs.Acts.{on_ok}
+use Rattle.dl_world_calls.proofs.Acts.{on_ok}
 use Rattle.dl_core.specs.Follows.{Run}
 use Rattle.dl_core.specs.State.{Core}
 use Rattle.dl_world.proofs.LeftFiles.{leaves_alone}
-use Rattle.dl_world.specs.Folders.{tells}
 use Rattle.dl_world.specs.Follows.{IsAfter, IsBefore}
 use Rattle.dl_world.specs.declared.world.World.{World}
 use Rattle.dl_world.proofs.AskedFiles.{request_leaves}
@@ -35,8 +34,8 @@ returns-clause-does g c =
     let old : World = c.args.self.now in
     let mid : World = record old { core = c.request.new.self; injections = c.push_injection-pushed.new.injections; journal = c.request.new.journal } in
     let new : World = c.deliver.new.self in
-    let told = tells (g.F.Folder.files c.args.folder.now) (g.F.Folder.faults c.args.folder.now) in
-    let told_now = tells (g.F.Folder.files c.request.new.folder) (g.F.Folder.faults c.request.new.folder) in
+    let told = (g.F.Folder.told c.args.folder.now) in
+    let told_now = (g.F.Folder.told c.request.new.folder) in
     let ready = c.in_ok-ready.ready in
     let pushed = c.push_injection-pushed.result in
     let serves = c.request.ensures.served in
@@ -52,8 +51,8 @@ returns-clause-does g c =
 
 pub returns-clause-leaves : goal.returns-clause-leaves
 returns-clause-leaves g c =
-    let told = tells (g.F.Folder.files c.args.folder.now) (g.F.Folder.faults c.args.folder.now) in
-    let told_now = tells (g.F.Folder.files c.request.new.folder) (g.F.Folder.faults c.request.new.folder) in
+    let told = (g.F.Folder.told c.args.folder.now) in
+    let told_now = (g.F.Folder.told c.request.new.folder) in
     let serves = c.request.ensures.served in
     request_leaves c.in_ok-ready.ready.want c.push_injection-pushed.result serves.answer c.args.self.now.core c.deliver.new.self.core told told_now serves.acts
     (c.deliver.ensures.trace ∙ ap (λ (core : Core). core.trace) c.request.ensures.rest ∙ ap (λ (core : Core). core.trace) c.prepare.ensures.unchanged)

@@ -1,12 +1,11 @@
 use Rattle.std.proofs.Common.{◌≡◌, ◌∙◌, ℕ, List, refl, sym, ap, subst}
 use Rattle.std.specs.Prelude.{None}
-use Rattle.dl_steps.specs.declared.step.Step.{Step}
-use Rattle.dl_steps.specs.declared.step.Step.TheVariants as line
+use Rattle.dl_script_lines.specs.declared.step.Step.{Step}
+use Rattle.dl_script_lines.specs.declared.step.Step.TheVariants as line
 use Rattle.dl_script.specs.Earlier.{refusal}
 use Rattle.dl_script.specs.Spelled.{step_claim}
 use Rattle.dl_core.specs.State.{Core}
-use Rattle.dl_calls.proofs.Acts.{on_ok}
-use Rattle.dl_world.specs.Folders.{tells}
+use Rattle.dl_world_calls.proofs.Acts.{on_ok}
 use Rattle.dl_world.proofs.Claims.{owner_is_known, contexts_are_few}
 use Rattle.dl_world.proofs.Declared.{declares_writer}
 use Rattle.dl_world.proofs.LeftFiles.{leaves_alone}
@@ -33,7 +32,7 @@ returns-in-Context-clause-does g c = of_line c.declare_context.result c.in-Conte
 
 pub returns-in-Writer-clause-does : goal.returns-in-Writer-clause-does
 returns-in-Writer-clause-does g c =
-    let told = tells (g.F.Folder.files c.args.folder.now) (g.F.Folder.faults c.args.folder.now) in
+    let told = (g.F.Folder.told c.args.folder.now) in
     of_line c.add_writer.result c.in-Writer.is c.args.self.now (record c.args.self.now { calls = c.add_writer.new.self }) told told
     (on_ok c.add_writer.result _ _ (λ does. declares_writer c.in-Writer.apid c.args.self.now c.add_writer.new.self does told) c.add_writer.ensures)
 
@@ -42,7 +41,7 @@ returns-in-Writer-clause-leaves g c = leaves_alone c.args.self.now.core c.args.s
 
 pub returns-in-Clock-clause-does : goal.returns-in-Clock-clause-does
 returns-in-Clock-clause-does g c =
-    let told = tells (g.F.Folder.files c.args.folder.now) (g.F.Folder.faults c.args.folder.now) in
+    let told = (g.F.Folder.told c.args.folder.now) in
     of_line c.set_clock.result c.in-Clock.is c.args.self.now c.set_clock.new.self told told (on_ok c.set_clock.result _ _ (λ doing. doing told) c.set_clock.ensures.does)
 
 pub returns-in-Clock-clause-leaves : goal.returns-in-Clock-clause-leaves
@@ -50,7 +49,7 @@ returns-in-Clock-clause-leaves g c = leaves_alone c.args.self.now.core c.set_clo
 
 pub returns-in-Load-clause-does : goal.returns-in-Load-clause-does
 returns-in-Load-clause-does g c =
-    let told = tells (g.F.Folder.files c.args.folder.now) (g.F.Folder.faults c.args.folder.now) in
+    let told = (g.F.Folder.told c.args.folder.now) in
     of_line c.begin_call.result c.in-Load.is c.args.self.now c.begin_call.new.self told told (on_ok c.begin_call.result _ _ (λ doing. doing told) c.begin_call.ensures.does)
 
 pub returns-in-Load-clause-leaves : goal.returns-in-Load-clause-leaves
@@ -58,7 +57,7 @@ returns-in-Load-clause-leaves g c = leaves_alone c.args.self.now.core c.begin_ca
 
 pub returns-in-Push-clause-does : goal.returns-in-Push-clause-does
 returns-in-Push-clause-does g c =
-    let told = tells (g.F.Folder.files c.args.folder.now) (g.F.Folder.faults c.args.folder.now) in
+    let told = (g.F.Folder.told c.args.folder.now) in
     of_line c.push.result c.in-Push.is c.args.self.now c.push.new.self told told (on_ok c.push.result _ _ (λ doing. doing told) c.push.ensures.does)
 
 pub returns-in-Push-clause-leaves : goal.returns-in-Push-clause-leaves
@@ -66,7 +65,7 @@ returns-in-Push-clause-leaves g c = leaves_alone c.args.self.now.core c.push.new
 
 pub returns-in-Count-clause-does : goal.returns-in-Count-clause-does
 returns-in-Count-clause-does g c =
-    let told = tells (g.F.Folder.files c.args.folder.now) (g.F.Folder.faults c.args.folder.now) in
+    let told = (g.F.Folder.told c.args.folder.now) in
     of_line c.count.result c.in-Count.is c.args.self.now c.count.new.self told told (on_ok c.count.result _ _ (λ doing. doing told) c.count.ensures.does)
 
 pub returns-in-Count-clause-leaves : goal.returns-in-Count-clause-leaves
@@ -74,7 +73,7 @@ returns-in-Count-clause-leaves g c = leaves_alone c.args.self.now.core c.count.n
 
 pub returns-in-Call-clause-does : goal.returns-in-Call-clause-does
 returns-in-Call-clause-does g c =
-    let told = tells (g.F.Folder.files c.args.folder.now) (g.F.Folder.faults c.args.folder.now) in
+    let told = (g.F.Folder.told c.args.folder.now) in
     of_line c.whole_call.result c.in-Call.is c.args.self.now c.whole_call.new.self told told (on_ok c.whole_call.result _ _ (λ doing. doing told) c.whole_call.ensures.does)
 
 pub returns-in-Call-clause-leaves : goal.returns-in-Call-clause-leaves
@@ -91,7 +90,7 @@ returns-in-Losses-clause-does g c = of_line c.losses_of.result c.in-Losses.is c.
 
 pub returns-in-Levels-clause-does : goal.returns-in-Levels-clause-does
 returns-in-Levels-clause-does g c =
-    let told = tells (g.F.Folder.files c.args.folder.now) (g.F.Folder.faults c.args.folder.now) in
+    let told = (g.F.Folder.told c.args.folder.now) in
     of_line c.set_levels.result c.in-Levels.is c.args.self.now c.set_levels.new.self told told
     (on_ok c.set_levels.result _ _ (λ doing. levels_line c.in-Levels.levels c.args.self.now c.set_levels.new.self told (doing told)) c.set_levels.ensures.does)
 
@@ -100,7 +99,7 @@ returns-in-Levels-clause-leaves g c = leaves_alone c.args.self.now.core c.set_le
 
 pub returns-in-Level-clause-does : goal.returns-in-Level-clause-does
 returns-in-Level-clause-does g c =
-    let told = tells (g.F.Folder.files c.args.folder.now) (g.F.Folder.faults c.args.folder.now) in
+    let told = (g.F.Folder.told c.args.folder.now) in
     of_line c.level.result c.in-Level.is c.args.self.now c.level.new.self told told (on_ok c.level.result _ _ (λ doing. doing told) c.level.ensures.does)
 
 pub returns-in-Level-clause-leaves : goal.returns-in-Level-clause-leaves
@@ -108,7 +107,7 @@ returns-in-Level-clause-leaves g c = leaves_alone c.args.self.now.core c.level.n
 
 pub returns-in-Connect-clause-does : goal.returns-in-Connect-clause-does
 returns-in-Connect-clause-does g c =
-    let told = tells (g.F.Folder.files c.args.folder.now) (g.F.Folder.faults c.args.folder.now) in
+    let told = (g.F.Folder.told c.args.folder.now) in
     of_line c.connect.result c.in-Connect.is c.args.self.now c.connect.new.self told told (on_ok c.connect.result _ _ (λ doing. doing told) c.connect.ensures.does)
 
 pub returns-in-Connect-clause-leaves : goal.returns-in-Connect-clause-leaves
@@ -120,7 +119,7 @@ returns-in-Bytes-clause-does g c =
 
 pub returns-in-Close-clause-does : goal.returns-in-Close-clause-does
 returns-in-Close-clause-does g c =
-    let told = tells (g.F.Folder.files c.args.folder.now) (g.F.Folder.faults c.args.folder.now) in
+    let told = (g.F.Folder.told c.args.folder.now) in
     of_line c.close.result c.in-Close.is c.args.self.now c.close.new.self told told (on_ok c.close.result _ _ (λ doing. doing told) c.close.ensures.does)
 
 pub returns-in-Close-clause-leaves : goal.returns-in-Close-clause-leaves
@@ -132,7 +131,7 @@ returns-in-User-clause-does g c =
 
 pub returns-in-Inject-clause-does : goal.returns-in-Inject-clause-does
 returns-in-Inject-clause-does g c =
-    let told = tells (g.F.Folder.files c.args.folder.now) (g.F.Folder.faults c.args.folder.now) in
+    let told = (g.F.Folder.told c.args.folder.now) in
     of_line c.injection_of.result c.in-Inject.is c.args.self.now c.injection_of.new.self told told (on_ok c.injection_of.result _ _ (λ doing. doing told) c.injection_of.ensures.does)
 
 pub returns-in-Inject-clause-leaves : goal.returns-in-Inject-clause-leaves

@@ -1,9 +1,9 @@
 use Rattle.std.proofs.Common.{◌≡◌, ◌<◌, length, not, Some, refl, ap, ◌∙◌, arith}
 use Rattle.dl_events.specs.declared.event.Event.TheVariants as event
 use Rattle.dl_model.specs.Marks.{moment}
-use Rattle.dl_model.specs.Steps.{hand_out_now}
-use Rattle.dl_calls.specs.State.{next_item}
-use Rattle.dl_calls.proofs.Acts.{on_ok}
+use Rattle.dl_model.specs.Steps.{note_levels_now}
+use Rattle.dl_world_calls.specs.State.{next_item}
+use Rattle.dl_world_calls.proofs.Acts.{on_ok}
 use Rattle.dl_world.specs.Follows.{Doing}
 use Rattle.dl_world.specs.declared.world.World.{World}
 use Rattle.dl_world.proofs.LeftFiles.{leaves_alone}
@@ -23,8 +23,8 @@ returns-then-apps-app-clause-does g c = elim c.then-apps-app.branch [
 pub returns-then-apps-app-clause-leaves : goal.returns-then-apps-app-clause-leaves
 returns-then-apps-app-clause-leaves g c = leaves_alone _ _ _ refl
 
-pub returns-in_err-hand_out-clause-leaves : goal.returns-in_err-hand_out-clause-leaves
-returns-in_err-hand_out-clause-leaves g c = leaves_alone _ _ _ (ap (λ (w : World). w.core.trace) c.hand_out.ensures.rest)
+pub returns-in_err-note_levels-clause-leaves : goal.returns-in_err-note_levels-clause-leaves
+returns-in_err-note_levels-clause-leaves g c = leaves_alone _ _ _ (ap (λ (w : World). w.core.trace) c.note_levels.ensures.rest)
 
 pub returns-clause-does : goal.returns-clause-does
 returns-clause-does g c =
@@ -33,9 +33,9 @@ returns-clause-does g c =
     let below : app < length old.calls.apps = omega (arith, c.apps.ensures, c.if-apps-app.false) in
     let next = is_there _ c.next.result (next_item old.calls app) c.next.ensures (c.is_none.ensures ∙ ap not c.if-is_none.false) in
     let item = next.0 in
-    let still : next_item c.hand_out.new.self.calls app ≡ Some item = ap (λ (w : World). next_item w.calls app) c.hand_out.ensures.rest ∙ next.1 in
-    let made = λ (behind : Doing hand_out_now c.note_log.new.self c.hand_out_now.new.self).
-    takes_call old c.hand_out_now.new.self _ _ app item below next.1
-    (does_note (λ now. event.Log app item.writer item.call (moment now)) old c.hand_out.new.self c.note_log.new.self c.hand_out_now.new.self _ _
-    c.in_ok-hand_out.ensures.does (c.in_ok-note_log.ensures.does item still) behind) in
-    on_ok c.hand_out_now.result _ _ made c.hand_out_now.ensures.does
+    let still : next_item c.note_levels.new.self.calls app ≡ Some item = ap (λ (w : World). next_item w.calls app) c.note_levels.ensures.rest ∙ next.1 in
+    let made = λ (behind : Doing note_levels_now c.note_log.new.self c.note_levels_now.new.self).
+    takes_call old c.note_levels_now.new.self _ _ app item below next.1
+    (does_note (λ now. event.Log app item.writer item.call (moment now)) old c.note_levels.new.self c.note_log.new.self c.note_levels_now.new.self _ _
+    c.in_ok-note_levels.ensures.does (c.in_ok-note_log.ensures.does item still) behind) in
+    on_ok c.note_levels_now.result _ _ made c.note_levels_now.ensures.does

@@ -1,8 +1,8 @@
 use Rattle.std.proofs.Common.{◌≡◌, ◌<◌, refl, ap, ◌∙◌, arith}
 use Rattle.dl_events.specs.declared.event.Event.TheVariants as event
 use Rattle.dl_model.specs.Marks.{moment}
-use Rattle.dl_model.specs.Steps.{hand_out_now}
-use Rattle.dl_calls.proofs.Acts.{on_ok}
+use Rattle.dl_model.specs.Steps.{note_levels_now}
+use Rattle.dl_world_calls.proofs.Acts.{on_ok}
 use Rattle.dl_world.specs.Follows.{Doing}
 use Rattle.dl_world.specs.declared.world.World.{World}
 use Rattle.dl_world.proofs.LeftFiles.{leaves_alone}
@@ -24,8 +24,8 @@ returns-then-count-eq0-clause-does g c =
 pub returns-then-count-eq0-clause-leaves : goal.returns-then-count-eq0-clause-leaves
 returns-then-count-eq0-clause-leaves g c = leaves_alone _ _ _ refl
 
-pub returns-in_err-hand_out-clause-leaves : goal.returns-in_err-hand_out-clause-leaves
-returns-in_err-hand_out-clause-leaves g c = leaves_alone _ _ _ (ap (λ (w : World). w.core.trace) c.hand_out.ensures.rest)
+pub returns-in_err-note_levels-clause-leaves : goal.returns-in_err-note_levels-clause-leaves
+returns-in_err-note_levels-clause-leaves g c = leaves_alone _ _ _ (ap (λ (w : World). w.core.trace) c.note_levels.ensures.rest)
 
 pub returns-clause-does : goal.returns-clause-does
 returns-clause-does g c =
@@ -33,8 +33,8 @@ returns-clause-does g c =
     let app = c.args.app in
     let count = c.pending-count.result in
     let some : 0 < count = omega (arith, c.if-count-eq0.false) in
-    let made = λ (behind : Doing hand_out_now c.note_losses.new.self c.hand_out_now.new.self).
-    loses_some old c.hand_out_now.new.self _ _ app count some c.pending-count.ensures
-    (does_note (λ now. event.Lost app count (moment now)) old c.hand_out.new.self c.note_losses.new.self c.hand_out_now.new.self _ _
-    c.in_ok-hand_out.ensures.does c.in_ok-note_losses.ensures.does behind) in
-    on_ok c.hand_out_now.result _ _ made c.hand_out_now.ensures.does
+    let made = λ (behind : Doing note_levels_now c.note_losses.new.self c.note_levels_now.new.self).
+    loses_some old c.note_levels_now.new.self _ _ app count some c.pending-count.ensures
+    (does_note (λ now. event.Lost app count (moment now)) old c.note_levels.new.self c.note_losses.new.self c.note_levels_now.new.self _ _
+    c.in_ok-note_levels.ensures.does c.in_ok-note_losses.ensures.does behind) in
+    on_ok c.note_levels_now.result _ _ made c.note_levels_now.ensures.does

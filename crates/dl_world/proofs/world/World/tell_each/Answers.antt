@@ -1,7 +1,6 @@
 use Rattle.std.proofs.Common.{◌≡◌, List, refl, subst, arith}
 use Rattle.std.proofs.lemmas.Grind.{common_steps}
 use Rattle.dl_bytes.specs.declared.user.UserMsg.{UserMsg}
-use Rattle.dl_world.specs.Folders.{tells}
 use Rattle.dl_world.specs.Follows.{Does}
 use Rattle.dl_world.proofs.Deeds.{does_nothing}
 use Rattle.dl_world.proofs.LeftFiles.{leaves_alone, leaves_both}
@@ -28,8 +27,8 @@ returns-in_err-tell-clause-leaves g c = leaves_both c.args.self.now.core c.loop-
 pub returns-clause-does : goal.returns-clause-does
 returns-clause-does g c =
     let all : c.loop-msg.yielded ≡ c.args.messages.items = grind (arith, common_steps) in
-    subst (λ (messages : List UserMsg). Does (tell_all c.args.channel messages) c.args.self.now c.loop-msg.self (tells (g.F.Folder.files c.args.folder.now) (g.F.Folder.faults c.args.folder.now))
-    (tells (g.F.Folder.files c.loop-msg.folder) (g.F.Folder.faults c.loop-msg.folder))) all c.loop-msg.invariant.does
+    subst (λ (messages : List UserMsg). Does (tell_all c.args.channel messages) c.args.self.now c.loop-msg.self (g.F.Folder.told c.args.folder.now)
+    (g.F.Folder.told c.loop-msg.folder)) all c.loop-msg.invariant.does
 
 pub returns-clause-leaves : goal.returns-clause-leaves
 returns-clause-leaves g c = c.loop-msg.invariant.leaves

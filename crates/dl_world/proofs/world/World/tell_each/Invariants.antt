@@ -1,6 +1,6 @@
 use Rattle.std.proofs.Common.{◌≡◌, ◌++◌}
 use Rattle.std.specs.Vec.Iter.{into_iter_items}
-use Rattle.dl_world.specs.Folders.{Leaves, tells}
+use Rattle.dl_world.specs.Folders.{Leaves}
 use Rattle.dl_world.specs.Follows.{Does}
 use Rattle.dl_world.proofs.Telling.{tell_all}
 use Rattle.dl_world.proofs.world.World.tell_each.Given as goal
@@ -9,6 +9,6 @@ use Rattle.dl_world.proofs.world.World.tell_each.Given as goal
 abbrev pub invariant-loop-msg : goal.invariant-loop-msg
 invariant-loop-msg g l = record {
   all : l.yielded ++ into_iter_items l.msg-iterator ≡ l.fn.messages.items;
-  does : Does (tell_all l.fn.channel l.yielded) l.fn.self l.self (tells (g.F.Folder.files l.fn.folder) (g.F.Folder.faults l.fn.folder)) (tells (g.F.Folder.files l.folder) (g.F.Folder.faults l.folder));
-  leaves : Leaves l.fn.self.core l.self.core (tells (g.F.Folder.files l.fn.folder) (g.F.Folder.faults l.fn.folder)) (tells (g.F.Folder.files l.folder) (g.F.Folder.faults l.folder));
+  does : Does (tell_all l.fn.channel l.yielded) l.fn.self l.self (g.F.Folder.told l.fn.folder) (g.F.Folder.told l.folder);
+  leaves : Leaves l.fn.self.core l.self.core (g.F.Folder.told l.fn.folder) (g.F.Folder.told l.folder);
 }

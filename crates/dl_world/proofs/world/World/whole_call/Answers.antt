@@ -1,5 +1,5 @@
 use Rattle.dl_model.specs.Steps.{begin_call, finish}
-use Rattle.dl_calls.proofs.Acts.{on_ok}
+use Rattle.dl_world_calls.proofs.Acts.{on_ok}
 use Rattle.dl_world.specs.Follows.{Doing}
 use Rattle.dl_world.proofs.Composing.{doing_two}
 use Rattle.dl_world.proofs.world.World.whole_call.Goals as goal

@@ -1,5 +1,0 @@
-use Rattle.dl_calls.proofs.InjectionCounts.{no-injection-stays}
-use Rattle.dl_calls.proofs.laws.other_marks_leave_injections.Goals as goal
-
-pub returns : goal.returns
-returns c = no-injection-stays

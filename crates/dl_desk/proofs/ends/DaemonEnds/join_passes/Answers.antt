@@ -1,8 +1,0 @@
-use Rattle.dl_desk.specs.EndsInside.{ends_state}
-use Rattle.dl_desk.proofs.Steps.{passes}
-use Rattle.dl_desk.proofs.ends.DaemonEnds.join_passes.Goals as goal
-
-pub returns : goal.returns
-returns c = rw (← c.self.view_is)
-    (passes (ends_state c.self.inside) c.from.result c.args.app c.index_mut-ends.result.now c.from.ensures c.index_mut-ends.ensures.value c.args.push c.args.injections
-    (record { ring = c.join.new.self; queue = c.join-2.new.self }) (λ i. record { ring = c.join.ensures.joined i; queue = c.join-2.ensures.joined i }))

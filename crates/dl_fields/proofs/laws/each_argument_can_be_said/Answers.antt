@@ -1,5 +1,0 @@
-use Rattle.dl_fields.proofs.Spellings.{said}
-use Rattle.dl_fields.proofs.laws.each_argument_can_be_said.Goals as goal
-
-pub returns : goal.returns
-returns c = said

@@ -1,5 +1,0 @@
-use Rattle.dl_fields.proofs.JoinedFields.{parted}
-use Rattle.dl_fields.proofs.laws.fields_are_parted_by_blanks.Goals as goal
-
-pub returns : goal.returns
-returns c = parted

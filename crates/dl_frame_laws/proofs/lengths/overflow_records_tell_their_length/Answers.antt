@@ -1,5 +1,0 @@
-use Rattle.dl_frame_laws.proofs.Spellings.{records_tell}
-use Rattle.dl_frame_laws.proofs.lengths.overflow_records_tell_their_length.Goals as goal
-
-pub returns : goal.returns
-returns c = records_tell

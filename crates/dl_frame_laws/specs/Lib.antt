@@ -1,3 +1,0 @@
-pub mod CallFrame
-pub mod FrameLengths
-pub mod FramesPut

@@ -1,0 +1,5 @@
+use Rattle.dl_frames.proofs.FramesBehind.{length-concat}
+use Rattle.dl_frames.proofs.streams.bytes_of_frames.Goals as goal
+
+pub returns : goal.returns
+returns c = length-concat

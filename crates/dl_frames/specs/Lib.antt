@@ -1,0 +1,4 @@
+pub mod Frames
+pub mod CallFrame
+pub mod FrameLengths
+pub mod FramesPut

@@ -1,5 +1,0 @@
-use Rattle.dl_loop.proofs.PumpedSides.{sending_pump}
-use Rattle.dl_loop.proofs.laws.a_pump_is_its_events.Goals as goal
-
-pub returns : goal.returns
-returns c = sending_pump c.what_links_take.ensures

@@ -1,5 +1,0 @@
-use Rattle.dl_loop.proofs.PumpedSides.{sending_wound_up}
-use Rattle.dl_loop.proofs.laws.a_stop_is_its_events.Goals as goal
-
-pub returns : goal.returns
-returns c = sending_wound_up c.what_links_take.ensures

@@ -1,5 +1,0 @@
-use Rattle.dl_loop.proofs.LaterSides.{later_turn}
-use Rattle.dl_loop.proofs.laws.a_turn_is_its_events.Goals as goal
-
-pub returns : goal.returns
-returns c = later_turn

@@ -1,0 +1,15 @@
+use Rattle.dl_model.specs.Report.{records_of_app}
+use Rattle.dl_promises.proofs.LostUnsaid.{three_answers, admitted_are_queued, all_calls}
+use Rattle.dl_promises.proofs.accounts.nothing_is_lost_unsaid.Goals as goal
+
+pub returns-clause-answers : goal.returns-clause-answers
+returns-clause-answers c = λ app records. three_answers (records_of_app app records)
+
+pub returns-clause-admitted : goal.returns-clause-admitted
+returns-clause-admitted c = admitted_are_queued
+
+pub returns-clause-calls : goal.returns-clause-calls
+returns-clause-calls c = all_calls
+
+pub returns-clause-told : goal.returns-clause-told
+returns-clause-told c = λ first events pending refusals records accounted app. accounted.told app

@@ -1,0 +1,5 @@
+use Rattle.dl_promises.proofs.CutRuns.{same_messages}
+use Rattle.dl_promises.proofs.cutting.cut_messages_come_to_the_same.Goals as goal
+
+pub returns : goal.returns
+returns c = same_messages

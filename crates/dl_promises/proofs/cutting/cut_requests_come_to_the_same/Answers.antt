@@ -1,0 +1,5 @@
+use Rattle.dl_promises.proofs.CutRuns.{same_requests}
+use Rattle.dl_promises.proofs.cutting.cut_requests_come_to_the_same.Goals as goal
+
+pub returns : goal.returns
+returns c = same_requests

@@ -1,0 +1,14 @@
+use Rattle.dl_promises.proofs.JournalStreams.{closed_stream, open_stream, one_part, last_part}
+use Rattle.dl_promises.proofs.journals.streams_are_unbroken.Goals as goal
+
+pub returns-clause-closed : goal.returns-clause-closed
+returns-clause-closed c = closed_stream
+
+pub returns-clause-open_yet : goal.returns-clause-open_yet
+returns-clause-open_yet c = open_stream
+
+pub returns-clause-one_part : goal.returns-clause-one_part
+returns-clause-one_part c = one_part
+
+pub returns-clause-last_part : goal.returns-clause-last_part
+returns-clause-last_part c = last_part

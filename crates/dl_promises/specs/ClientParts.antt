@@ -1,0 +1,30 @@
+-- What a client is sent, taken apart: what was due, what was admitted, and its replies.
+use Rattle.std.specs.Prelude.{◌≡◌, ℕ, ◌==◌, ◌⊎◌, List, [], ◌∷◌, ◌++◌, if◌then◌else◌}
+use Rattle.dl_events.specs.declared.event.Event.{Event}
+use Rattle.dl_events.specs.declared.event.Event.TheVariants.{Connect, Request}
+use Rattle.dl_model.specs.Along.{along_from}
+use Rattle.dl_model.specs.Frames.{FrameSource, admitted}
+use Rattle.dl_model.specs.Backlog.{waiting, due_backlog}
+use Rattle.dl_model.specs.ClientStream.{traffic}
+
+-- A list is put together from two others: it has all their entries, those of each in their order.
+abbrev pub IsMerged : {A : Type 0} → List A → List A → List A → Type 0
+IsMerged xs ys [] = (xs ≡ []) × (ys ≡ [])
+IsMerged {A = A} xs ys (z ∷ zs) =
+    ((others : List A) × (xs ≡ z ∷ others) × IsMerged others ys zs) ⊎ ((others : List A) × (ys ≡ z ∷ others) × IsMerged xs others zs)
+
+-- the reply to a request of this client, after the events before it
+abbrev pub reply_to : FrameSource → ℕ → List Event → Event → List (List ℕ)
+reply_to source client before (Request other frame answer) = if other == client then source.reply before frame answer ∷ [] else []
+reply_to source client before _ = []
+
+-- the replies to this client's requests among some events, in order
+abbrev pub replies_after : FrameSource → ℕ → List Event → List Event → List (List ℕ)
+replies_after source client before events = along_from (reply_to source client) before events
+
+-- What is sent to a client that comes behind some events and stays while others happen: what was due to it, and then all
+-- frames that these admit, with its replies among them, each in its order.
+pub record IsSent (source : FrameSource) (buffer client : ℕ) (before middle : List Event) (sent : List (List ℕ)) : Type 0 where
+  pub live : List (List ℕ)
+  pub parts : sent ≡ due_backlog source.ecu buffer (waiting (traffic source before)) ++ live
+  pub merged : IsMerged (admitted source middle) (replies_after source client (before ++ Connect client ∷ []) middle) live

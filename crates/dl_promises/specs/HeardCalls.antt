@@ -1,0 +1,42 @@
+-- What a client hears that was there throughout.
+use Rattle.std.specs.Prelude.{◌≡◌, ℕ, ◌==◌, Bool, false, List, length, map, sum}
+use Rattle.std.specs.List.{filter}
+use Rattle.dl_bytes.specs.Id.{zero_id}
+use Rattle.dl_bytes.specs.declared.conf.AppSpec.{AppSpec}
+use Rattle.dl_message.specs.Frames.{log_message, overflow_record}
+use Rattle.dl_events.specs.declared.event.Event.{Event}
+use Rattle.dl_events.specs.declared.event.Event.TheVariants.{Log, Lost}
+use Rattle.dl_events.specs.declared.record.Record.{Record}
+use Rattle.dl_events.specs.declared.record.Answer.TheVariants as answer
+use Rattle.dl_model.specs.Accounts.{with_answer}
+use Rattle.dl_model.specs.Frames.{admitted}
+use Rattle.dl_model.specs.Report.{records_of_app}
+use Rattle.dl_model.specs.Setting.{Setting}
+use Rattle.dl_model.specs.WholeAccounts.{apid_in, records_by, source_of_records}
+use Rattle.dl_promises.specs.ClientParts.{IsMerged}
+
+-- a Log event of this writer
+abbrev pub logs_by : ℕ → Event → Bool
+logs_by writer (Log app other call moment) = other == writer
+logs_by writer _ = false
+
+-- a Lost event of this application
+abbrev pub tells_losses_of : ℕ → Event → Bool
+tells_losses_of app (Lost other count moment) = other == app
+tells_losses_of app _ = false
+
+-- the frames of these log calls of a writer, and of these losses of an application
+abbrev pub calls_heard : Setting → List (List Record) → List AppSpec → ℕ → List Event → List (List ℕ)
+calls_heard setting records specs writer events = admitted (source_of_records setting records specs) (filter (logs_by writer) events)
+
+abbrev pub losses_heard : Setting → List (List Record) → List AppSpec → ℕ → List Event → List (List ℕ)
+losses_heard setting records specs app events = admitted (source_of_records setting records specs) (filter (tells_losses_of app) events)
+
+-- A client was sent all that these events admit, with its replies among it. The calls of each writer that its ring took are there, each
+-- once, in their order; and the overflow records of an application count its lost calls.
+pub record HearsAll (setting : Setting) (records : List (List Record)) (specs : List AppSpec) (events : List Event) (sent : List (List ℕ)) : Type 0 where
+  pub replies : List (List ℕ)
+  pub all : IsMerged (admitted (source_of_records setting records specs) events) replies sent
+  pub calls : (writer : ℕ) → calls_heard setting records specs writer events ≡ map (λ r. log_message setting.ecu r.item) (with_answer answer.Queued (records_by writer records))
+  pub losses : (app : ℕ) → (counts : List ℕ) × (losses_heard setting records specs app events ≡ map (overflow_record setting.ecu (apid_in specs app) zero_id) counts)
+      × (sum counts ≡ length (with_answer answer.Lost (records_of_app app records)))

@@ -1,0 +1,9 @@
+pub mod RunRecords
+pub mod SameRuns
+pub mod ClientParts
+pub mod OwnFiles
+pub mod ShortFrames
+pub mod LoggedCalls
+pub mod HeardCalls
+pub mod GivenLast
+pub mod RegistryCases

@@ -1,0 +1,99 @@
+//! Laws on well-formed journals: what a client is sent, and what waits for the next one.
+
+ghost use Rattle.std.specs.Prelude.{◌≡◌, ◌<◌, ◌≤◌, ◌+◌, ◌⊎◌, ℕ, true, false, List, [], ◌∷◌, ◌++◌, length, drop, map, IfSome};
+ghost use Rattle.std.specs.List.{after_last, list_any, AllByRecursion};
+ghost use Rattle.dl_events.specs.declared.event.Event.{Event};
+ghost use Rattle.dl_events.specs.declared.event.Event.TheVariants.{Connect, Close};
+ghost use Rattle.dl_events.specs.declared.event.Why.{Why};
+ghost use Rattle.dl_events.specs.declared.event.Why.TheVariants as why;
+ghost use Rattle.dl_model.specs.Setting.{Setting};
+ghost use Rattle.dl_model.specs.Journal.{AreInTurn, IsFramesNeed, IsOpen, IsReplyNeed, IsSettled, IsWellFormed, comes_or_goes, is_close, registry_of, slots_of};
+ghost use Rattle.dl_model.specs.Frames.{FrameSource, admitted, stored_frames};
+ghost use Rattle.dl_model.specs.Backlog.{outbox_limit, size_of, waiting, fitting, refused};
+ghost use Rattle.dl_model.specs.ClientEnds.{HasGone, LinkDid, end_of_link};
+ghost use Rattle.dl_model.specs.ClientStream.{traffic, stream};
+ghost use Rattle.dl_model.specs.Registry.{level_at};
+ghost use Rattle.dl_promises.specs.ClientParts.{IsSent};
+ghost use Rattle.dl_promises.specs.ShortFrames.{AreShort};
+
+/// A well-formed journal goes on with events that stand in their turn behind it.
+pub fn a_well_formed_journal_goes_on()
+    ensures { (setting : Setting) (source : FrameSource) (events more : List Event) → IsWellFormed setting source events → AreInTurn setting source events more → IsWellFormed setting source (events ++ more) }
+{}
+
+/// A client that was closed as slow was behind: what had been put into its stream, with what was needed for it then, is more than its
+/// outbox holds. What was needed were the frames of the next event, or a reply.
+pub fn a_slow_client_was_behind()
+    ensures behind { (setting : Setting) (source : FrameSource) (client room need : ℕ) (before after : List Event) →
+        IsWellFormed setting source (before ++ Close client (why.Slow room need) ∷ after) →
+        outbox_limit setting.buffer < size_of (stream source setting.buffer client before) + need }
+    ensures needed { (setting : Setting) (source : FrameSource) (client room need : ℕ) (before after : List Event) →
+        IsWellFormed setting source (before ++ Close client (why.Slow room need) ∷ after) →
+        (IsFramesNeed source after need) ⊎ (IsReplyNeed source before need) }
+{}
+
+/// What the end of a client's link tells: a link of a stopped client took all of its stream, that of a stuck one did not, and that of a
+/// slow one did exactly where the room was a whole outbox.
+pub fn link_ends_tell_how_clients_went()
+    ensures stopped { (setting : Setting) (source : FrameSource) (events : List Event) (client : ℕ) (did : LinkDid) (gone : HasGone setting source events client did) →
+        gone.cause ≡ why.Stopped → (end_of_link setting source events client did).complete ≡ true }
+    ensures stuck { (setting : Setting) (source : FrameSource) (events : List Event) (client : ℕ) (did : LinkDid) (gone : HasGone setting source events client did) →
+        (left : ℕ) → gone.cause ≡ why.Stuck left → (end_of_link setting source events client did).complete ≡ false }
+    ensures slow { (setting : Setting) (source : FrameSource) (events : List Event) (client : ℕ) (did : LinkDid) (gone : HasGone setting source events client did) →
+        (room need : ℕ) → gone.cause ≡ why.Slow room need → room ≡ outbox_limit setting.buffer → (end_of_link setting source events client did).complete ≡ true }
+    ensures room { (setting : Setting) (source : FrameSource) (events : List Event) (client : ℕ) (did : LinkDid) (gone : HasGone setting source events client did) →
+        (room need : ℕ) → gone.cause ≡ why.Slow room need → (end_of_link setting source events client did).complete ≡ true → room ≡ outbox_limit setting.buffer }
+{}
+
+/// Where no Level event is owed, levels are in force: the last level of each context's slot is the one that filters its calls.
+pub fn levels_are_in_force()
+    ensures { (setting : Setting) (events : List Event) → IsSettled setting events → (slot : ℕ) →
+        IfSome (level_at (registry_of setting events) slot) (λ level. (slots_of setting events slot).level ≡ level) }
+{}
+
+/// What is stored is what is admitted: without their storage headers, which have 16 bytes, the stored frames are the admitted ones, in order.
+pub fn what_is_stored_is_admitted()
+    ensures { (source : FrameSource) (events : List Event) → length source.ecu ≡ 4 → map (drop 16) (stored_frames source events) ≡ admitted source events }
+{}
+
+/// Stored frames have at most 2,000 bytes, which every trace file has room for: a message has at most 1,984.
+pub fn stored_frames_are_short()
+    ensures { (source : FrameSource) (events : List Event) → AreShort source events → AllByRecursion (λ (frame : List ℕ). length frame ≤ 2000) (stored_frames source events) }
+{}
+
+/// A client comes once and goes once: in a well-formed journal nothing else says of it that it came or went.
+pub fn a_client_comes_once()
+    ensures { (setting : Setting) (source : FrameSource) (client : ℕ) (cause : Why) (before middle after : List Event) →
+        IsWellFormed setting source (before ++ Connect client ∷ (middle ++ Close client cause ∷ after)) →
+        (list_any (comes_or_goes client) before ≡ false) × (list_any (comes_or_goes client) middle ≡ false)
+        × (list_any (comes_or_goes client) after ≡ false) }
+{}
+
+/// What a client is sent is unbroken: behind what was due to it stands every frame that was admitted between its Connect and
+/// its Close, in order, and its replies among them. These frames are one part of all that was admitted. The same holds of a
+/// client that is still there.
+pub fn streams_are_unbroken()
+    ensures closed { (setting : Setting) (source : FrameSource) (buffer client : ℕ) (cause : Why) (before middle after : List Event) →
+        IsWellFormed setting source (before ++ Connect client ∷ (middle ++ Close client cause ∷ after)) →
+        IsSent source buffer client before middle (stream source buffer client (before ++ Connect client ∷ (middle ++ Close client cause ∷ after))) }
+    ensures open_yet { (setting : Setting) (source : FrameSource) (buffer client : ℕ) (before middle : List Event) →
+        IsWellFormed setting source (before ++ Connect client ∷ middle) → IsOpen client (before ++ Connect client ∷ middle) →
+        IsSent source buffer client before middle (stream source buffer client (before ++ Connect client ∷ middle)) }
+    ensures one_part { (source : FrameSource) (client : ℕ) (cause : Why) (before middle after : List Event) →
+        admitted source (before ++ Connect client ∷ (middle ++ Close client cause ∷ after)) ≡ admitted source before ++ (admitted source middle ++ admitted source after) }
+    ensures last_part { (source : FrameSource) (client : ℕ) (before middle : List Event) →
+        admitted source (before ++ Connect client ∷ middle) ≡ admitted source before ++ admitted source middle }
+{}
+
+/// The backlog accounts for itself: where no client is open, the frames that are due to the next one and the number of those
+/// that were refused make up all that was admitted since the last client went. Once a frame was refused, so is every later
+/// one, until the frames are handed over.
+pub fn the_backlog_accounts_for_itself()
+    ensures since { (source : FrameSource) (events : List Event) → ((client : ℕ) → IsOpen client events → ⊥) →
+        waiting (traffic source events) ≡ admitted source (after_last is_close events) }
+    ensures due { (source : FrameSource) (buffer : ℕ) (events : List Event) → ((client : ℕ) → IsOpen client events → ⊥) →
+        length (fitting buffer (waiting (traffic source events))) + refused buffer (waiting (traffic source events))
+        ≡ length (admitted source (after_last is_close events)) }
+    ensures refused_on { (buffer : ℕ) (frames more : List (List ℕ)) → 0 < refused buffer frames →
+        (fitting buffer (frames ++ more) ≡ fitting buffer frames) × (refused buffer (frames ++ more) ≡ refused buffer frames + length more) }
+{}

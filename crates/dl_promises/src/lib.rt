@@ -1,0 +1,10 @@
+//! Laws of whole runs, and of the journals and the records that they leave. Each law is the contract of a function that
+//! does nothing.
+#![tactic(auto)]
+
+pub mod accounts;
+pub mod cutting;
+pub mod files;
+pub mod journals;
+pub mod registries;
+pub mod runs;

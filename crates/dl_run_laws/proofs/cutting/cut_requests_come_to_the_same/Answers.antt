@@ -1,5 +1,0 @@
-use Rattle.dl_run_laws.proofs.CutRuns.{same_requests}
-use Rattle.dl_run_laws.proofs.cutting.cut_requests_come_to_the_same.Goals as goal
-
-pub returns : goal.returns
-returns c = same_requests

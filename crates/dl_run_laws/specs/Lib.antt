@@ -1,4 +1,0 @@
-pub mod WholeAccounts
-pub mod SameRuns
-pub mod ClientParts
-pub mod OwnFiles

@@ -1,9 +1,0 @@
-//! Laws of whole runs, and of the journals and the records that they leave. Each law is the contract of a function that
-//! does nothing.
-#![tactic(auto)]
-
-pub mod accounts;
-pub mod cutting;
-pub mod files;
-pub mod journals;
-pub mod runs;

@@ -1,0 +1,129 @@
+-- The desk has each application of the registry, also after a request.
+use Rattle.std.proofs.Common.{◌≡◌, ℕ, ◌<◌, Bool, true, false, cond, length, List, [], ◌∷◌, map, Option, Some, None, Result, Ok, Err, refl, sym, ap, subst}
+use Rattle.std.specs.Prelude.{◌==◌, nat_le, unwrap_or, IfSome, if◌then◌else◌}
+use Rattle.std.specs.List.{AllByRecursion}
+use Rattle.std.specs.Map.{lookup}
+use Rattle.std.specs.Option.{option_and_then, option_map}
+use Rattle.std.specs.Result.{result_ok}
+use Rattle.std.specs.Str.{bytes_eq}
+use Rattle.dl_bytes.specs.Level.{own_level_of}
+use Rattle.dl_bytes.specs.Payload.{Arguments}
+use Rattle.dl_bytes.specs.declared.outcome.Done.{Done}
+use Rattle.dl_bytes.specs.declared.outcome.Done.TheVariants as done
+use Rattle.dl_control.specs.declared.request.Request.{Request}
+use Rattle.dl_control.specs.declared.request.Request.TheVariants.{SetLogLevel, GetLogInfo, GetDefault, Store, Reset, SetDefault, Version, Inject, Other}
+use Rattle.dl_control.specs.declared.request.RequestFault.{RequestFault}
+use Rattle.dl_model.specs.Registry.{App, Registry, Relevel, app_of, context_of, default_set, keep_own, matching, no_own, nothing_stored, numbers, own_set, releveled, releveled_app, set_matching, unless_worn, wears}
+use Rattle.dl_model.specs.Reply.{apid_of, asked, ctid_of, default_requested, now_stored, own_requested, reset_requested, served, where_done}
+use Rattle.dl_model.specs.Setting.{Setting}
+use Rattle.dl_model.specs.declared.registry.Context.{Context}
+use Rattle.dl_model.specs.declared.registry.SetFault.{SetFault}
+use Rattle.dl_model.specs.declared.registry.SetFault.TheVariants as set
+use Rattle.dl_model.specs.declared.registry.Slot.{Slot}
+use Rattle.dl_model.proofs.Order.{app_of_found}
+use Rattle.dl_desk.specs.Told.{PostTold}
+use Rattle.dl_registry.specs.Kept.{slots}
+use Rattle.dl_services.specs.Wish.{removes, sends, wanted}
+use Rattle.dl_services.specs.declared.wish.Want.{Want}
+use Rattle.dl_core.specs.Serving.{injection_in, served_now, wanted_now}
+use Rattle.dl_core.specs.Settings.{seen}
+use Rattle.dl_core.specs.State.{Core}
+use Rattle.dl_turns.specs.Events.{IsDeskOf}
+
+-- ---- a request keeps the applications' numbers
+
+abbrev KeepsNumbers : Registry → Registry → Type 0
+KeepsNumbers old new = numbers new.apps ≡ numbers old.apps
+
+releveled_numbers : (relevel : Relevel) (es : List (List ℕ × App)) → numbers (map (releveled_app relevel) es) ≡ numbers es
+releveled_numbers relevel [] = refl
+releveled_numbers relevel (e ∷ es) = ap (λ (ns : List ℕ). e.1.number ∷ ns) (releveled_numbers relevel es)
+
+ok_or_nothing : (b : Bool) (e : SetFault) (old new : Registry) → KeepsNumbers old new → IfSome (result_ok (cond b (Err e) (Ok new))) (KeepsNumbers old)
+ok_or_nothing true e old new is = tt
+ok_or_nothing false e old new is = is
+
+err_or : (b : Bool) (e : SetFault) (old : Registry) (r : Result Registry SetFault) → IfSome (result_ok r) (KeepsNumbers old) → IfSome (result_ok (cond b (Err e) r)) (KeepsNumbers old)
+err_or true e old r is = tt
+err_or false e old r is = is
+
+own_requested-keeps : (slots : ℕ → Slot) (r : Registry) (apid ctid : List ℕ) (o : Option (Option ℕ)) → IfSome (option_and_then (λ own. result_ok (own_set slots r apid ctid own)) o) (KeepsNumbers r)
+own_requested-keeps slots r apid ctid None = tt
+own_requested-keeps slots r apid ctid (Some own) =
+    err_or (length (matching r apid ctid) == 0) set.Nobody r (unless_worn slots r r.level (set_matching apid ctid own))
+    (ok_or_nothing (wears slots r r.level (set_matching apid ctid own)) set.Worn r (releveled r.level (set_matching apid ctid own) r) (releveled_numbers (set_matching apid ctid own) r.apps))
+
+default_requested-keeps : (slots : ℕ → Slot) (r : Registry) (level : ℕ) (b : Bool) → IfSome (if b then result_ok (default_set slots r level) else None) (KeepsNumbers r)
+default_requested-keeps slots r level true = ok_or_nothing (wears slots r level keep_own) set.Worn r (releveled level keep_own r) (releveled_numbers keep_own r.apps)
+default_requested-keeps slots r level false = tt
+
+reset_requested-keeps : (s : Setting) (slots : ℕ → Slot) (r : Registry) → IfSome (reset_requested s slots r) (KeepsNumbers r)
+reset_requested-keeps s slots r = ok_or_nothing (wears slots r s.level no_own) set.Worn r (nothing_stored (releveled s.level no_own r)) (releveled_numbers no_own r.apps)
+
+some_or : (o : Option Registry) (old : Registry) → IfSome o (KeepsNumbers old) → KeepsNumbers old (unwrap_or o old)
+some_or (Some new) old found = found
+some_or None old found = refl
+
+where_done-keeps : (answer : Done) (new old : Registry) → KeepsNumbers old new → KeepsNumbers old (where_done answer new old)
+where_done-keeps done.Yes new old is = is
+where_done-keeps done.Failed new old is = refl
+where_done-keeps done.NoMemory new old is = refl
+
+served-keeps : (s : Setting) (slots : ℕ → Slot) (r : Registry) (request : Result Request RequestFault) (answer : Done) → KeepsNumbers r (served s slots r request answer)
+served-keeps s slots r (Ok (SetLogLevel apid ctid level)) answer = some_or (own_requested slots r apid ctid level) r (own_requested-keeps slots r apid ctid (own_level_of level))
+served-keeps s slots r (Ok (SetDefault level)) answer = some_or (default_requested slots r level) r (default_requested-keeps slots r level (nat_le level 6))
+served-keeps s slots r (Ok Store) answer = where_done-keeps answer (now_stored r) r refl
+served-keeps s slots r (Ok Reset) answer = where_done-keeps answer (unwrap_or (reset_requested s slots r) r) r (some_or (reset_requested s slots r) r (reset_requested-keeps s slots r))
+served-keeps s slots r (Ok (GetLogInfo options apid ctid)) answer = refl
+served-keeps s slots r (Ok GetDefault) answer = refl
+served-keeps s slots r (Ok Version) answer = refl
+served-keeps s slots r (Ok (Inject service body)) answer = refl
+served-keeps s slots r (Ok (Other service)) answer = refl
+served-keeps s slots r (Err fault) answer = refl
+
+pub desk_served : (core : Core) (frame : List ℕ) (answer : Done) (told : PostTold) → IsDeskOf core.registry told → IsDeskOf (served_now core frame answer) told
+desk_served core frame answer told desk = record {
+  numbered = subst (AllByRecursion (λ (n : ℕ). n < told.apps)) (sym (served-keeps (seen core) (slots core.registry) core.registry.registry (asked frame) answer)) desk.numbered;
+  versions = desk.versions;
+}
+
+-- ---- an injection goes to one of the desk's applications
+
+abbrev IsWithin : ℕ → Want → Type 0
+IsWithin apps wants = IfSome (injection_in wants) (λ i. i.0 < apps)
+
+module _ (apps : ℕ) where
+  number_found : (test : List ℕ → Bool) (es : List (List ℕ × App)) (app : App) → lookup test es ≡ Some app → AllByRecursion (λ (n : ℕ). n < apps) (numbers es) → app.number < apps
+  number_found test [] app found all = absurd (cc found)
+  number_found test (e ∷ es) app found all = by (test e.0) found (λ is. number_found test es app is all.1) where
+    by : (b : Bool) → cond b (Some e.1) (lookup test es) ≡ Some app → (lookup test es ≡ Some app → app.number < apps) → app.number < apps
+    by true is rest = let same : e.1 ≡ app = cc is in subst (λ (x : App). x.number < apps) same all.0
+    by false is rest = rest is
+
+  module _ (registry : Registry) (all : AllByRecursion (λ (n : ℕ). n < apps) (numbers registry.apps)) where
+    sent_within : (service : ℕ) (body : Arguments) (apid ctid : List ℕ) (mode : Bool)
+        → IsWithin apps (sends service body (if mode then option_and_then {U = App × Context} (λ app. option_map {U = App × Context} (λ context. (app, context)) (context_of app ctid)) (app_of registry 0 apid) else None))
+    sent_within service body apid ctid false = tt
+    sent_within service body apid ctid true = by_app (app_of registry 0 apid) refl where
+      by_context : (found : App) → found.number < apps → (o : Option Context) → IsWithin apps (sends service body (option_map {U = App × Context} (λ context. (found, context)) o))
+      by_context found below None = tt
+      by_context found below (Some context) = below
+
+      by_app : (o : Option App) → app_of registry 0 apid ≡ o
+          → IsWithin apps (sends service body (option_and_then {U = App × Context} (λ app. option_map {U = App × Context} (λ context. (app, context)) (context_of app ctid)) o))
+      by_app None known = tt
+      by_app (Some found) known = by_context found (number_found (bytes_eq apid) registry.apps found (app_of_found registry 0 apid found known) all) (context_of found ctid)
+
+    nothing_removed : (o : Option Registry) → IsWithin apps (removes o)
+    nothing_removed None = tt
+    nothing_removed (Some new) = tt
+
+    wanted_within : (setting : Setting) (slots : ℕ → Slot) (apid ctid : List ℕ) (request : Result Request RequestFault) → IsWithin apps (wanted setting slots registry apid ctid request)
+    wanted_within setting slots apid ctid (Ok Store) = tt
+    wanted_within setting slots apid ctid (Ok Reset) = nothing_removed (reset_requested setting slots registry)
+    wanted_within setting slots apid ctid (Ok (Inject service body)) = sent_within service body apid ctid setting.injection
+    wanted_within setting slots apid ctid _ = tt
+
+pub injection_within : (core : Core) (frame : List ℕ) (wants : Want) (told : PostTold) → wants ≡ wanted_now core frame → IsDeskOf core.registry told → IsWithin told.apps wants
+injection_within core frame wants told is desk =
+    subst (IsWithin told.apps) (sym is) (wanted_within told.apps core.registry.registry desk.numbered (seen core) (slots core.registry) (apid_of frame) (ctid_of frame) (asked frame))

@@ -1,0 +1,14 @@
+pub mod SentBytes
+pub mod LevelWords
+pub mod ClientChanges
+pub mod DeskKept
+pub mod ServedRequests
+pub mod GrownBytes
+pub mod PostedSides
+pub mod LaterSides
+pub mod PumpedSides
+pub mod AskedSides
+pub mod TurnSides
+pub mod StoppingSides
+pub mod StopCauses
+pub mod StayCauses

@@ -1,0 +1,62 @@
+//! A client is listened to.
+
+ghost use Rattle.std.specs.Prelude.{◌≡◌, ◌≤◌, true, false, Ok};
+ghost use Rattle.std.specs.Result.{result_err};
+ghost use Rattle.dl_bytes.specs.Limits.{message_limit};
+ghost use Rattle.dl_outside.specs.Outside.{HasRisen, Stays};
+ghost use Rattle.dl_turns.specs.Clients.{IsSame};
+ghost use Rattle.dl_turns.specs.Events.{IsServing};
+ghost use Rattle.dl_turns.specs.State.{stage};
+ghost use Rattle.dl_turns.specs.Turns.{HasGiven, Listens};
+
+use crate::client::Client;
+use crate::serving::serve_each;
+use dl_core::Core;
+use dl_desk::Post;
+use dl_events::{Kept, Why};
+use dl_outside::{Folder, Gave, Link};
+use std::alloc::Global;
+use std::sync::Wait;
+
+/// How many bytes a link is asked for at once.
+const PIECE: usize = 4096;
+
+/// Asks a client's link once for at most 4096 bytes, and serves the requests that they make whole. Answers whether the link gave any;
+/// an error is the cause to close the client.
+pub fn listen<R: Wait, D: Post, L: Link, F: Folder>(
+    rt: &R,
+    alloc: Global,
+    core: &mut Core,
+    desk: &mut D,
+    journal: &mut Kept,
+    client: &mut Client,
+    link: &mut L,
+    folder: &mut F,
+) -> Result<bool, Why>
+    requires limit { client.old.cutter.now.limit ≡ message_limit }
+    requires serving { IsServing client.old.number client.old.served.now core.old (D.told desk.old) }
+    ensures listens { Listens client.old.number (result_err result)
+        (stage (L.told link.old) client.old.cutter.now core.old (D.told desk.old) journal.old (F.told folder.old))
+        (stage (L.told link.new) client.new.cutter.now core.new (D.told desk.new) journal.new (F.told folder.new)) }
+    ensures gave { result ≡ Ok true → HasGiven (L.told link.old).given (L.told link.new).given }
+    ensures idle { result ≡ Ok false → HasRisen (L.told link.old).idles (L.told link.new).idles × Stays (L.told link.old).given (L.told link.new).given }
+    ensures limit { client.new.cutter.now.limit ≡ message_limit }
+    ensures serving { IsServing client.old.number client.new.served.now core.new (D.told desk.new) }
+    ensures spare { journal.old.spare ≤ journal.new.spare }
+    ensures same { IsSame client.old client.new }
+    ensures rest { D.same_rest desk.old desk.new }
+{
+    let mut buffer = [0; PIECE];
+    match link.recv(&mut buffer) {
+        Gave::Bytes(count) => {
+            let piece = &buffer[..count];
+            match serve_each(rt, alloc, core, desk, journal, client, piece, folder) {
+                Ok(()) => Ok(true),
+                Err(why) => Err(why),
+            }
+        }
+        Gave::NotYet => Ok(false),
+        Gave::End => Err(Why::Left),
+        Gave::Failed => Err(Why::Broken),
+    }
+}

@@ -1,0 +1,11 @@
+use Rattle.std.proofs.Common.{◌≡◌, ◌≤◌, ◌+◌, ◌++◌, length}
+use Rattle.std.specs.Prelude.{map}
+use Rattle.std.specs.Vec.Iter.{into_iter_items}
+use Rattle.dl_world_calls.specs.State.{Writer}
+use Rattle.dl_world_calls.proofs.calls.records_of.Given as goal
+
+abbrev pub invariant-loop-writer : goal.invariant-loop-writer
+invariant-loop-writer l = record {
+  all : l.records ++ map (λ (writer : Writer). writer.records) (into_iter_items l.writer-iterator) ≡ map (λ (writer : Writer). writer.records) l.fn.writers.items;
+  limit : length l.records + length (into_iter_items l.writer-iterator) ≤ 32;
+}

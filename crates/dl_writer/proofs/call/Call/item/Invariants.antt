@@ -1,7 +1,0 @@
-use Rattle.std.proofs.Common.{◌≡◌}
-use Rattle.dl_writer.specs.Items.{item_with}
-use Rattle.dl_writer.proofs.call.Call.item.Given as goal
-
--- all bytes are there, and so many arguments are counted
-abbrev pub invariant-loop-argument : goal.invariant-loop-argument
-invariant-loop-argument l = l.item ≡ item_with l.self (record { bytes = l.payload.bytes; args = l._argument })

@@ -1,0 +1,11 @@
+use Rattle.std.proofs.Common.{◌≡◌, ◌++◌, All, map}
+use Rattle.std.specs.Vec.Iter.{into_iter_items}
+use Rattle.dl_desk.specs.Made.{IsMadeWith}
+use Rattle.test_lib_threads.proofs.losses.start.Given as goal
+
+abbrev pub invariant-loop-book : goal.invariant-loop-book
+invariant-loop-book g l = record {
+  made : All (λ b. IsMadeWith l.desk b.writer) (into_iter_items l.book-iterator);
+  numbered : map (λ c. c.promise.number) l.children.items ++ map (λ b. b.writer.push.number) (into_iter_items l.book-iterator) ≡ map (λ b. b.writer.push.number) l.fn.books.items;
+  same : All (λ c. c.promise.desk.value ≡ l.desk) l.children.items;
+}

@@ -1,0 +1,10 @@
+use Rattle.std.proofs.Common.{◌≡◌}
+use Rattle.test_lib_threads.proofs.Later.{AreOpen}
+use Rattle.test_lib_threads.proofs.programs.open_books.Given as goal
+
+abbrev pub invariant-loop-writer : goal.invariant-loop-writer
+invariant-loop-writer l = record {
+  app : l.app ≡ l.initial.app;
+  apps : l.desk.apps ≡ l.initial.desk.apps;
+  open_so : AreOpen l.desk l.books.items l.writer;
+}

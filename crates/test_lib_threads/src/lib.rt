@@ -1,0 +1,15 @@
+//! Programs that log, on one thread and on many, and what became of their calls. It is compiled for its tests alone.
+#![tactic(auto)]
+
+#[cfg(test)]
+mod exact;
+#[cfg(test)]
+mod levels;
+#[cfg(test)]
+mod limits;
+#[cfg(test)]
+mod losses;
+#[cfg(test)]
+mod programs;
+#[cfg(test)]
+mod writers;

@@ -1,0 +1,145 @@
+//! Scenarios and the first bad line of each, and a step list that a number makes.
+
+use dl_script::{ScriptError, ScriptKind, generate, read_scenario, read_steps};
+use dl_script_lines::StepList;
+use std::alloc::{AllocError, Global};
+use std::test::Fail;
+
+/// What declares an application, a context and a writer of a scenario.
+const DECLARED: &str = "app LOG1 1\ncontext LOG1 TEST info\nwriter LOG1\n";
+
+/// Lines of a scenario that may stand behind them.
+const TAKEN: [&str; 4] = [
+    "",
+    "calls 1 TEST info 1000000 \"hi\"\nclient\nsend 1 00\nleave 1 9223372036854775807",
+    "calls 1 TEST info 999999\ncalls 1 TEST info 1",
+    "client\nclient\nleave 2 0\nleave 1 0",
+];
+
+/// Lines that may not: the first bad one, and what is wrong with it.
+const REFUSED: [(&str, u32, ScriptKind); 16] = [
+    (
+        "calls 1 TEST info 1000000\ncalls 1 TEST info 1 fill:1390",
+        5,
+        ScriptKind::Limit,
+    ),
+    ("calls 1 TEST info 0", 4, ScriptKind::Number),
+    ("calls 1 TEST info 1000001", 4, ScriptKind::Number),
+    ("calls 2 TEST info 1", 4, ScriptKind::Unknown),
+    ("calls 1 TEST info 1 fill:1384", 4, ScriptKind::Payload),
+    ("log 1 TEST info 1", 4, ScriptKind::Word),
+    ("connect", 4, ScriptKind::Word),
+    ("user 1 00", 4, ScriptKind::Word),
+    ("client 1", 4, ScriptKind::Fields),
+    ("send 1 00", 4, ScriptKind::Unknown),
+    ("client\nsend 1 0", 5, ScriptKind::Hex),
+    ("client\nsend 0 00", 5, ScriptKind::Unknown),
+    ("client\nleave 1 9223372036854775808", 5, ScriptKind::Number),
+    ("client\nleave 2 0", 5, ScriptKind::Unknown),
+    ("client\nleave 1 0\nleave 1 0", 6, ScriptKind::Twice),
+    ("leave 1", 4, ScriptKind::Fields),
+];
+
+/// Why a scenario with these lines is refused.
+fn fault(alloc: Global, lines: &str) -> Result<Option<ScriptError>, AllocError> {
+    let mut script = String::from_str(alloc, DECLARED)?;
+    script.push_str(lines)?;
+    match read_scenario(alloc, script.as_bytes()) {
+        Ok(_) => Ok(None),
+        Err(error) => Ok(Some(error)),
+    }
+}
+
+/// The place of the first of these that is refused.
+fn refused(alloc: Global, rows: &[&str]) -> Result<Option<usize>, AllocError> {
+    for (place, lines) in rows.iter().enumerate() {
+        if fault(alloc, lines)? != None {
+            return Ok(Some(place));
+        }
+    }
+    Ok(None)
+}
+
+/// The place of the first of these that isn't refused so.
+fn other(alloc: Global, rows: &[(&str, u32, ScriptKind)]) -> Result<Option<usize>, AllocError> {
+    for (place, (lines, line, kind)) in rows.iter().enumerate() {
+        let (line, kind) = (*line, *kind);
+        if fault(alloc, lines)? != Some(ScriptError::Fault { line, kind }) {
+            return Ok(Some(place));
+        }
+    }
+    Ok(None)
+}
+
+#[test]
+fn scenarios(rt: HostRuntime) -> Result<(), Fail> {
+    assert_eq!(rt; refused(rt.alloc(), &TAKEN)?, None);
+    assert_eq!(rt; other(rt.alloc(), &REFUSED)?, None);
+    Ok(())
+}
+
+/// The first lines of the list that the number 7 makes, with eight calls; its draws were computed apart from this crate.
+const GENERATED: &str = "app GEN1 8
+context GEN1 CTXA default
+context GEN1 CTXB info
+writer GEN1
+writer GEN1
+app GEN2 8
+context GEN2 CTXA default
+context GEN2 CTXB info
+writer GEN2
+writer GEN2
+app GEN3 8
+context GEN3 CTXA default
+context GEN3 CTXB info
+writer GEN3
+writer GEN3
+app GEN4 8
+context GEN4 CTXA default
+context GEN4 CTXB info
+writer GEN4
+writer GEN4
+connect
+call 7 CTXB info 1 uint32:1
+call 2 CTXB debug 2 uint32:2
+take GEN4
+call 7 CTXB info 3 uint32:3
+take GEN1
+call 6 CTXA info 4 uint32:4
+call 5 CTXB debug 5 uint32:5
+call 7 CTXA verbose 6 uint32:6
+take GEN1
+call 2 CTXB debug 7 uint32:7
+take GEN2
+call 7 CTXB verbose 8 uint32:8
+";
+
+/// The last lines of the same list with 2000 calls.
+const LAST: &str =
+    "app GEN1 1\napp GEN2 1\napp GEN3 1\napp GEN4 1\nconnect\ntake GEN3\nlosses GEN1\nlosses GEN2\nlosses GEN3\nlosses GEN4\nbytes 1 2100001F160141505000434F4E000100000000000000000000000100000000\n";
+
+fn steps(alloc: Global, text: &str) -> Result<StepList, AllocError> {
+    match read_steps(alloc, text.as_bytes()) {
+        Ok(steps) => Ok(steps),
+        Err(_) => Ok(StepList::over(Vec::new(alloc))),
+    }
+}
+
+#[test]
+fn generates(rt: HostRuntime) -> Result<(), Fail> {
+    let alloc = rt.alloc();
+    let made = generate(alloc, 7, 8)?;
+    let read = steps(alloc, GENERATED)?;
+    assert_eq!(rt;
+        format!(in alloc; "{made:?}")?,
+        format!(in alloc; "{read:?}")?
+    );
+    let made = generate(alloc, 7, 2000)?;
+    let last = steps(alloc, LAST)?;
+    assert_eq!(rt; made.all().len(), 21 + 2998);
+    assert_eq!(rt;
+        format!(in alloc; "{:?}", made.all().get(21 + 2992..))?,
+        format!(in alloc; "{:?}", last.all().get(5..))?
+    );
+    Ok(())
+}
