@@ -11,7 +11,7 @@ use Rattle.dl_message.specs.Frames.{overflow_record}
 use Rattle.dl_model.specs.Backlog.{size_of}
 use Rattle.dl_model.specs.Frames.{stored}
 use Rattle.dl_model.specs.Traffic.{Traffic, Admitted}
-use Rattle.dl_hub.specs.State.{Hub, Waiting, IsSameHub, EachHasRoom, is_open, outbox_of}
+use Rattle.dl_hub.specs.State.{Hub, Waiting, IsSameHub, EachHasRoom, is_open, outbox_of, replies_of}
 use Rattle.dl_hub.specs.Follows.{Adds, IsAfter}
 use Rattle.dl_hub.proofs.Overflow.{frames-step}
 use Rattle.dl_trace.specs.State.{Trace}
@@ -83,6 +83,7 @@ takes-none ecu moment hub kept folder = record {
   adds = admits-none hub;
   same = record { ecu = refl; buffer = refl; limit = refl };
   still_open = refl;
+  replies = refl;
   admitted = omega arith;
   stores = (refl, refl);
   others = alone-none kept folder;
@@ -111,10 +112,10 @@ pub reports_one : (ecu apid : List ℕ) (count : ℕ) (moment : Moment) (left co
     → 0 < left → counter ≡ min left 4294967295 → frame ≡ overflow_record ecu apid zero_id counter
     → Reported ecu apid count moment left h0 h1 k0 k1 f0 f1
     → Adds (Admitted frame) h1 h2 → ((more : ℕ) → EachHasRoom (length frame + more) h1 → EachHasRoom more h2) → IsSameHub h1 h2
-    → map is_open h2.clients ≡ map is_open h1.clients → h2.admitted ≡ h1.admitted + 1
+    → map is_open h2.clients ≡ map is_open h1.clients → replies_of h2 ≡ replies_of h1 → h2.admitted ≡ h1.admitted + 1
     → StoresIn (stored ecu moment frame ∷ []) k1 k2 f1 f2 → ChangesTraceAlone k1 f1 f2
     → Reported ecu apid count moment (left - counter) h0 h2 k0 k2 f0 f2
-reports_one ecu apid count moment left counter frame h0 h1 h2 k0 k1 k2 f0 f1 f2 some is what far adds rooms same still admitted stores others =
+reports_one ecu apid count moment left counter frame h0 h1 h2 k0 k1 k2 f0 f1 f2 some is what far adds rooms same still asked admitted stores others =
     let next = next_record ecu apid left counter frame some is what in
     let rest = lost_frames ecu apid (left - counter) in record {
       done = far.done ++ frame ∷ [];
@@ -123,6 +124,7 @@ reports_one ecu apid count moment left counter frame h0 h1 h2 k0 k1 k2 f0 f1 f2 
         adds = admits-one far.done frame h0 h1 h2 far.takes.adds adds;
         same = same_hub-later h0 h1 h2 far.takes.same same;
         still_open = still ∙ far.takes.still_open;
+        replies = asked ∙ far.takes.replies;
         admitted = admitted ∙ omega (arith, far.takes.admitted, length-append far.done (frame ∷ []));
         stores = subst (λ (fs : List (List ℕ)). StoresEach fs k0 k2 f0 f2) (sym (map-append (stored ecu moment) far.done (frame ∷ [])))
             (each-one (map (stored ecu moment) far.done) (stored ecu moment frame) k0 k1 k2 f0 f1 f2 far.takes.stores stores);

@@ -1,9 +1,10 @@
 -- Requests by their kind: what they owe, what their replies are, and where their ids stand.
-use Rattle.std.proofs.Common.{◌≡◌, ℕ, suc, ◌+◌, ◌≤◌, Bool, true, false, cond, List, [], ◌∷◌, ◌++◌, length, take, drop, Option, Some, None, Result, Ok, Err, refl, sym, ap, subst, ◌∙◌, append_assoc, length-append, is_some, arith}
-use Rattle.std.specs.Prelude.{◌<◌, unwrap_or, IfOk, IfSome, OnErr, if◌then◌else◌}
+use Rattle.std.proofs.Common.{◌≡◌, ℕ, suc, ◌+◌, ◌≤◌, Bool, true, false, cond, eqb, List, [], ◌∷◌, ◌++◌, length, take, drop, Option, Some, None, Result, Ok, Err, refl, sym, ap, subst, ◌∙◌, append_assoc, length-append, is_some, arith}
+use Rattle.std.specs.Prelude.{◌<◌, ◌||◌, not, unwrap_or, IfOk, IfSome, OnErr, if◌then◌else◌}
 use Rattle.std.specs.List.{cons_option, filter_map}
 use Rattle.std.specs.Option.{option_map, option_and_then, option_or}
 use Rattle.std.specs.Result.{result_ok}
+use Rattle.std.proofs.lemmas.Bool.{ltb-false}
 use Rattle.std.proofs.lemmas.List.{take_at, drop_at}
 use Rattle.std.proofs.lemmas.List.FromFn.{length-range_with_len}
 use Rattle.byteorder.specs.Endian.{big_bytes}
@@ -21,12 +22,12 @@ use Rattle.dl_headers.specs.Header.{standard_header, extended_header, optional, 
 use Rattle.dl_headers.specs.Message.{Message, IsMessage}
 use Rattle.dl_model.specs.declared.registry.LevelChange.{LevelChange}
 use Rattle.dl_model.specs.declared.registry.Slot.{Slot}
-use Rattle.dl_model.specs.Registry.{Registry, all_slots, app_of, change_at, context_of, first_change, reset}
+use Rattle.dl_model.specs.Registry.{Registry, all_slots, app_of, change_at, context_of, first_change, matching, reset}
 use Rattle.dl_model.specs.Traffic as traffic
 use Rattle.dl_hub.specs.Follows as hub
 use Rattle.dl_hub.specs.State.{Hub}
 use Rattle.dl_control.specs.Reply.{control_reply}
-use Rattle.dl_model.specs.Reply.{apid_of, asked, bare, ctid_of, inject_status, now_stored, reply_to, reset_status, served, where_done}
+use Rattle.dl_model.specs.Reply.{apid_of, asked, bare, ctid_of, info_body, info_reply, inject_status, is_too_long, now_stored, reply_to, reset_status, served, where_done}
 use Rattle.dl_model.specs.Setting.{Setting}
 use Rattle.dl_registry.specs.Kept.{Kept, slots, owed_change, with_registry}
 use Rattle.dl_services.specs.Service.{Replies, HasBody}
@@ -262,6 +263,34 @@ needs_seen core frame request target (Ok need) four asks ids is = λ answer.
     ∙ ap (λ (r : Reply). 23 + length r.body) (reply_asked core frame request target answer asks ids)
     ∙ sym (reply_long core.ecu (reply_to (seen core) (slots core.registry) core.registry.registry (apid_of frame) (ctid_of frame) (asked frame) answer) four)
 needs_seen core frame request target (Err fault) four asks ids is = tt {0}
+
+-- ---- replies have at most 65,535 bytes
+
+info_fits : (registry : Registry) (options : ℕ) (apid ctid : List ℕ) → 23 + length (info_reply registry options apid ctid).body ≤ 65535
+info_fits registry options apid ctid = by_tests (not (eqb options 6 || eqb options 7)) (eqb (length (matching registry apid ctid)) 0) (is_too_long body) refl where
+  body : List ℕ
+  body = info_body options registry apid ctid
+
+  by_tests : (other nobody long : Bool) → is_too_long body ≡ long
+      → 23 + length (if other then bare 0x03 1 else if nobody then bare 0x03 8 else if long then bare 0x03 9 else record { service = 0x03; status = options; body = body }).body ≤ 65535
+  by_tests true nobody long is = omega arith
+  by_tests false true long is = omega arith
+  by_tests false false true is = omega arith
+  by_tests false false false is = ltb-false 65535 (23 + length body) is
+
+reply_fits : (setting : Setting) (slots : ℕ → Slot) (registry : Registry) (apid ctid : List ℕ) (request : Result Request RequestFault) (answer : Done)
+    → 23 + length (reply_to setting slots registry apid ctid request answer).body ≤ 65535
+reply_fits setting slots registry apid ctid (Ok (GetLogInfo options app context)) answer = info_fits registry options app context
+reply_fits setting slots registry apid ctid (Err (Short service)) answer = omega arith
+reply_fits setting slots registry apid ctid (Err (Excess service)) answer = omega arith
+reply_fits setting slots registry apid ctid _ answer = omega arith
+
+pub needs_fit : {E : Type 0} (core : Core) (request : Result Request RequestFault) (target : List ℕ × List ℕ) (result : Result ℕ E)
+    → IfOk result (λ need. (answer : Done) → need ≡ 23 + length (reply_to (seen core) (slots core.registry) core.registry.registry target.0 target.1 request answer).body)
+    → IfOk result (λ need. need ≤ 65535)
+needs_fit core request target (Ok need) is =
+    omega (arith, is done.Yes, reply_fits (seen core) (slots core.registry) core.registry.registry target.0 target.1 request done.Yes)
+needs_fit core request target (Err fault) is = tt {0}
 
 -- the same frame, from the same hub
 pub adds_reply : (client : ℕ) (frame whole : List ℕ) (old before new : Hub) → frame ≡ whole → before ≡ old → hub.Adds (traffic.Reply client frame) before new

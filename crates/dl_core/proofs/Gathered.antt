@@ -13,7 +13,7 @@ use Rattle.dl_message.specs.Frames.{log_message}
 use Rattle.dl_model.specs.Backlog.{size_of}
 use Rattle.dl_model.specs.Frames.{stored}
 use Rattle.dl_model.specs.Traffic.{Admitted}
-use Rattle.dl_hub.specs.State.{Hub, IsSameHub, EachHasRoom, is_open}
+use Rattle.dl_hub.specs.State.{Hub, IsSameHub, EachHasRoom, is_open, replies_of}
 use Rattle.dl_hub.specs.Follows.{Adds}
 use Rattle.dl_core.specs.declared.storing.TraceWriter.{TraceWriter}
 use Rattle.dl_core.specs.Admission.{Admits, AddsEach, log_event, more_noted}
@@ -29,6 +29,7 @@ pub record Gathered (ecu : List ℕ) (moment : Moment) (done left : List Item) (
   pub adds : Admits (map (log_message ecu) done) h0 h1
   pub same : IsSameHub h0 h1
   pub still_open : map is_open h1.clients ≡ map is_open h0.clients
+  pub replies : replies_of h1 ≡ replies_of h0
   pub admitted : h1.admitted ≡ h0.admitted + length done
   pub trace_is : trace_in w1 ≡ trace_in w0
   pub batch_is : IfSome w1 (λ (w : TraceWriter). w.batch ≡ map (stored_call ecu moment) done)
@@ -59,17 +60,18 @@ pub gathers_one : (ecu : List ℕ) (moment : Moment) (done left : List Item) (it
     → Gathered ecu moment done (item ∷ left) h0 h1 w0 w1 e0 e1 n0 n1 s0 s1
     → frame ≡ log_message ecu item
     → Adds (Admitted frame) h1 h2 → ((more : ℕ) → EachHasRoom (length frame + more) h1 → EachHasRoom more h2) → IsSameHub h1 h2
-    → map is_open h2.clients ≡ map is_open h1.clients → h2.admitted ≡ h1.admitted + 1
+    → map is_open h2.clients ≡ map is_open h1.clients → replies_of h2 ≡ replies_of h1 → h2.admitted ≡ h1.admitted + 1
     → trace_in w2 ≡ trace_in w1
     → option_map (λ (w : TraceWriter). w.batch) w2 ≡ option_map (λ (w : TraceWriter). w.batch ++ stored ecu moment frame ∷ []) w1
     → notes.Adds e1 e2 (log_event moment item) → n2 ≡ one_more n1 → s2 + 1 ≡ s1
     → Gathered ecu moment (done ++ item ∷ []) left h0 h2 w0 w2 e0 e2 n0 n2 s0 s2
-gathers_one ecu moment done left item frame h0 h1 h2 w0 w1 w2 e0 e1 e2 n0 n1 n2 s0 s1 s2 far what adds rooms same still admitted trace batch event noted spare =
+gathers_one ecu moment done left item frame h0 h1 h2 w0 w1 w2 e0 e1 e2 n0 n1 n2 s0 s1 s2 far what adds rooms same still asked admitted trace batch event noted spare =
     let count : length (done ++ item ∷ []) ≡ suc (length done) = length-append done (item ∷ []) ∙ omega arith in record {
       adds = subst (λ (fs : List (List ℕ)). Admits fs h0 h2) (sym (map-append (log_message ecu) done (item ∷ [])))
           (admits-one (map (log_message ecu) done) (log_message ecu item) h0 h1 h2 far.adds (subst (λ (f : List ℕ). Adds (Admitted f) h1 h2) what adds));
       same = same_hub-later h0 h1 h2 far.same same;
       still_open = still ∙ far.still_open;
+      replies = asked ∙ far.replies;
       admitted = omega (arith, admitted, far.admitted, count);
       trace_is = trace ∙ far.trace_is;
       batch_is = subst (λ (fs : List (List ℕ)). IfSome w2 (λ (w : TraceWriter). w.batch ≡ fs)) (sym (map-append (stored_call ecu moment) done (item ∷ [])))

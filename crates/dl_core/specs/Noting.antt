@@ -8,18 +8,19 @@ use Rattle.dl_events.specs.declared.event.Event.TheVariants as event
 use Rattle.dl_message.specs.Frames.{log_message}
 use Rattle.dl_model.specs.Frames.{stored, user_frames}
 use Rattle.dl_outside.specs.Told.{FolderTold}
-use Rattle.dl_hub.specs.State.{Hub, IsSameHub, is_open}
+use Rattle.dl_hub.specs.State.{Hub, IsSameHub, is_open, replies_of}
 use Rattle.dl_trace.specs.State.{Trace}
 use Rattle.dl_core.specs.Admission.{Admits, AddsEach, GivesApid, GivesFrame, GivesFrames, log_event, lost_frames}
 use Rattle.dl_core.specs.Follows.{Run, Adds}
 use Rattle.dl_core.specs.State.{Core}
 use Rattle.dl_core.specs.Storing.{ChangesTraceAlone, StoresEach, StoresIn}
 
--- These frames were admitted, and stored one after the other; who is open stays.
+-- These frames were admitted, and stored one after the other; who is open stays, and nobody was put a reply.
 pub record TakesIn (ecu : List ℕ) (moment : Moment) (frames : List (List ℕ)) (hub hub_now : Hub) (kept kept_now : Option Trace) (folder folder_now : FolderTold) : Type 0 where
   pub adds : Admits frames hub hub_now
   pub same : IsSameHub hub hub_now
   pub still_open : map is_open hub_now.clients ≡ map is_open hub.clients
+  pub replies : replies_of hub_now ≡ replies_of hub
   pub admitted : hub_now.admitted ≡ hub.admitted + length frames
   pub stores : StoresEach (map (stored ecu moment) frames) kept kept_now folder folder_now
   pub others : ChangesTraceAlone kept folder folder_now
@@ -28,8 +29,8 @@ pub record TakesIn (ecu : List ℕ) (moment : Moment) (frames : List (List ℕ))
 abbrev pub AdmitsFrames : Moment → List (List ℕ) → Core → Core → FolderTold → FolderTold → Type 0
 AdmitsFrames moment frames old new folder folder_now = TakesIn old.ecu moment frames old.hub new.hub old.trace new.trace folder folder_now
 
--- These events were noted, so many frames admitted for them, and stored; who is open stays, and no file changed but the
--- trace files. The core stands for the journal with these events more, in each run that gives what the call was handed.
+-- These events were noted, so many frames admitted for them, and stored; who is open stays, nobody was put a reply, and no file
+-- changed but the trace files. The core stands for the journal with these events more, in each run that gives what the call was handed.
 pub record Notes (events : List Event) (Gives : Run → Type 0) (count : ℕ) (Leaves : Option Trace → Option Trace → FolderTold → FolderTold → Type 0)
     (old new : Core) (folder folder_now : FolderTold) (past present : Option (List Event)) : Type 0 where
   pub after : Adds events Gives old new folder folder_now
@@ -38,6 +39,8 @@ pub record Notes (events : List Event) (Gives : Run → Type 0) (count : ℕ) (L
   pub others : ChangesTraceAlone old.trace folder folder_now
   pub admitted : new.hub.admitted ≡ old.hub.admitted + count
   pub still_open : map is_open new.hub.clients ≡ map is_open old.hub.clients
+  pub replies : replies_of new.hub ≡ replies_of old.hub
+  pub same : IsSameHub old.hub new.hub
 
 -- a log call that was taken from its ring
 abbrev pub NotesLog : Moment → Item → Core → Core → FolderTold → FolderTold → Option (List Event) → Option (List Event) → Type 0

@@ -7,7 +7,7 @@ ghost use Rattle.dl_model.specs.Backlog.{size_of};
 ghost use Rattle.dl_model.specs.Frames.{stored};
 ghost use Rattle.dl_model.specs.Traffic.{Admitted};
 ghost use Rattle.dl_bytes.specs.Limits.{admitted_limit};
-ghost use Rattle.dl_hub.specs.State.{EachHasRoom, IsSameHub, is_open};
+ghost use Rattle.dl_hub.specs.State.{EachHasRoom, IsSameHub, is_open, replies_of};
 ghost use Rattle.dl_hub.specs.Follows.{Adds};
 ghost use Rattle.dl_core.specs.Admission.{log_event, lost_frames, more_noted, Admits, AddsEach};
 ghost use Rattle.dl_core.specs.Noting.{TakesIn};
@@ -78,6 +78,7 @@ pub fn admit<F: Folder>(
     ensures rooms { (more : ℕ) → EachHasRoom (length frame.now + more) hub.old → EachHasRoom more hub.new }
     ensures same { IsSameHub hub.old hub.new }
     ensures open { map is_open hub.new.clients ≡ map is_open hub.old.clients }
+    ensures replies { replies_of hub.new ≡ replies_of hub.old }
     ensures admitted { hub.new.admitted ≡ hub.old.admitted + 1 }
     ensures stored { StoresIn (stored ecu moment frame.now ∷ []) (trace_in writer.old) (trace_in writer.new) (F.told folder.old) (F.told folder.new) }
     ensures others { ChangesTraceAlone (trace_in writer.old) (F.told folder.old) (F.told folder.new) }
@@ -127,6 +128,7 @@ pub fn admit_each<J: Journal>(
     ensures adds { Admits (map (log_message ecu) items.now) hub.old hub.new }
     ensures same { IsSameHub hub.old hub.new }
     ensures open { map is_open hub.new.clients ≡ map is_open hub.old.clients }
+    ensures replies { replies_of hub.new ≡ replies_of hub.old }
     ensures admitted { hub.new.admitted ≡ hub.old.admitted + length items.now }
     ensures trace { trace_in writer.new ≡ trace_in writer.old }
     ensures batch { HasBatch (map (λ item. stored ecu moment (log_message ecu item)) items.now) writer.new }

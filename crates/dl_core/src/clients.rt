@@ -6,7 +6,7 @@ ghost use Rattle.dl_events.specs.Journal.{one_more};
 ghost use Rattle.dl_events.specs.declared.event.Event.TheVariants as event;
 ghost use Rattle.dl_registry.specs.Kept.{owed_change};
 ghost use Rattle.dl_model.specs.Backlog.{outbox_limit};
-ghost use Rattle.dl_hub.specs.State.{changed, outbox_of, shut, without, HasPlace, IsFull, IsSpent, MayAsk};
+ghost use Rattle.dl_hub.specs.State.{changed, outbox_of, shut, without, Comes, HasPlace, IsFull, IsSameHub, IsSpent, MayAsk};
 ghost use Rattle.dl_hub.specs.Pumping.{Pumps, HasFailed, HasWaited, IsOnlySent};
 ghost use Rattle.dl_hub.specs.declared.hub.HubFault.TheVariants as HubFault;
 ghost use Rattle.dl_hub.specs.declared.hub.Pumped.TheVariants as Pumped;
@@ -33,6 +33,8 @@ impl Core {
         ensures spare { OnOk result (J.spare journal.new + 1 ≡ J.spare journal.old) }
         ensures rest { self.new ≡ record self.old { hub = self.new.hub } }
         ensures admitted { self.new.hub.admitted ≡ self.old.hub.admitted }
+        ensures comes { OnOk result (Comes self.old.hub self.new.hub) }
+        ensures same { IsSameHub self.old.hub self.new.hub }
     {
         let client = self.hub.connect()?;
         journal.note(Event::Connect { client });

@@ -49,6 +49,7 @@ impl Core {
         ensures noted { OnOk result (J.noted journal.new ≡ one_more (J.noted journal.old)) }
         ensures spare { OnOk result (has_frames msg ≡ true → J.spare journal.new + 1 ≡ J.spare journal.old) }
         ensures reserved { OnOk result (has_frames msg ≡ false → J.spare journal.old + waiting self.new.registry ≤ J.spare journal.new) }
+        ensures registers { OnOk result (Registers channel msg self.old self.new.registry) }
         ensures registry { OnOk result (has_frames msg ≡ true → self.new.registry ≡ self.old.registry) }
         ensures rest { self.new ≡ record self.old { registry = self.new.registry; hub = self.new.hub; trace = self.new.trace } }
     {

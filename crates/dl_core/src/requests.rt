@@ -161,10 +161,11 @@ impl Core {
         });
     }
 
-    /// How many bytes the reply to a request has.
+    /// How many bytes the reply to a request has: at most 65,535, as its length has two bytes.
     pub fn request_need(&self, frame: &[u8]) -> Result<u64, OutOfMemory>
         requires { IsRequest frame.now }
-        ensures { IfOk result (λ need. (answer : Done) → need ≡ length (reply_now self.now frame.now answer)) }
+        ensures size { IfOk result (λ need. (answer : Done) → need ≡ length (reply_now self.now frame.now answer)) }
+        ensures limit { IfOk result (λ need. need ≤ 65535) }
     {
         // The reply's headers have four of the control unit's id.
         let _id = self.ecu.bytes();

@@ -278,6 +278,11 @@ pub open_one : (b : Bool) (ecu : List ℕ) (capacity : ℕ) (store : Stored) →
 open_one true ecu capacity store = refl
 open_one false ecu capacity store = refl
 
+-- and was put no reply
+pub unanswered_one : (b : Bool) (ecu : List ℕ) (capacity : ℕ) (store : Stored) → (came b ecu capacity store).replies ≡ 0
+unanswered_one true ecu capacity store = refl
+unanswered_one false ecu capacity store = refl
+
 count_more : (clients : List Client) (c : Client) → is_open c ≡ true → count_by is_open (clients ++ c ∷ []) ≡ count_by is_open clients + 1
 count_more clients c there = sum_by-append (λ x. cond (is_open x) 1 0) clients (c ∷ []) ∙ rw there (omega arith)
 

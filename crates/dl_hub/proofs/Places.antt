@@ -106,6 +106,11 @@ pub open_frames : (frame : List ℕ) (clients : List Client) → map is_open (ma
 open_frames frame [] = refl
 open_frames frame (c ∷ cs) = ap (λ b. b ∷ map is_open (map (with_frame frame) cs)) (still_open frame c) ∙ ap (λ bs. is_open c ∷ bs) (open_frames frame cs)
 
+-- and none is put a reply
+pub replies_frames : (frame : List ℕ) (clients : List Client) → map (λ (c : Client). c.replies) (map (with_frame frame) clients) ≡ map (λ (c : Client). c.replies) clients
+replies_frames frame [] = refl
+replies_frames frame (c ∷ cs) = ap (λ ns. c.replies ∷ ns) (replies_frames frame cs)
+
 -- a client that has gone is sent nothing
 gone_same : (frame : List ℕ) (c : Client) → is_open c ≡ false → with_frame frame c ≡ c
 gone_same frame c gone = by_outbox c.outbox gone where

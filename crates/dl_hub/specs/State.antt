@@ -1,5 +1,5 @@
 -- What contracts see of the hub and its clients.
-use Rattle.std.specs.Prelude.{◌≡◌, ℕ, ◌+◌, ◌-◌, ◌≤◌, ◌<◌, ◌==◌, ◌&&◌, nat_le, Bool, true, List, [], ◌++◌, length, count_by, take, drop, slice_get, slice_set}
+use Rattle.std.specs.Prelude.{◌≡◌, ℕ, ◌+◌, ◌-◌, ◌≤◌, ◌<◌, ◌==◌, ◌&&◌, nat_le, Bool, true, List, [], ◌∷◌, ◌++◌, length, count_by, map, take, drop, slice_get, slice_set}
 use Rattle.std.specs.Prelude.{Option, Some, None, is_some, option_map, IfSome, IsSome, IsSomeAnd, if◌then◌else◌}
 use Rattle.std.specs.Option.{option_and_then, option_map_or}
 use Rattle.std.specs.List.{list_any}
@@ -44,6 +44,10 @@ is_open client = is_some client.outbox
 -- a client can take so many bytes more: its outbox has room for them, or it has none
 abbrev pub takes : ℕ → Client → Bool
 takes more client = option_map_or (λ outbox. nat_le (length outbox.bytes + more) outbox.capacity) client.outbox true
+
+-- how many replies were put into the stream of each client that came
+abbrev pub replies_of : Hub → List ℕ
+replies_of hub = map (λ client. client.replies) hub.clients
 
 -- a client is open
 abbrev pub is_any_open : Hub → Bool
@@ -164,6 +168,10 @@ IsFull hub = (length hub.clients < hub.limit) × (count_by is_open hub.clients �
 -- one more client may connect
 abbrev pub HasPlace : Hub → Type 0
 HasPlace hub = (length hub.clients < hub.limit) × (count_by is_open hub.clients < open_client_limit)
+
+-- one more client came, behind the others: it is open, and was put no reply
+abbrev pub Comes : Hub → Hub → Type 0
+Comes old new = (client : Client) × (new.clients ≡ old.clients ++ client ∷ []) × IsSome client.outbox × (client.replies ≡ 0)
 
 -- a client is open, and was put fewer replies than it may be
 abbrev pub MayAsk : Hub → ℕ → Type 0

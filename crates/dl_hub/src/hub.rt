@@ -1,12 +1,12 @@
 //! The hub: all clients, and the backlog.
 
-ghost use Rattle.std.specs.Prelude.{◌≡◌, ◌≤◌, ◌<◌, ◌↔◌, ◌^◌, ◌+◌, ℕ, true, false, [], Err, IfOk, OnErr, IfSome};
+ghost use Rattle.std.specs.Prelude.{◌≡◌, ◌≤◌, ◌<◌, ◌↔◌, ◌^◌, ◌+◌, ℕ, true, false, [], Err, IfOk, OnErr, OnOk, IfSome};
 ghost use Rattle.std.specs.Prelude.{IsTrue, IsSome, IsSomeAnd, find, length, nat_le, take, map, option_map, vec_capacity};
 ghost use Rattle.std.specs.List.{All, list_all};
 ghost use Rattle.dl_bytes.specs.Limits.{admitted_limit, client_limit, open_client_limit, request_limit};
 ghost use Rattle.dl_model.specs.Traffic.{Connected, Admitted, Reply, Closed};
-ghost use Rattle.dl_hub.specs.State.{client_of, outbox_of, fresh, changed, without, with_frame, with_reply, shut, is_open, is_any_open};
-ghost use Rattle.dl_hub.specs.State.{HasPlace, HasRoom, EachHasRoom, IsFull, IsNextOpen, IsSameHub, IsSpent, MayAsk};
+ghost use Rattle.dl_hub.specs.State.{client_of, outbox_of, fresh, changed, without, with_frame, with_reply, shut, is_open, is_any_open, replies_of};
+ghost use Rattle.dl_hub.specs.State.{Comes, HasPlace, HasRoom, EachHasRoom, IsFull, IsNextOpen, IsSameHub, IsSpent, MayAsk};
 ghost use Rattle.dl_model.specs.Backlog.{outbox_limit, size_of};
 ghost use Rattle.dl_model.specs.Overflow.{overflow_frames};
 ghost use Rattle.dl_control.specs.Reply.{daemon_apid, daemon_ctid};
@@ -234,6 +234,7 @@ impl Hub {
         ensures admitted { self.new.admitted ≡ self.old.admitted }
         ensures same { IsSameHub self.old self.new }
         ensures adds { IfOk result (λ number. Adds (Connected number) self.old self.new) }
+        ensures comes { OnOk result (Comes self.old self.new) }
     {
         let place = self.clients.len() as u32;
         if place == self.limit {
@@ -257,6 +258,7 @@ impl Hub {
         ensures rooms { (more : ℕ) → EachHasRoom (length frame.now + more) self.old → EachHasRoom more self.new }
         ensures count { self.new.admitted ≡ self.old.admitted + 1 }
         ensures open { map is_open self.new.clients ≡ map is_open self.old.clients }
+        ensures replies { replies_of self.new ≡ replies_of self.old }
         ensures same { IsSameHub self.old self.new }
     {
         if self.any_open() {
@@ -275,6 +277,7 @@ impl Hub {
         ensures rooms { (more : ℕ) → EachHasRoom (length frame.now + more) self.old → EachHasRoom more self.new }
         ensures count { self.new.admitted ≡ self.old.admitted + 1 }
         ensures open { map is_open self.new.clients ≡ map is_open self.old.clients }
+        ensures replies { replies_of self.new ≡ replies_of self.old }
         ensures same { IsSameHub self.old self.new }
     {
         put_each(&mut self.clients, self.places.as_slice(), frame.bytes());
@@ -289,6 +292,7 @@ impl Hub {
         ensures rooms { (more : ℕ) → EachHasRoom (length frame.now + more) self.old → EachHasRoom more self.new }
         ensures count { self.new.admitted ≡ self.old.admitted + 1 }
         ensures open { map is_open self.new.clients ≡ map is_open self.old.clients }
+        ensures replies { replies_of self.new ≡ replies_of self.old }
         ensures same { IsSameHub self.old self.new }
     {
         self.store.admit(frame.bytes());

@@ -10,3 +10,4 @@ pub mod Gathering
 pub mod Loops
 pub mod Upto
 pub mod Accounted
+pub mod OpenBooks

@@ -17,7 +17,7 @@ same_taken [] app = refl
 same_taken (e ∷ handles) zero = refl
 same_taken (e ∷ handles) (suc app) = same_taken handles app
 
-taken_rest : (s : HandlesState) (app : ℕ) → taken_of (rest_of s) app ≡ taken_of s app
+pub taken_rest : (s : HandlesState) (app : ℕ) → taken_of (rest_of s) app ≡ taken_of s app
 taken_rest s app = ap (λ (o : Option (List Item)). unwrap_or o []) (same_taken s.apps app)
 
 abbrev resting : ClosingState → ClosingState

@@ -1,6 +1,7 @@
 //! Laws on an account.
 
-ghost use Rattle.std.specs.Prelude.{◌≡◌, ℕ, List, map, All};
+ghost use Rattle.std.specs.Prelude.{◌≡◌, ℕ, List, length, map, All};
+ghost use Rattle.std.specs.List.{range_with_len};
 ghost use Rattle.dl_bytes.specs.declared.item.Injection.{Injection};
 ghost use Rattle.dl_events.specs.declared.event.Event.{Event};
 ghost use Rattle.dl_events.specs.declared.record.Record.{Record};
@@ -10,9 +11,9 @@ ghost use Rattle.dl_desk.specs.Made.{IsLater, IsMadeWith, MakesWriter};
 ghost use Rattle.dl_desk.specs.Posting.{rest_of};
 ghost use Rattle.dl_desk.specs.State.{DeskState};
 ghost use Rattle.dl_writer.specs.Calls.{after, with_empty, with_injection, with_read};
-ghost use Rattle.dl_writer.specs.State.{BookState, IsWhole, WriterState};
+ghost use Rattle.dl_writer.specs.State.{BookState, IsWhole, WriterState, numbers};
 ghost use Rattle.dl_lib.specs.Known.{IsDrained};
-ghost use Rattle.dl_lib.specs.Making.{AreInOrder};
+ghost use Rattle.dl_lib.specs.Making.{AreInOrder, AreMadeWith};
 ghost use Rattle.dl_lib.specs.Settled.{IsAccountOf, IsJournalOf, IsSettled, refusals_of};
 ghost use Rattle.dl_lib.specs.State.{AccountState, ClosingState};
 
@@ -31,6 +32,16 @@ pub fn an_account_is_accounted()
 /// The books in the order of their numbers are whole where all books are.
 pub fn whole_in_order()
     ensures { (books ordered : List BookState) → AreInOrder books ordered → All IsWhole books → All IsWhole ordered }
+{}
+
+/// Books whose numbers came in order stay as they were.
+pub fn books_in_order_stay()
+    ensures { (books ordered : List BookState) → numbers books ≡ range_with_len 1 (length books) → AreInOrder books ordered → ordered ≡ books }
+{}
+
+/// Books of a desk's writers whose numbers came in order can be taken back: no two of them have one number.
+pub fn books_in_order_are_apart()
+    ensures { (desk : DeskState) (books : List BookState) → All (λ b. IsMadeWith desk b.writer) books → numbers books ≡ range_with_len 1 (length books) → AreMadeWith desk books }
 {}
 
 /// A writer that was made with a desk stays one that was, whatever it calls or looks up and whatever other writers are made.

@@ -38,7 +38,7 @@ pub first_speak : (before xs ys : List Event) → AllSpeak before (xs ++ ys) →
 first_speak before [] ys all = tt
 first_speak before (x ∷ xs) ys all = (all.0, first_speak (before ++ x ∷ []) xs ys all.1)
 
-second_speak : (before xs ys : List Event) → AllSpeak before (xs ++ ys) → AllSpeak (before ++ xs) ys
+pub second_speak : (before xs ys : List Event) → AllSpeak before (xs ++ ys) → AllSpeak (before ++ xs) ys
 second_speak before [] ys all = subst (λ b. AllSpeak b ys) (sym (append-nil before)) all
 second_speak before (x ∷ xs) ys all = subst (λ b. AllSpeak b ys) (append_assoc before (x ∷ []) xs) (second_speak (before ++ x ∷ []) xs ys all.1)
 
@@ -68,11 +68,11 @@ is_open_in client events is = open_by client (last_that (comes_or_goes client) e
 pub came_more : (before : List Event) (e : Event) → count_by is_connect (before ++ e ∷ []) ≡ count_by is_connect before + cond (is_connect e) 1 0
 came_more before e = omega (arith, count_by-append is_connect before (e ∷ []))
 
-true_not_false : (b : Bool) → b ≡ true → b ≡ false → ⊥
+pub true_not_false : (b : Bool) → b ≡ true → b ≡ false → ⊥
 true_not_false b e f = absurd cc
 
 -- once it is closed it stays so
-closed_on : (client : ℕ) (before events : List Event) → AllSpeak before events → client ≤ count_by is_connect before → opened client before ≡ false →
+pub closed_on : (client : ℕ) (before events : List Event) → AllSpeak before events → client ≤ count_by is_connect before → opened client before ≡ false →
     (list_any (comes_or_goes client) events ≡ false) × (opened client (before ++ events) ≡ false)
 closed_on client before [] all was shut = (refl, ap (opened client) (append-nil before) ∙ shut)
 closed_on client before (e ∷ events) all was shut =
@@ -108,7 +108,7 @@ open_on client before (e ∷ events) all was there still =
 -- ---- before it comes
 
 -- no number above those that came is spoken of
-abbrev NoneAbove : List Event → Type 0
+abbrev pub NoneAbove : List Event → Type 0
 NoneAbove before = (client : ℕ) → count_by is_connect before < client → list_any (comes_or_goes client) before ≡ false
 
 any_reverse : (p : Event → Bool) (xs : List Event) → list_any p xs ≡ false → find p (reverse xs) ≡ None
@@ -119,12 +119,12 @@ any_reverse p (x ∷ xs) none =
       find_both : (p : Event → Bool) (xs ys : List Event) → find p xs ≡ None → find p ys ≡ None → find p (xs ++ ys) ≡ None
       find_both p xs ys first second = find-append p xs ys ∙ ap (λ (o : Option Event). option_or o (find p ys)) first ∙ second
 
-none_open : (client : ℕ) (before : List Event) → list_any (comes_or_goes client) before ≡ false → IsOpen client before → ⊥
+pub none_open : (client : ℕ) (before : List Event) → list_any (comes_or_goes client) before ≡ false → IsOpen client before → ⊥
 none_open client before none is =
     let never : last_that (comes_or_goes client) before ≡ None = any_reverse (comes_or_goes client) before none in
     absurd cc
 
-none_above : (before events : List Event) → NoneAbove before → AllSpeak before events → NoneAbove (before ++ events)
+pub none_above : (before events : List Event) → NoneAbove before → AllSpeak before events → NoneAbove (before ++ events)
 none_above before [] above all = subst NoneAbove (sym (append-nil before)) above
 none_above before (e ∷ events) above all = subst NoneAbove (append_assoc before (e ∷ []) events) (none_above (before ++ e ∷ []) events next all.1) where
   was : (other : ℕ) → IsOpen other before → (other ≤ count_by is_connect before) ⊎ (count_by is_connect before < other) → other ≤ count_by is_connect before

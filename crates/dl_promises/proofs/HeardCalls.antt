@@ -1,6 +1,6 @@
 -- A client that was there throughout hears each queued call once, and the overflow records count the lost ones.
 use Rattle.std.proofs.Common.{◌≡◌, ℕ, ◌+◌, ◌-◌, Bool, true, false, cond, eqb, List, [], ◌∷◌, ◌++◌, length, map, drop, take, Option, Some, None, refl, sym, ap, subst, ◌∙◌, append_assoc, arith, inl, inr}
-use Rattle.std.specs.Prelude.{not, sum, ◌⊎◌}
+use Rattle.std.specs.Prelude.{not, sum}
 use Rattle.std.specs.List.{after_last, cons_option, filter, find, range_with_len, suffix_len, AllByRecursion}
 use Rattle.std.specs.Option.{option_map_or}
 use Rattle.std.proofs.lemmas.Bool.{cases_eq, eq-eqb, eqb-true}
@@ -56,7 +56,7 @@ none_waits ts none = by_test (is_any_open ts) where
 abbrev framed : FrameSource → ℕ × ℕ → List ℕ
 framed source name = source.frame name.0 name.1
 
-abbrev NoOthers : ℕ → ℕ → List Event → Type 0
+abbrev pub NoOthers : ℕ → ℕ → List Event → Type 0
 NoOthers writer app events = (other : ℕ) → (other ≡ app → ⊥) → filter (of_writer writer) (order other events) ≡ []
 
 tail_empty : {A : Type 0} (b : Bool) (x : A) (xs : List A) → cond b (x ∷ xs) xs ≡ [] → xs ≡ []
@@ -64,7 +64,7 @@ tail_empty true x xs e = absurd cc
 tail_empty false x xs e = e
 
 -- without its first event
-fewer : (writer app : ℕ) (e : Event) (events : List Event) → NoOthers writer app (e ∷ events) → NoOthers writer app events
+pub fewer : (writer app : ℕ) (e : Event) (events : List Event) → NoOthers writer app (e ∷ events) → NoOthers writer app events
 fewer writer app (event.Log that by call moment) events none other apart = by_app (eqb that other) (none other apart) where
   by_app : (b : Bool) → filter (of_writer writer) (cons_option (cond b (Some (by, call)) None) (order other events)) ≡ [] → filter (of_writer writer) (order other events) ≡ []
   by_app true is = tail_empty (eqb by writer) (by, call) (filter (of_writer writer) (order other events)) is
@@ -80,7 +80,7 @@ not_empty : {A : Type 0} (x : A) (xs : List A) → x ∷ xs ≡ [] → ⊥
 not_empty x xs e = absurd cc
 
 -- a call of the writer is of its application
-of_its_app : (writer app that by call : ℕ) (rest : List (ℕ × ℕ)) → eqb by writer ≡ true → ((that ≡ app → ⊥) → filter (of_writer writer) ((by, call) ∷ rest) ≡ []) → that ≡ app
+pub of_its_app : (writer app that by call : ℕ) (rest : List (ℕ × ℕ)) → eqb by writer ≡ true → ((that ≡ app → ⊥) → filter (of_writer writer) ((by, call) ∷ rest) ≡ []) → that ≡ app
 of_its_app writer app that by call rest mine none = elim (cases_eq that app) [
   | inl same ↦ same
   | inr apart ↦

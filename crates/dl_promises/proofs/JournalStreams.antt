@@ -38,7 +38,7 @@ quiet_event source client before (event.Request other frame done) none = refl
 quiet_event source client before (event.Close other why) none = ap (λ (b : Bool). b || false) none
 quiet_event source client before e none = none_admit client (frames_of source e)
 
-quiet_traffic : (source : FrameSource) (client : ℕ) (before events : List Event) → list_any (comes_or_goes client) events ≡ false → list_any (t.comes_or_goes client) (along_from (traffic_of source) before events) ≡ false
+pub quiet_traffic : (source : FrameSource) (client : ℕ) (before events : List Event) → list_any (comes_or_goes client) events ≡ false → list_any (t.comes_or_goes client) (along_from (traffic_of source) before events) ≡ false
 quiet_traffic source client before [] none = refl
 quiet_traffic source client before (e ∷ events) none =
     let parts = or_parts (comes_or_goes client e) (list_any (comes_or_goes client) events) none in
@@ -91,7 +91,7 @@ all_merged source client before (e ∷ events) =
 -- ---- a client's stream
 
 -- the traffic of a journal in which a client comes
-traffic_parts : (source : FrameSource) (client : ℕ) (before events : List Event) →
+pub traffic_parts : (source : FrameSource) (client : ℕ) (before events : List Event) →
     traffic source (before ++ event.Connect client ∷ events) ≡ traffic source before ++ Connected client ∷ along_from (traffic_of source) (before ++ event.Connect client ∷ []) events
 traffic_parts source client before events = along_from-append (traffic_of source) [] before (event.Connect client ∷ events)
 
@@ -215,7 +215,7 @@ open_event source client events (event.Log app writer call moment) = quiet_admit
 open_event source client events (event.Lost app count moment) = quiet_admits client (traffic source events) (frames_of source (event.Lost app count moment))
 open_event source client events (event.User channel msg moment) = quiet_admits client (traffic source events) (frames_of source (event.User channel msg moment))
 
-open_same : (source : FrameSource) (client : ℕ) (events : List Event) → t.is_open client (traffic source events) ≡ opened client events
+pub open_same : (source : FrameSource) (client : ℕ) (events : List Event) → t.is_open client (traffic source events) ≡ opened client events
 open_same source client = by_end (λ events. t.is_open client (traffic source events) ≡ opened client events) refl (λ events e is.
     ap (t.is_open client) (along-one (traffic_of source) events e) ∙ open_event source client events e
     ∙ ap (λ (b : Bool). cond (comes_or_goes client e) (is_connect e) b) is ∙ sym (opened-one client events e))

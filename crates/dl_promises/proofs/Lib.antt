@@ -33,3 +33,9 @@ pub mod LostQueued
 pub mod HeardCalls
 pub mod GivenLast
 pub mod LinkEnds
+pub mod ClientCounts
+pub mod FrameFates
+pub mod CallPlaces
+pub mod CallFates
+pub mod CallCauses
+pub mod HoleLaws

@@ -41,7 +41,7 @@ slow_longer setting source before client (why.Slow room need) xs more is = recor
   either (inr reply) = inr reply
 slow_longer setting source before client _ xs more is = tt
 
-turn_longer : (setting : Setting) (source : FrameSource) (before : List Event) (e : Event) (xs more : List Event) → IsInTurn setting source before e xs → IsInTurn setting source before e (xs ++ more)
+pub turn_longer : (setting : Setting) (source : FrameSource) (before : List Event) (e : Event) (xs more : List Event) → IsInTurn setting source before e xs → IsInTurn setting source before e (xs ++ more)
 turn_longer setting source before (event.Level slot level) xs more turn = turn
 turn_longer setting source before (event.Connect client) xs more turn = turn
 turn_longer setting source before (event.Request client frame answer) xs more turn = turn
@@ -50,7 +50,7 @@ turn_longer setting source before (event.Log app writer call moment) xs more tur
 turn_longer setting source before (event.Lost app count moment) xs more turn = turn
 turn_longer setting source before (event.User channel msg moment) xs more turn = turn
 
-in_turn_longer : (setting : Setting) (source : FrameSource) (before xs more : List Event) → AreInTurn setting source before xs → AreInTurn setting source (before ++ xs) more → AreInTurn setting source before (xs ++ more)
+pub in_turn_longer : (setting : Setting) (source : FrameSource) (before xs more : List Event) → AreInTurn setting source before xs → AreInTurn setting source (before ++ xs) more → AreInTurn setting source before (xs ++ more)
 in_turn_longer setting source before [] more first second = subst (λ b. AreInTurn setting source b more) (append-nil before) second
 in_turn_longer setting source before (x ∷ xs) more first second = (
   turn_longer setting source before x xs more first.0,

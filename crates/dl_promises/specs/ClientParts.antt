@@ -1,11 +1,18 @@
 -- What a client is sent, taken apart: what was due, what was admitted, and its replies.
-use Rattle.std.specs.Prelude.{◌≡◌, ℕ, ◌==◌, ◌⊎◌, List, [], ◌∷◌, ◌++◌, if◌then◌else◌}
+use Rattle.std.specs.Prelude.{◌≡◌, ℕ, ◌==◌, ◌⊎◌, List, [], ◌∷◌, ◌++◌, count_by, if◌then◌else◌}
+use Rattle.std.specs.List.{range_with_len}
 use Rattle.dl_events.specs.declared.event.Event.{Event}
 use Rattle.dl_events.specs.declared.event.Event.TheVariants.{Connect, Request}
 use Rattle.dl_model.specs.Along.{along_from}
 use Rattle.dl_model.specs.Frames.{FrameSource, admitted}
 use Rattle.dl_model.specs.Backlog.{waiting, due_backlog}
 use Rattle.dl_model.specs.ClientStream.{traffic}
+use Rattle.dl_model.specs.Journal.{is_connect}
+use Rattle.dl_model.specs.Traffic.{is_open}
+
+-- how many clients are open, of those that came
+abbrev pub open_count : FrameSource → List Event → ℕ
+open_count source events = count_by (λ client. is_open client (traffic source events)) (range_with_len 1 (count_by is_connect events))
 
 -- A list is put together from two others: it has all their entries, those of each in their order.
 abbrev pub IsMerged : {A : Type 0} → List A → List A → List A → Type 0

@@ -7,3 +7,5 @@ pub mod LoggedCalls
 pub mod HeardCalls
 pub mod GivenLast
 pub mod RegistryCases
+pub mod Fates
+pub mod Causes

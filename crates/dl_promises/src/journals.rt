@@ -1,24 +1,33 @@
 //! Laws on well-formed journals: what a client is sent, and what waits for the next one.
 
-ghost use Rattle.std.specs.Prelude.{◌≡◌, ◌<◌, ◌≤◌, ◌+◌, ◌⊎◌, ℕ, true, false, List, [], ◌∷◌, ◌++◌, length, drop, map, IfSome};
+ghost use Rattle.std.specs.Prelude.{◌≡◌, ◌<◌, ◌≤◌, ◌+◌, ◌⊎◌, ◌↔◌, ℕ, true, false, List, ◌∷◌, ◌++◌, count_by, length, drop, map, IfSome};
 ghost use Rattle.std.specs.List.{after_last, list_any, AllByRecursion};
 ghost use Rattle.dl_events.specs.declared.event.Event.{Event};
 ghost use Rattle.dl_events.specs.declared.event.Event.TheVariants.{Connect, Close};
 ghost use Rattle.dl_events.specs.declared.event.Why.{Why};
 ghost use Rattle.dl_events.specs.declared.event.Why.TheVariants as why;
 ghost use Rattle.dl_model.specs.Setting.{Setting};
-ghost use Rattle.dl_model.specs.Journal.{AreInTurn, IsFramesNeed, IsOpen, IsReplyNeed, IsSettled, IsWellFormed, comes_or_goes, is_close, registry_of, slots_of};
+ghost use Rattle.dl_model.specs.Journal.{AreInTurn, IsFramesNeed, IsInTurn, IsOpen, IsReplyNeed, IsSettled, IsWellFormed, comes_or_goes, is_close, is_connect, registry_of, slots_of};
 ghost use Rattle.dl_model.specs.Frames.{FrameSource, admitted, stored_frames};
 ghost use Rattle.dl_model.specs.Backlog.{outbox_limit, size_of, waiting, fitting, refused};
 ghost use Rattle.dl_model.specs.ClientEnds.{HasGone, LinkDid, end_of_link};
 ghost use Rattle.dl_model.specs.ClientStream.{traffic, stream};
 ghost use Rattle.dl_model.specs.Registry.{level_at};
-ghost use Rattle.dl_promises.specs.ClientParts.{IsSent};
+ghost use Rattle.dl_model.specs.Traffic.{is_open};
+ghost use Rattle.dl_promises.specs.ClientParts.{IsSent, open_count};
 ghost use Rattle.dl_promises.specs.ShortFrames.{AreShort};
 
 /// A well-formed journal goes on with events that stand in their turn behind it.
 pub fn a_well_formed_journal_goes_on()
     ensures { (setting : Setting) (source : FrameSource) (events more : List Event) → IsWellFormed setting source events → AreInTurn setting source events more → IsWellFormed setting source (events ++ more) }
+{}
+
+/// An event that stands in its turn does so whatever follows, and events that do go on with others that stand in their turn behind them.
+pub fn turns_go_on()
+    ensures event { (setting : Setting) (source : FrameSource) (before : List Event) (event : Event) (xs ys : List Event) →
+        IsInTurn setting source before event xs → IsInTurn setting source before event (xs ++ ys) }
+    ensures events { (setting : Setting) (source : FrameSource) (before xs ys : List Event) →
+        AreInTurn setting source before xs → AreInTurn setting source (before ++ xs) ys → AreInTurn setting source before (xs ++ ys) }
 {}
 
 /// A client that was closed as slow was behind: what had been put into its stream, with what was needed for it then, is more than its
@@ -67,6 +76,17 @@ pub fn a_client_comes_once()
         IsWellFormed setting source (before ++ Connect client ∷ (middle ++ Close client cause ∷ after)) →
         (list_any (comes_or_goes client) before ≡ false) × (list_any (comes_or_goes client) middle ≡ false)
         × (list_any (comes_or_goes client) after ≡ false) }
+{}
+
+/// A client is open in a journal exactly where it is in the traffic of it.
+pub fn who_is_open()
+    ensures { (source : FrameSource) (client : ℕ) (events : List Event) → (is_open client (traffic source events) ≡ true) ↔ IsOpen client events }
+{}
+
+/// In a well-formed journal the clients that are open and those that went are all that came.
+pub fn open_and_gone_are_all()
+    ensures { (setting : Setting) (source : FrameSource) (events : List Event) → IsWellFormed setting source events →
+        open_count source events + count_by is_close events ≡ count_by is_connect events }
 {}
 
 /// What a client is sent is unbroken: behind what was due to it stands every frame that was admitted between its Connect and

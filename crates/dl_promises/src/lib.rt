@@ -3,6 +3,7 @@
 #![tactic(auto)]
 
 pub mod accounts;
+pub mod causes;
 pub mod cutting;
 pub mod files;
 pub mod journals;

@@ -3,7 +3,7 @@
 ghost use Rattle.std.specs.Prelude.{◌≡◌, None};
 ghost use Rattle.dl_outside.specs.Outside.{HasRisen};
 
-use crate::answers::{is_gone, is_memory, is_pause};
+use crate::answers::{came, is_memory};
 use crate::client::attend;
 use crate::reading::Reading;
 use crate::resting::Resting;
@@ -214,10 +214,8 @@ fn waiting(listener: Option<&TcpListener>) -> io::Result<Option<TcpStream>> {
     let Some(listener) = listener else {
         return Ok(None);
     };
-    let stream = match listener.accept() {
-        Ok((stream, _)) => stream,
-        Err(error) if is_pause(&error) || is_gone(&error) => return Ok(None),
-        Err(error) => return Err(error),
+    let Some((stream, _)) = came(listener.accept())? else {
+        return Ok(None);
     };
     stream.set_nonblocking(true)?;
     // Without it frames come later, and no more.

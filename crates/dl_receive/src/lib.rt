@@ -10,5 +10,6 @@ mod receiver;
 mod status;
 mod words;
 
+pub use kind::{Kind, kind_of};
 pub use program::{Received, receive};
 pub use status::Status;

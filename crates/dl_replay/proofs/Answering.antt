@@ -15,7 +15,7 @@ use Rattle.dl_model.specs.Reply.{asked, Need, Nothing, Folder, Queue}
 use Rattle.dl_model.specs.Setting.{Setting}
 use Rattle.dl_model.specs.Steps.{Act, act_of, ask, close, close_malformed, end_of, note_levels, note_levels_now, in_sequence, is_open, just, new_requests, receive, request_now, run, served, when}
 use Rattle.dl_world.specs.Played.{is_failed}
-use Rattle.dl_replay.specs.Run.{unserved}
+use Rattle.dl_startup.specs.Failures.{unserved}
 
 -- ---- what is served
 

@@ -16,18 +16,19 @@ use Rattle.dl_outside.specs.Outside.{HasRisen}
 use Rattle.dl_world.specs.Played.{IsTraced, failures, files_with, frames_in, is_failed, trace_failures}
 use Rattle.dl_world.specs.declared.played.Played.{Played}
 use Rattle.dl_replay.specs.declared.begin.Start.{Start}
-use Rattle.dl_replay.specs.declared.status.Status.{Status}
-use Rattle.dl_replay.specs.declared.status.Status.TheVariants.{Ok, WordsRefused, ConfRefused, StoredRefused, ScriptRefused, WriteFault, FolderFault, OutOfMemory, NamesSpent, ReadFault}
+use Rattle.dl_startup.specs.declared.status.Status.{Status}
+use Rattle.dl_startup.specs.declared.status.Status.TheVariants.{Ok, WordsRefused, ConfRefused, StoredRefused, ScriptRefused, WriteFault, FolderFault, OutOfMemory, NamesSpent, ReadFault, NetFault, JournalFull, StorageRefused}
 use Rattle.dl_replay.specs.declared.task.Task.{Task}
-use Rattle.dl_replay.specs.Begin.{IsQuiet}
 use Rattle.dl_replay.specs.Finish.{Ends, Finishes, report_for, status_after}
 use Rattle.dl_replay.specs.Playing.{IsOf, Plays}
-use Rattle.dl_replay.specs.Run.{Run, HasDecided, HasNames, HoldsItsStored, IsDecided, IsSpent, IsWhole, marks, no_trace, setting, text_of, unserved}
+use Rattle.dl_replay.specs.Run.{Run, HasDecided, HasNames, HoldsItsStored, IsDecided, IsSpent, IsWhole, marks, no_trace, setting, text_of}
+use Rattle.dl_startup.specs.Failures.{unserved}
 use Rattle.dl_outside.specs.Told.{FolderTold, SinkTold}
 use Rattle.dl_outside.specs.Written.{WroteAll, WroteFront}
-use Rattle.dl_replay.specs.Told.{FolderWell}
+use Rattle.dl_startup.specs.Unchanged.{FolderWell, IsQuiet}
 use Rattle.dl_replay.proofs.Answering.{said_yes}
-use Rattle.dl_replay.proofs.Folders.{known_before, stored_before, unchanged_on}
+use Rattle.dl_startup.proofs.Told.{known_before, unchanged_on}
+use Rattle.dl_replay.proofs.Folders.{stored_before}
 
 -- nothing was played
 pub unplayed : (task : Task) (start : Start) (old new : FolderTold) (out : SinkTold) (status : Status) → Plays start old new (Err status) → Ends task start old new out out status
@@ -35,6 +36,9 @@ unplayed task start old new out FolderFault h = (h.0, inl (h.1, refl))
 unplayed task start old new out OutOfMemory h = inl refl
 unplayed task start old new out Ok h = absurd h
 unplayed task start old new out WordsRefused h = absurd h
+unplayed task start old new out NetFault h = absurd h
+unplayed task start old new out JournalFull h = absurd h
+unplayed task start old new out (StorageRefused line kind) h = absurd h
 unplayed task start old new out (ConfRefused line kind) h = absurd h
 unplayed task start old new out (StoredRefused line kind) h = absurd h
 unplayed task start old new out (ScriptRefused line kind) h = absurd h
@@ -129,9 +133,17 @@ has_decided {start = start} {old = old} {new = new} run well served = λ room.
     let rises : min (old.faults + (count_by is_failed (marks start run.answers) + more)) (2 ^ 64 - 1) ≤ new.faults = run.failed in
     subst (λ (done : List Mark). HoldsItsStored start old.files new.files done) (decided run well served room) (run.stored (omega (arith, rises, well, room)))
 
+-- a fault of the folder comes before all else
+folder_first : (cause : Option TraceEnd) (written short : Bool) → status_after true cause written short ≡ FolderFault
+folder_first None written short = refl
+folder_first (Some end.Failed) written short = refl
+folder_first (Some end.Spent) written short = refl
+folder_first (Some end.NoMemory) written short = refl
+
 written_whole : {start : Start} {old new : FolderTold} → (task : Task) (run : Run start old new) (out out_now : SinkTold) (failed : Bool) (cause : Option TraceEnd) (short : Bool) → Known run failed cause short
     → WroteAll out out_now (text_of task run) → Ends task start old new out out_now (status_after failed cause true short)
-written_whole task run out out_now true cause short known all = (known.rose refl, inr (run, inl all))
+written_whole {start = start} {old = old} {new = new} task run out out_now true cause short known all =
+    subst (λ (s : Status). Ends task start old new out out_now s) (sym (folder_first cause true short)) (known.rose refl, inr (run, inl all))
 written_whole task run out out_now false (Some end.Failed) short known all = (risen run known.cause_is known.later, inr (run, inl all))
 written_whole task run out out_now false (Some end.Spent) short known all = (run, inl all, known.well refl, spent run known.cause_is)
 written_whole task run out out_now false (Some end.NoMemory) short known all = inr (run, all, known.well refl, has_names run (Some end.NoMemory) known.cause_is (λ e. cc), inr known.cause_is)
@@ -140,7 +152,8 @@ written_whole task run out out_now false None false known all = (run, all, known
 
 written_front : {start : Start} {old new : FolderTold} → (task : Task) (run : Run start old new) (out out_now : SinkTold) (failed : Bool) (cause : Option TraceEnd) (short : Bool) → Known run failed cause short
     → WroteFront out out_now (text_of task run) → Ends task start old new out out_now (status_after failed cause false short)
-written_front task run out out_now true cause short known front = (known.rose refl, inr (run, inr front))
+written_front {start = start} {old = old} {new = new} task run out out_now true cause short known front =
+    subst (λ (s : Status). Ends task start old new out out_now s) (sym (folder_first cause false short)) (known.rose refl, inr (run, inr front))
 written_front task run out out_now false (Some end.Failed) short known front = (risen run known.cause_is known.later, inr (run, inr front))
 written_front task run out out_now false (Some end.Spent) short known front = (run, inr front, known.well refl, spent run known.cause_is)
 written_front task run out out_now false (Some end.NoMemory) short known front = (run, front, known.well refl, has_names run (Some end.NoMemory) known.cause_is (λ e. cc))
@@ -211,6 +224,9 @@ earlier task start old mid new out out_now OutOfMemory quiet h =
 earlier task start old mid new out out_now NamesSpent quiet h =
     (earlier_run start old mid new quiet h.0, h.1, h.2 ∙ quiet.well, record { told = h.3.told; spent = h.3.spent })
 earlier task start old mid new out out_now WordsRefused quiet h = absurd h
+earlier task start old mid new out out_now NetFault quiet h = absurd h
+earlier task start old mid new out out_now JournalFull quiet h = absurd h
+earlier task start old mid new out out_now (StorageRefused line kind) quiet h = absurd h
 earlier task start old mid new out out_now (ConfRefused line kind) quiet h = absurd h
 earlier task start old mid new out out_now (StoredRefused line kind) quiet h = absurd h
 earlier task start old mid new out out_now (ScriptRefused line kind) quiet h = absurd h

@@ -1,27 +1,23 @@
 -- What a folder tells, over calls in a row; and which of its files changed.
-use Rattle.std.proofs.Common.{◌≡◌, ◌≢◌, ℕ, ◌<◌, List, length, Option, Some, None, refl, sym, subst, ◌∙◌}
+use Rattle.std.proofs.Common.{◌≡◌, ◌≢◌, ℕ, ◌<◌, List, length, Option, Some, None, refl, sym, subst}
 use Rattle.std.specs.Prelude.{IfSome, IsOkAnd, Result, Ok}
 use Rattle.std.specs.FinMap as map
 use Rattle.dl_conf.specs.Outcome.{values_of}
 use Rattle.dl_model.specs.Marks.{Mark, journal}
 use Rattle.dl_outside.specs.Folder.{Files}
 use Rattle.dl_outside.specs.Outside.{Stays}
-use Rattle.dl_startup.specs.Setup.{conf_in, stored_name}
+use Rattle.dl_startup.proofs.Told.{if_some_of, known_before}
+use Rattle.dl_startup.specs.Setup.{conf_in, conf_name, stored_name}
 use Rattle.dl_replay.specs.declared.begin.Start.{Start}
-use Rattle.dl_replay.specs.Begin.{IsQuiet, IsSaid, conf_name}
+use Rattle.dl_replay.specs.Begin.{IsSaid}
 use Rattle.dl_replay.specs.Playing.{OwnFiles}
 use Rattle.dl_replay.specs.Program.{ChangesOwnFiles}
 use Rattle.dl_replay.specs.Run.{HoldsItsStored, setting}
-use Rattle.dl_outside.specs.Told.{FolderTold}
-use Rattle.dl_replay.specs.Told.{IsUnchanged}
 use Rattle.dl_replay.specs.declared.task.Task.{Task}
 use Rattle.dl_trace.specs.Stands.{IsTraceName}
 use Rattle.dl_world.specs.Stored.{HoldsStored}
 
 -- ---- what is told
-
-pub if_some_of : {A : Type 0} → (o : Option A) (x : A) (P : A → Type 0) → o ≡ Some x → IfSome o P → P x
-if_some_of o x P e h = subst (λ v. IfSome v P) e h
 
 pub if_some_as : {A : Type 0} → (o : Option A) (x : A) (P : A → Type 0) → o ≡ Some x → P x → IfSome o P
 if_some_as o x P e h = subst (λ v. IfSome v P) (sym e) h
@@ -33,22 +29,6 @@ both (Some x) P Q p q = (p, q)
 pub each : {A : Type 0} → (o : Option A) (P Q : A → Type 0) → ((x : A) → P x → Q x) → IfSome o P → IfSome o Q
 each None P Q f h = tt
 each (Some x) P Q f h = f x h
-
--- it stays over two calls
-pub stays_on : {A : Type 0} → (old mid new : Option A) → Stays old mid → Stays mid new → Stays old new
-stays_on None mid new a b = tt
-stays_on (Some x) mid new a b = if_some_of mid x (λ told. new ≡ Some told) a b
-
--- what is known of what was told later is known of what was told before
-pub known_before : {A : Type 0} → (old mid : Option A) (P : A → Type 0) → Stays old mid → IfSome mid P → IfSome old P
-known_before None mid P a h = tt
-known_before (Some x) mid P a h = if_some_of mid x P a h
-
-pub unchanged_on : (old mid new : FolderTold) → IsUnchanged old mid → IsUnchanged mid new → IsUnchanged old new
-unchanged_on old mid new a b = record { files = stays_on old.files mid.files new.files a.files b.files; changes = b.changes ∙ a.changes }
-
-pub quiet_on : (old mid new : FolderTold) → IsQuiet old mid → IsQuiet mid new → IsQuiet old new
-quiet_on old mid new a b = record { unchanged = unchanged_on old mid new a.unchanged b.unchanged; well = b.well ∙ a.well }
 
 -- the stored configuration of a run over files that stayed before it
 pub stored_before : (start : Start) (old mid new : Option Files) (done : List Mark) → Stays old mid → HoldsItsStored start mid new done → HoldsItsStored start old new done

@@ -18,10 +18,12 @@ use Rattle.dl_outside.specs.Written.{WroteAll}
 use Rattle.dl_trace.specs.Stands.{HasFiles}
 use Rattle.dl_trace.proofs.Alike.{one_list}
 use Rattle.dl_replay.specs.declared.begin.Start.{Start}
-use Rattle.dl_replay.specs.declared.status.Status.TheVariants as status
+use Rattle.dl_startup.specs.declared.status.Status.TheVariants as status
 use Rattle.dl_replay.specs.declared.task.Task.{Task}
 use Rattle.dl_replay.specs.declared.task.Task.TheVariants.{Steps, Generate}
-use Rattle.dl_replay.specs.Begin.{SayConfs, SaySteps}
+use Rattle.dl_replay.specs.Begin.{SaySteps}
+use Rattle.dl_startup.specs.Configuration.{SayConfs}
+use Rattle.dl_startup.specs.Setup.{conf_name}
 use Rattle.dl_replay.specs.Decided.{EndsWell, EndsWellOver, Prints, PrintsFor, WriteOneText}
 use Rattle.dl_replay.specs.Program.{Asked, Outcome}
 use Rattle.dl_replay.specs.Run.{marks, setting, text_of}
@@ -76,7 +78,7 @@ one_of x y same = cc
 at_some : {A : Type 0} (o : Option A) (x : A) (P : A → Type 0) → o ≡ Some x → IfSome o P → P x
 at_some {A = A} o x P is has = let family : Option A → Type 0 = λ v. IfSome v P in subst family is has
 
-one_setting : (files : Files) (first second : Start) → SayConfs files (record { conf = first.conf; stored = first.stored }) → SayConfs files (record { conf = second.conf; stored = second.stored })
+one_setting : (files : Files) (first second : Start) → SayConfs conf_name files (record { conf = first.conf; stored = first.stored }) → SayConfs conf_name files (record { conf = second.conf; stored = second.stored })
     → setting first ≡ setting second
 unfolding set_by
 one_setting files first second one two =
@@ -123,8 +125,8 @@ one_text words script files first first_now second second_now one two =
     let p = a.2 in
     let q : Prints a.0 second second_now = subst (λ (task : Task). Prints task second second_now) (sym task_same) b.2 in
     let flag = shows_frames a.0 in
-    let confs_a = at_some first.folder.files files (λ all. SayConfs all (record { conf = p.start.conf; stored = p.start.stored })) one.files_are p.said.confs in
-    let confs_b = at_some second.folder.files files (λ all. SayConfs all (record { conf = q.start.conf; stored = q.start.stored })) two.files_are q.said.confs in
+    let confs_a = at_some first.folder.files files (λ all. SayConfs conf_name all (record { conf = p.start.conf; stored = p.start.stored })) one.files_are p.said.confs in
+    let confs_b = at_some second.folder.files files (λ all. SayConfs conf_name all (record { conf = q.start.conf; stored = q.start.stored })) two.files_are q.said.confs in
     let set : setting p.start ≡ setting q.start = one_setting files p.start q.start confs_a confs_b in
     let lines : p.start.steps ≡ q.start.steps =
     one_script a.0 script p.start.steps q.start.steps

@@ -39,7 +39,8 @@ use Rattle.dl_replay.specs.Playing.{IsOf, OwnFiles}
 use Rattle.dl_replay.specs.Run.{Run, HoldsItsStored, marks, setting}
 use Rattle.dl_replay.specs.Task.{shows_frames}
 use Rattle.dl_outside.specs.Told.{FolderTold}
-use Rattle.dl_replay.proofs.Folders.{if_some_of, stored_before}
+use Rattle.dl_startup.proofs.Told.{if_some_of}
+use Rattle.dl_replay.proofs.Folders.{stored_before}
 
 -- ---- the report
 

@@ -11,18 +11,21 @@ use Rattle.dl_script.specs.Script.{steps_of}
 use Rattle.dl_script.specs.declared.error.ScriptError.{ScriptError}
 use Rattle.dl_script.specs.declared.error.ScriptError.TheVariants as bad
 use Rattle.dl_replay.specs.declared.begin.Start.{Start}
-use Rattle.dl_replay.specs.declared.status.Status.{Status}
-use Rattle.dl_replay.specs.declared.status.Status.TheVariants as status
+use Rattle.dl_startup.specs.declared.status.Status.{Status}
+use Rattle.dl_startup.specs.declared.status.Status.TheVariants as status
 use Rattle.dl_replay.specs.declared.task.Task.{Task}
 use Rattle.dl_replay.specs.declared.task.Task.TheVariants.{Steps}
-use Rattle.dl_replay.specs.Begin.{AreSetUp, IsReadUp, Refuses, conf_name}
+use Rattle.dl_replay.specs.Begin.{IsReadUp, Refuses}
+use Rattle.dl_startup.specs.Configuration.{AreSetUp}
+use Rattle.dl_startup.specs.Setup.{conf_name}
 use Rattle.dl_replay.specs.Finish.{Ends}
 use Rattle.dl_replay.specs.Program.{Asked, ChangesOwnFiles, HasReported, HasSteps, IsLawful, IsRun, IsUntouched, Outcome, Started}
 use Rattle.dl_replay.specs.Status.{line_of}
 use Rattle.dl_replay.specs.Task.{task_of}
 use Rattle.dl_outside.specs.Told.{FolderTold, SinkTold, SourceTold}
 use Rattle.dl_outside.specs.Written.{Wrote}
-use Rattle.dl_replay.specs.Told.{IsUnchanged, Told}
+use Rattle.dl_startup.specs.Unchanged.{IsUnchanged}
+use Rattle.dl_replay.specs.Told.{Told}
 use Rattle.dl_replay.proofs.Folders.{nothing_changes}
 
 -- ---- refusals
@@ -37,6 +40,9 @@ refusal_leaves task input input_now folder folder_now status.FolderFault h = h.1
 refusal_leaves task input input_now folder folder_now status.OutOfMemory h = h.0.unchanged
 refusal_leaves task input input_now folder folder_now status.Ok h = absurd h
 refusal_leaves task input input_now folder folder_now status.WordsRefused h = absurd h
+refusal_leaves task input input_now folder folder_now status.NetFault h = absurd h
+refusal_leaves task input input_now folder folder_now status.JournalFull h = absurd h
+refusal_leaves task input input_now folder folder_now (status.StorageRefused line kind) h = absurd h
 refusal_leaves task input input_now folder folder_now status.WriteFault h = absurd h
 refusal_leaves task input input_now folder folder_now status.NamesSpent h = absurd h
 
@@ -45,11 +51,11 @@ refusal_leaves task input input_now folder folder_now status.NamesSpent h = absu
 not_ok : {A E : Type 0} → (r : Result A E) (e : E) → r ≡ Err e → IsOk r → ⊥
 not_ok r e fails ok = let bad : false ≡ true = subst (λ v. IsOk v) fails ok in cc
 
-conf_is_good : (files : Option Files) (fault : ℕ × ConfKind) → IsSomeAnd files AreSetUp → IfSome files (λ all. conf_in conf_name all ≡ Err fault) → ⊥
+conf_is_good : (files : Option Files) (fault : ℕ × ConfKind) → IsSomeAnd files (AreSetUp conf_name) → IfSome files (λ all. conf_in conf_name all ≡ Err fault) → ⊥
 conf_is_good None fault good bad = good
 conf_is_good (Some files) fault good bad = not_ok (conf_in conf_name files) fault bad good.conf
 
-stored_is_good : (files : Option Files) (fault : ℕ × StoredKind) → IsSomeAnd files AreSetUp → IfSome files (λ all. IsOk (conf_in conf_name all) × (stored_in all ≡ Err fault)) → ⊥
+stored_is_good : (files : Option Files) (fault : ℕ × StoredKind) → IsSomeAnd files (AreSetUp conf_name) → IfSome files (λ all. IsOk (conf_in conf_name all) × (stored_in all ≡ Err fault)) → ⊥
 stored_is_good None fault good bad = good
 stored_is_good (Some files) fault good bad = not_ok (stored_in files) fault bad.1 good.stored
 
@@ -71,6 +77,9 @@ begins_well task old new status.FolderFault lawful h = absurd (lawful.keeps h.0)
 begins_well task old new status.OutOfMemory lawful h = inr (inr refl)
 begins_well task old new status.Ok lawful h = absurd h
 begins_well task old new status.WordsRefused lawful h = absurd h
+begins_well task old new status.NetFault lawful h = absurd h
+begins_well task old new status.JournalFull lawful h = absurd h
+begins_well task old new (status.StorageRefused line kind) lawful h = absurd h
 begins_well task old new status.WriteFault lawful h = absurd h
 begins_well task old new status.NamesSpent lawful h = absurd h
 
@@ -81,6 +90,9 @@ ends_well task start old new status.OutOfMemory lawful h = inr (inr refl)
 ends_well task start old new status.WriteFault lawful h = absurd (lawful.writes h.1.failed)
 ends_well task start old new status.FolderFault lawful h = absurd (lawful.keeps h.0)
 ends_well task start old new status.WordsRefused lawful h = absurd h
+ends_well task start old new status.NetFault lawful h = absurd h
+ends_well task start old new status.JournalFull lawful h = absurd h
+ends_well task start old new (status.StorageRefused line kind) lawful h = absurd h
 ends_well task start old new (status.ConfRefused line kind) lawful h = absurd h
 ends_well task start old new (status.StoredRefused line kind) lawful h = absurd h
 ends_well task start old new (status.ScriptRefused line kind) lawful h = absurd h
@@ -117,6 +129,9 @@ reported task old new status.NamesSpent it h = inr (record { it = it; run = h.0;
 reported task old new status.FolderFault it h = elim h.1 [ inl w ↦ inl w.1 | inr w ↦ inr (record { it = it; run = w.0; wrote = w.1 }) ]
 reported task old new status.OutOfMemory it h = elim h [ inl w ↦ inl w | inr w ↦ inr (record { it = it; run = w.0; wrote = inl w.1 }) ]
 reported task old new status.WordsRefused it h = absurd h
+reported task old new status.NetFault it h = absurd h
+reported task old new status.JournalFull it h = absurd h
+reported task old new (status.StorageRefused line kind) it h = absurd h
 reported task old new (status.ConfRefused line kind) it h = absurd h
 reported task old new (status.StoredRefused line kind) it h = absurd h
 reported task old new (status.ScriptRefused line kind) it h = absurd h

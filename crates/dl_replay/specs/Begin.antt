@@ -1,42 +1,20 @@
 -- What must be there before a run: its configurations and its steps, as folder and input say them; and why it is not there.
-use Rattle.std.specs.Prelude.{◌≡◌, ℕ, List, [], codes, Option, Some, IfSome, IsOk, Result, Ok, Err}
+use Rattle.std.specs.Prelude.{◌≡◌, ℕ, List, [], Option, Some, IfSome, IsOk, Result, Ok, Err}
 use Rattle.dl_script_lines.specs.declared.step.Step.{Step}
-use Rattle.dl_conf.specs.Outcome.{values_of}
 use Rattle.dl_outside.specs.Folder.{Files}
 use Rattle.dl_outside.specs.Outside.{HasRisen}
-use Rattle.dl_startup.specs.Setup.{conf_in, stored_in}
+use Rattle.dl_startup.specs.Setup.{conf_in, conf_name, stored_in}
 use Rattle.dl_script.specs.Generated.{generated}
 use Rattle.dl_script.specs.Script.{steps_of}
 use Rattle.dl_script.specs.declared.error.ScriptError.TheVariants as bad
-use Rattle.dl_replay.specs.declared.begin.Setup.{Setup}
 use Rattle.dl_replay.specs.declared.begin.Start.{Start}
-use Rattle.dl_replay.specs.declared.status.Status.{Status}
-use Rattle.dl_replay.specs.declared.status.Status.TheVariants.{ConfRefused, StoredRefused, ScriptRefused, FolderFault, OutOfMemory, ReadFault}
+use Rattle.dl_startup.specs.declared.status.Status.{Status}
+use Rattle.dl_startup.specs.declared.status.Status.TheVariants.{ConfRefused, StoredRefused, ScriptRefused, FolderFault, OutOfMemory, ReadFault}
 use Rattle.dl_replay.specs.declared.task.Task.{Task}
 use Rattle.dl_replay.specs.declared.task.Task.TheVariants.{Steps, Generate}
 use Rattle.dl_outside.specs.Told.{FolderTold, SourceTold}
-use Rattle.dl_replay.specs.Told.{FolderWell, IsUnchanged}
-
--- ---- configurations
-
--- the name of the configuration
-abbrev pub conf_name : List ℕ
-conf_name = codes "dlt.conf"
-
--- the files say these configurations
-pub record SayConfs (files : Files) (setup : Setup) : Type 0 where
-  pub conf : conf_in conf_name files ≡ Ok (values_of setup.conf)
-  pub stored : stored_in files ≡ Ok setup.stored
-
--- both configurations of these files are of the form
-pub record AreSetUp (files : Files) : Type 0 where
-  pub conf : IsOk (conf_in conf_name files)
-  pub stored : IsOk (stored_in files)
-
--- the folder was left alone, and it did not fail
-pub record IsQuiet (old new : FolderTold) : Type 0 where
-  pub unchanged : IsUnchanged old new
-  pub well : FolderWell old new
+use Rattle.dl_startup.specs.Configuration.{AreSetUp, SayConfs}
+use Rattle.dl_startup.specs.Unchanged.{IsQuiet, IsUnchanged}
 
 -- ---- steps
 
@@ -62,7 +40,7 @@ HasNoSteps task old new _ = ⊥
 
 -- what a run begins with is what folder and input say
 pub record IsSaid (task : Task) (left : Option (List ℕ)) (files : Option Files) (start : Start) : Type 0 where
-  pub confs : IfSome files (λ all. SayConfs all (record { conf = start.conf; stored = start.stored }))
+  pub confs : IfSome files (λ all. SayConfs conf_name all (record { conf = start.conf; stored = start.stored }))
   pub steps : SaySteps task left start.steps
 
 -- Why a run does not begin: one line a status. Nothing is written then, and no file is to change.
@@ -72,28 +50,14 @@ Refuses task input input_now folder folder_now (ConfRefused line kind) =
 Refuses task input input_now folder folder_now (StoredRefused line kind) =
     IfSome folder.files (λ files. IsOk (conf_in conf_name files) × (stored_in files ≡ Err (line, kind))) × IsQuiet folder folder_now × (input_now ≡ input)
 Refuses task input input_now folder folder_now (ScriptRefused line kind) =
-    IfSome folder.files AreSetUp × IsQuiet folder folder_now × HasNoSteps task input input_now (ScriptRefused line kind)
+    IfSome folder.files (AreSetUp conf_name) × IsQuiet folder folder_now × HasNoSteps task input input_now (ScriptRefused line kind)
 Refuses task input input_now folder folder_now ReadFault =
-    IfSome folder.files AreSetUp × IsQuiet folder folder_now × HasNoSteps task input input_now ReadFault
+    IfSome folder.files (AreSetUp conf_name) × IsQuiet folder folder_now × HasNoSteps task input input_now ReadFault
 Refuses task input input_now folder folder_now FolderFault = HasRisen folder.faults folder_now.faults × IsUnchanged folder folder_now × (input_now ≡ input)
 Refuses task input input_now folder folder_now OutOfMemory = IsQuiet folder folder_now × (input_now.faults ≡ input.faults)
 Refuses task input input_now folder folder_now _ = ⊥
 
 -- ---- for inner functions
-
--- why there are no configurations
-abbrev pub Unset : FolderTold → FolderTold → Status → Type 0
-Unset old new (ConfRefused line kind) = IfSome old.files (λ files. conf_in conf_name files ≡ Err (line, kind)) × IsQuiet old new
-Unset old new (StoredRefused line kind) =
-    IfSome old.files (λ files. IsOk (conf_in conf_name files) × (stored_in files ≡ Err (line, kind))) × IsQuiet old new
-Unset old new FolderFault = HasRisen old.faults new.faults × IsUnchanged old new
-Unset old new OutOfMemory = IsQuiet old new
-Unset old new _ = ⊥
-
--- the configurations that the folder says, or why there are none
-abbrev pub SetsUp : FolderTold → FolderTold → Result Setup Status → Type 0
-SetsUp old new (Ok setup) = IfSome old.files (λ files. SayConfs files setup) × IsQuiet old new
-SetsUp old new (Err status) = Unset old new status
 
 -- what a run begins with, or why it does not
 abbrev pub Begins : Task → SourceTold → SourceTold → FolderTold → FolderTold → Result Start Status → Type 0

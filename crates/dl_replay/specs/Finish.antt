@@ -1,19 +1,19 @@
 -- How a run ends: what is written of it, and its status.
-use Rattle.std.specs.Prelude.{◌≡◌, ℕ, ◌⊎◌, Bool, true, false, List, Option, Some, None}
+use Rattle.std.specs.Prelude.{◌≡◌, ℕ, ◌⊎◌, Bool, not, true, false, List, Option, Some, None}
 use Rattle.dl_bytes.specs.declared.outcome.TraceEnd.{TraceEnd}
-use Rattle.dl_bytes.specs.declared.outcome.TraceEnd.TheVariants as end
 use Rattle.dl_model.specs.Report.{report}
 use Rattle.dl_outside.specs.Outside.{HasRisen}
 use Rattle.dl_world.specs.declared.played.Played.{Played}
 use Rattle.dl_replay.specs.declared.begin.Start.{Start}
-use Rattle.dl_replay.specs.declared.status.Status.{Status}
-use Rattle.dl_replay.specs.declared.status.Status.TheVariants.{Ok, WriteFault, FolderFault, OutOfMemory, NamesSpent}
+use Rattle.dl_startup.specs.declared.status.Status.{Status}
+use Rattle.dl_startup.specs.declared.status.Status.TheVariants.{Ok, WriteFault, FolderFault, OutOfMemory, NamesSpent}
 use Rattle.dl_replay.specs.declared.task.Task.{Task}
 use Rattle.dl_replay.specs.declared.task.Task.TheVariants.{Steps, Generate}
 use Rattle.dl_replay.specs.Run.{Run, HasDecided, HasNames, IsDecided, IsServed, IsSpent, IsWhole, WantedMemory, text_of}
 use Rattle.dl_outside.specs.Told.{FolderTold, SinkTold}
 use Rattle.dl_outside.specs.Written.{Wrote, WroteAll, WroteFront, WroteNothing}
-use Rattle.dl_replay.specs.Told.{FolderWell, IsUnchanged}
+use Rattle.dl_startup.specs.Failures.{status_of, with_trace}
+use Rattle.dl_startup.specs.Unchanged.{FolderWell, IsUnchanged}
 
 -- ---- the table of statuses of a run that began
 
@@ -40,14 +40,8 @@ Ends task start folder folder_now out out_now _ = ⊥
 -- the status of a run whose report was made: whether the folder failed, why the trace ended, whether the report was written whole,
 -- and whether some Store or Reset had no memory
 abbrev pub status_after : Bool → Option TraceEnd → Bool → Bool → Status
-status_after true cause written unserved = FolderFault
-status_after false (Some end.Failed) written unserved = FolderFault
-status_after false (Some end.Spent) written unserved = NamesSpent
-status_after false (Some end.NoMemory) false unserved = WriteFault
-status_after false (Some end.NoMemory) true unserved = OutOfMemory
-status_after false None false unserved = WriteFault
-status_after false None true true = OutOfMemory
-status_after false None true false = Ok
+status_after failed cause written unserved =
+    status_of (with_trace cause (record { net = false; folder = failed; names_spent = false; journal_full = false; output = not written; memory = unserved }))
 
 -- the frames of the clients, where the report shows them
 abbrev pub frames_for : Task → Played → Option (List (List (List ℕ)))

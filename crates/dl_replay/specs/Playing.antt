@@ -10,13 +10,13 @@ use Rattle.dl_report.specs.Counts.{HasStreams}
 use Rattle.dl_trace.specs.Stands.{IsTraceName}
 use Rattle.dl_world.specs.declared.played.Played.{Played}
 use Rattle.dl_replay.specs.declared.begin.Start.{Start}
-use Rattle.dl_replay.specs.declared.status.Status.{Status}
-use Rattle.dl_replay.specs.declared.status.Status.TheVariants.{FolderFault, OutOfMemory}
+use Rattle.dl_startup.specs.declared.status.Status.{Status}
+use Rattle.dl_startup.specs.declared.status.Status.TheVariants.{FolderFault, OutOfMemory}
 use Rattle.dl_replay.specs.declared.task.Task.{Task}
 use Rattle.dl_replay.specs.Finish.{frames_for, report_for}
 use Rattle.dl_replay.specs.Run.{Run, marks, text_of}
 use Rattle.dl_outside.specs.Told.{FolderTold}
-use Rattle.dl_replay.specs.Told.{IsUnchanged}
+use Rattle.dl_startup.specs.Unchanged.{IsUnchanged}
 
 -- what was played is this run
 pub record IsOf {start : Start} {old new : FolderTold} (run : Run start old new) (played : Played) : Type 0 where

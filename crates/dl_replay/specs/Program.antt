@@ -4,22 +4,25 @@ use Rattle.std.specs.FinMap as files
 use Rattle.dl_outside.specs.Folder.{Files}
 use Rattle.dl_outside.specs.Outside.{HasRisen}
 use Rattle.dl_startup.specs.Input.{GaveAtMost}
-use Rattle.dl_startup.specs.Setup.{conf_in, stored_name}
+use Rattle.dl_startup.specs.Configuration.{AreSetUp}
+use Rattle.dl_startup.specs.Setup.{conf_in, conf_name, stored_name}
+use Rattle.dl_startup.specs.Status.{number}
 use Rattle.dl_script.specs.Script.{steps_of}
 use Rattle.dl_trace.specs.Stands.{IsTraceName}
 use Rattle.dl_replay.specs.declared.begin.Start.{Start}
-use Rattle.dl_replay.specs.declared.status.Status.{Status}
-use Rattle.dl_replay.specs.declared.status.Status.TheVariants.{Ok, WordsRefused, OutOfMemory, NamesSpent}
+use Rattle.dl_startup.specs.declared.status.Status.{Status}
+use Rattle.dl_startup.specs.declared.status.Status.TheVariants.{Ok, WordsRefused, OutOfMemory, NamesSpent}
 use Rattle.dl_replay.specs.declared.task.Task.{Task}
 use Rattle.dl_replay.specs.declared.task.Task.TheVariants.{Steps, Generate}
-use Rattle.dl_replay.specs.Begin.{AreSetUp, IsReadUp, IsSaid, Refuses, conf_name}
+use Rattle.dl_replay.specs.Begin.{IsReadUp, IsSaid, Refuses}
 use Rattle.dl_replay.specs.Finish.{Ends}
 use Rattle.dl_replay.specs.Run.{Run, text_of}
-use Rattle.dl_replay.specs.Status.{line_of, number}
+use Rattle.dl_replay.specs.Status.{line_of}
 use Rattle.dl_replay.specs.Task.{task_of}
 use Rattle.dl_outside.specs.Told.{FolderTold, SinkTold, SourceTold}
 use Rattle.dl_outside.specs.Written.{Wrote, WroteNothing}
-use Rattle.dl_replay.specs.Told.{IsUnchanged, Told, told}
+use Rattle.dl_startup.specs.Unchanged.{IsUnchanged}
+use Rattle.dl_replay.specs.Told.{Told, told}
 
 -- ---- the two halves of a run
 
@@ -74,7 +77,7 @@ HasSteps (Generate number calls) left = Unit {0}
 
 -- what folder and input have is of the form, and nothing failed
 pub record IsLawful (task : Task) (old new : Told) : Type 0 where
-  pub confs : IsSomeAnd old.folder.files AreSetUp
+  pub confs : IsSomeAnd old.folder.files (AreSetUp conf_name)
   pub steps : HasSteps task old.input.left
   pub reads : ¬ (HasRisen old.input.faults new.input.faults)
   pub keeps : ¬ (HasRisen old.folder.faults new.folder.faults)

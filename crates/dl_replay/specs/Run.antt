@@ -1,13 +1,9 @@
 -- A run: what it begins with, what it comes to, and what it prints.
-use Rattle.std.specs.Prelude.{◌≡◌, ◌≢◌, ℕ, ◌+◌, ◌-◌, ◌^◌, ◌<◌, ◌≤◌, ◌⊎◌, min, Bool, true, false, List, [], length, count_by, Option, Some, None, IfSome, IsSomeAnd}
+use Rattle.std.specs.Prelude.{◌≡◌, ◌≢◌, ℕ, ◌+◌, ◌-◌, ◌^◌, ◌<◌, ◌≤◌, ◌⊎◌, min, true, false, List, [], length, count_by, Option, Some, None, IfSome, IsSomeAnd}
 use Rattle.std.specs.FinMap as map
-use Rattle.std.specs.List.{list_any}
 use Rattle.dl_bytes.specs.declared.outcome.Done.{Done}
-use Rattle.dl_bytes.specs.declared.outcome.Done.TheVariants as did
 use Rattle.dl_bytes.specs.declared.outcome.TraceEnd.TheVariants as end
 use Rattle.dl_bytes.specs.declared.outcome.TraceState.{TraceState}
-use Rattle.dl_events.specs.declared.event.Event.{Event}
-use Rattle.dl_events.specs.declared.event.Event.TheVariants as event
 use Rattle.dl_model.specs.Marks.{Mark, journal}
 use Rattle.dl_model.specs.Replay.{files_of, report_of, trace_of}
 use Rattle.dl_model.specs.Setting.{Setting}
@@ -15,6 +11,7 @@ use Rattle.dl_model.specs.Steps as steps
 use Rattle.dl_model.specs.TraceFiles.{StoredFile, is_spent}
 use Rattle.dl_core.specs.Settings.{setting_of}
 use Rattle.dl_outside.specs.Folder.{Files}
+use Rattle.dl_startup.specs.Failures.{unserved}
 use Rattle.dl_startup.specs.Setup.{stored_name}
 use Rattle.dl_trace.specs.Stands.{HasFiles}
 use Rattle.dl_world.specs.Played.{IsTraced, failures, frames_in, is_failed}
@@ -80,15 +77,6 @@ HasNames run = run.trace.end ≢ Some end.Spent
 pub record IsSpent {start : Start} {old new : FolderTold} (run : Run start old new) : Type 0 where
   pub told : run.trace.end ≡ Some end.Spent
   pub spent : is_spent start.conf.file_size run.stood (frames_in (setting start) (marks start run.answers)) ≡ true
-
--- a Store or a Reset for which there was no memory
-abbrev pub is_unserved : Event → Bool
-is_unserved (event.Request client frame did.NoMemory) = true
-is_unserved _ = false
-
--- some Store or Reset had no memory
-abbrev pub unserved : List Event → Bool
-unserved events = list_any is_unserved events
 
 -- each Store and Reset had memory
 abbrev pub IsServed : {start : Start} {old new : FolderTold} → Run start old new → Type 0

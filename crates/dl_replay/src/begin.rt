@@ -2,28 +2,18 @@
 
 ghost use Rattle.std.specs.Prelude.{◌≡◌, ◌≤◌, IfOk};
 ghost use Rattle.dl_startup.specs.Input.{GaveAtMost};
-ghost use Rattle.dl_replay.specs.Begin.{Begins, MakesSteps, SetsUp, TakesSteps};
+ghost use Rattle.dl_replay.specs.Begin.{Begins, MakesSteps, TakesSteps};
 ghost use Rattle.dl_replay.specs.Task.{IsWithin};
 ghost use Rattle.dl_script.specs.Playable.{IsPlayable};
 
-use crate::status::Status;
 use crate::task::Task;
 use dl_bytes::{Conf, Stored};
 use dl_outside::{Folder, Source};
 use dl_script::laws::{what_is_generated_can_be_played, what_is_read_can_be_played};
 use dl_script::{ScriptError, ScriptKind, generate, read_steps};
 use dl_script_lines::StepList;
-use dl_startup::{CONF_NAME, ReadError, SetupError, conf_in, read_text, stored_in};
+use dl_startup::{CONF_NAME, ReadError, Status, read_text, set_up};
 use std::alloc::Global;
-
-/// The configuration and the stored one.
-#[derive(Drop)]
-pub struct Setup {
-    /// What `dlt.conf` says, or the values where there is none.
-    pub conf: Conf,
-    /// What `dlt_stored.cfg` says; nothing where it isn't there.
-    pub stored: Stored,
-}
 
 /// What a run begins with.
 #[derive(Drop)]
@@ -34,25 +24,6 @@ pub struct Start {
     pub stored: Stored,
     /// The steps that are played.
     pub steps: StepList,
-}
-
-/// The configuration and the stored one, or why they aren't there.
-fn set_up<F: Folder>(alloc: Global, folder: &mut F) -> Result<Setup, Status>
-    ensures { SetsUp (F.told folder.old)
-        (F.told folder.new) result }
-{
-    let conf = match conf_in(alloc, folder, CONF_NAME) {
-        Ok(conf) => conf,
-        Err(SetupError::Fault { line, kind }) => return Err(Status::ConfRefused { line, kind }),
-        Err(SetupError::Folder) => return Err(Status::FolderFault),
-        Err(SetupError::OutOfMemory) => return Err(Status::OutOfMemory),
-    };
-    match stored_in(alloc, folder) {
-        Ok(stored) => Ok(Setup { conf, stored }),
-        Err(SetupError::Fault { line, kind }) => Err(Status::StoredRefused { line, kind }),
-        Err(SetupError::Folder) => Err(Status::FolderFault),
-        Err(SetupError::OutOfMemory) => Err(Status::OutOfMemory),
-    }
 }
 
 /// The steps of the script that the input has, or why they aren't there.
@@ -124,7 +95,7 @@ pub fn begin<F: Folder, I: Source>(
     ensures at_most { GaveAtMost (I.told input.old).left (I.told input.new).left }
     ensures playable { IfOk result (λ start. IsPlayable start.steps) }
 {
-    let setup = match set_up(alloc, folder) {
+    let setup = match set_up(alloc, folder, CONF_NAME) {
         Ok(setup) => setup,
         Err(status) => return Err(status),
     };

@@ -1,55 +1,18 @@
 //! How a run ends: its report is written, and its status is found.
 
-ghost use Rattle.std.specs.Prelude.{◌≡◌, IfOk, option_map};
+ghost use Rattle.std.specs.Prelude.{◌≡◌, IfOk};
 ghost use Rattle.std.specs.List.{All};
 ghost use Rattle.dl_report.specs.Counts.{HasStreams};
-ghost use Rattle.dl_replay.specs.Finish.{Finishes, frames_for, report_for, status_after};
-ghost use Rattle.dl_replay.specs.Run.{is_unserved, unserved};
+ghost use Rattle.dl_startup.specs.Failures.{unserved};
+ghost use Rattle.dl_replay.specs.Finish.{Finishes, frames_for, report_for};
 
-use crate::status::Status;
 use crate::task::Task;
-use dl_bytes::{Bytes, Done, OutOfMemory, TraceEnd};
-use dl_events::Event;
+use dl_bytes::{Bytes, OutOfMemory};
 use dl_outside::{Sink, write_text};
 use dl_report::report;
+use dl_startup::{Failures, Status, unserved};
 use dl_world::Played;
 use std::alloc::Global;
-
-/// Whether the event is a Store or a Reset for which there was no memory.
-fn is_unserved(event: &Event) -> bool
-    ensures { result ≡ is_unserved event.now }
-{
-    matches!(
-        event,
-        Event::Request {
-            done: Done::NoMemory,
-            ..
-        }
-    )
-}
-
-/// Whether some Store or Reset had no memory.
-fn unserved(events: &[Event]) -> bool
-    ensures { result ≡ unserved events.now }
-{
-    events.iter().any(|event| is_unserved(event))
-}
-
-/// The status of a run whose report was made: whether the folder failed, why the trace ended, whether the report was
-/// written whole, and whether some Store or Reset had no memory.
-fn status_after(failed: bool, end: Option<TraceEnd>, written: bool, unserved: bool) -> Status
-    ensures { result ≡ status_after failed end written unserved }
-{
-    match end {
-        _ if failed => Status::FolderFault,
-        Some(TraceEnd::Failed) => Status::FolderFault,
-        Some(TraceEnd::Spent) => Status::NamesSpent,
-        _ if !written => Status::WriteFault,
-        Some(TraceEnd::NoMemory) => Status::OutOfMemory,
-        None if unserved => Status::OutOfMemory,
-        None => Status::Ok,
-    }
-}
 
 /// The report of what was played, with the frames of the clients where the task shows them.
 fn report_for(alloc: Global, task: Task, played: &Played) -> Result<Bytes, OutOfMemory>
@@ -87,6 +50,13 @@ pub fn finish<O: Sink>(
         return Status::OutOfMemory;
     };
     let written = write_text(out, text.all()).is_ok();
-    let unserved = unserved(played.events.events());
-    status_after(failed, played.ends.trace.end, written, unserved)
+    let failures = Failures {
+        net: false,
+        folder: failed,
+        names_spent: false,
+        journal_full: false,
+        output: !written,
+        memory: unserved(played.events.events()),
+    };
+    failures.with_trace(played.ends.trace.end).status()
 }

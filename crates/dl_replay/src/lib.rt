@@ -5,9 +5,8 @@ mod begin;
 mod finish;
 pub mod laws;
 mod program;
-mod status;
 mod task;
 
+pub use dl_startup::Status;
 pub use program::replay;
-pub use status::Status;
 pub use task::Task;

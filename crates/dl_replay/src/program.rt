@@ -9,13 +9,18 @@ ghost use Rattle.dl_script.specs.Playable.{IsPlayable};
 
 use crate::begin::{Start, begin};
 use crate::finish::finish;
-use crate::status::Status;
 use crate::task::{Task, task_of};
 use dl_outside::{Folder, Sink, Source};
-use dl_startup::trace_over;
+use dl_startup::{Status, trace_over};
 use dl_trace::TraceFault;
 use dl_world::{Played, play};
 use std::alloc::Global;
+
+/// The program's name, with which each line on standard error begins.
+const PROGRAM: &[u8] = b"dlt_replay";
+
+/// The words that it takes, as the line says it that refuses others.
+const USAGE: &[u8] = b"dlt_replay steps or generate NUMBER CALLS";
 
 /// Plays what a run begins with: first its trace is made over the files that stand. The answer is what was played, or why
 /// nothing was.
@@ -113,7 +118,7 @@ fn run<F: Folder, I: Source, O: Sink, E: Sink>(
         (O.told out.old) (O.told out.new) (E.told err.old) (E.told err.new) result }
 {
     let status = ask(alloc, words, input, folder, out);
-    status.say(err);
+    status.say(PROGRAM, USAGE, err);
     status
 }
 

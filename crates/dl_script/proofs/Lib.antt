@@ -8,8 +8,9 @@ pub mod SpelledScenarios
 pub mod SpelledScripts
 pub mod SayableSteps
 pub mod ReadResults
-pub mod ShortTexts
+pub mod ReadFields
 pub mod ReadSteps
+pub mod ReadScenarios
 pub mod ReadScripts
 pub mod StepRuns
 pub mod GeneratedCalls

@@ -21,7 +21,7 @@ use Rattle.dl_script.specs.declared.word.StepWord.{StepWord}
 use Rattle.dl_script.specs.declared.word.StepWord.TheVariants as word
 use Rattle.dl_script.specs.Playable.{HasShortText}
 use Rattle.dl_script.proofs.ReadResults.{Gives, given, refused, then, then_so, either_way}
-use Rattle.dl_script.proofs.ShortTexts.{app_short, context_short}
+use Rattle.dl_script.proofs.ReadFields.{app_in_range, context_in_range}
 
 -- a step with this claim and with short texts
 abbrev pub Has : Claim → Step → Type 0
@@ -65,8 +65,8 @@ called_read make makes call = by_payload call.payload where
 
 word_read : (w : StepWord) (fields : List (List ℕ)) → Gives IsRead (step_by_word w fields)
 unfolding step_by_word
-word_read word.App fields = then_so (app_short fields) (λ app is. given (refl, is))
-word_read word.Context fields = then_so (context_short fields) (λ context is. given (refl, is))
+word_read word.App fields = then_so (app_in_range fields) (λ app is. given (refl, is.3))
+word_read word.Context fields = then_so (context_in_range fields) (λ context is. given (refl, is.2))
 word_read word.Writer fields = then (id_line fields) (λ apid. given (refl, tt))
 word_read word.Clock fields = then_so (clock_has fields) (λ clock is. given is)
 word_read word.Load fields = then (call_line 0 4294967295 fields) (λ call. given (called_read step.Load (λ line. (refl, tt)) call))

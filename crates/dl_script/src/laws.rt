@@ -9,7 +9,7 @@ ghost use Rattle.dl_script_lines.specs.declared.step.Step.{Step};
 ghost use Rattle.dl_text.specs.Faults.{size_limit};
 ghost use Rattle.dl_script.specs.Earlier.{nothing};
 ghost use Rattle.dl_script.specs.Generated.{generated};
-ghost use Rattle.dl_script.specs.Playable.{IsPlayable};
+ghost use Rattle.dl_script.specs.Playable.{IsPlayable, IsRunnable};
 ghost use Rattle.dl_script.specs.Script.{steps_of, scenario_of};
 ghost use Rattle.dl_script.specs.Spelled.{SpellsStep, SpellsScenarioLine, step_claim, scenario_claim, IsSayableStep, IsSayableScenarioLine, AreSpelled, MayFollow, text_of};
 ghost use Rattle.dl_script.specs.Line.{says, step_word, scenario_word, step_by_word, scenario_by_word, step_of, scenario_line_of};
@@ -52,7 +52,14 @@ pub fn what_is_read_can_be_played()
     ensures bounded { (text : List ℕ) (steps : List Step) → steps_of text ≡ Ok steps → (length steps ≤ length text) × (length text ≤ size_limit) }
 {}
 
-/// So can the steps that a number makes, up to as many calls as a script may have. There are 21 steps before the first call,
+/// So can a scenario that is read be run: each of its lines may follow those before it, its applications and contexts have
+/// names, its rings hold 1 to 4096 calls, and its descriptions are short.
+pub fn what_is_read_can_be_run()
+    ensures runnable { (text : List ℕ) (lines : List ScenarioLine) → scenario_of text ≡ Ok lines → IsRunnable lines }
+    ensures bounded { (text : List ℕ) (lines : List ScenarioLine) → scenario_of text ≡ Ok lines → (length lines ≤ length text) × (length text ≤ size_limit) }
+{}
+
+/// The steps that a number makes can be played too, up to as many calls as a script may have. There are 21 steps before the first call,
 /// and at most seven for each call.
 pub fn what_is_generated_can_be_played()
     ensures playable { (number calls : ℕ) → calls ≤ 1000000 → IsPlayable (generated number calls) }

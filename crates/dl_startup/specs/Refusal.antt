@@ -8,8 +8,10 @@ use Rattle.dl_conf.specs.declared.stored.StoredKind.{StoredKind}
 use Rattle.dl_conf.specs.declared.stored.StoredKind.TheVariants as stored
 use Rattle.dl_script_fields.specs.declared.kind.ScriptKind.{ScriptKind}
 use Rattle.dl_script_fields.specs.declared.kind.ScriptKind.TheVariants as script
+use Rattle.dl_startup.specs.declared.storage_kind.StorageKind.{StorageKind}
+use Rattle.dl_startup.specs.declared.storage_kind.StorageKind.TheVariants as storage
 
--- what is wrong with a line, in one word: that of `dlt.conf`, of the stored configuration, of a script
+-- what is wrong with a line, in one word: that of `dlt.conf`, of the stored configuration, of a script, of the log storage's filters
 
 abbrev pub conf_word : ConfKind → List ℕ
 conf_word conf.NoValue = codes "novalue"
@@ -40,6 +42,17 @@ script_word script.Unknown = codes "unknown"
 script_word script.Twice = codes "twice"
 script_word script.Limit = codes "limit"
 script_word script.Payload = codes "payload"
+
+abbrev pub storage_word : StorageKind → List ℕ
+storage_word storage.Fields = codes "fields"
+storage_word storage.Name = codes "name"
+storage_word storage.Id = codes "id"
+storage_word storage.Level = codes "level"
+storage_word storage.Number = codes "number"
+storage_word storage.Sizes = codes "sizes"
+storage_word storage.Twice = codes "twice"
+storage_word storage.TooMany = codes "toomany"
+storage_word storage.Size = codes "size"
 
 -- the line of a refusal, `PROGRAM: TEXT line NUMBER: KIND`, with its number in digits
 abbrev pub numbered_line : List ℕ → List ℕ → List ℕ → List ℕ → List ℕ

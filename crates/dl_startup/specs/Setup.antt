@@ -21,6 +21,10 @@ use Rattle.dl_startup.specs.declared.setup.SetupError.TheVariants.{Fault, Folder
 abbrev pub conf_in : List ℕ → Files → Result Values (ℕ × ConfKind)
 conf_in name files = option_map_or conf_said (map.get files name) (Ok defaults)
 
+-- the name of the configuration, where no other is asked for
+abbrev pub conf_name : List ℕ
+conf_name = codes "dlt.conf"
+
 -- the name of the stored configuration
 abbrev pub stored_name : List ℕ
 stored_name = codes "dlt_stored.cfg"

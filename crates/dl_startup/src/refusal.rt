@@ -2,9 +2,10 @@
 
 ghost use Rattle.std.specs.Prelude.{◌≡◌, OnErr, OnOk};
 ghost use Rattle.dl_outside.specs.Written.{WroteAll, WroteFront};
-ghost use Rattle.dl_startup.specs.Refusal.{conf_word, numbered_line, refusal_line, script_word, stored_word};
+ghost use Rattle.dl_startup.specs.Refusal.{conf_word, numbered_line, refusal_line, script_word, storage_word, stored_word};
 
 use crate::output::write_pieces;
+use crate::storage_kind::StorageKind;
 use dl_conf::{ConfKind, StoredKind};
 use dl_outside::{Sink, WriteError};
 use dl_script_fields::ScriptKind;
@@ -65,6 +66,23 @@ pub fn script_word(kind: ScriptKind) -> &'static [u8]
     }
 }
 
+/// What is wrong with a line of the log storage's filters, in one word.
+pub fn storage_word(kind: StorageKind) -> &'static [u8]
+    ensures { result.now ≡ storage_word kind }
+{
+    match kind {
+        StorageKind::Fields => b"fields",
+        StorageKind::Name => b"name",
+        StorageKind::Id => b"id",
+        StorageKind::Level => b"level",
+        StorageKind::Number => b"number",
+        StorageKind::Sizes => b"sizes",
+        StorageKind::Twice => b"twice",
+        StorageKind::TooMany => b"toomany",
+        StorageKind::Size => b"size",
+    }
+}
+
 /// Writes the line of a refusal, with its number in digits.
 fn write_line<E: Sink>(
     err: &mut E,
@@ -79,7 +97,7 @@ fn write_line<E: Sink>(
     write_pieces(err, &[program, COLON, text, LINE, number, COLON, kind, END])
 }
 
-/// Writes the line of a refusal: the program's name, the text that it refuses (`conf`, `stored` or `script`), the number
+/// Writes the line of a refusal: the program's name, the text that it refuses (as `conf` or `script`), the number
 /// of its first bad line, and what is wrong with that.
 pub fn say_refusal<E: Sink>(
     err: &mut E,

@@ -1,7 +1,11 @@
 -- What a link tells stays and grows.
 use Rattle.std.proofs.Common.{ℕ, List, [], ◌++◌, Option, Some, None, refl, sym, ap, subst, ◌∙◌, append_assoc}
 use Rattle.std.proofs.lemmas.List.{append-nil}
+use Rattle.dl_outside.specs.Link.{Gives}
 use Rattle.dl_outside.specs.Outside.{Grows, Stays}
+use Rattle.dl_outside.specs.declared.link.Gave.{Gave}
+use Rattle.dl_outside.specs.declared.link.Gave.TheVariants as gave
+use Rattle.dl_turns.specs.Turns.{heard}
 
 pub stays_same : (told : Option (List ℕ)) → Stays told told
 stays_same None = tt
@@ -14,3 +18,10 @@ stays_grow (Some bytes) new stays = stays ∙ ap Some (sym (append-nil bytes))
 pub grow_both : (a b c : Option (List ℕ)) (xs ys : List ℕ) → Grows a b xs → Grows b c ys → Grows a c (xs ++ ys)
 grow_both None b c xs ys one two = tt
 grow_both (Some z) b c xs ys one two = subst (λ (t : Option (List ℕ)). Grows t c ys) one two ∙ ap Some (append_assoc z xs ys)
+
+-- what it gave at once
+pub gives_heard : (old new : Option (List ℕ)) (answer : Gave) (into : List ℕ) → Gives old new answer into → Grows old new (heard answer into)
+gives_heard old new (gave.Bytes count) into gives = gives
+gives_heard old new gave.NotYet into gives = stays_grow old new gives
+gives_heard old new gave.End into gives = stays_grow old new gives
+gives_heard old new gave.Failed into gives = stays_grow old new gives

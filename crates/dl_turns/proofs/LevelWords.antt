@@ -8,7 +8,7 @@ use Rattle.std.proofs.Math.Nat.{div-add-mod}
 use Rattle.std.proofs.lemmas.Nat.{mod_below}
 use Rattle.std.proofs.lemmas.Bool.Decides.{eqb_tells}
 use Rattle.std.proofs.lemmas.List.{get_or-set_other, get_or-set_same}
-use Rattle.dl_events.specs.Journal.{Journaled}
+use Rattle.dl_events.specs.declared.event.Event.{Event}
 use Rattle.dl_events.specs.Journal as notes
 use Rattle.dl_events.specs.declared.event.Event.TheVariants as event
 use Rattle.dl_levels.specs.History as words
@@ -25,10 +25,10 @@ use Rattle.dl_model.specs.declared.registry.Slot.{Slot}
 use Rattle.dl_registry.specs.Kept.{Kept, owed_change, slots, with_change}
 use Rattle.dl_registry.specs.Table.{raised, unset}
 use Rattle.dl_registry.proofs.Following.{change_is_level}
-use Rattle.dl_hub.proofs.Following.{one_of}
 use Rattle.dl_core.specs.Follows.{AddsAlone}
 use Rattle.dl_core.specs.State.{Core}
-use Rattle.dl_turns.specs.Events.{IsDeskOf, SetsLevel, SetsLevels}
+use Rattle.dl_core.proofs.Noted.{added_one}
+use Rattle.dl_turns.specs.Events.{HaveSetLevels, IsDeskOf, SetsLevel}
 use Rattle.dl_turns.specs.State.{Side, side}
 
 -- ---- the slot of a context is one of the desk's
@@ -90,15 +90,15 @@ module _ (kept : Kept) (next : LevelChange) (told : PostTold) (all : length kept
       absurd (omega (arith, fresh, last, desk.versions next.slot (owed_within kept next told owed desk)))
 
 -- the next Level event is noted, and its level is set
-pub sets_level : (old new : Core) (next : LevelChange) (desk desk_now : PostTold) (journal journal_now : Journaled)
+pub sets_level : (old new : Core) (next : LevelChange) (desk desk_now : PostTold) (events events_now : Option (List Event))
     → owed_change old.registry ≡ Some next → new ≡ record old { registry = with_change old.registry (Some next) } → AddsAlone (event.Level next.slot next.level ∷ []) old new
-    → notes.Adds (Some journal.events) (Some journal_now.events) (event.Level next.slot next.level) → desk_now ≡ with_set next.slot next.level desk
-    → (folder : FolderTold) → SetsLevel next (side old desk journal folder) (side new desk_now journal_now folder)
-sets_level old new next desk desk_now journal journal_now owed core after event set folder = record {
+    → notes.Adds events events_now (event.Level next.slot next.level) → desk_now ≡ with_set next.slot next.level desk
+    → (folder : FolderTold) → SetsLevel next (side old desk events folder) (side new desk_now events_now folder)
+sets_level old new next desk desk_now events events_now owed core after noted set folder = record {
   owed = owed;
   core = core;
   after = after;
-  events = one_of event;
+  events = added_one events events_now (event.Level next.slot next.level) (event.Level next.slot next.level) refl noted;
   desk = set;
   folder = refl;
 }
@@ -109,10 +109,6 @@ desk_as kept kept_now told told_now kept_is told_is desk =
     subst (λ (k : Kept). IsDeskOf k told_now) (sym kept_is) (subst (IsDeskOf kept) (sym told_is) desk)
 
 -- ---- one after the other
-
--- Level events are noted from one side to the other, and their levels are set
-abbrev pub HaveSetLevels : Side → Side → Type 0
-HaveSetLevels old new = (changes : List LevelChange) × SetsLevels changes old new
 
 pub levels_next : (next : LevelChange) (old between new : Side) → SetsLevel next old between → HaveSetLevels between new → HaveSetLevels old new
 levels_next next old between new one others = (next ∷ others.0, (between, one, others.1))

@@ -5,10 +5,15 @@ pub mod DeskKept
 pub mod ServedRequests
 pub mod GrownBytes
 pub mod PostedSides
+pub mod AddedEvents
+pub mod LeftBytes
 pub mod LaterSides
-pub mod PumpedSides
-pub mod AskedSides
+pub mod ClosesInTurn
+pub mod HeardSides
+pub mod LaterStages
 pub mod TurnSides
 pub mod StoppingSides
 pub mod StopCauses
+pub mod ShownCauses
+pub mod GoneClients
 pub mod StayCauses

@@ -4,7 +4,6 @@ use Rattle.std.specs.Prelude.{is_some, option_map, IsSome, IsSomeAnd}
 use Rattle.std.specs.List.{concat}
 use Rattle.dl_bytes.specs.Limits.{message_limit, request_limit}
 use Rattle.dl_bytes.specs.declared.outcome.Done.{Done}
-use Rattle.dl_events.specs.Journal.{Journaled}
 use Rattle.dl_events.specs.declared.event.Event.{Event}
 use Rattle.dl_events.specs.declared.event.Why.{Why}
 use Rattle.dl_events.specs.declared.event.Why.TheVariants.{Malformed}
@@ -61,7 +60,7 @@ one_more_served hub new client served frame is has few =
 
 -- ---- the stream goes on
 
-rest_on : (stream more : List ℕ) → rest_of message_limit (stream ++ more) ≡ rest_of message_limit (rest_of message_limit stream ++ more)
+pub rest_on : (stream more : List ℕ) → rest_of message_limit (stream ++ more) ≡ rest_of message_limit (rest_of message_limit stream ++ more)
 rest_on stream more =
     let rest = rest_of message_limit stream in
     let first = its_cut message_limit stream in
@@ -117,13 +116,13 @@ pub open_served : (hub new : Hub) (client : ℕ) (frame : List ℕ) → new ≡ 
 open_served hub new client frame is there =
     subst (λ (h : Hub). IsSome (outbox_of h client)) (sym is) (still_open hub client (with_reply frame) (λ c open_so. reply_opens c.outbox frame open_so) there)
 
-pub asks : (client : ℕ) (frame : List ℕ) (ready : Ready) (pushed : Bool) (old before new : Core) (spare spare_now : ℕ) (desk desk_now : PostTold) (journal journal_now : Journaled)
-    (events : List Event) (folder folder_now : FolderTold)
-    → IsFor client frame old spare spare_now ready → owed_change old.registry ≡ None → before ≡ old → events ≡ journal.events
-    → Posts ready.want pushed desk desk_now → Serves ready pushed before new folder folder_now (Some events) (Some journal_now.events)
+pub asks : (client : ℕ) (frame : List ℕ) (ready : Ready) (pushed : Bool) (old before new : Core) (spare spare_now : ℕ) (desk desk_now : PostTold)
+    (events events_now : Option (List Event)) (folder folder_now : FolderTold)
+    → IsFor client frame old spare spare_now ready → owed_change old.registry ≡ None → before ≡ old
+    → Posts ready.want pushed desk desk_now → Serves ready pushed before new folder folder_now events events_now
     → new ≡ record before { registry = new.registry; hub = new.hub }
-    → Asks client frame (side old desk journal folder) (side new desk_now journal_now folder_now)
-asks client frame ready pushed old before new spare spare_now desk desk_now journal journal_now events folder folder_now is_for settled same noted posts serves rest = record {
+    → Asks client frame (side old desk events folder) (side new desk_now events_now folder_now)
+asks client frame ready pushed old before new spare spare_now desk desk_now events events_now folder folder_now is_for settled same posts serves rest = record {
   few = is_for.few;
   room = is_for.room;
   settled = settled;
@@ -133,8 +132,7 @@ asks client frame ready pushed old before new spare spare_now desk desk_now jour
   is_ready = is_for.is_ready;
   pushed = pushed;
   posts = posts;
-  serves = subst (λ (es : List Event). Serves ready pushed old new folder folder_now (Some es) (Some journal_now.events)) noted
-      (subst (λ (core : Core). Serves ready pushed core new folder folder_now (Some events) (Some journal_now.events)) same serves);
+  serves = subst (λ (core : Core). Serves ready pushed core new folder folder_now events events_now) same serves;
   rest = rest ∙ ap (λ (core : Core). record core { registry = new.registry; hub = new.hub }) same;
 }
 

@@ -1,10 +1,10 @@
 -- Why a client is stopped, or is stuck.
-use Rattle.std.proofs.Common.{◌≡◌, ℕ, zero, suc, ◌+◌, ◌<◌, ◌≤◌, Bool, true, false, cond, List, [], ◌∷◌, ◌++◌, length, take, Option, Some, None, inl, inr, ◌⊎◌, sym, ap, subst, ◌∙◌, length-append, arith}
+use Rattle.std.proofs.Common.{◌≡◌, ℕ, zero, suc, ◌+◌, ◌<◌, ◌≤◌, Bool, true, false, cond, List, [], ◌∷◌, ◌++◌, length, Option, Some, None, inl, inr, ◌⊎◌, sym, ap, subst, ◌∙◌, length-append, arith}
 use Rattle.std.specs.Prelude.{IsSomeAnd}
 use Rattle.dl_events.specs.declared.event.Why.{Why}
 use Rattle.dl_events.specs.declared.event.Why.TheVariants.{Left, Broken, Malformed, Stuck, Stopped}
-use Rattle.dl_outside.specs.Link.{Gives, HasReceiveCause}
-use Rattle.dl_outside.specs.Outside.{Grows, HasRisen}
+use Rattle.dl_outside.specs.Link.{HasReceiveCause}
+use Rattle.dl_outside.specs.Outside.{HasRisen}
 use Rattle.dl_outside.specs.Told.{LinkTold}
 use Rattle.dl_outside.specs.declared.link.Gave.{Gave}
 use Rattle.dl_outside.specs.declared.link.Gave.TheVariants as gave
@@ -12,16 +12,10 @@ use Rattle.dl_hub.specs.State.{Waiting, outbox_of}
 use Rattle.dl_core.specs.State.{Core}
 use Rattle.dl_turns.specs.State.{Side, Stage}
 use Rattle.dl_turns.specs.Stopping.{GoesOn, HasStopCause, HasTried, IsClosedIn, IsEmpty, IsStop, IsWoundUp, TurnsOn}
-use Rattle.dl_turns.specs.Turns.{HasSent, Heeds, Refuses, SendsRightly, ServesEach}
-use Rattle.dl_turns.proofs.GrownBytes.{grow_both, stays_grow, stays_same}
+use Rattle.dl_turns.specs.Turns.{HasSent, Heeds, Refuses, SendsRightly, ServesEach, heard}
+use Rattle.dl_turns.proofs.GrownBytes.{gives_heard, grow_both, stays_grow, stays_same}
 
 -- ---- what a link tells grows
-
-gives_some : (old new : Option (List ℕ)) (answer : Gave) (into : List ℕ) → Gives old new answer into → (bytes : List ℕ) × Grows old new bytes
-gives_some old new (gave.Bytes n) into gives = (take n into, gives)
-gives_some old new gave.NotYet into gives = ([], stays_grow old new gives)
-gives_some old new gave.End into gives = ([], stays_grow old new gives)
-gives_some old new gave.Failed into gives = ([], stays_grow old new gives)
 
 idles_stay : (old new : LinkTold) (answer : Gave) → HasReceiveCause old new answer → old.idles ≤ new.idles
 idles_stay old new (gave.Bytes n) cause = omega (arith, cause.1)
@@ -51,12 +45,13 @@ tried_one client old new goes =
         enough = omega (arith, some.2, length-append some.0 []);
       }
       | inr risen ↦
-          let given = gives_some old.link.given goes.heard.link.given goes.listens.answer goes.listens.into hears.given in
+          let given = heard goes.listens.answer goes.listens.into in
+          let gives = gives_heard old.link.given goes.heard.link.given goes.listens.answer goes.listens.into hears.given in
           record {
             busy = 1;
-            bytes = given.0 ++ [];
+            bytes = given ++ [];
             waited = omega (arith, hears.waits, risen.1);
-            gave = grow_both old.link.given goes.heard.link.given new.link.given given.0 [] given.1 ungiven;
+            gave = grow_both old.link.given goes.heard.link.given new.link.given given [] gives ungiven;
             enough = omega arith;
           }
     ]

@@ -43,6 +43,11 @@ pub one_turn_more : (client count : ℕ) (old last new : Stage) → TurnsOn clie
 one_turn_more client count old last new turns goes =
     let next : suc count ≡ count + 1 = omega arith in subst (λ (n : ℕ). TurnsOn client n old new) next (turn_behind client count old last new turns goes)
 
+-- the same of a link that has rested
+pub goes_by : (client : ℕ) (quiet : Bool) (old : Stage) (link link_now : LinkTold) (cutter : Cutting) (now : Side) → link_now ≡ link
+    → GoesOn client quiet old (record { link = link; cutter = cutter; side = now }) → GoesOn client quiet old (record { link = link_now; cutter = cutter; side = now })
+goes_by client quiet old link link_now cutter now same goes = subst (λ (l : LinkTold). GoesOn client quiet old (record { link = l; cutter = cutter; side = now })) (sym same) goes
+
 -- the same by another name of the cutter
 pub wound_by : (client : ℕ) (why : Why) (old : Stage) (link : LinkTold) (cutter cutter_now : Cutting) (now : Side) → cutter_now ≡ cutter
     → IsWoundUp client why old (record { link = link; cutter = cutter; side = now }) → IsWoundUp client why old (record { link = link; cutter = cutter_now; side = now })

@@ -2,8 +2,8 @@
 use Rattle.std.proofs.Common.{◌≡◌, ℕ, ◌≤◌, Bool, true, false, cond, List, [], ◌∷◌, Option, Some, None, inl, inr, refl, sym, ap, subst, ◌∙◌}
 use Rattle.std.specs.Prelude.{option_map, IsSomeAnd}
 use Rattle.dl_bytes.specs.Limits.{request_limit}
-use Rattle.dl_events.specs.Journal.{Journaled}
 use Rattle.dl_events.specs.Journal as notes
+use Rattle.dl_events.specs.declared.event.Event.{Event}
 use Rattle.dl_events.specs.declared.event.Event.TheVariants as event
 use Rattle.dl_events.specs.declared.event.Why.{Why}
 use Rattle.dl_events.specs.declared.event.Why.TheVariants.{Left, Broken, Slow, Malformed, TooMany, NoMemory, Stuck, Stopped}
@@ -15,10 +15,10 @@ use Rattle.dl_outside.specs.declared.link.Gave.TheVariants as gave
 use Rattle.dl_model.specs.Backlog.{outbox_limit}
 use Rattle.dl_registry.specs.Kept.{owed_change}
 use Rattle.dl_hub.specs.State.{Client, Hub, changed, client_of, outbox_of, shut, without}
-use Rattle.dl_hub.proofs.Following.{one_of}
 use Rattle.dl_core.specs.Closing.{MayEnd}
 use Rattle.dl_core.specs.Follows.{AddsAlone}
 use Rattle.dl_core.specs.State.{Core}
+use Rattle.dl_core.proofs.Noted.{added_one}
 use Rattle.dl_turns.specs.Events.{Closes, HasServed}
 use Rattle.dl_turns.specs.State.{Side, Stage, side}
 use Rattle.dl_turns.specs.Turns.{Heeds, IsTurn, Refuses, ServesEach}
@@ -58,18 +58,18 @@ may_end client unread gave.Failed into why old new heeds = may_plain new.core.hu
 
 -- ---- the Close
 
-pub closes : (client : ℕ) (why : Why) (old new : Core) (desk : PostTold) (journal journal_now : Journaled) (folder : FolderTold)
+pub closes : (client : ℕ) (why : Why) (old new : Core) (desk : PostTold) (events events_now : Option (List Event)) (folder : FolderTold)
     → MayEnd old.hub client why → IsSomeAnd (outbox_of old.hub client) (λ outbox. outbox.capacity ≡ outbox_limit old.hub.buffer) → owed_change old.registry ≡ None
     → new ≡ record old { hub = changed client shut old.hub } → AddsAlone (event.Close client why ∷ []) old new
-    → notes.Adds (Some journal.events) (Some journal_now.events) (event.Close client why)
-    → Closes client why (side old desk journal folder) (side new desk journal_now folder)
-closes client why old new desk journal journal_now folder may limit settled value after noted = record {
+    → notes.Adds events events_now (event.Close client why)
+    → Closes client why (side old desk events folder) (side new desk events_now folder)
+closes client why old new desk events events_now folder may limit settled value after noted = record {
   may = may;
   limit = limit;
   settled = settled;
   core = value;
   after = after;
-  events = one_of noted;
+  events = added_one events events_now (event.Close client why) (event.Close client why) refl noted;
   desk = refl;
   folder = refl;
 }

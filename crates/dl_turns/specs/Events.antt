@@ -1,5 +1,5 @@
 -- What each event of a client's turn does to the daemon's side.
-use Rattle.std.specs.Prelude.{◌≡◌, ℕ, ◌+◌, ◌*◌, ◌<◌, ◌≤◌, Bool, true, false, List, [], ◌∷◌, ◌++◌, length, Some, None, IsSome, IsSomeAnd}
+use Rattle.std.specs.Prelude.{◌≡◌, ℕ, ◌+◌, ◌*◌, ◌<◌, ◌≤◌, Bool, true, false, List, [], ◌∷◌, length, Some, None, IsSome, IsSomeAnd}
 use Rattle.std.specs.List.{AllByRecursion}
 use Rattle.dl_bytes.specs.Limits.{request_limit}
 use Rattle.dl_bytes.specs.declared.outcome.Done.{Done}
@@ -14,6 +14,7 @@ use Rattle.dl_registry.specs.Kept.{Kept, owed_change, slots, with_change}
 use Rattle.dl_services.specs.declared.wish.Want.{Want}
 use Rattle.dl_services.specs.declared.wish.Want.TheVariants as want
 use Rattle.dl_hub.specs.State.{changed, client_of, outbox_of, shut, HasRoom, MayAsk}
+use Rattle.dl_core.specs.Admission.{AddsEach}
 use Rattle.dl_core.specs.Closing.{MayEnd}
 use Rattle.dl_core.specs.Follows.{AddsAlone}
 use Rattle.dl_core.specs.Serving.{IsReady, Ready, Serves, reply_now, served_now}
@@ -72,7 +73,7 @@ pub record Asks (client : ℕ) (frame : List ℕ) (old new : Side) : Type 0 wher
   pub is_ready : IsReady old.core ready
   pub pushed : Bool
   pub posts : Posts ready.want pushed old.desk new.desk
-  pub serves : Serves ready pushed old.core new.core old.folder new.folder (Some old.events) (Some new.events)
+  pub serves : Serves ready pushed old.core new.core old.folder new.folder old.events new.events
   pub rest : new.core ≡ record old.core { registry = new.core.registry; hub = new.core.hub }
 
 -- ---- Level events
@@ -82,7 +83,7 @@ pub record SetsLevel (next : LevelChange) (old new : Side) : Type 0 where
   pub owed : owed_change old.core.registry ≡ Some next
   pub core : new.core ≡ record old.core { registry = with_change old.core.registry (Some next) }
   pub after : AddsAlone (event.Level next.slot next.level ∷ []) old.core new.core
-  pub events : new.events ≡ old.events ++ event.Level next.slot next.level ∷ []
+  pub events : AddsEach old.events new.events (event.Level next.slot next.level ∷ [])
   pub desk : new.desk ≡ with_set next.slot next.level old.desk
   pub folder : new.folder ≡ old.folder
 
@@ -91,9 +92,12 @@ abbrev pub SetsLevels : List LevelChange → Side → Side → Type 0
 SetsLevels [] old new = (new ≡ old) × (owed_change old.core.registry ≡ None)
 SetsLevels (next ∷ others) old new = (between : Side) × SetsLevel next old between × SetsLevels others between new
 
+abbrev pub HaveSetLevels : Side → Side → Type 0
+HaveSetLevels old new = (changes : List LevelChange) × SetsLevels changes old new
+
 -- a request of a client was served, and the Level events that it owes were noted behind it
 abbrev pub ServesOne : ℕ → List ℕ → Side → Side → Type 0
-ServesOne client frame old new = (between : Side) × Asks client frame old between × (changes : List LevelChange) × SetsLevels changes between new
+ServesOne client frame old new = (between : Side) × Asks client frame old between × HaveSetLevels between new
 
 -- ---- a Close
 
@@ -105,6 +109,6 @@ pub record Closes (client : ℕ) (why : Why) (old new : Side) : Type 0 where
   pub settled : owed_change old.core.registry ≡ None
   pub core : new.core ≡ record old.core { hub = changed client shut old.core.hub }
   pub after : AddsAlone (event.Close client why ∷ []) old.core new.core
-  pub events : new.events ≡ old.events ++ event.Close client why ∷ []
+  pub events : AddsEach old.events new.events (event.Close client why ∷ [])
   pub desk : new.desk ≡ old.desk
   pub folder : new.folder ≡ old.folder

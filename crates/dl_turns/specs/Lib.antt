@@ -5,4 +5,5 @@ pub mod Sent
 pub mod Turns
 pub mod Injected
 pub mod Later
+pub mod Gone
 pub mod Stopping

@@ -43,13 +43,13 @@ HasGiven old new = (bytes : List ℕ) × Grows old new bytes × (1 ≤ length by
 -- ---- what was asked is served
 
 -- Why a request isn't served, and its client is closed: it has had as many as it may, memory was wanting, or its reply needs more than the room in
--- the client's outbox.
+-- the client's outbox. No reply has more than 65,535 bytes.
 abbrev pub Refuses : ℕ → List ℕ → Why → Core → Type 0
 Refuses client frame TooMany core = IsSomeAnd (client_of core.hub client) (λ c. c.replies ≡ request_limit)
 Refuses client frame NoMemory core = MayAsk core.hub client
 Refuses client frame (Slow room need) core =
     MayAsk core.hub client × (room < need) × IsSomeAnd (outbox_of core.hub client) (λ outbox. length outbox.bytes + room ≡ outbox.capacity)
-    × ((answer : Done) → need ≡ length (reply_now core frame answer))
+    × ((answer : Done) → need ≡ length (reply_now core frame answer)) × (need ≤ 65535)
 Refuses client frame other core = ⊥
 
 -- Requests are served in order, up to the first one that is refused. Where none is, a bad header behind them is the cause to close the

@@ -6,14 +6,14 @@ ghost use Rattle.dl_bytes.specs.Limits.{message_limit};
 ghost use Rattle.dl_outside.specs.Outside.{HasRisen, Stays};
 ghost use Rattle.dl_turns.specs.Clients.{IsSame};
 ghost use Rattle.dl_turns.specs.Events.{IsServing};
-ghost use Rattle.dl_turns.specs.State.{stage};
+ghost use Rattle.dl_turns.specs.State.{seen};
 ghost use Rattle.dl_turns.specs.Turns.{HasGiven, Listens};
 
 use crate::client::Client;
 use crate::serving::serve_each;
 use dl_core::Core;
 use dl_desk::Post;
-use dl_events::{Kept, Why};
+use dl_events::{Journal, Why};
 use dl_outside::{Folder, Gave, Link};
 use std::alloc::Global;
 use std::sync::Wait;
@@ -23,26 +23,26 @@ const PIECE: usize = 4096;
 
 /// Asks a client's link once for at most 4096 bytes, and serves the requests that they make whole. Answers whether the link gave any;
 /// an error is the cause to close the client.
-pub fn listen<R: Wait, D: Post, L: Link, F: Folder>(
+pub fn listen<R: Wait, D: Post, J: Journal, L: Link, F: Folder>(
     rt: &R,
     alloc: Global,
     core: &mut Core,
     desk: &mut D,
-    journal: &mut Kept,
+    journal: &mut J,
     client: &mut Client,
     link: &mut L,
     folder: &mut F,
 ) -> Result<bool, Why>
     requires limit { client.old.cutter.now.limit ≡ message_limit }
     requires serving { IsServing client.old.number client.old.served.now core.old (D.told desk.old) }
-    ensures listens { Listens client.old.number (result_err result)
-        (stage (L.told link.old) client.old.cutter.now core.old (D.told desk.old) journal.old (F.told folder.old))
-        (stage (L.told link.new) client.new.cutter.now core.new (D.told desk.new) journal.new (F.told folder.new)) }
+    ensures listens { let s = seen L.told D.told J.events F.told in Listens client.old.number (result_err result)
+        (s link.old client.old.cutter.now core.old desk.old journal.old folder.old)
+        (s link.new client.new.cutter.now core.new desk.new journal.new folder.new) }
     ensures gave { result ≡ Ok true → HasGiven (L.told link.old).given (L.told link.new).given }
     ensures idle { result ≡ Ok false → HasRisen (L.told link.old).idles (L.told link.new).idles × Stays (L.told link.old).given (L.told link.new).given }
     ensures limit { client.new.cutter.now.limit ≡ message_limit }
     ensures serving { IsServing client.old.number client.new.served.now core.new (D.told desk.new) }
-    ensures spare { journal.old.spare ≤ journal.new.spare }
+    ensures spare { J.spare journal.old ≤ J.spare journal.new }
     ensures same { IsSame client.old client.new }
     ensures rest { D.same_rest desk.old desk.new }
 {

@@ -1,35 +1,26 @@
 //! Laws of a client's turns: what they are to the journal, to what the client sent, and to what its link took.
 
-ghost use Rattle.std.specs.Prelude.{◌≡◌, ◌⊎◌, ◌++◌, ℕ, List, Option, None};
+ghost use Rattle.std.specs.Prelude.{◌≡◌, ◌≢◌, ◌⊎◌, ℕ, true, List, [], Option, None, Some, IsSome};
 ghost use Rattle.dl_events.specs.declared.event.Why.{Why};
-ghost use Rattle.dl_message.specs.Requests.{requests};
+ghost use Rattle.dl_events.specs.declared.event.Why.TheVariants.{Left};
+ghost use Rattle.dl_model.specs.ClientEnds.{LinkDid, asked_by};
 ghost use Rattle.dl_outside.specs.Outside.{HasRisen};
-ghost use Rattle.dl_outside.specs.Told.{LinkTold};
-ghost use Rattle.dl_turns.specs.Later.{HasAsked, IsLater, IsLaterSending, asked_by};
-ghost use Rattle.dl_turns.specs.Sent.{HasCut};
+ghost use Rattle.dl_turns.specs.Gone.{Goes, IsShown, StaysOpen, Tells};
+ghost use Rattle.dl_turns.specs.Later.{IsLater, IsLaterStage};
 ghost use Rattle.dl_turns.specs.State.{Side, Stage};
 ghost use Rattle.dl_turns.specs.Stopping.{HasStopCause, IsWoundUp};
-ghost use Rattle.dl_turns.specs.Turns.{HasGiven, IsPump, IsTurn, heard};
+ghost use Rattle.dl_turns.specs.Turns.{HasGiven, IsPump, IsTurn};
 
-/// A turn is its events, each of them the client's: the core, the folder, the level words and the queues are afterwards those of the
-/// longer journal, and no other client has changed.
+/// A turn is its events and the bytes that the client's link gave: the core, the folder, the level words and the queues are afterwards those of
+/// the longer journal, no other client has changed, and the client's Request events are the requests of what it sent.
 pub fn a_turn_is_its_events()
-    ensures { (client : ℕ) (why : Option Why) (old new : Stage) → IsTurn client why old new → IsLater client old.side new.side }
+    ensures { (client : ℕ) (why : Option Why) (old new : Stage) → IsTurn client why old new → IsLaterStage client why old new }
 {}
 
-/// Where the client's Request events are the requests of what it sent before, they are so after the turn; where it was closed at a request,
-/// those before that one.
-pub fn what_is_sent_is_asked()
-    ensures { (client : ℕ) (why : Option Why) (old new : Stage) (turn : IsTurn client why old new) (sent : List ℕ)
-        → HasCut sent old.cutter → asked_by client old.side.events ≡ requests sent
-        → HasAsked client why (sent ++ heard turn.listens.answer turn.listens.into) new.side.events }
-{}
-
-/// A pump is its events and the bytes that its link took: the core, the folder and the level words are afterwards those of the longer
-/// journal, the core for these bytes more, and no other client has changed.
+/// A pump is its events and the bytes that the client's link took: the same, and the core is that for these bytes more.
 pub fn a_pump_is_its_events()
-    ensures { (client : ℕ) (why : Option Why) (link link_now : LinkTold) (old new : Side)
-        → IsPump client why link link_now old new → IsLaterSending client link link_now old new }
+    ensures { (client : ℕ) (why : Option Why) (old new : Stage) → IsPump client why old.link new.link old.side new.side → new.cutter ≡ old.cutter
+        → IsLaterStage client why old new }
 {
     dl_core::laws::what_links_take();
 }
@@ -40,10 +31,9 @@ pub fn why_a_client_stays()
         → HasGiven old.link.given new.link.given ⊎ HasRisen old.link.idles new.link.idles }
 {}
 
-/// What the daemon's stop does to a client, its closing turns and its Close, is its events and the bytes that its link took: the core, the
-/// folder and the level words are afterwards those of the longer journal, the core for these bytes more, and no other client has changed.
+/// What the daemon's stop does to a client, its closing turns and its Close, is its events and the bytes that its link gave and took.
 pub fn a_stop_is_its_events()
-    ensures { (client : ℕ) (why : Why) (old new : Stage) → IsWoundUp client why old new → IsLaterSending client old.link new.link old.side new.side }
+    ensures { (client : ℕ) (why : Why) (old new : Stage) → IsWoundUp client why old new → IsLaterStage client (Some why) old new }
 {
     dl_core::laws::what_links_take();
 }
@@ -51,4 +41,31 @@ pub fn a_stop_is_its_events()
 /// Why a client is stopped, or is stuck, at the daemon's stop.
 pub fn why_a_client_is_stopped()
     ensures { (client : ℕ) (why : Why) (old new : Stage) → IsWoundUp client why old new → HasStopCause why old.link new.link }
+{}
+
+/// A client that is open after its turn is as it was before it: the cutter has cut just what its link gave, and its Request events are the
+/// requests of that. A turn of another client asks nothing for it.
+pub fn how_a_client_stays()
+    ensures open { (client : ℕ) (old new : Stage) (later : IsLaterStage client None old new) → StaysOpen client old new later }
+    ensures others { (client other : ℕ) (why : Option Why) (sent : List ℕ) (old new : Side) (later : IsLater client why sent old new)
+        → other ≢ client → asked_by other later.more ≡ [] }
+{}
+
+/// A client that was closed has gone as the model of a daemon's end has it: its Close stands behind all else of it, its link took the front of
+/// its stream, its Request events are the requests that its link gave, and the cause is so. What the link did shows the cause where the bytes
+/// and the journal don't.
+pub fn how_a_client_went()
+    ensures { (client : ℕ) (why : Why) (old new : Stage) (later : IsLaterStage client (Some why) old new) → Goes client why old new later }
+{}
+
+/// What a link did shows why its client went. A client left only where its link was over; a link need not tell whether it is. At the stop
+/// `close_turn` says so itself.
+pub fn links_show_why_clients_went()
+    ensures turn { (client : ℕ) (why : Why) (old new : Stage) (did : LinkDid) → IsTurn client (Some why) old new → Tells old.link new.link did
+        → (why ≡ Left → did.is_over ≡ true) → IsShown did why }
+    ensures pump { (client : ℕ) (why : Why) (old new : Stage) (did : LinkDid) → IsPump client (Some why) old.link new.link old.side new.side
+        → Tells old.link new.link did → IsShown did why }
+    ensures stop { (client : ℕ) (why : Why) (old new : Stage) (did : LinkDid) → IsWoundUp client why old new → Tells old.link new.link did
+        → (why ≡ Left → did.is_over ≡ true) → IsShown did why }
+    ensures left { (client : ℕ) (old new : Stage) → IsTurn client (Some Left) old new → IsSome old.link.over → new.link.over ≡ Some true }
 {}

@@ -1,28 +1,28 @@
 //! Level events: the level words follow the registry.
 
-ghost use Rattle.std.specs.Prelude.{◌≡◌, ◌≤◌, ◌+◌, ◌<◌, true, false, None, Some, List};
+ghost use Rattle.std.specs.Prelude.{◌≡◌, ◌≤◌, ◌+◌, ◌<◌, true, false, None, Some};
 ghost use Rattle.dl_outside.specs.Told.{FolderTold};
 ghost use Rattle.dl_model.specs.declared.registry.LevelChange.{LevelChange};
 ghost use Rattle.dl_registry.specs.Kept.{owed_change};
 ghost use Rattle.dl_core.specs.Waiting.{waiting};
-ghost use Rattle.dl_turns.specs.Events.{IsDeskOf, SetsLevel, SetsLevels};
+ghost use Rattle.dl_turns.specs.Events.{HaveSetLevels, IsDeskOf, SetsLevel};
 ghost use Rattle.dl_turns.specs.State.{side};
 
 use dl_core::Core;
 use dl_desk::Post;
-use dl_events::Kept;
+use dl_events::Journal;
 
 /// Notes the next Level event that is owed, and sets the level word of its slot. Answers whether there was one.
-fn note_level<D: Post>(core: &mut Core, desk: &mut D, journal: &mut Kept) -> bool
-    requires spare { waiting core.old.registry ≤ journal.old.spare }
+fn note_level<D: Post, J: Journal>(core: &mut Core, desk: &mut D, journal: &mut J) -> bool
+    requires spare { waiting core.old.registry ≤ J.spare journal.old }
     requires desk { IsDeskOf core.old.registry (D.told desk.old) }
     ensures sets { result ≡ true → (folder : FolderTold) → (next : LevelChange) × SetsLevel next
-        (side core.old (D.told desk.old) journal.old folder)
-        (side core.new (D.told desk.new) journal.new folder) }
+        (side core.old (D.told desk.old) (J.events journal.old) folder)
+        (side core.new (D.told desk.new) (J.events journal.new) folder) }
     ensures core { core.new ≡ record core.old { registry = core.new.registry } }
     ensures none { result ≡ false → (owed_change core.new.registry ≡ None) × (core.new ≡ core.old) × (desk.new ≡ desk.old) × (journal.new ≡ journal.old) }
     ensures desk { IsDeskOf core.new.registry (D.told desk.new) }
-    ensures spare { result ≡ true → (waiting core.new.registry + 1 ≡ waiting core.old.registry) × (journal.new.spare + 1 ≡ journal.old.spare) }
+    ensures spare { result ≡ true → (waiting core.new.registry + 1 ≡ waiting core.old.registry) × (J.spare journal.new + 1 ≡ J.spare journal.old) }
     ensures apps { (D.told desk.new).apps ≡ (D.told desk.old).apps }
     ensures first { (D.told desk.new).first ≡ (D.told desk.old).first }
     ensures rest { D.same_rest desk.old desk.new }
@@ -38,16 +38,16 @@ fn note_level<D: Post>(core: &mut Core, desk: &mut D, journal: &mut Kept) -> boo
 }
 
 /// Notes all Level events that are owed, and sets the level words of their slots.
-pub fn note_levels<D: Post>(core: &mut Core, desk: &mut D, journal: &mut Kept)
-    requires spare { waiting core.old.registry ≤ journal.old.spare }
+pub fn note_levels<D: Post, J: Journal>(core: &mut Core, desk: &mut D, journal: &mut J)
+    requires spare { waiting core.old.registry ≤ J.spare journal.old }
     requires desk { IsDeskOf core.old.registry (D.told desk.old) }
-    ensures levels { (folder : FolderTold) → (changes : List LevelChange) × SetsLevels changes
-        (side core.old (D.told desk.old) journal.old folder)
-        (side core.new (D.told desk.new) journal.new folder) }
+    ensures levels { (folder : FolderTold) → HaveSetLevels
+        (side core.old (D.told desk.old) (J.events journal.old) folder)
+        (side core.new (D.told desk.new) (J.events journal.new) folder) }
     ensures settled { owed_change core.new.registry ≡ None }
     ensures core { core.new ≡ record core.old { registry = core.new.registry } }
     ensures desk { IsDeskOf core.new.registry (D.told desk.new) }
-    ensures spare { journal.new.spare + waiting core.old.registry ≡ journal.old.spare + waiting core.new.registry }
+    ensures spare { J.spare journal.new + waiting core.old.registry ≡ J.spare journal.old + waiting core.new.registry }
     ensures apps { (D.told desk.new).apps ≡ (D.told desk.old).apps }
     ensures first { (D.told desk.new).first ≡ (D.told desk.old).first }
     ensures rest { D.same_rest desk.old desk.new }

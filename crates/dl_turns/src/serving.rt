@@ -18,7 +18,7 @@ use crate::levels::note_levels;
 use dl_bytes::Bytes;
 use dl_core::{Core, Ready};
 use dl_desk::Post;
-use dl_events::{Kept, Why};
+use dl_events::{Journal, Why};
 use dl_outside::Folder;
 use std::alloc::Global;
 use std::sync::Wait;
@@ -47,10 +47,10 @@ fn copy(alloc: Global, message: &[u8]) -> Option<Bytes>
 
 /// Gets a request ready, which is to be served: the checks that stand before it, in their order. An error is the cause to close the
 /// client.
-fn prepare(
+fn prepare<J: Journal>(
     alloc: Global,
     core: &mut Core,
-    journal: &mut Kept,
+    journal: &mut J,
     client: u32,
     message: &[u8],
 ) -> Result<Ready, Why>
@@ -59,10 +59,10 @@ fn prepare(
     requires counted { IsSomeAnd (client_of core.old.hub client) (λ c. c.replies ≤ request_limit) }
     requires settled { owed_change core.old.registry ≡ None }
     ensures core { core.new ≡ core.old }
-    ensures events { journal.new.events ≡ journal.old.events }
-    ensures ready { IfOk result (λ ready. IsFor client message.now core.old journal.old.spare journal.new.spare ready) }
+    ensures events { J.events journal.new ≡ J.events journal.old }
+    ensures ready { IfOk result (λ ready. IsFor client message.now core.old (J.spare journal.old) (J.spare journal.new) ready) }
     ensures refused { IfErr result (λ why. Refuses client message.now why core.old) }
-    ensures spare { OnErr result (journal.new.spare ≡ journal.old.spare) }
+    ensures spare { OnErr result (J.spare journal.new ≡ J.spare journal.old) }
 {
     if !core.may_ask(client) {
         return Err(Why::TooMany);
@@ -84,12 +84,12 @@ fn prepare(
 }
 
 /// Serves a request of a client that is open, unless something forbids it. An error is the cause to close the client.
-fn serve_one<R: Wait, D: Post, F: Folder>(
+fn serve_one<R: Wait, D: Post, J: Journal, F: Folder>(
     rt: &R,
     alloc: Global,
     core: &mut Core,
     desk: &mut D,
-    journal: &mut Kept,
+    journal: &mut J,
     served: &mut u32,
     client: u32,
     message: &[u8],
@@ -98,12 +98,12 @@ fn serve_one<R: Wait, D: Post, F: Folder>(
     requires request { IsRequest message.now }
     requires serving { IsServing client served.old core.old (D.told desk.old) }
     ensures serves { OnOk result (ServesOne client message.now
-        (side core.old (D.told desk.old) journal.old (F.told folder.old))
-        (side core.new (D.told desk.new) journal.new (F.told folder.new))) }
+        (side core.old (D.told desk.old) (J.events journal.old) (F.told folder.old))
+        (side core.new (D.told desk.new) (J.events journal.new) (F.told folder.new))) }
     ensures refused { IfErr result (λ why. Refuses client message.now why core.old) }
-    ensures unserved { OnErr result ((core.new ≡ core.old) × (desk.new ≡ desk.old) × (journal.new.events ≡ journal.old.events) × (folder.new ≡ folder.old)) }
+    ensures unserved { OnErr result ((core.new ≡ core.old) × (desk.new ≡ desk.old) × (J.events journal.new ≡ J.events journal.old) × (folder.new ≡ folder.old)) }
     ensures serving { IsServing client served.new core.new (D.told desk.new) }
-    ensures spare { journal.old.spare ≤ journal.new.spare }
+    ensures spare { J.spare journal.old ≤ J.spare journal.new }
     ensures rest { D.same_rest desk.old desk.new }
 {
     let ready = prepare(alloc, core, journal, client, message)?;
@@ -116,12 +116,12 @@ fn serve_one<R: Wait, D: Post, F: Folder>(
 
 /// Serves the requests that a piece of a client's stream makes whole, in order. An error is the cause to close the client: a
 /// request that is refused, or a bad header behind them.
-pub fn serve_each<R: Wait, D: Post, F: Folder>(
+pub fn serve_each<R: Wait, D: Post, J: Journal, F: Folder>(
     rt: &R,
     alloc: Global,
     core: &mut Core,
     desk: &mut D,
-    journal: &mut Kept,
+    journal: &mut J,
     client: &mut Client,
     piece: &[u8],
     folder: &mut F,
@@ -129,12 +129,12 @@ pub fn serve_each<R: Wait, D: Post, F: Folder>(
     requires limit { client.old.cutter.now.limit ≡ message_limit }
     requires serving { IsServing client.old.number client.old.served.now core.old (D.told desk.old) }
     ensures serves { ServesAll client.old.number (client.old.cutter.now.unread ++ piece.now) (result_err result)
-        (side core.old (D.told desk.old) journal.old (F.told folder.old))
-        (side core.new (D.told desk.new) journal.new (F.told folder.new)) }
+        (side core.old (D.told desk.old) (J.events journal.old) (F.told folder.old))
+        (side core.new (D.told desk.new) (J.events journal.new) (F.told folder.new)) }
     ensures cut { OnOk result ((stream : List ℕ) → HasCut stream client.old.cutter.now → HasCut (stream ++ piece.now) client.new.cutter.now) }
     ensures limit { client.new.cutter.now.limit ≡ message_limit }
     ensures serving { IsServing client.old.number client.new.served.now core.new (D.told desk.new) }
-    ensures spare { journal.old.spare ≤ journal.new.spare }
+    ensures spare { J.spare journal.old ≤ J.spare journal.new }
     ensures same { IsSame client.old client.new }
     ensures rest { D.same_rest desk.old desk.new }
 {

@@ -1,7 +1,8 @@
 //! The closing turns of a client at the daemon's stop.
 
-ghost use Rattle.std.specs.Prelude.{◌≡◌, ◌≤◌, ◌<◌, ◌+◌, ◌⊎◌, ℕ, true, false, length, IsSomeAnd, Ok, Err, IfErr, IfOk, IsSome, OnErr, OnOk};
+ghost use Rattle.std.specs.Prelude.{◌≡◌, ◌≤◌, ◌<◌, ◌+◌, ◌⊎◌, ℕ, true, false, length, IsSomeAnd, Ok, Err, Some, IfErr, IfOk, IsSome, OnErr, OnOk};
 ghost use Rattle.dl_bytes.specs.Limits.{message_limit};
+ghost use Rattle.dl_events.specs.declared.event.Why.TheVariants.{Left};
 ghost use Rattle.dl_outside.specs.Told.{FolderTold};
 ghost use Rattle.dl_desk.specs.Told.{PostTold};
 ghost use Rattle.dl_registry.specs.Kept.{owed_change};
@@ -9,7 +10,8 @@ ghost use Rattle.dl_hub.specs.State.{outbox_of};
 ghost use Rattle.dl_core.specs.Closing.{MayEnd};
 ghost use Rattle.dl_turns.specs.Clients.{IsSame};
 ghost use Rattle.dl_turns.specs.Events.{Closes, HasServed, IsDeskOf, IsServing};
-ghost use Rattle.dl_turns.specs.State.{side, stage};
+ghost use Rattle.dl_turns.specs.Gone.{TellOver};
+ghost use Rattle.dl_turns.specs.State.{seen, side};
 ghost use Rattle.dl_turns.specs.Stopping.{GoesOn, IsClosedIn, IsStop, IsWoundUp};
 
 use crate::client::Client;
@@ -17,7 +19,7 @@ use crate::hearing::listen;
 use crate::turns::pump_turn;
 use dl_core::Core;
 use dl_desk::Post;
-use dl_events::{Kept, Why};
+use dl_events::{Journal, Why};
 use dl_message::Cutter;
 use dl_outside::{Folder, Link};
 use std::alloc::Global;
@@ -40,15 +42,15 @@ fn stop_cause(core: &Core, client: u32) -> Why
 }
 
 /// Closes a client that is still open: stopped where nothing waits for it, and stuck where something does.
-fn stop(core: &mut Core, journal: &mut Kept, client: u32) -> Why
+fn stop<J: Journal>(core: &mut Core, journal: &mut J, client: u32) -> Why
     requires open { IsSome (outbox_of core.old.hub client) }
     requires settled { owed_change core.old.registry ≡ None }
-    requires spare { 1 ≤ journal.old.spare }
+    requires spare { 1 ≤ J.spare journal.old }
     ensures stop { IsStop result }
-    ensures closes { (desk : PostTold) (folder : FolderTold) → Closes client result (side core.old desk journal.old folder) (side core.new desk journal.new folder) }
+    ensures closes { (desk : PostTold) (folder : FolderTold) → Closes client result (side core.old desk (J.events journal.old) folder) (side core.new desk (J.events journal.new) folder) }
     ensures served { (served : ℕ) → HasServed client served core.old → HasServed client served core.new }
     ensures registry { core.new.registry ≡ core.old.registry }
-    ensures spare { journal.new.spare + 1 ≡ journal.old.spare }
+    ensures spare { J.spare journal.new + 1 ≡ J.spare journal.old }
 {
     let why = stop_cause(core, client);
     core.close(client, why, journal);
@@ -67,34 +69,46 @@ fn is_quiet(core: &Core, client: u32, gave: bool) -> bool
     core.hub().waiting(client) == 0
 }
 
+/// Rests where nothing moved in a turn: the link gave nothing, and of so many bytes that waited it took none. A link that moves never waits.
+fn rest_if_stuck<L: Link>(core: &Core, client: u32, link: &mut L, gave: bool, before: u64)
+    requires { IsSome (outbox_of core.now.hub client) }
+    ensures { L.told link.new ≡ L.told link.old }
+{
+    let left = core.hub().waiting(client);
+    if !gave && left > 0 && left == before {
+        link.rest();
+    }
+}
+
 /// One closing turn: the client is listened to, and then what waits is sent. Answers whether the link gave nothing and nothing is left to
 /// send; an error is the cause for which the client was closed.
-fn closing_turn<R: Wait, D: Post, L: Link, F: Folder>(
+fn closing_turn<R: Wait, D: Post, J: Journal, L: Link, F: Folder>(
     rt: &R,
     alloc: Global,
     core: &mut Core,
     desk: &mut D,
-    journal: &mut Kept,
+    journal: &mut J,
     client: &mut Client,
     link: &mut L,
     folder: &mut F,
 ) -> Result<bool, Why>
     requires limit { client.old.cutter.now.limit ≡ message_limit }
     requires serving { IsServing client.old.number client.old.served.now core.old (D.told desk.old) }
-    requires spare { 1 ≤ journal.old.spare }
-    ensures goes { IfOk result (λ quiet. GoesOn client.old.number quiet
-        (stage (L.told link.old) client.old.cutter.now core.old (D.told desk.old) journal.old (F.told folder.old))
-        (stage (L.told link.new) client.new.cutter.now core.new (D.told desk.new) journal.new (F.told folder.new))) }
-    ensures closed { IfErr result (λ why. IsClosedIn client.old.number why
-        (stage (L.told link.old) client.old.cutter.now core.old (D.told desk.old) journal.old (F.told folder.old))
-        (stage (L.told link.new) client.new.cutter.now core.new (D.told desk.new) journal.new (F.told folder.new))) }
+    requires spare { 1 ≤ J.spare journal.old }
+    ensures goes { let s = seen L.told D.told J.events F.told in IfOk result (λ quiet. GoesOn client.old.number quiet
+        (s link.old client.old.cutter.now core.old desk.old journal.old folder.old)
+        (s link.new client.new.cutter.now core.new desk.new journal.new folder.new)) }
+    ensures closed { let s = seen L.told D.told J.events F.told in IfErr result (λ why. IsClosedIn client.old.number why
+        (s link.old client.old.cutter.now core.old desk.old journal.old folder.old)
+        (s link.new client.new.cutter.now core.new desk.new journal.new folder.new)) }
     ensures limit { client.new.cutter.now.limit ≡ message_limit }
     ensures serving { OnOk result (IsServing client.old.number client.new.served.now core.new (D.told desk.new)) }
     ensures served { HasServed client.old.number client.new.served.now core.new }
     ensures settled { owed_change core.new.registry ≡ None }
     ensures desk { IsDeskOf core.new.registry (D.told desk.new) }
-    ensures spare { OnOk result (journal.old.spare ≤ journal.new.spare) }
-    ensures noted { OnErr result (journal.old.spare ≤ journal.new.spare + 1) }
+    ensures spare { OnOk result (J.spare journal.old ≤ J.spare journal.new) }
+    ensures noted { OnErr result (J.spare journal.old ≤ J.spare journal.new + 1) }
+    ensures left { result ≡ Err Left → TellOver L.told → (L.told link.new).over ≡ Some true }
     ensures same { IsSame client.old client.new }
     ensures rest { D.same_rest desk.old desk.new }
 {
@@ -106,21 +120,26 @@ fn closing_turn<R: Wait, D: Post, L: Link, F: Folder>(
             return Err(why);
         }
     };
+    let before = core.hub().waiting(number);
     match pump_turn(core, journal, number, link) {
         Some(why) => Err(why),
-        None => Ok(is_quiet(core, number, gave)),
+        None => {
+            rest_if_stuck(core, number, link, gave, before);
+            Ok(is_quiet(core, number, gave))
+        }
     }
 }
 
 /// Closes a client at the daemon's stop, and answers the cause. Before that it has closing turns, at most 1000: in each it is listened to
 /// as in a turn, and what waits for it is sent. They end after the first one in which its link gave nothing and nothing is left to send,
-/// or in which the client was closed. One that is still open is stopped, or is stuck where its link did not take all.
-pub fn close_turn<R: Wait, D: Post, L: Link, F: Folder>(
+/// or in which the client was closed. One that is still open is stopped, or is stuck where its link did not take all. The link rests after a
+/// turn in which nothing moved.
+pub fn close_turn<R: Wait, D: Post, J: Journal, L: Link, F: Folder>(
     rt: &R,
     alloc: Global,
     core: &mut Core,
     desk: &mut D,
-    journal: &mut Kept,
+    journal: &mut J,
     cutter: &mut Cutter,
     served: &mut u32,
     client: u32,
@@ -129,14 +148,15 @@ pub fn close_turn<R: Wait, D: Post, L: Link, F: Folder>(
 ) -> Why
     requires limit { cutter.old.limit ≡ message_limit }
     requires serving { IsServing client served.old core.old (D.told desk.old) }
-    requires spare { 1 ≤ journal.old.spare }
-    ensures wound_up { IsWoundUp client result
-        (stage (L.told link.old) cutter.old core.old (D.told desk.old) journal.old (F.told folder.old))
-        (stage (L.told link.new) cutter.new core.new (D.told desk.new) journal.new (F.told folder.new)) }
+    requires spare { 1 ≤ J.spare journal.old }
+    ensures wound_up { let s = seen L.told D.told J.events F.told in IsWoundUp client result
+        (s link.old cutter.old core.old desk.old journal.old folder.old)
+        (s link.new cutter.new core.new desk.new journal.new folder.new) }
     ensures served { HasServed client served.new core.new }
     ensures settled { owed_change core.new.registry ≡ None }
     ensures desk { IsDeskOf core.new.registry (D.told desk.new) }
-    ensures noted { journal.old.spare ≤ journal.new.spare + 1 }
+    ensures noted { J.spare journal.old ≤ J.spare journal.new + 1 }
+    ensures left { result ≡ Left → TellOver L.told → (L.told link.new).over ≡ Some true }
     ensures rest { D.same_rest desk.old desk.new }
 {
     let mut own = Client {

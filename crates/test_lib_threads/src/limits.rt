@@ -24,7 +24,7 @@ fn fill(app: &mut App) -> (u8, Option<AppFault>) {
 }
 
 /// Makes writers until one is refused, and answers how many were made.
-#[tactic(auto, using(crate::proofs::Later::same_app))]
+#[tactic(auto, using(dl_lib::proofs::OpenBooks::same_app))]
 fn make_writers(app: &mut App, desk: &mut Desk) -> (u8, Option<WriterFault>)
     requires { IsAppOf desk.old app.old }
 {
@@ -57,7 +57,7 @@ struct Met {
 }
 
 /// Goes past the limits of an application: a book with room for two records, the 33rd writer and the 65th context.
-#[tactic(auto, using(crate::proofs::Later::same_app))]
+#[tactic(auto, using(dl_lib::proofs::OpenBooks::same_app))]
 fn pass_limits<R: Wait>(
     rt: &R,
     alloc: Global,

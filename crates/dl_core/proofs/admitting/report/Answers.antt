@@ -24,7 +24,7 @@ loop-left-preserved g c =
     (trace_in c.args.writer.now) (trace_in c.loop-left.writer) (trace_in c.admit.new.writer)
     (g.F.Folder.told c.args.folder.now) (g.F.Folder.told c.loop-left.folder) (g.F.Folder.told c.admit.new.folder)
     c.loop-left-test.true c.min-counter.ensures (c.overflow_frame-frame.ensures ∙ rw c.from_bytes.ensures refl)
-    c.loop-left.invariant c.admit.ensures.adds c.admit.ensures.rooms c.admit.ensures.same c.admit.ensures.open c.admit.ensures.admitted c.admit.ensures.stored c.admit.ensures.others
+    c.loop-left.invariant c.admit.ensures.adds c.admit.ensures.rooms c.admit.ensures.same c.admit.ensures.open c.admit.ensures.replies c.admit.ensures.admitted c.admit.ensures.stored c.admit.ensures.others
 
 pub returns : goal.returns
 returns g c =

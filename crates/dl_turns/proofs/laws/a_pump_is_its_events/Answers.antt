@@ -1,5 +1,5 @@
-use Rattle.dl_turns.proofs.PumpedSides.{sending_pump}
+use Rattle.dl_turns.proofs.LaterStages.{stage_pump}
 use Rattle.dl_turns.proofs.laws.a_pump_is_its_events.Goals as goal
 
 pub returns : goal.returns
-returns c = sending_pump c.what_links_take.ensures
+returns c = stage_pump c.what_links_take.ensures

@@ -1,5 +1,5 @@
-use Rattle.dl_turns.proofs.PumpedSides.{sending_wound_up}
+use Rattle.dl_turns.proofs.LaterStages.{stage_wound_up}
 use Rattle.dl_turns.proofs.laws.a_stop_is_its_events.Goals as goal
 
 pub returns : goal.returns
-returns c = sending_wound_up c.what_links_take.ensures
+returns c = stage_wound_up c.what_links_take.ensures

@@ -15,7 +15,7 @@ returns-in-Some-clause-sets g c =
     (sym c.in-Some.ensures.change) c.requires.desk c.set-set.result (g.D.Post.told c.set-set.new.self) c.in-Some.ensures.version c.set-set.ensures.worn c.set-set.ensures.set in
     λ yes folder. (
       c.in-Some.change,
-      sets_level c.args.core.now c.level.new.self c.in-Some.change _ _ c.args.journal.now c.level.new.journal (sym c.in-Some.ensures.change) c.in-Some.ensures.value
+      sets_level c.args.core.now c.level.new.self c.in-Some.change _ _ (g.J.Journal.events c.args.journal.now) (g.J.Journal.events c.level.new.journal) (sym c.in-Some.ensures.change) c.in-Some.ensures.value
           c.in-Some.ensures.after c.in-Some.ensures.event set folder,
     )
 

@@ -1,5 +1,4 @@
 use Rattle.std.proofs.Common.{refl, ap, ◌∙◌, arith}
-use Rattle.dl_events.specs.Journal.{Journaled}
 use Rattle.dl_core.specs.State.{Core}
 use Rattle.dl_core.specs.Waiting.{waiting}
 use Rattle.dl_turns.specs.State.{side}
@@ -42,7 +41,7 @@ loop-preserved g c =
 pub returns-clause-levels : goal.returns-clause-levels
 returns-clause-levels g c = λ folder.
     let none = c.note_level.ensures.none c.loop-test.false in
-    c.loop.invariant.rest folder _ (levels_none _ _ (λ i. side (none.1 i) (g.D.Post.told (none.2 i)) (none.3 i) folder) none.0)
+    c.loop.invariant.rest folder _ (levels_none _ _ (λ i. side (none.1 i) (g.D.Post.told (none.2 i)) (g.J.Journal.events (none.3 i)) folder) none.0)
 
 pub returns-clause-settled : goal.returns-clause-settled
 returns-clause-settled g c = (c.note_level.ensures.none c.loop-test.false).0
@@ -53,7 +52,7 @@ returns-clause-core g c = registry_both c.args.core.now c.loop.core c.note_level
 pub returns-clause-spare : goal.returns-clause-spare
 returns-clause-spare g c =
     let none = c.note_level.ensures.none c.loop-test.false in
-    let journal = ap (λ (j : Journaled). j.spare) none.3 in
+    let journal = ap g.J.Journal.spare none.3 in
     let registry = ap (λ (core : Core). waiting core.registry) none.1 in
     omega (arith, c.loop.invariant.spare, journal, registry)
 

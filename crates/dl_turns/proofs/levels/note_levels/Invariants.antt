@@ -1,20 +1,20 @@
 use Rattle.std.proofs.Common.{◌≡◌, ◌≤◌, ◌+◌}
 use Rattle.dl_outside.specs.Told.{FolderTold}
 use Rattle.dl_core.specs.Waiting.{waiting}
-use Rattle.dl_turns.specs.Events.{IsDeskOf}
+use Rattle.dl_turns.specs.Events.{HaveSetLevels, IsDeskOf}
 use Rattle.dl_turns.specs.State.{Side, side}
-use Rattle.dl_turns.proofs.LevelWords.{HaveSetLevels, OnlyRegistry}
+use Rattle.dl_turns.proofs.LevelWords.{OnlyRegistry}
 use Rattle.dl_turns.proofs.levels.note_levels.Given as goal
 
 -- what notes the rest, notes all
 abbrev pub invariant-loop : goal.invariant-loop
 invariant-loop g l = record {
-  rest : (folder : FolderTold) (new : Side) → HaveSetLevels (side l.core (g.D.Post.told l.desk) l.journal folder) new
-      → HaveSetLevels (side l.fn.core (g.D.Post.told l.fn.desk) l.fn.journal folder) new;
+  rest : (folder : FolderTold) (new : Side) → HaveSetLevels (side l.core (g.D.Post.told l.desk) (g.J.Journal.events l.journal) folder) new
+      → HaveSetLevels (side l.fn.core (g.D.Post.told l.fn.desk) (g.J.Journal.events l.fn.journal) folder) new;
   core : OnlyRegistry l.fn.core l.core;
   desk : IsDeskOf l.core.registry (g.D.Post.told l.desk);
-  room : waiting l.core.registry ≤ l.journal.spare;
-  spare : l.journal.spare + waiting l.fn.core.registry ≡ l.fn.journal.spare + waiting l.core.registry;
+  room : waiting l.core.registry ≤ g.J.Journal.spare l.journal;
+  spare : g.J.Journal.spare l.journal + waiting l.fn.core.registry ≡ g.J.Journal.spare l.fn.journal + waiting l.core.registry;
   apps : (g.D.Post.told l.desk).apps ≡ (g.D.Post.told l.fn.desk).apps;
   first : (g.D.Post.told l.desk).first ≡ (g.D.Post.told l.fn.desk).first;
   same : g.D.Post.same_rest l.fn.desk l.desk;

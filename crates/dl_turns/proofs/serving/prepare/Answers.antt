@@ -8,10 +8,10 @@ use Rattle.dl_turns.proofs.ServedRequests.{has_room, too_many}
 use Rattle.dl_turns.proofs.serving.prepare.Goals as goal
 
 pub returns-then-not-may_ask-clause-refused : goal.returns-then-not-may_ask-clause-refused
-returns-then-not-may_ask-clause-refused c = too_many c.args.core.now.hub c.args.client c.requires.counted c.requires.open (λ may. absurd (cc (c.if-not-may_ask.ensures.1 may)))
+returns-then-not-may_ask-clause-refused g c = too_many c.args.core.now.hub c.args.client c.requires.counted c.requires.open (λ may. absurd (cc (c.if-not-may_ask.ensures.1 may)))
 
 pub returns-in-Ok-prepare-clause-ready : goal.returns-in-Ok-prepare-clause-ready
-returns-in-Ok-prepare-clause-ready c =
+returns-in-Ok-prepare-clause-ready g c =
     let core = c.args.core.now in
     let client = c.args.client in
     let is = c.in-Ok-prepare.ensures in
@@ -20,10 +20,10 @@ returns-in-Ok-prepare-clause-ready c =
     record {
       few = c.may_ask.ensures.0 (search rules);
       room = λ answer.
-          let need = c.in-Ok.ensures answer in
+          let need = c.in-Ok.ensures.size answer in
           has_room (outbox_of core.hub client) c.room-room.result (length (reply_now core c.args.message.now answer)) room (omega (arith, need, c.if-room-need.false));
       of_client = is.client.0;
       of_frame = frame;
       is_ready = is.ready;
-      reserved = λ answer. subst (λ (f : List ℕ). c.args.journal.now.spare + 1 + waiting (served_now core f answer) ≤ c.prepare.new.journal.spare) frame (is.reserved answer);
+      reserved = λ answer. subst (λ (f : List ℕ). g.J.Journal.spare c.args.journal.now + 1 + waiting (served_now core f answer) ≤ g.J.Journal.spare c.prepare.new.journal) frame (is.reserved answer);
     }

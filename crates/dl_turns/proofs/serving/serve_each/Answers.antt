@@ -46,9 +46,9 @@ loop-taken-preserved g c =
     let unread = c.next_request.new.cutter.unread in
     let asked = finds.2 ∙ ap (λ (xs : List ℕ). c.next_request.new.cutter.message ∷ requests (unread ++ xs)) (sym same) in
     let left = finds.3 ∙ ap (λ (xs : List ℕ). rest_of message_limit (unread ++ xs)) (sym same) in
-    let old : Side = side c.loop-taken.core (g.D.Post.told c.loop-taken.desk) c.loop-taken.journal
+    let old : Side = side c.loop-taken.core (g.D.Post.told c.loop-taken.desk) (g.J.Journal.events c.loop-taken.journal)
     (g.F.Folder.told c.loop-taken.folder) in
-    let next : Side = side c.serve_one.new.core (g.D.Post.told c.serve_one.new.desk) c.serve_one.new.journal
+    let next : Side = side c.serve_one.new.core (g.D.Post.told c.serve_one.new.desk) (g.J.Journal.events c.serve_one.new.journal)
     (g.F.Folder.told c.serve_one.new.folder) in
     let one = subst (λ (m : List ℕ). ServesOne c.args.client.now.number m old next) c.message-request.ensures c.in-Ok.ensures.serves in
     record {

@@ -1,7 +1,8 @@
-use Rattle.std.proofs.Common.{refl, sym, ap, subst, arith}
+use Rattle.std.proofs.Common.{List, Option, refl, sym, ap, subst, arith}
 use Rattle.dl_bytes.specs.declared.outcome.Done.TheVariants as did
+use Rattle.dl_events.specs.declared.event.Event.{Event}
 use Rattle.dl_hub.specs.State.{client_of}
-use Rattle.dl_core.specs.Serving.{IsReady, reply_now, served_now}
+use Rattle.dl_core.specs.Serving.{IsReady, Serves, reply_now, served_now}
 use Rattle.dl_core.specs.State.{Core}
 use Rattle.dl_core.specs.Waiting.{waiting}
 use Rattle.dl_turns.proofs.DeskKept.{desk_served, injection_within}
@@ -52,10 +53,11 @@ returns-clause-serves g c =
     let levels = c.note_levels.ensures.levels (g.F.Folder.told c.request.new.folder) in (
       _,
       asks c.args.client c.args.message.now c.in_ok-ready.ready c.push_injection-pushed.result c.args.core.now c.prepare.new.core c.request.new.self
-          c.args.journal.now.spare c.prepare.new.journal.spare _ _ c.args.journal.now c.request.new.journal c.prepare.new.journal.events _ _
-          is_for c.requires.serving.settled_so c.prepare.ensures.core c.prepare.ensures.events pushed.posts c.request.ensures.served c.request.ensures.rest,
-      levels.0,
-      levels.1,
+          (g.J.Journal.spare c.args.journal.now) (g.J.Journal.spare c.prepare.new.journal) _ _ (g.J.Journal.events c.args.journal.now) (g.J.Journal.events c.request.new.journal) _ _
+          is_for c.requires.serving.settled_so c.prepare.ensures.core pushed.posts
+          (subst (λ (events : Option (List Event)). Serves c.in_ok-ready.ready c.push_injection-pushed.result c.prepare.new.core c.request.new.self (g.F.Folder.told c.args.folder.now)
+          (g.F.Folder.told c.request.new.folder) events (g.J.Journal.events c.request.new.journal)) c.prepare.ensures.events c.request.ensures.served) c.request.ensures.rest,
+      levels,
     )
 
 pub returns-clause-serving : goal.returns-clause-serving

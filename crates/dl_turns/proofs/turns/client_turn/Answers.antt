@@ -12,11 +12,11 @@ pub returns-in-Err-clause-turn : goal.returns-in-Err-clause-turn
 returns-in-Err-clause-turn g c =
     let was = c.listen.new in
     let listens = c.in-Err.ensures.listens in
-    let heard : Side = side was.core (g.D.Post.told was.desk) was.journal (g.F.Folder.told was.folder) in
+    let heard : Side = side was.core (g.D.Post.told was.desk) (g.J.Journal.events was.journal) (g.F.Folder.told was.folder) in
     turn_by _ _ _ _ was.client.cutter.now _ _ (search rules) (record {
       between = heard;
       listens = listens;
-      closes = closes c.args.client c.in-Err.why was.core c.close.new.self _ was.journal c.close.new.journal _
+      closes = closes c.args.client c.in-Err.why was.core c.close.new.self _ (g.J.Journal.events was.journal) (g.J.Journal.events c.close.new.journal) _
           (may_end c.args.client c.args.cutter.now.unread listens.answer listens.into c.in-Err.why _ _ listens.heeds) c.close.ensures.limit c.listen.ensures.serving.settled_so c.close.ensures.value c.close.ensures.after
           c.close.ensures.event;
     })

@@ -10,12 +10,12 @@ pub returns-in-Failed-clause-pump : goal.returns-in-Failed-clause-pump
 returns-in-Failed-clause-pump g c = λ desk folder.
     let pumped = c.in-Failed.ensures in
     record {
-      between = side c.pump.new.self desk c.args.journal.now folder;
+      between = side c.pump.new.self desk (g.J.Journal.events c.args.journal.now) folder;
       pumps = pumped.sent;
-      rest = ap (λ (k : Core). side k desk c.args.journal.now folder) pumped.rest;
+      rest = ap (λ (k : Core). side k desk (g.J.Journal.events c.args.journal.now) folder) pumped.rest;
       sends = (pumped.faults, pumped.waits, pumped.failed refl);
       only_sent = pumped.link;
-      closes = closes c.args.client Broken c.pump.new.self c.close.new.self desk c.args.journal.now c.close.new.journal folder tt c.close.ensures.limit
+      closes = closes c.args.client Broken c.pump.new.self c.close.new.self desk (g.J.Journal.events c.args.journal.now) (g.J.Journal.events c.close.new.journal) folder tt c.close.ensures.limit
           (ap (λ (k : Core). owed_change k.registry) pumped.rest ∙ c.requires.settled) c.close.ensures.value c.close.ensures.after c.close.ensures.event;
     }
 

@@ -1,6 +1,6 @@
 use Rattle.std.proofs.Common.{◌+◌, List, sym, ◌∙◌, subst}
 use Rattle.dl_writer.specs.State.{BookState}
-use Rattle.test_lib_threads.proofs.Later.{AreOpen, one_open}
+use Rattle.dl_lib.proofs.OpenBooks.{AreOpen, one_open}
 use Rattle.test_lib_threads.proofs.programs.open_books.Goals as goal
 
 pub loop-writer-preserved : goal.loop-writer-preserved

@@ -1,5 +1,5 @@
 use Rattle.std.proofs.Common.{◌≡◌}
-use Rattle.test_lib_threads.proofs.Later.{AreOpen}
+use Rattle.dl_lib.proofs.OpenBooks.{AreOpen}
 use Rattle.test_lib_threads.proofs.programs.open_books.Given as goal
 
 abbrev pub invariant-loop-writer : goal.invariant-loop-writer

@@ -19,6 +19,7 @@ returns-clause-admits g c =
       adds = c.admit.ensures.adds;
       same = c.admit.ensures.same;
       still_open = c.admit.ensures.open;
+      replies = c.admit.ensures.replies;
       admitted = c.admit.ensures.admitted;
       stores = each-alone (stored i.ecu c.args.moment c.extend_from_slice.new.self) (trace_in i.trace) (trace_in c.admit.new.writer) told now c.admit.ensures.stored;
       others = c.admit.ensures.others;

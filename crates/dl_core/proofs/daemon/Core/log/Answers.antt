@@ -30,4 +30,6 @@ returns-clause-notes g c =
       others = c.admit.ensures.others;
       admitted = c.admit.ensures.admitted;
       still_open = c.admit.ensures.open;
+      replies = c.admit.ensures.replies;
+      same = c.admit.ensures.same;
     })

@@ -31,4 +31,6 @@ returns-clause-notes g c =
       others = subst (λ (o : Option Trace). ChangesTraceAlone o told now) kept c.store_batch.ensures.others;
       admitted = c.admit_each.ensures.admitted;
       still_open = c.admit_each.ensures.open;
+      replies = c.admit_each.ensures.replies;
+      same = c.admit_each.ensures.same;
     })

@@ -24,4 +24,6 @@ returns-clause-notes g c =
       others = takes.others;
       admitted = takes.admitted;
       still_open = takes.still_open;
+      replies = takes.replies;
+      same = takes.same;
     })

@@ -1,8 +1,8 @@
 use Rattle.std.proofs.Common.{◌≡◌, ◌<◌, ◌+◌, ◌++◌, ◌∷◌, [], length, map, eqb, sym, ap, ◌∙◌, arith, rules}
 use Rattle.std.specs.Prelude.{option_to_list}
-use Rattle.dl_hub.specs.State.{is_open}
+use Rattle.dl_hub.specs.State.{Client, Hub, is_open}
 use Rattle.dl_hub.specs.Kept.{places_of}
-use Rattle.dl_hub.proofs.Calls.{room-comes, comes-all, few_places, open_one}
+use Rattle.dl_hub.proofs.Calls.{room-comes, comes-all, few_places, open_one, unanswered_one}
 use Rattle.dl_hub.proofs.Places.{places-comes}
 use Rattle.dl_hub.proofs.hub.Hub.connect.Goals as goal
 
@@ -40,3 +40,14 @@ returns-clause-adds c =
     let more : c.push.new.self.items ≡ c.self.inside.clients.items ++ c.comer-client.result ∷ [] = search rules in
     let number : c.len-place.result + 1 ≡ length c.self.inside.clients.items + 1 = ap (λ n. n + 1) (c.len-place.ensures ∙ c.self.inside.clients.ok.0) in
     rw (number, c.comer-client.ensures.left, more, c.comer-client.ensures.client) all.1
+
+pub returns-clause-comes : goal.returns-clause-comes
+returns-clause-comes c =
+    let more : c.push.new.self.items ≡ c.self.inside.clients.items ++ c.comer-client.result ∷ [] = search rules in
+    let first = eqb c.len-is_first.result 8 in
+    let is = c.comer-client.ensures.client in (
+      c.comer-client.result,
+      more ∙ ap (λ (h : Hub). h.clients ++ c.comer-client.result ∷ []) c.self.view_is,
+      ap is_open is ∙ open_one first c.self.inside.ecu c.in-Some.outbox.capacity c.self.inside.store,
+      ap (λ (x : Client). x.replies) is ∙ unanswered_one first c.self.inside.ecu c.in-Some.outbox.capacity c.self.inside.store,
+    )

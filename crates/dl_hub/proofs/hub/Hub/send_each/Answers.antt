@@ -1,8 +1,8 @@
 use Rattle.std.proofs.Common.{◌≡◌, length, map, refl, sym, ap, ◌∙◌}
 use Rattle.std.proofs.lemmas.List.{length-map}
-use Rattle.dl_hub.specs.State.{is_open, with_frame}
+use Rattle.dl_hub.specs.State.{Client, is_open, replies_of, with_frame}
 use Rattle.dl_hub.specs.Kept.{places_of}
-use Rattle.dl_hub.proofs.Places.{open_frames}
+use Rattle.dl_hub.proofs.Places.{open_frames, replies_frames}
 use Rattle.dl_hub.proofs.Calls.{open-all, written}
 use Rattle.dl_hub.proofs.hub.Hub.send_each.Goals as goal
 
@@ -44,3 +44,9 @@ returns-clause-open c =
     let put : c.put_each.new.clients ≡ map (with_frame c.args.frame.now) c.self.inside.clients.items = c.put_each.ensures ∙ rw (c.deref_mut.ensures.value, c.bytes.ensures.value) refl in
     let all = written c.self.inside.clients.len c.self.inside.clients.items c.put_each.new.clients c.self.inside.clients.ok.0 (ap length put ∙ length-map c.self.inside.clients.items (with_frame c.args.frame.now)) in
     ap (map is_open) (all ∙ put) ∙ open_frames c.args.frame.now c.self.inside.clients.items ∙ ap (λ hub. map is_open hub.clients) c.self.view_is
+
+pub returns-clause-replies : goal.returns-clause-replies
+returns-clause-replies c =
+    let put : c.put_each.new.clients ≡ map (with_frame c.args.frame.now) c.self.inside.clients.items = c.put_each.ensures ∙ rw (c.deref_mut.ensures.value, c.bytes.ensures.value) refl in
+    let all = written c.self.inside.clients.len c.self.inside.clients.items c.put_each.new.clients c.self.inside.clients.ok.0 (ap length put ∙ length-map c.self.inside.clients.items (with_frame c.args.frame.now)) in
+    ap (map (λ (x : Client). x.replies)) (all ∙ put) ∙ replies_frames c.args.frame.now c.self.inside.clients.items ∙ ap replies_of c.self.view_is

@@ -27,7 +27,7 @@ request-requires-clause-spare g c = omega (arith, c.in_ok-ready.ensures.reserved
 pub request-requires-clause-room : goal.request-requires-clause-room
 request-requires-clause-room g c answer =
     room_for c.args.self.now.core c.prepare.new.self c.args.client c.args.frame c.all.result.now c.in_ok-ready.ready c.hub.result.now c.room.result c.in_ok-need.need answer
-    c.prepare.ensures.unchanged c.in_ok-ready.ensures.client.0 c.in_ok-ready.ensures.client.1 c.all.ensures c.hub.ensures c.room.ensures.value (omega (arith, c.if-room-need.false)) (c.in_ok-need.ensures answer)
+    c.prepare.ensures.unchanged c.in_ok-ready.ensures.client.0 c.in_ok-ready.ensures.client.1 c.all.ensures c.hub.ensures c.room.ensures.value (omega (arith, c.if-room-need.false)) (c.in_ok-need.ensures.size answer)
 
 pub returns-clause-does : goal.returns-clause-does
 returns-clause-does g c =

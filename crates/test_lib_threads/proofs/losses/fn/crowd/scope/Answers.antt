@@ -1,5 +1,5 @@
 use Rattle.std.proofs.Common.{◌≡◌, ◌∙◌, vec_len}
-use Rattle.test_lib_threads.proofs.Later.{made_with, stay}
+use Rattle.dl_lib.proofs.OpenBooks.{made_with, stay}
 use Rattle.test_lib_threads.proofs.losses.fn.crowd.scope.Goals as goal
 
 pub make-requires : goal.make-requires

@@ -1,0 +1,9 @@
+pub mod Added
+pub mod SlowLists
+pub mod Rooms
+pub mod Slows
+pub mod KeptClients
+pub mod KeptTraces
+pub mod Admitted
+pub mod Entries
+pub mod Told

@@ -1,0 +1,5 @@
+pub mod Part
+pub mod Slow
+pub mod Kept
+pub mod Admission
+pub mod Telling

@@ -1,0 +1,4 @@
+pub mod State
+pub mod Finding
+pub mod Levels
+pub mod Pumping

@@ -1,0 +1,6 @@
+pub mod OpenClients
+pub mod ToldLevels
+pub mod ServedMessages
+pub mod HeardMore
+pub mod PutLevels
+pub mod LaterSides

@@ -1,0 +1,26 @@
+-- What becomes of a user message of a channel.
+use Rattle.std.specs.Prelude.{◌≡◌, ℕ, Bool, true, false}
+use Rattle.dl_bytes.specs.declared.moment.Moment.{Moment}
+use Rattle.dl_bytes.specs.declared.user.UserMsg.{UserMsg}
+use Rattle.dl_core.specs.Admission.{has_frames}
+use Rattle.dl_core.specs.Noting.{NotesMessage}
+use Rattle.dl_core.specs.Registering.{Registers}
+use Rattle.dl_admission.specs.Admission.{Forwards}
+use Rattle.dl_channel_turns.specs.Levels.{HaveToldLevels}
+use Rattle.dl_channel_turns.specs.State.{Side, part_of}
+
+-- a message without frames was handed to the registry, and its event is noted
+pub record Notes (channel : ℕ) (moment : Moment) (msg : UserMsg) (old new : Side) : Type 0 where
+  pub notes : NotesMessage moment channel msg old.core new.core old.folder new.folder old.events new.events
+  pub registers : Registers channel msg old.core new.core.registry
+  pub outboxes : new.outboxes ≡ old.outboxes
+  pub rest : new.core ≡ record old.core { registry = new.core.registry; hub = new.core.hub; trace = new.core.trace }
+
+-- A message that has frames is admitted, behind the Closes of the clients that are too slow for it, and nothing is told. Any other one is
+-- noted, and the Level events that it owes follow, each told its channel.
+abbrev pub Serves : Bool → ℕ → Moment → UserMsg → Side → Side → Type 0
+Serves true channel moment msg old new = Forwards moment channel msg (part_of old) (part_of new) × (new.outboxes ≡ old.outboxes)
+Serves false channel moment msg old new = (between : Side) × Notes channel moment msg old between × HaveToldLevels between new
+
+abbrev pub ServesOne : ℕ → Moment → UserMsg → Side → Side → Type 0
+ServesOne channel moment msg old new = Serves (has_frames msg) channel moment msg old new

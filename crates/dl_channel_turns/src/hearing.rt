@@ -1,0 +1,56 @@
+//! A program is listened to.
+
+ghost use Rattle.std.specs.Prelude.{◌≡◌, ◌≤◌, ◌+◌, None};
+ghost use Rattle.dl_bytes.specs.Limits.{admitted_limit};
+ghost use Rattle.dl_registry.specs.Kept.{owed_change};
+ghost use Rattle.dl_channel_turns.specs.State.{seen};
+ghost use Rattle.dl_channel_turns.specs.Turns.{IsTurn, Stays};
+
+use crate::outboxes::Outboxes;
+use crate::serving::serve_each;
+use dl_bytes::Moment;
+use dl_channel::{ChannelEnd, Inbox};
+use dl_core::Core;
+use dl_events::Journal;
+use dl_outside::{Folder, Gave, Link};
+
+/// How many bytes a link is asked for at once.
+const PIECE: usize = 4096;
+
+/// Asks a channel's link once for at most 4096 bytes, and takes in the messages that they make whole, in order. Each message that has frames
+/// is admitted, behind the Closes of the clients that are too slow for them; any other goes to the registry, and the Level events that it
+/// owes follow, each put for its channel. The answer is why the channel ends, where it does.
+pub fn hear<J: Journal, L: Link, F: Folder>(
+    core: &mut Core,
+    outboxes: &mut Outboxes,
+    journal: &mut J,
+    inbox: &mut Inbox,
+    channel: u16,
+    link: &mut L,
+    moment: Moment,
+    folder: &mut F,
+) -> Option<ChannelEnd>
+    requires settled { owed_change core.old.registry ≡ None }
+    requires few { core.old.hub.admitted + 4096 ≤ admitted_limit }
+    ensures turn { let s = seen L.told J.events F.told in IsTurn channel moment result
+        (s link.old inbox.old core.old outboxes.old journal.old folder.old) (s link.new inbox.new core.new outboxes.new journal.new folder.new) }
+    ensures stays { result ≡ None → Stays (L.told link.old) (L.told link.new) }
+    ensures settled { owed_change core.new.registry ≡ None }
+{
+    inbox.is_within();
+    let mut buffer = [0; PIECE];
+    match link.recv(&mut buffer) {
+        Gave::Bytes(count) => {
+            let piece = &buffer[..count];
+            match serve_each(
+                core, outboxes, journal, inbox, channel, piece, moment, folder,
+            ) {
+                Ok(()) => None,
+                Err(end) => Some(end),
+            }
+        }
+        Gave::NotYet => None,
+        Gave::End => Some(ChannelEnd::Left),
+        Gave::Failed => Some(ChannelEnd::Broken),
+    }
+}

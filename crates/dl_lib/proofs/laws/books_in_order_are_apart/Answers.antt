@@ -1,0 +1,5 @@
+use Rattle.dl_lib.proofs.OpenBooks.{made_with}
+use Rattle.dl_lib.proofs.laws.books_in_order_are_apart.Goals as goal
+
+pub returns : goal.returns
+returns c desk books made numbered = made_with desk books _ made numbered

@@ -1,0 +1,6 @@
+//! The live daemon: what a run begins with.
+#![tactic(auto)]
+
+mod beginning;
+
+pub use beginning::{Begun, begin};

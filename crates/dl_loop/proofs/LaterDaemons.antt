@@ -1,0 +1,138 @@
+-- What is true of a daemon goes on with a round over its clients.
+use Rattle.std.proofs.Common.{◌≡◌, ◌≤◌, ◌+◌, ℕ, List, [], ◌∷◌, ◌++◌, Option, Some, refl, sym, ap, subst, ◌∙◌, arith, append-nil, length, map, count_by, slice_get, zero, suc, pred}
+use Rattle.std.specs.Prelude.{cond}
+use Rattle.std.specs.List.{AllByRecursion}
+use Rattle.std.proofs.lemmas.List.{length-map}
+use Rattle.std.proofs.lemmas.List.Sums.{sum_by-append}
+use Rattle.dl_events.specs.Journal.{Journaled}
+use Rattle.dl_events.specs.declared.event.Event.{Event}
+use Rattle.dl_events.specs.declared.event.Event.TheVariants as event
+use Rattle.dl_bytes.specs.declared.conf.AppSpec.{AppSpec}
+use Rattle.dl_losses.specs.Losses.{reported_of}
+use Rattle.dl_losses.specs.declared.keeper.Report.{Report}
+use Rattle.dl_model.specs.Accounts.{name_of, order}
+use Rattle.dl_model.specs.Journal.{IsRunning}
+use Rattle.dl_model.specs.Report.{reported}
+use Rattle.dl_outside.specs.Links.{Links}
+use Rattle.dl_outside.specs.Outside.{Grows}
+use Rattle.dl_outside.specs.Told.{FolderTold, LinkTold}
+use Rattle.dl_desk.specs.Lists.{At}
+use Rattle.dl_desk.specs.State.{DeskState}
+use Rattle.dl_hub.specs.State.{IsSameHub}
+use Rattle.dl_core.specs.Admission.{GivesFrames}
+use Rattle.dl_core.specs.Follows.{Run}
+use Rattle.dl_core.specs.State.{Core}
+use Rattle.dl_lib.specs.Known.{taken_of}
+use Rattle.dl_well_formed.proofs.Following.{stays_formed}
+use Rattle.dl_turns.specs.State.{side}
+use Rattle.dl_turns.proofs.PostedSides.{posted_both}
+use Rattle.dl_rounds.specs.Clients.{Clients}
+use Rattle.dl_rounds.specs.Passing.{AreLater, IsOfClients, took_all}
+use Rattle.dl_rounds.specs.Ready.{AreHeard, AreLinked, KeepsRoom}
+use Rattle.dl_rounds.specs.declared.listener.Listener.{Listener}
+use Rattle.dl_loop.specs.Bounds.{HasBounds}
+use Rattle.dl_loop.specs.Daemon.{IsDaemon, TellTaken, is_noted}
+use Rattle.dl_loop.specs.Holds.{AreTaken, Gives, HoldsIn}
+use Rattle.dl_loop.specs.State.{DaemonState, SameDesk, clients_of, desk_told}
+use Rattle.dl_loop.specs.Told.{IsToldBy}
+use Rattle.dl_loop.proofs.ToldJournals.{told_more}
+use Rattle.dl_loop.proofs.DeskRest.{later_both, same_apps, same_later, same_reported, same_taken}
+
+-- ---- events of clients take nothing
+
+record TakesNothing (more : List Event) : Type 0 where
+  pub calls : (app : ℕ) → order app more ≡ []
+  pub losses : (app : ℕ) → reported app more ≡ 0
+  pub noted : count_by is_noted more ≡ 0
+
+of_clients_take_nothing : (more : List Event) → AllByRecursion IsOfClients more → TakesNothing more
+of_clients_take_nothing [] is = record { calls = λ app. refl; losses = λ app. refl; noted = refl }
+of_clients_take_nothing (event.Request other frame answer ∷ more) is =
+    let rest = of_clients_take_nothing more is.1 in record { calls = rest.calls; losses = rest.losses; noted = rest.noted }
+of_clients_take_nothing (event.Level slot level ∷ more) is =
+    let rest = of_clients_take_nothing more is.1 in record { calls = rest.calls; losses = rest.losses; noted = rest.noted }
+of_clients_take_nothing (event.Close client cause ∷ more) is =
+    let rest = of_clients_take_nothing more is.1 in record { calls = rest.calls; losses = rest.losses; noted = rest.noted }
+of_clients_take_nothing (event.Log app writer call moment ∷ more) is = absurd is.0
+of_clients_take_nothing (event.Lost app count moment ∷ more) is = absurd is.0
+of_clients_take_nothing (event.User channel msg moment ∷ more) is = absurd is.0
+of_clients_take_nothing (event.Connect client ∷ more) is = absurd is.0
+
+-- ---- what links took
+
+grown : (before now : Option (List ℕ)) (had more : List ℕ) → before ≡ Some had → Grows before now more → now ≡ Some (had ++ more)
+grown before now had more is grows = subst (λ (o : Option (List ℕ)). Grows o now more) is grows
+
+-- an entry of a list is one of a list that is as long
+there_too : {A : Type 0} (xs ys : List A) (place : ℕ) (y : A) → length ys ≡ length xs → slice_get ys place ≡ Some y → (x : A) × (slice_get xs place ≡ Some x)
+there_too [] [] place y long is = absurd cc
+there_too [] (b ∷ ys) place y long is = absurd cc
+there_too (a ∷ xs) [] place y long is = absurd cc
+there_too (a ∷ xs) (b ∷ ys) zero y long is = (a, refl)
+there_too (a ∷ xs) (b ∷ ys) (suc place) y long is = there_too xs ys place y (ap pred long) is
+
+taken_later : (old new : Clients) (took : ℕ → List ℕ) (later : AreLater old new) → AreTaken old.links took → AreTaken new.links (took_all took later.sent)
+taken_later old new took later taken = λ place link there.
+    let before = there_too old.links new.links place link later.many there in
+    grown before.0.taken link.taken (took (place + 1)) (later.sent (place + 1)) (taken place before.0 before.1) (later.links_took place before.0 link before.1 there)
+
+-- ---- the daemon
+
+-- a run gives what it gave before where nothing more was taken
+gives_before : (run : Run) (first : Core) (old new : DeskState) → SameDesk old new → Gives run first new.apps new.handles → Gives run first old.apps old.handles
+gives_before run first old new same gives = record {
+  begins = gives.begins;
+  frames = λ app. subst (λ items. GivesFrames items run) (same_taken old new same app) (gives.frames app);
+  apids = subst (λ apps. (app : ℕ) → At apps app (λ spec. run.apid app ≡ spec.apid)) (same_apps old new same) gives.apids;
+}
+
+add_none : (n : ℕ) → n + 0 ≡ n
+add_none n = omega arith
+
+module _ {L : Type 0} (told : L → LinkTold) (old : DaemonState L) (is : IsDaemon told old) where
+  -- a run that held goes on with the events and the bytes of a round over clients
+  holds_later : (desk : DeskState) (folder : FolderTold) (new : Clients) (later : AreLater (clients_of told old folder) new) → new.side.desk ≡ desk_told desk → SameDesk old.desk desk
+      → (run : Run) → Gives run old.first_core desk.apps desk.handles
+      → HoldsIn (TellTaken told) run new.links (old.journal.events ++ later.more) new.side.core (desk_told old.first_desk) new.side.desk
+  holds_later desk folder new later told_so same run gives =
+      let holds = is.runs run (gives_before run old.first_core old.desk desk same gives) in record {
+        took = took_all holds.took later.sent;
+        taken = λ tells. taken_later (clients_of told old folder) new holds.took later (holds.taken tells);
+        after = (later.after run old.journal.events holds.took holds.after).0;
+        formed = stays_formed old.core later.more later.formed run old.journal.events holds.took holds.after holds.formed;
+        posted = λ app. posted_both run.setting [] old.journal.events later.more app (desk_told old.first_desk) (desk_told old.desk) new.side.desk (holds.posted app)
+            (later.posts run old.journal.events holds.took holds.after app);
+      }
+
+  -- a daemon is one after it
+  pub later_daemon : (core : Core) (desk : DeskState) (journal : Journaled) (links : Links L) (listeners : List Listener) (folder folder_now : FolderTold)
+      → AreLater (clients_of told old folder) (record { links = map told links.links; listeners = listeners; side = side core (desk_told desk) (Some journal.events) folder_now })
+      → IsRunning journal.events → core.hub.admitted ≡ old.core.hub.admitted → SameDesk old.desk desk
+      → AreLinked links core journal.spare → AreHeard listeners core (desk_told desk) → KeepsRoom old.core core old.journal.spare journal.spare → IsSameHub old.core.hub core.hub
+      → IsDaemon told (record old { core = core; desk = desk; journal = journal; links = links; listeners = listeners })
+  later_daemon core desk journal links listeners folder folder_now later running admitted same linked heard room same_hub =
+      let events : journal.events ≡ old.journal.events ++ later.more = cc later.events in
+      let none = of_clients_take_nothing later.more later.of_clients in
+      let many : length links.links ≡ length old.links.links = omega (arith, length-map links.links told, length-map old.links.links told, later.many) in
+      record {
+        told_by = subst (λ es. IsToldBy es (length desk.apps) desk.handles) (sym events) (subst (λ (specs : List AppSpec). IsToldBy (old.journal.events ++ later.more) (length specs) desk.handles) (sym (same_apps old.desk desk same))
+            (told_more old.journal.events later.more (length old.desk.apps) old.desk.handles desk.handles is.told_by
+            (λ app. ap (map name_of) (same_taken old.desk desk same app) ∙ sym (ap (λ xs. map name_of (taken_of old.desk.handles app) ++ xs) (none.calls app) ∙ append-nil _))
+            (λ app. ap (reported_of app) (same_reported old.desk desk same) ∙ sym (ap (λ n. reported_of app old.desk.handles.losses.reported + n) (none.losses app) ∙ add_none _))
+            (λ app beyond. (none.calls app, none.losses app)) later.desk.sets));
+        linked = linked;
+        heard = heard;
+        room = record {
+          noted = is.room.noted ∙ omega (arith, sum_by-append (λ (e : Event). cond (is_noted e) 1 0) old.journal.events later.more, ap (count_by is_noted) events, none.noted);
+          few = is.room.few;
+          limit = same_hub.limit ∙ is.room.limit;
+          spare = omega (arith, is.room.spare, room, linked.many, is.linked.many, many);
+        };
+        bounds = subst (λ n. HasBounds old.noted n desk.handles.losses.reported) (sym admitted)
+            (subst (λ (rs : List Report). HasBounds old.noted old.core.hub.admitted rs) (sym (same_reported old.desk desk same)) is.bounds);
+        apps = subst (λ (specs : List AppSpec). length specs ≤ 16) (sym (same_apps old.desk desk same)) is.apps;
+        desk = later_both old.first_desk old.desk desk is.desk (same_later old.desk desk same);
+        running = running;
+        runs = λ run gives. subst (λ (es : List Event). HoldsIn (TellTaken told) run (map told links.links) es core (desk_told old.first_desk) (desk_told desk)) (sym events)
+            (holds_later desk folder (record { links = map told links.links; listeners = listeners; side = side core (desk_told desk) (Some journal.events) folder_now }) later refl same run gives);
+      }

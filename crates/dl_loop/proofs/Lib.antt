@@ -1,0 +1,9 @@
+pub mod ToldJournals
+pub mod AdmittedBounds
+pub mod NoRequests
+pub mod DeskRest
+pub mod Accepted
+pub mod Visited
+pub mod LaterDaemons
+pub mod MadeDaemons
+pub mod Daemons

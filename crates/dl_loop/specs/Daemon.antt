@@ -1,0 +1,47 @@
+-- What is true of a daemon between any two calls.
+use Rattle.std.specs.Prelude.{◌≡◌, ◌+◌, ◌*◌, ◌-◌, ◌≤◌, Bool, true, false, length, count_by, map, IsSome}
+use Rattle.dl_bytes.specs.Limits.{client_limit}
+use Rattle.dl_events.specs.declared.event.Event.{Event}
+use Rattle.dl_events.specs.declared.event.Event.TheVariants.{Log, Lost}
+use Rattle.dl_model.specs.Journal.{IsRunning}
+use Rattle.dl_outside.specs.Told.{LinkTold}
+use Rattle.dl_desk.specs.Made.{IsLater}
+use Rattle.dl_core.specs.Follows.{Run}
+use Rattle.dl_rounds.specs.Ready.{AreHeard, AreLinked, open_clients}
+use Rattle.dl_loop.specs.Bounds.{HasBounds}
+use Rattle.dl_loop.specs.Holds.{Gives, HoldsIn}
+use Rattle.dl_loop.specs.State.{DaemonState, desk_told}
+use Rattle.dl_loop.specs.Told.{IsToldBy}
+
+-- a Log or a Lost event
+abbrev pub is_noted : Event → Bool
+is_noted (Log app writer call moment) = true
+is_noted (Lost app count moment) = true
+is_noted other = false
+
+-- There is room for what rounds may note: the Log and Lost events that may still come, and of each client that may come or go its Connect and
+-- its Close.
+pub record HasRoom {L : Type 0} (d : DaemonState L) : Type 0 where
+  pub noted : d.noted ≡ count_by is_noted d.journal.events
+  pub few : d.noted ≤ d.calls
+  pub limit : d.core.hub.limit ≡ client_limit
+  pub spare : open_clients d.core.hub + (d.calls - d.noted) + 2 * (client_limit - length d.core.hub.clients) ≤ d.journal.spare
+
+-- links of this kind tell what they took
+abbrev pub TellTaken : {L : Type 0} → (L → LinkTold) → Type 0
+TellTaken {L} told = (link : L) → IsSome (told link).taken
+
+-- A daemon whose links tell this. Its journal tells just what was taken, reported and set; its clients are linked and heard, and the next
+-- round has room; no client was closed at a stop; the desk is the one that was handed in, later; and in each run that it may be of, core and
+-- journal stand for each other.
+pub record IsDaemon {L : Type 0} (told : L → LinkTold) (d : DaemonState L) : Type 0 where
+  pub told_by : IsToldBy d.journal.events (length d.desk.apps) d.desk.handles
+  pub linked : AreLinked d.links d.core d.journal.spare
+  pub heard : AreHeard d.listeners d.core (desk_told d.desk)
+  pub room : HasRoom d
+  pub bounds : HasBounds d.noted d.core.hub.admitted d.desk.handles.losses.reported
+  pub apps : length d.desk.apps ≤ 16
+  pub desk : IsLater d.first_desk d.desk
+  pub running : IsRunning d.journal.events
+  pub runs : (run : Run) → Gives run d.first_core d.desk.apps d.desk.handles
+      → HoldsIn (TellTaken told) run (map told d.links.links) d.journal.events d.core (desk_told d.first_desk) (desk_told d.desk)

@@ -1,0 +1,9 @@
+pub mod Taken
+pub mod Declared
+pub mod Runnable
+pub mod Playing
+pub mod ClientScripts
+pub mod OpenedBooks
+pub mod FoundContexts
+pub mod AskedCalls
+pub mod AllCalls

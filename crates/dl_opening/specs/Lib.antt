@@ -1,0 +1,3 @@
+pub mod Scenario
+pub mod Opening
+pub mod Asked

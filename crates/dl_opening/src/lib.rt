@@ -1,0 +1,11 @@
+//! What a scenario declares, made before its run: the desk and its applications with their contexts, the books of all
+//! writers, and the scripts of all clients.
+#![tactic(auto)]
+
+mod applications;
+mod books;
+mod clients;
+pub mod laws;
+mod opened;
+
+pub use opened::{Opened, open};

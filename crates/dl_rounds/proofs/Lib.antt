@@ -1,0 +1,13 @@
+pub mod ByPlace
+pub mod OneClient
+pub mod Turned
+pub mod ReadyAgain
+pub mod PumpMoves
+pub mod Visiting
+pub mod Greeted
+pub mod GreetedAll
+pub mod Connected
+pub mod VisitedEvents
+pub mod VisitedClients
+pub mod NotedClients
+pub mod GreetedEvents

@@ -1,0 +1,113 @@
+-- Between two visits: what the next one asks for holds again.
+use Rattle.std.proofs.Common.{◌≡◌, ◌≢◌, ℕ, ◌+◌, ◌-◌, ◌≤◌, ◌<◌, List, length, Option, Some, None, inl, inr, sym, ap, subst, ◌∙◌, arith}
+use Rattle.std.specs.Prelude.{slice_get, slice_set, IsSome, IsSomeAnd}
+use Rattle.std.specs.Option.{option_and_then}
+use Rattle.std.proofs.lemmas.Bool.{cases_lt}
+use Rattle.std.proofs.lemmas.Bool.Decides.{eqb_tells}
+use Rattle.dl_bytes.specs.Limits.{message_limit, request_limit}
+use Rattle.dl_outside.specs.Links.{Links}
+use Rattle.dl_desk.specs.Told.{PostTold}
+use Rattle.dl_registry.specs.Kept.{Kept, owed_change}
+use Rattle.dl_hub.specs.State.{Client, Hub, IsNextOpen, client_of, outbox_of}
+use Rattle.dl_core.specs.State.{Core}
+use Rattle.dl_turns.specs.Events.{HasServed, IsDeskOf, IsServing}
+use Rattle.dl_rounds.specs.declared.listener.Listener.{Listener}
+use Rattle.dl_rounds.specs.Ready.{AreHeard, AreLinked, KeepsRoom, fresh_listener}
+use Rattle.dl_rounds.proofs.ByPlace.{set_cases, set_length}
+use Rattle.dl_rounds.proofs.OneClient.{IsBut}
+use Rattle.dl_rounds.proofs.Turned.{open_counts, open_within}
+
+pub linked_again : {L : Type 0} (client : ℕ) (links links_now : Links L) (old new : Core) (spare spare_now : ℕ) → AreLinked links old spare → IsBut client old.hub new.hub
+    → length links_now.links ≡ length links.links → links_now.room ≡ links.room → owed_change new.registry ≡ None → KeepsRoom old new spare spare_now → AreLinked links_now new spare_now
+linked_again client links links_now old new spare spare_now linked but long room settled keeps = record {
+  many = but.many ∙ linked.many ∙ sym long;
+  few = omega (arith, linked.few, but.many, but.same.limit);
+  place = omega (arith, linked.place, room, but.same.limit);
+  settled = settled;
+  room = omega (arith, linked.room, keeps);
+}
+
+served_still : (client served : ℕ) (old new : Core) → client_of new.hub client ≡ client_of old.hub client → HasServed client served old → HasServed client served new
+served_still client served old new same has = subst (λ (o : Option Client). IsSomeAnd o (λ c. (c.replies ≡ served) × (served ≤ request_limit))) (sym same) has
+
+-- another client that is open now was so before
+was_open : (old new : Hub) (client other : ℕ) → IsBut client old new → other ≢ client → IsSome (outbox_of new other) → IsSome (outbox_of old other)
+was_open old new client other but apart some = subst (λ (o : Option Client). IsSome (option_and_then (λ (c : Client). c.outbox) o)) (but.others other apart) some
+
+pub heard_again : (client : ℕ) (listeners : List Listener) (was now : Listener) (old new : Core) (desk desk_now : PostTold) → AreHeard listeners old desk
+    → slice_get listeners (client - 1) ≡ Some was → 0 < client → client ≤ length old.hub.clients → IsBut client old.hub new.hub
+    → (IsSome (outbox_of new.hub client) → now.cutter.limit ≡ message_limit) → HasServed client now.served new → IsDeskOf new.registry desk_now → AreHeard (slice_set listeners (client - 1) now) new desk_now
+heard_again client listeners was now old new desk desk_now heard at some came but limit served kept = record {
+  enough = omega (arith, heard.enough, but.same.limit, set_length listeners (client - 1) now);
+  limits = λ place listener is open_so.
+      set_cases (λ (l : Listener). l.cutter.limit ≡ message_limit) listeners (client - 1) place was now listener at
+      (λ e. limit (subst (λ (n : ℕ). IsSome (outbox_of new.hub n)) (omega (arith, e, some)) open_so))
+      (λ apart there. heard.limits place listener there (was_open old.hub new.hub client (place + 1) but (λ e. apart (omega (arith, e))) open_so)) is;
+  counts = λ place listener is below.
+      set_cases (λ (l : Listener). HasServed (place + 1) l.served new) listeners (client - 1) place was now listener at
+      (λ e. subst (λ (n : ℕ). HasServed n now.served new) (omega (arith, e, some)) served)
+      (λ apart there. served_still (place + 1) listener.served old new (but.others (place + 1) (λ e. apart (omega (arith, e)))) (heard.counts place listener there (omega (arith, below, but.many)))) is;
+  unused = λ place listener is above.
+      set_cases (λ (l : Listener). l ≡ fresh_listener) listeners (client - 1) place was now listener at (λ e. absurd (omega (arith, e, above, came, but.many, some)))
+      (λ apart there. heard.unused place listener there (omega (arith, above, but.many))) is;
+  desk_so = kept;
+}
+
+pub heard_still : (client : ℕ) (listeners : List Listener) (old new : Core) (desk : PostTold) → AreHeard listeners old desk → IsBut client old.hub new.hub → IsSome (outbox_of old.hub client)
+    → new.registry ≡ old.registry → ((served : ℕ) → HasServed client served old → HasServed client served new) → AreHeard listeners new desk
+heard_still client listeners old new desk heard but was_so same served = record {
+  enough = omega (arith, heard.enough, but.same.limit);
+  limits = λ place listener is open_so. heard.limits place listener is (elim (eqb_tells (place + 1) client) [
+    | inl this ↦ subst (λ (n : ℕ). IsSome (outbox_of old.hub n)) (sym this.1) was_so
+    | inr other ↦ was_open old.hub new.hub client (place + 1) but other.1 open_so
+  ]);
+  counts = λ place listener is below.
+      let had = heard.counts place listener is (omega (arith, below, but.many)) in
+      elim (eqb_tells (place + 1) client) [
+        | inl this ↦ subst (λ (n : ℕ). HasServed n listener.served new) (sym this.1) (served listener.served (subst (λ (n : ℕ). HasServed n listener.served old) this.1 had))
+        | inr other ↦ served_still (place + 1) listener.served old new (but.others (place + 1) other.1) had
+      ];
+  unused = λ place listener is above. heard.unused place listener is (omega (arith, above, but.many));
+  desk_so = subst (λ (k : Kept). IsDeskOf k desk) (sym same) heard.desk_so;
+}
+
+-- ---- before a visit
+
+-- an open client is served from here on
+pub serves_on : {L : Type 0} (client : ℕ) (links : Links L) (listeners : List Listener) (listener : Listener) (core : Core) (desk : PostTold) (spare : ℕ)
+    → AreLinked links core spare → AreHeard listeners core desk → IsSome (outbox_of core.hub client) → slice_get listeners (client - 1) ≡ Some listener → IsServing client listener.served core desk
+serves_on client links listeners listener core desk spare linked heard some at =
+    let within = open_within core.hub client some in
+    let back : client - 1 + 1 ≡ client = omega (arith, within.0) in record {
+      open_so = some;
+      served_so = subst (λ (n : ℕ). HasServed n listener.served core) back (heard.counts (client - 1) listener at (omega (arith, within.0, within.1)));
+      settled_so = linked.settled;
+      desk_so = heard.desk_so;
+    }
+
+-- its cutter is one for clients
+pub limit_for : (client : ℕ) (listeners : List Listener) (listener : Listener) (core : Core) (desk : PostTold) → AreHeard listeners core desk → IsSome (outbox_of core.hub client)
+    → slice_get listeners (client - 1) ≡ Some listener → listener.cutter.limit ≡ message_limit
+limit_for client listeners listener core desk heard some at =
+    let within = open_within core.hub client some in
+    let back : client ≡ client - 1 + 1 = omega (arith, within.0) in heard.limits (client - 1) listener at (subst (λ (n : ℕ). IsSome (outbox_of core.hub n)) back some)
+
+-- and the journal has room for a Close
+pub room_for : {L : Type 0} (client : ℕ) (links : Links L) (core : Core) (spare : ℕ) → AreLinked links core spare → IsSome (outbox_of core.hub client) → 1 ≤ spare
+room_for client links core spare linked some = omega (arith, linked.room, open_counts core.hub client some)
+
+-- ---- at the stop
+
+outbox_still : (old new : Hub) (client other : ℕ) → IsBut client old new → other ≢ client → outbox_of old other ≡ None → outbox_of new other ≡ None
+outbox_still old new client other but apart gone = ap (λ (o : Option Client). option_and_then (λ (c : Client). c.outbox) o) (but.others other apart) ∙ gone
+
+-- none up to this one is open, where none up to the one before was, and none between them
+pub gone_more : (old new : Hub) (last client : ℕ) → IsBut client old new → ((number : ℕ) → number ≤ last → outbox_of old number ≡ None) → IsNextOpen old last (Some client)
+    → outbox_of new client ≡ None → (number : ℕ) → number ≤ client → outbox_of new number ≡ None
+gone_more old new last client but before next after number within = elim (eqb_tells number client) [
+  | inl this ↦ subst (λ (n : ℕ). outbox_of new n ≡ None) (sym this.1) after
+  | inr other ↦ outbox_still old new client number but other.1 (elim (cases_lt last number) [
+    | inl above ↦ next.2 number above (omega (arith, within, other.1))
+    | inr below ↦ before number below
+  ])
+]

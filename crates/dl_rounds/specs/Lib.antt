@@ -1,0 +1,7 @@
+pub mod Clients
+pub mod Rounds
+pub mod Visits
+pub mod Ready
+pub mod Arrivals
+pub mod Greetings
+pub mod Passing

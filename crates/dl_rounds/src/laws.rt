@@ -1,0 +1,91 @@
+//! Laws of rounds over clients: what they are to the journal, to each client, and to what each link gave and took.
+
+ghost use Rattle.std.specs.Prelude.{◌≡◌, ◌∷◌, ◌++◌, [], ℕ, Bool, List, IsSome};
+ghost use Rattle.dl_bytes.specs.declared.moment.Moment.{Moment};
+ghost use Rattle.dl_bytes.specs.declared.user.UserMsg.{UserMsg};
+ghost use Rattle.dl_events.specs.declared.event.Event.{Event};
+ghost use Rattle.dl_events.specs.declared.event.Event.TheVariants as event;
+ghost use Rattle.dl_events.specs.declared.event.Why.TheVariants.{Slow};
+ghost use Rattle.dl_model.specs.ClientEnds.{HasGone, LinkDid};
+ghost use Rattle.dl_hub.specs.State.{outbox_of};
+ghost use Rattle.dl_core.specs.Follows.{IsAfter, Run, source_of};
+ghost use Rattle.dl_core.specs.State.{Core};
+ghost use Rattle.dl_turns.specs.Later.{HasLeft, IsOpenWith};
+ghost use Rattle.dl_turns.specs.State.{Side, Stage};
+ghost use Rattle.dl_rounds.specs.Clients.{Client, Clients, VisitsAll};
+ghost use Rattle.dl_rounds.specs.Greetings.{AreGreeted, GreetsEach};
+ghost use Rattle.dl_rounds.specs.Passing.{AreLater, EachOpen, IsGoneSame, IsVisit, Stands, StayAsNoted, WasRead, WasSent, WasVisited};
+ghost use Rattle.dl_rounds.specs.Visits.{Closed, ClosesAll, Heard, HearsAll, Pumped};
+
+/// A visit is the client's events and bytes, whether it was listened to, pumped or closed.
+pub fn a_visit_is_its_events()
+    ensures heard { (number : ℕ) (moved : Bool) (old new : Client) → Heard number moved old new → IsVisit number old new }
+    ensures pumped { (number : ℕ) (moved : Bool) (old new : Client) → Pumped number moved old new → IsVisit number old new }
+    ensures closed { (number : ℕ) (moved : Bool) (old new : Client) → Closed number moved old new → IsVisit number old new }
+{
+    dl_turns::laws::a_turn_is_its_events();
+    dl_turns::laws::a_pump_is_its_events();
+    dl_turns::laws::a_stop_is_its_events();
+    dl_turns::laws::links_show_why_clients_went();
+}
+
+/// A round is its events and bytes: journal, core, folder, level words and queues of injections go on by them, and a well-formed journal stays so.
+pub fn a_round_is_its_events()
+    ensures heard { (moved : Bool) (old new : Clients) → HearsAll moved old new → AreLater old new }
+    ensures pumped { (moved : Bool) (old new : Clients) → VisitsAll Pumped moved old new → AreLater old new }
+    ensures closed { (old new : Clients) → ClosesAll old new → AreLater old new }
+{
+    a_visit_is_its_events();
+}
+
+/// Clients that are as a run's events have them are so after a round, where their links tell: of an open one the cutter has cut just what its link
+/// gave, and its Request events are the requests of that; of one that has gone all is as the model of a daemon's end says.
+pub fn clients_are_as_noted()
+    ensures heard { (moved : Bool) (old new : Clients) → HearsAll moved old new → StayAsNoted old new }
+    ensures pumped { (moved : Bool) (old new : Clients) → VisitsAll Pumped moved old new → StayAsNoted old new }
+    ensures closed { (old new : Clients) → ClosesAll old new → StayAsNoted old new }
+{
+    a_visit_is_its_events();
+}
+
+/// A client that went stays as it went, whatever happens to others: with more events that change nothing of it, it has gone all the same.
+pub fn a_client_stays_gone()
+    ensures { (number : ℕ) (run : Run) (past more : List Event) (old new : Stands) (did : LinkDid) → IsAfter run past old.taken old.core
+        → IsAfter run (past ++ more) new.taken new.core → IsGoneSame number did old new
+        → HasGone run.setting (source_of run) past number did → HasGone run.setting (source_of run) (past ++ more) number did }
+{}
+
+/// A client that was closed as too slow for the frames of an event has gone as the model says: it was open before, and all that its link gave was
+/// served.
+pub fn how_a_slow_client_went()
+    ensures { (number room need : ℕ) (run : Run) (past : List Event) (taken : ℕ → List ℕ) (given : List ℕ) (old : Stage) (new : Core) (did : LinkDid)
+        → IsOpenWith number run past taken given old → IsAfter run (past ++ event.Close number (Slow room need) ∷ []) taken new
+        → HasLeft number (Slow room need) new.hub → did.given ≡ given → did.taken ≡ taken number
+        → HasGone run.setting (source_of run) (past ++ event.Close number (Slow room need) ∷ []) number did }
+{}
+
+/// Each client that is open after a round was visited in it.
+pub fn a_round_visits_each_client()
+    ensures heard { (moved : Bool) (old new : Clients) → HearsAll moved old new
+        → (number : ℕ) → IsSome (outbox_of new.side.core.hub number) → WasVisited Heard number old new }
+    ensures pumped { (moved : Bool) (old new : Clients) → VisitsAll Pumped moved old new
+        → (number : ℕ) → IsSome (outbox_of new.side.core.hub number) → WasVisited Pumped number old new }
+{
+    a_visit_is_its_events();
+}
+
+/// After a round in which all clients were listened to, each that is still open has a link that gave a byte or had nothing to give yet. After
+/// one in which all were pumped, nothing is left to send to such a client, or its link takes nothing more.
+pub fn why_clients_stay()
+    ensures read { (moved : Bool) (old new : Clients) → HearsAll moved old new → EachOpen WasRead old new }
+    ensures sent { (moved : Bool) (old new : Clients) → VisitsAll Pumped moved old new → EachOpen WasSent old new }
+{
+    a_round_visits_each_client();
+    dl_turns::laws::why_a_client_stays();
+}
+
+/// What the applications of this process tell is its events: User events with just these messages, in order, and levels. The core, the folder and
+/// the level words go on by them.
+pub fn a_greeting_is_its_events()
+    ensures { (moment : Moment) (msgs : List UserMsg) (old new : Side) → GreetsEach moment msgs old new → AreGreeted msgs old new }
+{}

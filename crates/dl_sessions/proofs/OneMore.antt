@@ -1,0 +1,173 @@
+-- What one message more changes of each count.
+use Rattle.std.proofs.Common.{◌≡◌, ℕ, ◌+◌, Bool, true, false, cond, eqb, List, [], ◌∷◌, ◌++◌, Option, Some, None, refl, sym, ap, ◌∙◌, arith, rules}
+use Rattle.std.specs.Prelude.{count_by, find, sum, sum_by, unwrap_or, is_none, is_some, not, ◌&&◌}
+use Rattle.std.specs.Option.{option_map, option_or}
+use Rattle.std.specs.Str.{bytes_eq}
+use Rattle.std.proofs.lemmas.Bool.{eq-eqb, eqb-true}
+use Rattle.std.proofs.lemmas.List.Folds.{find-append}
+use Rattle.std.proofs.lemmas.List.Sums.{sum_by-append}
+use Rattle.dl_model.specs.Along.{last_that}
+use Rattle.dl_laws.proofs.Lists.{along-one, count_by-append, last_that-one}
+use Rattle.dl_sessions.specs.declared.session.Context.{Context}
+use Rattle.dl_sessions.specs.declared.session.Entry.{Entry}
+use Rattle.dl_sessions.specs.declared.session.Lost.{Lost}
+use Rattle.dl_sessions.specs.declared.session.Session.{Session}
+use Rattle.dl_sessions.specs.declared.session.Source.{Source}
+use Rattle.dl_sessions.specs.declared.session.Told.{Told}
+use Rattle.dl_sessions.specs.declared.session.Told.TheVariants as told
+use Rattle.dl_sessions.specs.declared.session.Totals.{Totals}
+use Rattle.dl_sessions.specs.Account.{counted, gap_in_context, gap_in_session, gaps, is_in, is_of, context_of, last_counter, lost_in, lost_of, noted, no_totals, same_context, same_session, same_source, totals_of}
+
+-- ---- counts
+
+-- a count that stops goes on as the whole count does
+pub goes_on : (n more : ℕ) → counted (n + more) ≡ counted (counted n + more)
+goes_on n more = omega arith
+
+pub stands : (n : ℕ) → counted n ≡ counted (counted n + 0)
+stands n = omega arith
+
+-- ---- entries of a list, and one more
+
+pub counter-one : (test : Entry → Bool) (es : List Entry) (e : Entry) → last_counter test (es ++ e ∷ []) ≡ cond (test e) (Some e.mcnt) (last_counter test es)
+counter-one test es e = ap (option_map (λ (x : Entry). x.mcnt)) (last_that-one test es e) ∙ by_test (test e) where
+  by_test : (b : Bool) → option_map (λ (x : Entry). x.mcnt) (cond b (Some e) (last_that test es)) ≡ cond b (Some e.mcnt) (last_counter test es)
+  by_test true = refl
+  by_test false = refl
+
+last-one : (test : Entry → Bool) (es : List Entry) (e : Entry) → option_map (λ (x : Entry). x.ticks) (last_that test (es ++ e ∷ [])) ≡ cond (test e) (Some e.ticks) (option_map (λ (x : Entry). x.ticks) (last_that test es))
+last-one test es e = ap (option_map (λ (x : Entry). x.ticks)) (last_that-one test es e) ∙ by_test (test e) where
+  by_test : (b : Bool) → option_map (λ (x : Entry). x.ticks) (cond b (Some e) (last_that test es)) ≡ cond b (Some e.ticks) (option_map (λ (x : Entry). x.ticks) (last_that test es))
+  by_test true = refl
+  by_test false = refl
+
+first-one : (test : Entry → Bool) (es : List Entry) (e : Entry) →
+    option_map (λ (x : Entry). x.ticks) (find test (es ++ e ∷ [])) ≡ option_or (option_map (λ (x : Entry). x.ticks) (find test es)) (cond (test e) (Some e.ticks) None)
+first-one test es e = ap (option_map (λ (x : Entry). x.ticks)) (find-append test es (e ∷ [])) ∙ by_both (find test es) (test e) where
+  by_both : (o : Option Entry) (b : Bool) → option_map (λ (x : Entry). x.ticks) (option_or o (cond b (Some e) None)) ≡ option_or (option_map (λ (x : Entry). x.ticks) o) (cond b (Some e.ticks) None)
+  by_both None true = refl
+  by_both None false = refl
+  by_both (Some x) b = refl
+
+or_none : (o : Option ℕ) → option_or o None ≡ o
+or_none None = refl
+or_none (Some x) = refl
+
+count-one : (test : Entry → Bool) (es : List Entry) (e : Entry) → count_by test (es ++ e ∷ []) ≡ count_by test es + cond {A = ℕ} (test e) 1 0
+count-one test es e = omega (arith, count_by-append test es (e ∷ []))
+
+gaps-one : (missing : List Entry → Entry → ℕ) (session : Session) (es : List Entry) (e : Entry) → sum (gaps missing session (es ++ e ∷ [])) ≡ sum (gaps missing session es) + cond {A = ℕ} (is_in session e) (missing es e) 0
+gaps-one missing session es e =
+    ap sum (along-one (λ (before : List Entry) (x : Entry). cond (is_in session x) (missing before x ∷ []) []) es e) ∙ sum_by-append (λ (n : ℕ). n) (gaps missing session es) (cond (is_in session e) (missing es e ∷ []) [])
+    ∙ by_test (is_in session e) where
+      by_test : (b : Bool) → sum (gaps missing session es) + sum (cond b (missing es e ∷ []) []) ≡ sum (gaps missing session es) + cond {A = ℕ} b (missing es e) 0
+      by_test true = omega arith
+      by_test false = refl
+
+-- ---- who is who
+
+bytes_same : (xs ys : List ℕ) → bytes_eq xs ys ≡ true → xs ≡ ys
+bytes_same xs ys e = search rules
+
+bytes_self : (xs : List ℕ) → bytes_eq xs xs ≡ true
+bytes_self xs = search rules
+
+both_so : (a b : Bool) → (a && b) ≡ true → (a ≡ true) × (b ≡ true)
+both_so true b e = (refl, e)
+both_so false b e = absurd cc
+
+all_so : (a b : Bool) → a ≡ true → b ≡ true → (a && b) ≡ true
+all_so a b ea eb = ap (λ (x : Bool). x && b) ea ∙ eb
+
+pub session_is : (a b : Session) → same_session a b ≡ true → a ≡ b
+session_is a b e =
+    let first = both_so (bytes_eq a.ecu b.ecu) (bytes_eq a.apid b.apid && eqb a.seid b.seid) e in
+    let rest = both_so (bytes_eq a.apid b.apid) (eqb a.seid b.seid) first.1 in
+    let p = bytes_same a.ecu b.ecu first.0 in
+    let q = bytes_same a.apid b.apid rest.0 in
+    let r = eqb-true a.seid b.seid rest.1 in
+    λ i. record { ecu = p i; apid = q i; seid = r i }
+
+pub session_self : (a : Session) → same_session a a ≡ true
+session_self a =
+    all_so (bytes_eq a.ecu a.ecu) (bytes_eq a.apid a.apid && eqb a.seid a.seid) (bytes_self a.ecu) (all_so (bytes_eq a.apid a.apid) (eqb a.seid a.seid) (bytes_self a.apid) (eq-eqb a.seid a.seid refl))
+
+-- ---- totals
+
+-- those of the session that the message is of
+here : (es : List Entry) (e : Entry) → totals_of e.session (es ++ e ∷ []) ≡ noted (totals_of e.session es) e (gap_in_context es e)
+here es e =
+    let s = e.session in
+    let is = session_self s in
+    let p : counted (count_by (is_in s) (es ++ e ∷ [])) ≡ counted (counted (count_by (is_in s) es) + 1) =
+    ap counted (count-one (is_in s) es e ∙ ap (λ (b : Bool). count_by (is_in s) es + cond {A = ℕ} b 1 0) is) ∙ goes_on (count_by (is_in s) es) 1 in
+    let q = first-one (is_in s) es e ∙ ap (λ (b : Bool). option_or (option_map (λ (x : Entry). x.ticks) (find (is_in s) es)) (cond b (Some e.ticks) None)) is in
+    let r = last-one (is_in s) es e ∙ ap (λ (b : Bool). cond b (Some e.ticks) (option_map (λ (x : Entry). x.ticks) (last_that (is_in s) es))) is in
+    let m = counter-one (is_in s) es e ∙ ap (λ (b : Bool). cond b (Some e.mcnt) (last_counter (is_in s) es)) is in
+    let u : counted (sum (gaps gap_in_session s (es ++ e ∷ []))) ≡ counted (counted (sum (gaps gap_in_session s es)) + gap_in_session es e) =
+    ap counted (gaps-one gap_in_session s es e ∙ ap (λ (b : Bool). sum (gaps gap_in_session s es) + cond {A = ℕ} b (gap_in_session es e) 0) is) ∙ goes_on (sum (gaps gap_in_session s es)) (gap_in_session es e) in
+    let v : counted (sum (gaps gap_in_context s (es ++ e ∷ []))) ≡ counted (counted (sum (gaps gap_in_context s es)) + gap_in_context es e) =
+    ap counted (gaps-one gap_in_context s es e ∙ ap (λ (b : Bool). sum (gaps gap_in_context s es) + cond {A = ℕ} b (gap_in_context es e) 0) is) ∙ goes_on (sum (gaps gap_in_context s es)) (gap_in_context es e) in
+    λ i. record { messages = p i; first = q i; last = r i; mcnt = m i; by_session = u i; by_context = v i }
+
+-- those of another one
+elsewhere : (session : Session) (es : List Entry) (e : Entry) → is_in session e ≡ false → totals_of session (es ++ e ∷ []) ≡ totals_of session es
+elsewhere s es e not =
+    let p : counted (count_by (is_in s) (es ++ e ∷ [])) ≡ counted (count_by (is_in s) es) =
+    ap counted (count-one (is_in s) es e ∙ ap (λ (b : Bool). count_by (is_in s) es + cond {A = ℕ} b 1 0) not ∙ omega arith) in
+    let q = first-one (is_in s) es e ∙ ap (λ (b : Bool). option_or (option_map (λ (x : Entry). x.ticks) (find (is_in s) es)) (cond b (Some e.ticks) None)) not ∙ or_none (option_map (λ (x : Entry). x.ticks) (find (is_in s) es)) in
+    let r = last-one (is_in s) es e ∙ ap (λ (b : Bool). cond b (Some e.ticks) (option_map (λ (x : Entry). x.ticks) (last_that (is_in s) es))) not in
+    let m = counter-one (is_in s) es e ∙ ap (λ (b : Bool). cond b (Some e.mcnt) (last_counter (is_in s) es)) not in
+    let u : counted (sum (gaps gap_in_session s (es ++ e ∷ []))) ≡ counted (sum (gaps gap_in_session s es)) =
+    ap counted (gaps-one gap_in_session s es e ∙ ap (λ (b : Bool). sum (gaps gap_in_session s es) + cond {A = ℕ} b (gap_in_session es e) 0) not ∙ omega arith) in
+    let v : counted (sum (gaps gap_in_context s (es ++ e ∷ []))) ≡ counted (sum (gaps gap_in_context s es)) =
+    ap counted (gaps-one gap_in_context s es e ∙ ap (λ (b : Bool). sum (gaps gap_in_context s es) + cond {A = ℕ} b (gap_in_context es e) 0) not ∙ omega arith) in
+    λ i. record { messages = p i; first = q i; last = r i; mcnt = m i; by_session = u i; by_context = v i }
+
+pub totals-one : (session : Session) (es : List Entry) (e : Entry) (old : Option Totals) → unwrap_or old no_totals ≡ totals_of session es →
+    unwrap_or (cond (same_session e.session session) (Some (noted (totals_of e.session es) e (gap_in_context es e))) old) no_totals ≡ totals_of session (es ++ e ∷ [])
+totals-one session es e old is = by_test (same_session e.session session) refl where
+  by_test : (b : Bool) → same_session e.session session ≡ b → unwrap_or (cond b (Some (noted (totals_of e.session es) e (gap_in_context es e))) old) no_totals ≡ totals_of session (es ++ e ∷ [])
+  by_test true same = sym (here es e) ∙ ap (λ (s : Session). totals_of s (es ++ e ∷ [])) (session_is e.session session same)
+  by_test false apart = is ∙ sym (elsewhere session es e apart)
+
+-- ---- losses
+
+pub lost-one : (source : Source) (stream : List Told) (t : Told) → lost_of source (stream ++ t ∷ []) ≡ counted (lost_of source stream + lost_in source t)
+lost-one source stream t =
+    let more : sum_by (lost_in source) (stream ++ t ∷ []) ≡ sum_by (lost_in source) stream + lost_in source t = sum_by-append (lost_in source) stream (t ∷ []) ∙ omega arith in
+    ap counted more ∙ goes_on (sum_by (lost_in source) stream) (lost_in source t)
+
+-- ---- what is kept, after a message was noted
+
+pub counters_kept : (old new : Context → Option ℕ) (es : List Entry) (e : Entry) → ((c : Context) → new c ≡ cond (same_context (context_of e) c) (Some e.mcnt) (old c)) → ((c : Context) → old c ≡ last_counter (is_of c) es) →
+    (c : Context) → new c ≡ last_counter (is_of c) (es ++ e ∷ [])
+counters_kept old new es e noted_so keeps c = noted_so c ∙ ap (cond (same_context (context_of e) c) (Some e.mcnt)) (keeps c) ∙ sym (counter-one (is_of c) es e)
+
+pub totals_kept : (old new : Session → Option Totals) (es : List Entry) (e : Entry) (now : Totals) → ((s : Session) → new s ≡ cond (same_session e.session s) (Some now) (old s)) → now ≡ noted (totals_of e.session es) e (gap_in_context es e) →
+    ((s : Session) → unwrap_or (old s) no_totals ≡ totals_of s es) → (s : Session) → unwrap_or (new s) no_totals ≡ totals_of s (es ++ e ∷ [])
+totals_kept old new es e now noted_so is keeps s =
+    ap (λ (o : Option Totals). unwrap_or o no_totals) (noted_so s ∙ ap (λ (t : Totals). cond (same_session e.session s) (Some t) (old s)) is) ∙ totals-one s es e (old s) (keeps s)
+
+source_is : (a b : Source) → same_source a b ≡ true → a ≡ b
+source_is a b e =
+    let parts = both_so (bytes_eq a.ecu b.ecu) (bytes_eq a.apid b.apid) e in
+    let p = bytes_same a.ecu b.ecu parts.0 in
+    let q = bytes_same a.apid b.apid parts.1 in
+    λ i. record { ecu = p i; apid = q i }
+
+pub lost_kept : (old new : Source → Option ℕ) (stream : List Told) (l : Lost) (now : ℕ) → ((x : Source) → new x ≡ cond (same_source l.source x) (Some now) (old x)) → now ≡ counted (lost_of l.source stream + l.count) →
+    ((x : Source) → unwrap_or (old x) 0 ≡ lost_of x stream) → (x : Source) → unwrap_or (new x) 0 ≡ lost_of x (stream ++ told.Lost l ∷ [])
+lost_kept old new stream l now noted_so is keeps x = ap (λ (o : Option ℕ). unwrap_or o 0) (noted_so x) ∙ by_test (same_source l.source x) refl ∙ sym (lost-one x stream (told.Lost l)) where
+  by_test : (b : Bool) → same_source l.source x ≡ b → unwrap_or (cond b (Some now) (old x)) 0 ≡ counted (lost_of x stream + cond {A = ℕ} (same_source l.source x) l.count 0)
+  by_test true same =
+      is ∙ ap (λ (y : Source). counted (lost_of y stream + l.count)) (source_is l.source x same) ∙ sym (ap (λ (b : Bool). counted (lost_of x stream + cond {A = ℕ} b l.count 0)) same)
+  by_test false apart = keeps x ∙ stands (sum_by (lost_in x) stream) ∙ sym (ap (λ (b : Bool). counted (lost_of x stream + cond {A = ℕ} b l.count 0)) apart)
+
+-- ---- an answer told the other way round
+
+pub none_if : (b : Bool) (o : Option ℕ) → not b ≡ is_some o → b ≡ is_none o
+none_if true None e = refl
+none_if false (Some n) e = refl
+none_if true (Some n) e = absurd cc
+none_if false None e = absurd cc

@@ -1,0 +1,17 @@
+use Rattle.std.proofs.Common.{List, ◌++◌, ap, ◌∙◌}
+use Rattle.std.specs.List.{flat_map}
+use Rattle.std.proofs.lemmas.Result.{on_ok_weaker}
+use Rattle.dl_sessions.specs.declared.session.Hole.{Hole}
+use Rattle.dl_sessions.specs.declared.session.Session.{Session}
+use Rattle.dl_sessions.specs.Printing.{hole_by, session_by}
+use Rattle.dl_sessions.proofs.Lines.{lines_are}
+use Rattle.dl_sessions.proofs.account.Account.print.Goals as goal
+
+pub returns : goal.returns
+returns c = λ stream after.
+    let account = c.args.self.now in
+    let text = c.args.text.now.items in
+    let first = c.push_holes.new.text.items in
+    on_ok_weaker c.push_sessions.result (λ e. lines_are stream account after text first c.push_sessions.new.text.items
+    (c.in_ok-push_holes.ensures ∙ ap (λ (hs : List Hole). text ++ flat_map (hole_by account.totals) hs) c.deref.ensures.value)
+    (e ∙ ap (λ (ss : List Session). first ++ flat_map (session_by account.totals account.lost) ss) c.deref-2.ensures.value)) c.push_sessions.ensures

@@ -1,0 +1,19 @@
+//! The account of a stream of messages, session by session: which messages are missing, where, and what the stream tells of their cause.
+#![tactic(auto)]
+
+mod account;
+mod explanation;
+mod program;
+mod session;
+mod status;
+mod stream;
+mod text;
+mod told;
+
+pub use account::Account;
+pub use explanation::{Explained, explain};
+pub use program::why;
+pub use session::{Context, Entry, Hole, Lost, Session, Source, Told, Totals};
+pub use status::Status;
+pub use stream::{End, Place, add_all, end_of};
+pub use told::told_of;

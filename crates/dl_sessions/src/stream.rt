@@ -1,0 +1,144 @@
+//! A stream of messages as a file holds it, cut into messages.
+
+ghost use Rattle.std.specs.Prelude.{◌≡◌, ◌++◌, ◌∷◌, [], drop, nat_eq, List, IfOk, OnOk, Some};
+ghost use Rattle.std.specs.List.{starts_with};
+ghost use Rattle.dl_sessions.specs.Account.{IsAfter};
+ghost use Rattle.dl_sessions.specs.Reads.{Reads};
+ghost use Rattle.dl_sessions.specs.Stream.{before_len, end_of, first_place, rest_behind, storage_pattern, stored_ecu, told_at};
+ghost use Rattle.dl_sessions.specs.declared.session.Told.{Told};
+
+use crate::account::Account;
+use crate::told::told_of;
+use dl_bytes::{Id, OutOfMemory};
+use dl_headers::{HeaderFault, read_front};
+
+/// What begins a storage header: `DLT` and 1. Behind it stand the time of day, and the ECU.
+const STORAGE: [u8; 4] = [0x44, 0x4c, 0x54, 0x01];
+
+/// What a serial header is: `DLS` and 1.
+const SERIAL: [u8; 4] = [0x44, 0x4c, 0x53, 0x01];
+
+/// How a stream ends.
+#[derive(Clone, Copy, Debug, PartialEq, Eq)]
+pub enum End {
+    /// After a whole message, or without one.
+    Whole,
+    /// Within a message.
+    Within,
+    /// With bytes that no message begins with.
+    Bad,
+}
+
+/// Where a message stands at the front of a stream.
+#[derive(Clone, Copy, Debug)]
+pub struct Place {
+    /// The ECU that its storage header tells; else zero.
+    pub ecu: Id,
+    /// The bytes before it: of a storage header or a serial header, or none.
+    pub before: usize,
+    /// LEN: its bytes.
+    pub len: u16,
+}
+
+/// Whether a storage header begins these bytes.
+fn is_stored(bytes: &[u8]) -> bool
+    ensures { result ≡ starts_with nat_eq bytes.now storage_pattern }
+{
+    bytes.starts_with(&STORAGE)
+}
+
+/// The bytes of what stands before a message.
+fn before_len(bytes: &[u8]) -> usize
+    ensures { result ≡ before_len bytes.now }
+{
+    if is_stored(bytes) {
+        16
+    } else if bytes.starts_with(&SERIAL) {
+        4
+    } else {
+        0
+    }
+}
+
+/// What stands behind the first bytes; nothing, where there are no more.
+fn behind(bytes: &[u8], count: usize) -> &[u8]
+    ensures { result.now ≡ drop count bytes.now }
+{
+    if bytes.len() < count {
+        &[]
+    } else {
+        &bytes[count..]
+    }
+}
+
+/// The ECU that a storage header tells.
+fn stored_ecu(bytes: &[u8]) -> Id
+    ensures { result ≡ stored_ecu bytes.now }
+{
+    if is_stored(bytes) && bytes.len() >= 16 {
+        Id::from_bytes([bytes[12], bytes[13], bytes[14], bytes[15]])
+    } else {
+        Id::from_bytes([0, 0, 0, 0])
+    }
+}
+
+/// Where the message stands that begins these bytes, if it is whole.
+fn first_place(bytes: &[u8]) -> Option<Place>
+    ensures { result ≡ first_place bytes.now }
+{
+    let before = before_len(bytes);
+    let message = behind(bytes, before);
+    let Ok(front) = read_front(message) else {
+        return None;
+    };
+    if message.len() < front.len as usize {
+        return None;
+    }
+    Some(Place {
+        ecu: stored_ecu(bytes),
+        before,
+        len: front.len,
+    })
+}
+
+/// How a stream ends that has this rest.
+pub fn end_of(rest: &[u8]) -> End
+    ensures { result ≡ end_of rest.now }
+{
+    if rest.is_empty() {
+        return End::Whole;
+    }
+    match read_front(behind(rest, before_len(rest))) {
+        Err(HeaderFault::Version(_)) => End::Bad,
+        Err(HeaderFault::Length(_)) => End::Bad,
+        Err(HeaderFault::Short(_)) => End::Within,
+        Ok(_) => End::Within,
+    }
+}
+
+/// Adds the message that stands at the front of these bytes to the account. Answers what stands behind it.
+fn add_first<'a>(
+    account: &mut Account,
+    bytes: &'a [u8],
+    place: &Place,
+) -> Result<&'a [u8], OutOfMemory>
+    requires { first_place bytes.now ≡ Some place.now }
+    ensures rest { IfOk result (λ rest. rest.now ≡ rest_behind place.now bytes.now) }
+    ensures after { (stream : List Told) → IsAfter stream account.old → OnOk result (IsAfter (stream ++ told_at place.now bytes.now ∷ []) account.new) }
+{
+    let message = behind(bytes, place.before);
+    let len = place.len as usize;
+    account.add(&told_of(place.ecu, &message[..len]))?;
+    Ok(behind(message, len))
+}
+
+/// Adds the messages of a stream to the account, one behind the other. Answers the rest behind them.
+pub fn add_all<'a>(account: &mut Account, bytes: &'a [u8]) -> Result<&'a [u8], OutOfMemory>
+    ensures { (before : List Told) → IsAfter before account.old → IfOk result (λ rest. Reads before bytes.now rest.now account.new) }
+{
+    let mut rest = bytes;
+    while let Some(place) = first_place(rest) {
+        rest = add_first(account, rest, &place)?;
+    }
+    Ok(rest)
+}

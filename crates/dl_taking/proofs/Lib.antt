@@ -1,0 +1,3 @@
+pub mod Tooks
+pub mod Steps
+pub mod Telling

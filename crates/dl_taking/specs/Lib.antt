@@ -1,0 +1,4 @@
+pub mod Took
+pub mod Side
+pub mod Takes
+pub mod Filling

@@ -1,0 +1,41 @@
+-- What was taken of the rings and loss words of applications.
+use Rattle.std.specs.Prelude.{ℕ, ◌<◌, ◌==◌, List, [], ◌∷◌, ◌++◌, map, if◌then◌else◌}
+use Rattle.dl_bytes.specs.declared.item.Item.{Item}
+use Rattle.dl_losses.specs.Losses.{report, reported_of}
+use Rattle.dl_losses.specs.declared.keeper.Report.{Report}
+use Rattle.dl_desk.specs.declared.app_handles.AppHandles.{AppHandles}
+use Rattle.dl_desk.specs.Handles.{HandlesState}
+use Rattle.dl_lib.specs.Books.{lost_of}
+use Rattle.dl_lib.specs.Known.{taken_of}
+use Rattle.dl_lib.specs.State.{ClosingState}
+
+-- the calls that were taken of each application's ring, in order, and the losses that were reported
+pub record Took : Type 0 where
+  pub taken : ℕ → List Item
+  pub reported : List Report
+
+-- what these handles took
+abbrev pub took_by : HandlesState → Took
+took_by handles = record { taken = taken_of handles; reported = handles.losses.reported }
+
+-- these calls more were taken of an application's ring
+abbrev pub with_calls : ℕ → List Item → Took → Took
+with_calls app items took = record took { taken = λ other. if other == app then took.taken other ++ items else took.taken other }
+
+-- the losses of an application were taken once more: so many
+abbrev pub with_losses : ℕ → ℕ → Took → Took
+with_losses app count took = record took { reported = took.reported ++ report app count ∷ [] }
+
+-- ---- what a call that takes leaves as it was
+
+-- all but what its pass took, and how often it found nothing
+abbrev pub without_takes : AppHandles → AppHandles
+without_takes e = record e { ring = record e.ring { taken = []; empties = 0 } }
+
+-- all but what was taken of rings and loss words
+abbrev pub untaken : HandlesState → HandlesState
+untaken handles = record handles { apps = map without_takes handles.apps; losses = record handles.losses { reported = [] } }
+
+-- of an application whose writers are back fewer losses were reported than they counted
+abbrev pub HasLosses : ClosingState → ℕ → Type 0
+HasLosses closing app = reported_of app closing.handles.losses.reported < lost_of app closing.books

@@ -1,0 +1,45 @@
+//! What stands for the desk once the writers are back.
+
+use crate::taker::Taker;
+use dl_bytes::{Id, Item};
+use dl_lib::Closing;
+use std::sync::Wait;
+
+impl Taker for Closing {
+    ghost use Rattle.std.specs.Prelude.{◌≡◌, refl};
+    ghost use Rattle.std.proofs.Common.{ap, ◌∙◌};
+    ghost use Rattle.dl_lib.specs.Known.{IsEmpty};
+    ghost use Rattle.dl_lib.specs.State.{ClosingState};
+    ghost use Rattle.dl_taking.specs.Took.{HasLosses, took_by, untaken};
+
+    ghost took = { λ c. took_by c.handles };
+
+    ghost specs = { λ c. c.apps };
+
+    ghost is_empty = { IsEmpty };
+
+    ghost has_losses = { HasLosses };
+
+    ghost same_but_taken = { λ old new. record new { handles = untaken new.handles } ≡ record old { handles = untaken old.handles } };
+
+    fn take<R: Wait>(&mut self, rt: &R, app: u8) -> Option<Item> {
+        self.have_handles();
+        Closing::take(self, rt, app)
+    }
+
+    fn losses(&mut self, app: u8) -> u64 {
+        Closing::losses(self, app)
+    }
+
+    fn apid(&self, app: u8) -> Id {
+        self.apps()[usize::from(app)].apid
+    }
+
+    ghost taken_refl = { λ p. refl };
+
+    ghost taken_trans = { λ p q r first second. second ∙ first };
+
+    ghost taken_specs = { λ p q same. ap (λ (c : ClosingState). c.apps) same };
+
+    ghost specs_told = { λ p. refl };
+}

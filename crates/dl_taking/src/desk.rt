@@ -1,0 +1,46 @@
+//! The desk, while the writers log.
+
+use crate::taker::Taker;
+use dl_bytes::{Id, Item};
+use dl_desk::Desk;
+use std::sync::Wait;
+
+impl Taker for Desk {
+    ghost use Rattle.std.specs.Prelude.{◌≡◌, [], refl};
+    ghost use Rattle.std.proofs.Common.{ap, ◌∙◌};
+    ghost use Rattle.dl_desk.specs.Handles.{RingHolds};
+    ghost use Rattle.dl_desk.specs.State.{DeskState};
+    ghost use Rattle.dl_taking.specs.Took.{took_by, untaken};
+
+    ghost took = { λ d. took_by d.handles };
+
+    ghost specs = { λ d. d.apps };
+
+    ghost is_empty = { λ d app. RingHolds d.handles app [] };
+
+    // writers may count one at any time
+    ghost has_losses = { λ d app. Unit {0} };
+
+    ghost same_but_taken = { λ old new. record new { handles = untaken new.handles } ≡ record old { handles = untaken old.handles } };
+
+    fn take<R: Wait>(&mut self, rt: &R, app: u8) -> Option<Item> {
+        self.have_handles();
+        Desk::take(self, rt, app)
+    }
+
+    fn losses(&mut self, app: u8) -> u64 {
+        Desk::losses(self, app)
+    }
+
+    fn apid(&self, app: u8) -> Id {
+        self.apps()[usize::from(app)].apid
+    }
+
+    ghost taken_refl = { λ p. refl };
+
+    ghost taken_trans = { λ p q r first second. second ∙ first };
+
+    ghost taken_specs = { λ p q same. ap (λ (d : DeskState). d.apps) same };
+
+    ghost specs_told = { λ p. refl };
+}

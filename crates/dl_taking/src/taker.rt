@@ -1,0 +1,64 @@
+//! What takes calls and losses: the desk while the writers log, and what stands for it once they are back.
+
+ghost use Rattle.std.specs.Prelude.{◌≡◌, ◌<◌, ◌^◌, ℕ, List, ◌∷◌, [], length, IfSome, IfNone};
+ghost use Rattle.dl_bytes.specs.declared.conf.AppSpec.{AppSpec as spec_type};
+ghost use Rattle.dl_losses.specs.Losses.{reported_of};
+ghost use Rattle.dl_desk.specs.Lists.{At};
+ghost use Rattle.dl_taking.specs.Took.{Took, with_calls, with_losses};
+
+use dl_bytes::{Id, Item};
+use dl_desk::Post;
+use std::sync::Wait;
+
+/// Takes the calls in the rings of applications, and their losses.
+pub trait Taker: Post {
+    /// What was taken so far.
+    ghost took: { Self → Took };
+
+    /// The applications, by their numbers.
+    ghost specs: { Self → List spec_type };
+
+    /// The ring of an application is known to be empty.
+    ghost is_empty: { Self → ℕ → Type 0 };
+
+    /// Losses of an application may be found that were not reported.
+    ghost has_losses: { Self → ℕ → Type 0 };
+
+    /// All else that contracts see of the two is the same.
+    ghost same_but_taken: { Self → Self → Type 0 };
+
+    /// The oldest call in the ring of an application. None comes only where the ring was empty at that step.
+    fn take<R: Wait>(&mut self, rt: &R, app: u8) -> Option<Item>
+        requires { app < length (specs self.old) }
+        ensures taken { IfSome result (λ item. took self.new ≡ with_calls app (item ∷ []) (took self.old)) }
+        ensures none { IfNone result (took self.new ≡ took self.old) }
+        ensures empty { IfNone result (is_empty self.new app) }
+        ensures told { Self.told self.new ≡ Self.told self.old }
+        ensures rest { same_but_taken self.old self.new };
+
+    /// How many calls of an application were lost since the last call of this kind.
+    fn losses(&mut self, app: u8) -> u64
+        requires { app < length (specs self.old) }
+        ensures reported { took self.new ≡ with_losses app result (took self.old) }
+        ensures small { reported_of app (took self.new).reported < 2 ^ 47 }
+        ensures some { 0 < result → has_losses self.old app }
+        ensures told { Self.told self.new ≡ Self.told self.old }
+        ensures rest { same_but_taken self.old self.new };
+
+    /// The id of an application.
+    fn apid(&self, app: u8) -> Id
+        requires { app < length (specs self.now) }
+        ensures { At (specs self.now) app (λ spec. result ≡ spec.apid) };
+
+    /// What is the same stays the same: of one with itself, and of one after another.
+    ghost taken_refl: { (p : Self) → same_but_taken p p };
+
+    /// The same.
+    ghost taken_trans: { (p q r : Self) → same_but_taken p q → same_but_taken q r → same_but_taken p r };
+
+    /// The applications are among what stays.
+    ghost taken_specs: { (p q : Self) → same_but_taken p q → specs q ≡ specs p };
+
+    /// There are as many as are told.
+    ghost specs_told: { (p : Self) → (Self.told p).apps ≡ length (specs p) };
+}

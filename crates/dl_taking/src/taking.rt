@@ -1,0 +1,70 @@
+//! Some calls of an application, and its losses.
+
+ghost use Rattle.std.specs.Prelude.{◌≡◌, ◌<◌, ◌≤◌, ◌+◌, None, count_by, length};
+ghost use Rattle.dl_bytes.specs.Limits.{admitted_limit};
+ghost use Rattle.dl_registry.specs.Kept.{owed_change};
+ghost use Rattle.dl_hub.specs.State.{is_open};
+ghost use Rattle.dl_taking.specs.Side.{seen};
+ghost use Rattle.dl_taking.specs.Takes.{Reports, TakesSome};
+
+use crate::batch::Batch;
+use crate::filling::fill;
+use crate::taker::Taker;
+use dl_admission::{log_items, tell};
+use dl_core::Core;
+use dl_events::Journal;
+use dl_outside::{Clock, Folder};
+use std::sync::Wait;
+
+/// Takes the oldest calls in the ring of an application, so many at most and never more than 64, and admits them as calls of this moment.
+/// Answers how many: fewer only where it found the ring empty.
+pub fn take_some<R: Wait, D: Taker, J: Journal, C: Clock, F: Folder>(
+    rt: &R,
+    core: &mut Core,
+    desk: &mut D,
+    journal: &mut J,
+    batch: &mut Batch,
+    app: u8,
+    most: usize,
+    clock: &C,
+    folder: &mut F,
+) -> usize
+    requires app { app < length (D.specs desk.old) }
+    requires most { most ≤ 64 }
+    requires settled { owed_change core.old.registry ≡ None }
+    requires spare { count_by is_open core.old.hub.clients + most ≤ J.spare journal.old }
+    requires few { core.old.hub.admitted + most ≤ admitted_limit }
+    ensures takes { let s = seen J.events J.noted J.spare F.told D.took in TakesSome app most result
+        (s core.old journal.old folder.old desk.old) (s core.new journal.new folder.new desk.new) }
+    ensures empty { result < most → D.is_empty desk.new app }
+    ensures told { D.told desk.new ≡ D.told desk.old }
+    ensures rest { D.same_but_taken desk.old desk.new }
+{
+    fill(rt, desk, batch, app, most);
+    log_items(core, journal, batch.items(), clock.now(), folder);
+    batch.len()
+}
+
+/// Takes the losses of an application, and tells them in a report of this moment; of none it tells nothing. Answers how many.
+pub fn report_losses<D: Taker, J: Journal, C: Clock, F: Folder>(
+    core: &mut Core,
+    desk: &mut D,
+    journal: &mut J,
+    app: u8,
+    clock: &C,
+    folder: &mut F,
+) -> u64
+    requires app { app < length (D.specs desk.old) }
+    requires settled { owed_change core.old.registry ≡ None }
+    requires spare { D.has_losses desk.old app → count_by is_open core.old.hub.clients + 1 ≤ J.spare journal.old }
+    requires few { core.old.hub.admitted + 32769 ≤ admitted_limit }
+    ensures reports { let s = seen J.events J.noted J.spare F.told D.took in Reports (D.specs desk.old) app result
+        (s core.old journal.old folder.old desk.old) (s core.new journal.new folder.new desk.new) }
+    ensures told { D.told desk.new ≡ D.told desk.old }
+    ensures rest { D.same_but_taken desk.old desk.new }
+{
+    let apid = desk.apid(app);
+    let count = desk.losses(app);
+    tell(core, journal, app, apid, count, clock.now(), folder);
+    count
+}

@@ -1,0 +1,46 @@
+-- A client after its turn, open or gone, and what its link did.
+use Rattle.std.specs.Prelude.{◌≡◌, ◌<◌, ◌⊎◌, ◌++◌, ℕ, true, List, Some, None, IsSome}
+use Rattle.dl_events.specs.declared.event.Event.{Event}
+use Rattle.dl_events.specs.declared.event.Why.{Why}
+use Rattle.dl_events.specs.declared.event.Why.TheVariants.{Left, Broken, Stuck, Stopped}
+use Rattle.dl_model.specs.ClientEnds.{HasGone, LinkDid, WasTried}
+use Rattle.dl_outside.specs.Told.{LinkTold}
+use Rattle.dl_hub.specs.Follows.{took_more}
+use Rattle.dl_core.specs.Follows.{Run, source_of}
+use Rattle.dl_turns.specs.Later.{IsLaterStage, IsOpenWith}
+use Rattle.dl_turns.specs.State.{Stage}
+
+-- A link tells what it did: the bytes that it gave and took, and its counts. It told what it gave before this, too.
+pub record Tells (link link_now : LinkTold) (did : LinkDid) : Type 0 where
+  pub before : IsSome link.given
+  pub given : link_now.given ≡ Some did.given
+  pub taken : link_now.taken ≡ Some did.taken
+  pub faults : link_now.faults ≡ did.faults
+  pub idles : link_now.idles ≡ did.idles
+  pub waits : link_now.waits ≡ did.waits
+
+-- every link of a kind tells whether it is over
+abbrev pub TellOver : {L : Type 0} → (L → LinkTold) → Type 0
+TellOver {L} told = (link : L) → IsSome (told link).over
+
+-- What a link did shows why its client went: it is over, it failed, it took nothing, or it had nothing to give. Other causes are shown by the
+-- bytes and the journal.
+abbrev pub IsShown : LinkDid → Why → Type 0
+IsShown did Left = did.is_over ≡ true
+IsShown did Broken = 0 < did.faults
+IsShown did (Stuck bytes) = (0 < did.waits) × WasTried did
+IsShown did Stopped = (0 < did.idles) ⊎ WasTried did
+IsShown did other = Unit {0}
+
+-- ---- in each run in which the client was open before
+
+-- it is open afterwards, with these events and these bytes more
+abbrev pub StaysOpen : (client : ℕ) (old new : Stage) → IsLaterStage client None old new → Type 0
+StaysOpen client old new later = (run : Run) (past : List Event) (taken : ℕ → List ℕ) (stream : List ℕ) → IsOpenWith client run past taken stream old
+    → IsOpenWith client run (past ++ later.side.more) (took_more taken client later.sent) (stream ++ later.given) new
+
+-- it has gone, where what its link did shows the cause
+abbrev pub Goes : (client : ℕ) (why : Why) (old new : Stage) → IsLaterStage client (Some why) old new → Type 0
+Goes client why old new later = (run : Run) (past : List Event) (taken : ℕ → List ℕ) (stream : List ℕ) (did : LinkDid) → IsOpenWith client run past taken stream old
+    → did.given ≡ stream ++ later.given → did.taken ≡ taken client ++ later.sent → IsShown did why
+    → HasGone run.setting (source_of run) (past ++ later.side.more) client did

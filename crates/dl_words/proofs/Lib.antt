@@ -1,0 +1,4 @@
+pub mod Accepted
+pub mod Values
+pub mod Said
+pub mod Own

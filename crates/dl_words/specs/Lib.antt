@@ -1,0 +1,5 @@
+pub mod Command
+pub mod Parse
+pub mod Run
+pub mod Serve
+pub mod Daemon

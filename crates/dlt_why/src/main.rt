@@ -1,0 +1,31 @@
+//! `dlt_why trace FILE` reads a trace file, or a stream as a client recorded it, and prints which messages are missing of
+//! each session, where, and what the stream tells of the cause.
+#![tactic(auto)]
+
+use dl_real::{Directory, Writing};
+use dl_sessions::{Status, why};
+use std::env;
+use std::io::ErrorKind;
+use std::process::ExitCode;
+use std::rt::Env;
+
+/// The words of the command line, where there is memory for them. No words stand for such as are no text.
+fn words(rt: &(impl Env + AllocGlobal)) -> Option<Vec<String>> {
+    match env::args(rt) {
+        Ok(args) => args.collect(rt.alloc()).ok(),
+        Err(error) if error.kind() == ErrorKind::OutOfMemory => None,
+        Err(_) => Some(Vec::new(rt.alloc())),
+    }
+}
+
+fn main(rt: HostRuntime) -> ExitCode {
+    let Some(words) = words(&rt) else {
+        let _ = rt.eprintln("dlt_why: out of memory");
+        return ExitCode::from(Status::OutOfMemory.number());
+    };
+    let alloc = rt.alloc();
+    let mut folder = Directory::over(rt);
+    let mut out = Writing::over(rt.stdout());
+    let mut err = Writing::over(rt.stderr());
+    ExitCode::from(why(alloc, &words, &mut folder, &mut out, &mut err))
+}
