@@ -11,3 +11,4 @@ pub mod VisitedEvents
 pub mod VisitedClients
 pub mod NotedClients
 pub mod GreetedEvents
+pub mod ShutLinks

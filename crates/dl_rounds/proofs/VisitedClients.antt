@@ -17,17 +17,17 @@ use Rattle.dl_rounds.proofs.ByPlace.{set_here, set_other}
 use Rattle.dl_rounds.proofs.Turned.{closed_so, open_and_gone, open_within}
 
 -- a client that isn't visited is as it was
-record IsAsBefore (number : ℕ) (old new : Clients) : Type 0 where
-  client : client_of new.side.core.hub number ≡ client_of old.side.core.hub number
-  link : slice_get new.links (number - 1) ≡ slice_get old.links (number - 1)
+pub record IsAsBefore (number : ℕ) (old new : Clients) : Type 0 where
+  pub client : client_of new.side.core.hub number ≡ client_of old.side.core.hub number
+  pub link : slice_get new.links (number - 1) ≡ slice_get old.links (number - 1)
 
 before_both : (number : ℕ) (a b c : Clients) → IsAsBefore number a b → IsAsBefore number b c → IsAsBefore number a c
 before_both number a b c one two = record { client = two.client ∙ one.client; link = two.link ∙ one.link }
 
-outbox_in : (old new : Clients) (number : ℕ) → IsAsBefore number old new → outbox_of new.side.core.hub number ≡ outbox_of old.side.core.hub number
+pub outbox_in : (old new : Clients) (number : ℕ) → IsAsBefore number old new → outbox_of new.side.core.hub number ≡ outbox_of old.side.core.hub number
 outbox_in old new number as_before = ap (λ (o : Option HubClient). option_and_then (λ (c : HubClient). c.outbox) o) as_before.client
 
-other_visit : (number other : ℕ) (clients : Clients) (was now : Client) → IsClient number clients was → IsVisit number was now → 1 ≤ number → 1 ≤ other → other ≢ number
+pub other_visit : (number other : ℕ) (clients : Clients) (was now : Client) → IsClient number clients was → IsVisit number was now → 1 ≤ number → 1 ≤ other → other ≢ number
     → IsAsBefore other clients (with_client number now clients)
 other_visit number other clients was now is visit some one apart = record {
   client = visit.later.side.others other apart ∙ ap (λ (s : Side). client_of s.core.hub other) is.side;

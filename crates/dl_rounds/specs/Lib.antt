@@ -5,3 +5,4 @@ pub mod Ready
 pub mod Arrivals
 pub mod Greetings
 pub mod Passing
+pub mod Partings

@@ -7,13 +7,15 @@ ghost use Rattle.dl_events.specs.declared.event.Event.{Event};
 ghost use Rattle.dl_events.specs.declared.event.Event.TheVariants as event;
 ghost use Rattle.dl_events.specs.declared.event.Why.TheVariants.{Slow};
 ghost use Rattle.dl_model.specs.ClientEnds.{HasGone, LinkDid};
-ghost use Rattle.dl_hub.specs.State.{outbox_of};
+ghost use Rattle.dl_hub.specs.State.{Hub, outbox_of};
+ghost use Rattle.dl_outside.specs.Told.{LinkTold};
 ghost use Rattle.dl_core.specs.Follows.{IsAfter, Run, source_of};
 ghost use Rattle.dl_core.specs.State.{Core};
 ghost use Rattle.dl_turns.specs.Later.{HasLeft, IsOpenWith};
 ghost use Rattle.dl_turns.specs.State.{Side, Stage};
 ghost use Rattle.dl_rounds.specs.Clients.{Client, Clients, VisitsAll};
 ghost use Rattle.dl_rounds.specs.Greetings.{AreGreeted, GreetsEach};
+ghost use Rattle.dl_rounds.specs.Partings.{AreShut, ShutsGone};
 ghost use Rattle.dl_rounds.specs.Passing.{AreLater, EachOpen, IsGoneSame, IsVisit, Stands, StayAsNoted, WasRead, WasSent, WasVisited};
 ghost use Rattle.dl_rounds.specs.Visits.{Closed, ClosesAll, Heard, HearsAll, Pumped};
 
@@ -82,6 +84,17 @@ pub fn why_clients_stay()
 {
     a_round_visits_each_client();
     dl_turns::laws::why_a_client_stays();
+}
+
+/// The links of clients that are gone are shut: they stay so in a round, and one that closes a client shuts its link. Where closed clients' links
+/// were shut, those of all that are gone then are.
+pub fn links_of_gone_clients_are_shut()
+    ensures heard { (moved : Bool) (old new : Clients) → HearsAll moved old new → AreShut old.side.core.hub old.links → AreShut new.side.core.hub new.links }
+    ensures pumped { (moved : Bool) (old new : Clients) → VisitsAll Pumped moved old new → AreShut old.side.core.hub old.links → AreShut new.side.core.hub new.links }
+    ensures closed { (old new : Clients) → ClosesAll old new → AreShut old.side.core.hub old.links → AreShut new.side.core.hub new.links }
+    ensures parted { (hub : Hub) (old new : List LinkTold) → ShutsGone hub old new → AreShut hub new }
+{
+    a_visit_is_its_events();
 }
 
 /// What the applications of this process tell is its events: User events with just these messages, in order, and levels. The core, the folder and

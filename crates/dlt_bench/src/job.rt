@@ -29,6 +29,12 @@ pub enum Job {
     Filtered,
     /// A message is logged that its ring takes.
     Queued,
+    /// A message is logged that its level filters, with no record made of it.
+    SentFiltered,
+    /// A message is logged that its ring takes, with no record made of it.
+    SentQueued,
+    /// A message is taken out of its ring.
+    Taken,
 }
 
 /// What came of a job.
@@ -75,6 +81,9 @@ impl Job {
             "find" => Some(Job::Find),
             "filtered" => Some(Job::Filtered),
             "queued" => Some(Job::Queued),
+            "sent_filtered" => Some(Job::SentFiltered),
+            "sent_queued" => Some(Job::SentQueued),
+            "taken" => Some(Job::Taken),
             _ => None,
         }
     }
@@ -90,6 +99,9 @@ impl Job {
             Job::Find => registering::run_find(alloc, count),
             Job::Filtered => logging::run_filtered(rt, alloc, count),
             Job::Queued => logging::run_queued(rt, alloc, count),
+            Job::SentFiltered => logging::run_sent_filtered(rt, alloc, count),
+            Job::SentQueued => logging::run_sent_queued(rt, alloc, count),
+            Job::Taken => logging::run_taken(rt, alloc, count),
         }
     }
 }

@@ -97,12 +97,67 @@ pub fn run_queued<R: Wait>(rt: &R, alloc: Global, count: u32) -> Option<Tally> {
     Some(tally)
 }
 
+/// Logs so many messages that their level filters, and makes no record of them.
+pub fn run_sent_filtered<R: Wait>(rt: &R, alloc: Global, count: u32) -> Option<Tally> {
+    let (mut writer, _ring) = writer(alloc)?;
+    let (context, payload) = (context(), payload());
+    let mut tally = Tally::new();
+    for at in 0..count {
+        let answer = writer
+            .send(rt, &context, Severity::Debug, at, &payload)
+            .ok()?;
+        tally.count(payload.bytes().len(), number(answer));
+    }
+    Some(tally)
+}
+
+/// Logs so many messages that the ring takes, makes no record of them, and takes them out when it is full.
+pub fn run_sent_queued<R: Wait>(rt: &R, alloc: Global, count: u32) -> Option<Tally> {
+    let (mut writer, mut ring) = writer(alloc)?;
+    let (context, payload) = (context(), payload());
+    let mut tally = Tally::new();
+    for at in 0..count {
+        let answer = writer
+            .send(rt, &context, Severity::Info, at, &payload)
+            .ok()?;
+        tally.count(payload.bytes().len(), number(answer));
+        if answer == Answer::Lost {
+            return None;
+        }
+        if at % 64 == 63 {
+            tally.sum = tally.sum.wrapping_add(emptied(rt, &mut ring));
+        }
+    }
+    Some(tally)
+}
+
+/// Takes so many messages out of a ring, and looks at the payload of each: at least 64, as many as are logged at once.
+pub fn run_taken<R: Wait>(rt: &R, alloc: Global, count: u32) -> Option<Tally> {
+    let (mut writer, mut ring) = writer(alloc)?;
+    let (context, payload) = (context(), payload());
+    let mut tally = Tally::new();
+    for _batch in 0..count.div_ceil(u32::from(RING)) {
+        for at in 0..u32::from(RING) {
+            let _answer = writer.send(rt, &context, Severity::Info, at, &payload);
+        }
+        for _turn in 0..RING {
+            let item = ring.take(rt)?;
+            tally.count(item.payload.bytes().len(), u64::from(item.payload.args()));
+        }
+    }
+    Some(tally)
+}
+
 /// What became of a call, and with which payload, as a number.
 fn outcome(record: &Record) -> u64 {
-    let answer = match record.answer {
+    u64::from(record.item.payload.args()).wrapping_add(number(record.answer))
+}
+
+/// What became of a call, as a number.
+fn number(answer: Answer) -> u64 {
+    match answer {
         Answer::Filtered => 0,
         Answer::Queued => 1,
         Answer::Lost => 2,
-    };
-    u64::from(record.item.payload.args()).wrapping_add(answer)
+    }
 }
