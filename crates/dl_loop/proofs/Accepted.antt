@@ -26,7 +26,7 @@ use Rattle.dl_loop.specs.Daemon.{IsDaemon, TellTaken, is_noted}
 use Rattle.dl_loop.specs.Holds.{AreTaken, HoldsIn}
 use Rattle.dl_loop.specs.State.{DaemonState, desk_told}
 use Rattle.dl_loop.specs.Told.{IsToldBy}
-use Rattle.dl_loop.proofs.NoRequests.{posted_none}
+use Rattle.dl_settling.proofs.NoRequests.{posted_none}
 use Rattle.dl_loop.proofs.ToldJournals.{told_more}
 
 -- the last of a longer list
@@ -101,6 +101,7 @@ module _ {L : Type 0} (told : L → LinkTold) (old : DaemonState L) (is : IsDaem
           spare = omega (arith, is.room.spare, open_now.0, open_now.1, spare, connects.place.0, is.room.limit);
         };
         bounds = subst (λ n. HasBounds old.noted n old.desk.handles.losses.reported) (sym admitted) is.bounds;
+        few = is.few;
         apps = is.apps;
         desk = is.desk;
         running = subst IsRunning (sym events) (running_on old.journal.events (event.Connect number ∷ []) is.running refl);
@@ -122,6 +123,7 @@ module _ {L : Type 0} (told : L → LinkTold) (old : DaemonState L) (is : IsDaem
         heard = is.heard;
         room = record { noted = is.room.noted; few = is.room.few; limit = is.room.limit; spare = is.room.spare };
         bounds = is.bounds;
+        few = is.few;
         apps = is.apps;
         desk = is.desk;
         running = is.running;

@@ -1,11 +1,13 @@
 -- How the bound on admitted frames goes on, and that it is far below the most that may be admitted.
-use Rattle.std.proofs.Common.{◌≡◌, ℕ, ◌+◌, ◌*◌, ◌/◌, ◌%◌, ◌^◌, ◌<◌, ◌≤◌, ◌==◌, zero, suc, inl, inr, subst, filter, if◌then◌else◌, min, Bool, true, false, List, [], ◌∷◌, ◌++◌, length, refl, ap, sym, ◌∙◌, arith, sum_by}
+use Rattle.std.proofs.Common.{◌≡◌, ℕ, ◌+◌, ◌*◌, ◌/◌, ◌%◌, ◌^◌, ◌<◌, ◌≤◌, ◌==◌, zero, suc, inl, inr, subst, filter, cond, eqb, if◌then◌else◌, min, Bool, true, false, List, [], ◌∷◌, ◌++◌, length, refl, ap, sym, ◌∙◌, arith, sum_by}
 use Rattle.std.specs.List.{range_with_len}
 use Rattle.std.proofs.lemmas.Bool.Decides.{eqb_tells}
 use Rattle.std.proofs.lemmas.List.Sums.{sum_by-append, sum_by-cons}
 use Rattle.std.proofs.lemmas.List.Elements.{filter-append}
 use Rattle.dl_losses.specs.Losses.{report, reported_of}
 use Rattle.dl_losses.specs.declared.keeper.Report.{Report}
+use Rattle.dl_core.specs.Admission.{lost_frames}
+use Rattle.dl_core.proofs.Sizes.{lost_count}
 use Rattle.dl_loop.specs.Bounds.{HasBounds}
 
 -- where each of so many applications has reported fewer than 2^47
@@ -73,3 +75,33 @@ bounds_lost noted admitted app count frames reports low many small bounds = reco
     | inl same ↦ omega (arith, one_more_report app app count reports ∙ ap (λ (b : Bool). reported_of app reports + (if b then count else 0)) same.0)
     | inr apart ↦ absurd (apart.1 refl)
   ]
+
+-- what was reported of any application stays below its bound, with one report more
+small_more : (app count : ℕ) (reports : List Report) → ((other : ℕ) → reported_of other reports < 2 ^ 47) → reported_of app (reports ++ report app count ∷ []) < 2 ^ 47
+    → (other : ℕ) → reported_of other (reports ++ report app count ∷ []) < 2 ^ 47
+small_more app count reports small own other = elim (eqb_tells app other) [
+  | inl same ↦ subst (λ n. reported_of n (reports ++ report app count ∷ []) < 2 ^ 47) same.1 own
+  | inr apart ↦ omega (arith, one_more_report app other count reports ∙ ap (λ (b : Bool). reported_of other reports + (if b then count else 0)) apart.0, small other)
+]
+
+-- losses that were taken, and the records that report them where there are any
+pub bounds_report : (ecu apid : List ℕ) (noted admitted app count : ℕ) (reports : List Report) → app < 16 → reported_of app (reports ++ report app count ∷ []) < 2 ^ 47
+    → HasBounds noted admitted reports → HasBounds (noted + cond (eqb count 0) 0 1) (admitted + length (lost_frames ecu apid count)) (reports ++ report app count ∷ [])
+bounds_report ecu apid noted admitted app count reports low own bounds =
+    let small = small_more app count reports bounds.small own in
+    elim (eqb_tells count 0) [
+      | inl none ↦ subst (λ (b : Bool). HasBounds (noted + cond b 0 1) (admitted + length (lost_frames ecu apid count)) (reports ++ report app count ∷ [])) (sym none.0) (record {
+        few = omega (
+          arith,
+          bounds.few,
+          many,
+          none.1,
+          sum_grows (λ a. reported_of a reports) (λ a. reported_of a (reports ++ report app count ∷ [])) (λ a. omega (arith, one_more_report app a count reports)) (range_with_len 0 16),
+        );
+        small = small;
+      })
+      | inr some ↦ subst (λ (b : Bool). HasBounds (noted + cond b 0 1) (admitted + length (lost_frames ecu apid count)) (reports ++ report app count ∷ [])) (sym some.0)
+          (bounds_lost noted admitted app count (length (lost_frames ecu apid count)) reports low many small bounds)
+    ] where
+      many : length (lost_frames ecu apid count) ≡ count / 4294967295 + min 1 (count % 4294967295)
+      many = lost_count ecu apid count

@@ -1,5 +1,5 @@
 -- The laws of the daemon, each of its lemma.
-use Rattle.std.proofs.Common.{◌≡◌, ◌≤◌, Bool, List, length, map, sym, ap, refl, subst, ◌∙◌, arith}
+use Rattle.std.proofs.Common.{◌≡◌, ◌≤◌, ℕ, Bool, List, length, map, sym, ap, refl, subst, ◌∙◌, arith}
 use Rattle.std.proofs.lemmas.List.{length-map}
 use Rattle.dl_outside.specs.Told.{FolderTold, LinkTold, NetTold}
 use Rattle.dl_desk.specs.Made.{IsLater}
@@ -11,10 +11,12 @@ use Rattle.dl_rounds.specs.Ready.{AreHeard}
 use Rattle.dl_rounds.specs.Visits.{HearsAll, Pumped}
 use Rattle.dl_rounds.specs.declared.listener.Listener.{Listener}
 use Rattle.dl_rounds.specs.declared.accepting.Arrival.{Arrival}
+use Rattle.dl_taking.specs.Took.{took_by}
+use Rattle.dl_settling.specs.Room.{IsFew}
 use Rattle.dl_loop.specs.Bounds.{HasBounds}
 use Rattle.dl_loop.specs.Daemon.{IsDaemon, TellTaken}
 use Rattle.dl_loop.specs.Holds.{Gives, HoldsIn}
-use Rattle.dl_loop.specs.Made.{IsMade}
+use Rattle.dl_loop.specs.Made.{IsMade, fresh_listeners}
 use Rattle.dl_loop.specs.State.{DaemonState, desk_told}
 use Rattle.dl_loop.specs.Steps.{Accepts, GoesOn, Hears, Pumps}
 use Rattle.dl_loop.proofs.Accepted.{accepted, folder_none}
@@ -23,6 +25,7 @@ use Rattle.dl_loop.proofs.MadeDaemons.{made_daemon}
 use Rattle.dl_loop.proofs.Visited.{PumpsAreEvents, heard_admits_none, heard_runs, pumped_admits_none, pumped_runs}
 
 pub made_is : {L : Type 0} (told : L → LinkTold) (d : DaemonState L) → IsMade d → IsDaemon told d
+unfolding fresh_listeners
 made_is told d made =
     let m = made_daemon told d.core d.desk d.journal d.links d.listeners d.calls made.begins made.untouched made.events made.links made.listeners made.room in record {
       told_by = m.told_by;
@@ -35,6 +38,7 @@ made_is told d made =
         spare = omega (arith, m.room.spare, made.noted);
       };
       bounds = subst (λ n. HasBounds n d.core.hub.admitted d.desk.handles.losses.reported) (sym made.noted) m.bounds;
+      few = subst (λ (n : ℕ). IsFew n (took_by d.desk.handles) (length d.desk.apps)) (sym made.noted) m.few;
       apps = m.apps;
       desk = subst (λ (first : DeskState). IsLater first d.desk) (sym made.first_desk) m.desk;
       running = m.running;

@@ -30,6 +30,8 @@ use Rattle.dl_rounds.specs.Clients.{Clients}
 use Rattle.dl_rounds.specs.Passing.{AreLater, IsOfClients, took_all}
 use Rattle.dl_rounds.specs.Ready.{AreHeard, AreLinked, KeepsRoom}
 use Rattle.dl_rounds.specs.declared.listener.Listener.{Listener}
+use Rattle.dl_taking.specs.Took.{Took, took_by}
+use Rattle.dl_settling.specs.Room.{IsFew}
 use Rattle.dl_loop.specs.Bounds.{HasBounds}
 use Rattle.dl_loop.specs.Daemon.{IsDaemon, TellTaken, is_noted}
 use Rattle.dl_loop.specs.Holds.{AreTaken, Gives, HoldsIn}
@@ -79,14 +81,17 @@ taken_later old new took later taken = λ place link there.
 -- ---- the daemon
 
 -- a run gives what it gave before where nothing more was taken
-gives_before : (run : Run) (first : Core) (old new : DeskState) → SameDesk old new → Gives run first new.apps new.handles → Gives run first old.apps old.handles
+pub gives_before : (run : Run) (first : Core) (old new : DeskState) → SameDesk old new → Gives run first new.apps new.handles → Gives run first old.apps old.handles
 gives_before run first old new same gives = record {
   begins = gives.begins;
   frames = λ app. subst (λ items. GivesFrames items run) (same_taken old new same app) (gives.frames app);
   apids = subst (λ apps. (app : ℕ) → At apps app (λ spec. run.apid app ≡ spec.apid)) (same_apps old new same) gives.apids;
 }
 
-add_none : (n : ℕ) → n + 0 ≡ n
+pub same_took_by : (old new : DeskState) → SameDesk old new → took_by new.handles ≡ took_by old.handles
+same_took_by old new same = λ i. record { taken = λ app. same_taken old new same app i; reported = same_reported old new same i }
+
+pub add_none : (n : ℕ) → n + 0 ≡ n
 add_none n = omega arith
 
 module _ {L : Type 0} (told : L → LinkTold) (old : DaemonState L) (is : IsDaemon told old) where
@@ -130,6 +135,8 @@ module _ {L : Type 0} (told : L → LinkTold) (old : DaemonState L) (is : IsDaem
         };
         bounds = subst (λ n. HasBounds old.noted n desk.handles.losses.reported) (sym admitted)
             (subst (λ (rs : List Report). HasBounds old.noted old.core.hub.admitted rs) (sym (same_reported old.desk desk same)) is.bounds);
+        few = subst (λ (n : ℕ). IsFew old.noted (took_by desk.handles) n) (sym (ap (λ (specs : List AppSpec). length specs) (same_apps old.desk desk same)))
+            (subst (λ (t : Took). IsFew old.noted t (length old.desk.apps)) (sym (same_took_by old.desk desk same)) is.few);
         apps = subst (λ (specs : List AppSpec). length specs ≤ 16) (sym (same_apps old.desk desk same)) is.apps;
         desk = later_both old.first_desk old.desk desk is.desk (same_later old.desk desk same);
         running = running;

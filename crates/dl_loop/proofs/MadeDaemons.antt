@@ -31,7 +31,7 @@ use Rattle.dl_loop.specs.Made.{IsBegun, IsUntouched}
 use Rattle.dl_loop.specs.State.{desk_told}
 use Rattle.dl_loop.specs.Told.{IsToldBy}
 use Rattle.dl_loop.proofs.DeskRest.{later_none}
-use Rattle.dl_loop.proofs.NoRequests.{still}
+use Rattle.dl_settling.proofs.NoRequests.{still}
 
 -- a registry with nobody there owes no Level event
 none_owed : (held : ℕ → Slot) (level : ℕ) (stored : List StoredLevel) (all : List ℕ) → first_change held (record { level = level; stored = stored; apps = [] }) all ≡ None
@@ -120,6 +120,7 @@ made_daemon told core desk journal links listeners calls begins untouched events
       });
       room = record { noted = sym (ap (count_by is_noted) events); few = omega arith; limit = refl; spare = omega (arith, room) };
       bounds = record { few = omega arith; small = λ app. omega (arith, ap (reported_of app) untouched.reported) };
+      few = omega arith;
       apps = untouched.few;
       desk = later_none desk;
       running = subst IsRunning (sym events) refl;

@@ -7,7 +7,9 @@ use Rattle.dl_model.specs.Journal.{IsRunning}
 use Rattle.dl_outside.specs.Told.{LinkTold}
 use Rattle.dl_desk.specs.Made.{IsLater}
 use Rattle.dl_core.specs.Follows.{Run}
+use Rattle.dl_taking.specs.Took.{took_by}
 use Rattle.dl_rounds.specs.Ready.{AreHeard, AreLinked, open_clients}
+use Rattle.dl_settling.specs.Room.{IsFew}
 use Rattle.dl_loop.specs.Bounds.{HasBounds}
 use Rattle.dl_loop.specs.Holds.{Gives, HoldsIn}
 use Rattle.dl_loop.specs.State.{DaemonState, desk_told}
@@ -32,7 +34,8 @@ abbrev pub TellTaken : {L : Type 0} → (L → LinkTold) → Type 0
 TellTaken {L} told = (link : L) → IsSome (told link).taken
 
 -- A daemon whose links tell this. Its journal tells just what was taken, reported and set; its clients are linked and heard, and the next
--- round has room; no client was closed at a stop; the desk is the one that was handed in, later; and in each run that it may be of, core and
+-- round has room; there is no more than one Log or Lost event for each call that was taken and each loss that was reported; no client was closed
+-- at a stop; the desk is the one that was handed in, later; and in each run that it may be of, core and
 -- journal stand for each other.
 pub record IsDaemon {L : Type 0} (told : L → LinkTold) (d : DaemonState L) : Type 0 where
   pub told_by : IsToldBy d.journal.events (length d.desk.apps) d.desk.handles
@@ -40,6 +43,7 @@ pub record IsDaemon {L : Type 0} (told : L → LinkTold) (d : DaemonState L) : T
   pub heard : AreHeard d.listeners d.core (desk_told d.desk)
   pub room : HasRoom d
   pub bounds : HasBounds d.noted d.core.hub.admitted d.desk.handles.losses.reported
+  pub few : IsFew d.noted (took_by d.desk.handles) (length d.desk.apps)
   pub apps : length d.desk.apps ≤ 16
   pub desk : IsLater d.first_desk d.desk
   pub running : IsRunning d.journal.events

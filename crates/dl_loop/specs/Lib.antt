@@ -5,3 +5,9 @@ pub mod State
 pub mod Daemon
 pub mod Steps
 pub mod Made
+pub mod Scene
+pub mod Takes
+pub mod Greeting
+pub mod Later
+pub mod RoundSteps
+pub mod Stops

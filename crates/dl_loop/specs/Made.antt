@@ -1,5 +1,5 @@
 -- A daemon that was just made.
-use Rattle.std.specs.Prelude.{◌≡◌, ℕ, ◌+◌, ◌≤◌, [], length, replicate, Option}
+use Rattle.std.specs.Prelude.{◌≡◌, ℕ, ◌+◌, ◌≤◌, false, List, [], length, replicate, Option}
 use Rattle.dl_bytes.specs.declared.conf.Conf.{Conf}
 use Rattle.dl_bytes.specs.declared.conf.Stored.{Stored}
 use Rattle.dl_trace.specs.State.{Trace}
@@ -8,6 +8,7 @@ use Rattle.dl_lib.specs.Known.{taken_of}
 use Rattle.dl_core.specs.Settings.{begun}
 use Rattle.dl_core.specs.State.{Core}
 use Rattle.dl_rounds.specs.Ready.{fresh_listener}
+use Rattle.dl_rounds.specs.declared.listener.Listener.{Listener}
 use Rattle.dl_loop.specs.State.{DaemonState}
 
 -- the core has noted nothing, and each slot begins at version 0
@@ -22,6 +23,10 @@ pub record IsUntouched (desk : DeskState) : Type 0 where
   pub sets : desk.handles.levels.sets ≡ []
   pub first : desk.handles.levels.first ≡ 0
 
+-- the listeners of 32 clients that sent nothing yet
+unfoldable pub fresh_listeners : List Listener
+fresh_listeners = replicate 32 fresh_listener
+
 -- Core and desk are as they were handed in, nobody came, there is room for 32 clients, and the journal has room for so many Log and Lost events
 -- and for a Connect and a Close of each client.
 pub record IsMade {L : Type 0} (d : DaemonState L) : Type 0 where
@@ -29,8 +34,11 @@ pub record IsMade {L : Type 0} (d : DaemonState L) : Type 0 where
   pub untouched : IsUntouched d.desk
   pub events : d.journal.events ≡ []
   pub links : d.links ≡ record { links = []; room = 32 }
-  pub listeners : d.listeners ≡ replicate 32 fresh_listener
+  pub listeners : d.listeners ≡ fresh_listeners
   pub room : d.calls + 64 ≤ d.journal.spare
   pub noted : d.noted ≡ 0
+  pub dropped : d.dropped ≡ 0
+  pub failed : d.failed ≡ false
+  pub wanted : d.wanted ≡ false
   pub first_core : d.first_core ≡ d.core
   pub first_desk : d.first_desk ≡ d.desk

@@ -43,3 +43,21 @@ clients_of told d folder = record {
   listeners = d.listeners;
   side = side d.core (desk_told d.desk) (Some d.journal.events) folder;
 }
+
+-- the daemon of these parts
+abbrev pub daemon_of : {L : Type 0} → Core → DeskState → Journaled → Links L → List Listener → ℕ → ℕ → ℕ → Bool → Bool → Core → DeskState
+    → DaemonState L
+daemon_of core desk journal links listeners calls noted dropped failed wanted first_core first_desk = record {
+  core = core;
+  desk = desk;
+  journal = journal;
+  links = links;
+  listeners = listeners;
+  calls = calls;
+  noted = noted;
+  dropped = dropped;
+  failed = failed;
+  wanted = wanted;
+  first_core = first_core;
+  first_desk = first_desk;
+}

@@ -4,6 +4,7 @@ use Rattle.dl_outside.specs.Outside.{Stays}
 use Rattle.dl_outside.specs.Told.{FolderTold, LinkTold, NetTold}
 use Rattle.dl_hub.specs.State.{IsSameHub}
 use Rattle.dl_rounds.specs.Arrivals.{Arrives, ConnectsAs}
+use Rattle.dl_rounds.specs.Partings.{ShutsGone}
 use Rattle.dl_rounds.specs.Ready.{AreHeard, AreLinked, KeepsRoom}
 use Rattle.dl_rounds.specs.Visits.{HearsAll, PumpsAll}
 use Rattle.dl_rounds.specs.declared.accepting.Arrival.{Arrival}
@@ -51,3 +52,9 @@ pub record Hears {L : Type 0} (told : L → LinkTold) (moved : Bool) (folder fol
 pub record Pumps {L : Type 0} (told : L → LinkTold) (moved : Bool) (old new : DaemonState L) : Type 0 where
   pub visits : PumpsAll moved (map told old.links.links) (map told new.links.links) old.core new.core (Some old.journal.events) (Some new.journal.events)
   pub rest : new ≡ record old { core = new.core; journal = new.journal; links = new.links }
+
+-- The links of clients that are gone were shut; those of open ones stand, and so does all else.
+pub record Parts {L : Type 0} (told : L → LinkTold) (old new : DaemonState L) : Type 0 where
+  pub shuts : ShutsGone old.core.hub (map told old.links.links) (map told new.links.links)
+  pub room : new.links.room ≡ old.links.room
+  pub rest : new ≡ record old { links = new.links }

@@ -1,19 +1,33 @@
 //! Laws of the daemon.
 
-ghost use Rattle.std.specs.Prelude.{◌≡◌, ◌<◌, ◌+◌, ◌/◌, ◌%◌, ◌^◌, ◌++◌, ◌∷◌, [], ℕ, Bool, List, length, min};
+ghost use Rattle.std.specs.Prelude.{◌≡◌, ◌<◌, ◌≤◌, ◌+◌, ◌/◌, ◌%◌, ◌^◌, ◌++◌, ◌∷◌, [], ℕ, Bool, List, length, min};
+ghost use Rattle.std.specs.List.{AllByRecursion};
+ghost use Rattle.dl_bytes.specs.declared.conf.AppSpec.{AppSpec};
+ghost use Rattle.dl_bytes.specs.declared.moment.Moment.{Moment};
+ghost use Rattle.dl_bytes.specs.declared.user.UserMsg.{UserMsg};
 ghost use Rattle.dl_events.specs.declared.event.Event.{Event};
 ghost use Rattle.dl_losses.specs.Losses.{report, reported_of};
 ghost use Rattle.dl_losses.specs.declared.keeper.Report.{Report};
 ghost use Rattle.dl_outside.specs.Told.{FolderTold, NetTold};
+ghost use Rattle.dl_desk.specs.Made.{IsNew};
+ghost use Rattle.dl_desk.specs.State.{DeskState};
 ghost use Rattle.dl_lib.specs.Settled.{IsJournalOf};
 ghost use Rattle.dl_lib.specs.State.{AccountState};
+ghost use Rattle.dl_rounds.specs.Greetings.{IsRegistration, MayGreet};
+ghost use Rattle.dl_rounds.specs.Passing.{EachOpen, WasRead, WasSent};
 ghost use Rattle.dl_rounds.specs.declared.accepting.Arrival.{Arrival};
 ghost use Rattle.dl_loop.specs.Bounds.{HasBounds};
 ghost use Rattle.dl_loop.specs.Daemon.{IsDaemon};
-ghost use Rattle.dl_loop.specs.Made.{IsMade};
-ghost use Rattle.dl_loop.specs.State.{DaemonState};
-ghost use Rattle.dl_loop.specs.Steps.{Accepts, GoesOn, Hears, Pumps};
+ghost use Rattle.dl_loop.specs.Greeting.{Greets};
+ghost use Rattle.dl_loop.specs.Later.{GoesRound};
+ghost use Rattle.dl_loop.specs.Made.{IsMade, IsUntouched};
+ghost use Rattle.dl_loop.specs.RoundSteps.{IsRound};
+ghost use Rattle.dl_loop.specs.Scene.{Scene, scene};
+ghost use Rattle.dl_loop.specs.State.{DaemonState, clients_of, desk_told};
+ghost use Rattle.dl_loop.specs.Steps.{Accepts, GoesOn, Hears, Parts, Pumps};
+ghost use Rattle.dl_loop.specs.Takes.{TakesCalls, TakesLosses};
 ghost use Rattle.dl_loop.specs.Told.{IsToldBy};
+ghost use Rattle.dl_loop.specs.declared.round.Round.{Round};
 
 use dl_outside::Link;
 
@@ -22,12 +36,18 @@ pub fn what_is_told_is_the_journal()
     ensures { (events : List Event) (s : AccountState) → IsToldBy events (length s.apps) s.handles → IsJournalOf events s }
 {}
 
+/// A daemon may be made of a desk that was just made.
+pub fn a_new_desk_is_untouched()
+    ensures { (desk : DeskState) (specs : List AppSpec) → length specs ≤ 16 → IsNew desk specs → IsUntouched desk }
+{}
+
 /// A daemon that was just made is one.
 pub fn a_made_daemon_is_one<L: Link>()
     ensures { (d : DaemonState L) → IsMade d → IsDaemon L.told d }
 {}
 
-/// A daemon is one after an accept, whatever came of it; after listening to each open client; and after sending each what waits for it.
+/// A daemon is one after an accept, whatever came of it; after listening to each open client; after sending each what waits for it; and after the
+/// links of clients that are gone were shut.
 pub fn a_daemon_goes_on<L: Link>()
     ensures accepted { (came : Arrival) (net net_now : NetTold L) (old new : DaemonState L) → IsDaemon L.told old
         → Accepts L.told came net net_now old new → IsDaemon L.told new }
@@ -35,16 +55,52 @@ pub fn a_daemon_goes_on<L: Link>()
         → Hears L.told moved folder folder_now old new → GoesOn old new → IsDaemon L.told new }
     ensures pumped { (moved : Bool) (old new : DaemonState L) → IsDaemon L.told old
         → Pumps L.told moved old new → GoesOn old new → IsDaemon L.told new }
+    ensures parted { (old new : DaemonState L) → IsDaemon L.told old → Parts L.told old new → IsDaemon L.told new }
 {
     dl_rounds::laws::a_round_is_its_events();
     dl_turns::laws::a_pump_is_its_events();
+}
+
+/// A daemon is one after calls of an application were taken, and after its losses were.
+pub fn a_daemon_goes_on_taking<L: Link>()
+    ensures calls { (app count : ℕ) (folder folder_now : FolderTold) (old new : DaemonState L) → IsDaemon L.told old → app < length old.desk.apps
+        → TakesCalls app count (scene old folder) (scene new folder_now) → IsDaemon L.told new }
+    ensures losses { (app count : ℕ) (folder folder_now : FolderTold) (old new : DaemonState L) → IsDaemon L.told old → app < length old.desk.apps
+        → old.noted < old.calls → TakesLosses app count (scene old folder) (scene new folder_now) → IsDaemon L.told new }
+{}
+
+/// A daemon is one after its own applications told of themselves, before the first client came.
+pub fn a_daemon_goes_on_greeting<L: Link>()
+    ensures { (moment : Moment) (msgs : List UserMsg) (folder folder_now : FolderTold) (old new : DaemonState L) → IsDaemon L.told old
+        → old.links.links ≡ [] → AllByRecursion IsRegistration msgs → Greets moment msgs (scene old folder) (scene new folder_now)
+        → MayGreet new.core (desk_told new.desk) new.journal.spare → old.journal.spare ≤ new.journal.spare → IsDaemon L.told new }
+{}
+
+/// Rounds of a daemon in a row are rounds of it, and none is one in which nothing happened.
+pub fn rounds_go_on<L: Link>()
+    ensures none { (net : NetTold L) (s : Scene L) → GoesRound net net s s }
+    ensures both { (net net_between net_now : NetTold L) (first second third : Scene L) → GoesRound net net_between first second
+        → GoesRound net_between net_now second third → GoesRound net net_now first third }
+{}
+
+/// Each client that is open after a round has a link that gave a byte in it or had nothing to give yet; and nothing is left to send to it, or its
+/// link took nothing more.
+pub fn a_round_serves_each_client<L: Link>()
+    ensures read { (answer : Round) (net net_now : NetTold L) (old new : Scene L) (round : IsRound L.told answer net net_now old new)
+        → EachOpen WasRead (clients_of L.told round.serves.accepted old.folder) (clients_of L.told new.daemon new.folder) }
+    ensures sent { (answer : Round) (net net_now : NetTold L) (old new : Scene L) (round : IsRound L.told answer net net_now old new)
+        → EachOpen WasSent (clients_of L.told round.serves.accepted old.folder) (clients_of L.told new.daemon new.folder) }
+{
+    dl_rounds::laws::a_round_visits_each_client();
+    dl_rounds::laws::why_clients_stay();
 }
 
 /// A daemon admits far fewer frames than may be: the bound goes on with Log events and with Lost events, and fewer than 2^32 of these admit
 /// fewer than 2^33 frames.
 pub fn few_frames_are_admitted()
     ensures few { (noted admitted : ℕ) (reports : List Report) → HasBounds noted admitted reports → noted < 2 ^ 32 → admitted < 2 ^ 33 }
-    ensures logs { (noted admitted many : ℕ) (reports : List Report) → HasBounds noted admitted reports → HasBounds (noted + many) (admitted + many) reports }
+    ensures logs { (noted admitted many : ℕ) (reports : List Report) → HasBounds noted admitted reports
+        → HasBounds (noted + many) (admitted + many) reports }
     ensures lost { (noted admitted app count frames : ℕ) (reports : List Report) → app < 16 → frames ≡ count / 4294967295 + min 1 (count % 4294967295)
         → ((other : ℕ) → reported_of other (reports ++ report app count ∷ []) < 2 ^ 47)
         → HasBounds noted admitted reports → HasBounds (noted + 1) (admitted + frames) (reports ++ report app count ∷ []) }

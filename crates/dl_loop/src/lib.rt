@@ -1,5 +1,16 @@
-//! What is true of the live daemon between any two of its calls, and that each part of a round keeps it: an accept, listening to all clients,
-//! and sending what waits for them. Each law is the contract of a function that does nothing; the daemon that makes these calls stands on them.
+//! The live daemon: its core, its desk, its journal and its clients, in rounds.
+//!
+//! A daemon is made of a core and a desk, notes what the applications of this process tell of themselves (`hello`), and then goes round and
+//! round (`round`): one accept; each client is listened to; each application's calls and losses are taken; each client is sent what waits
+//! for it. What is true of it between any two calls is the invariant of its value. Each step of a round is a call of a few lines, and the laws
+//! say that each keeps that invariant.
 #![tactic(auto)]
 
+mod daemon;
 pub mod laws;
+mod round;
+mod stop;
+pub mod stop_laws;
+
+pub use daemon::Daemon;
+pub use round::Round;

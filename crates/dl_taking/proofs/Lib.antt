@@ -1,3 +1,5 @@
 pub mod Tooks
 pub mod Steps
 pub mod Telling
+pub mod Drains
+pub mod DrainedEvents

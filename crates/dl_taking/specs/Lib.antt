@@ -2,3 +2,5 @@ pub mod Took
 pub mod Side
 pub mod Takes
 pub mod Filling
+pub mod Draining
+pub mod Drained

@@ -8,7 +8,7 @@ use std::sync::Wait;
 impl Taker for Closing {
     ghost use Rattle.std.specs.Prelude.{◌≡◌, refl};
     ghost use Rattle.std.proofs.Common.{ap, ◌∙◌};
-    ghost use Rattle.dl_lib.specs.Known.{IsEmpty};
+    ghost use Rattle.dl_lib.specs.Known.{IsEmpty, IsTold};
     ghost use Rattle.dl_lib.specs.State.{ClosingState};
     ghost use Rattle.dl_taking.specs.Took.{HasLosses, took_by, untaken};
 
@@ -19,6 +19,8 @@ impl Taker for Closing {
     ghost is_empty = { IsEmpty };
 
     ghost has_losses = { HasLosses };
+
+    ghost has_told = { IsTold };
 
     ghost same_but_taken = { λ old new. record new { handles = untaken new.handles } ≡ record old { handles = untaken old.handles } };
 

@@ -21,6 +21,9 @@ impl Taker for Desk {
     // writers may count one at any time
     ghost has_losses = { λ d app. Unit {0} };
 
+    // so that it is never known that none will come
+    ghost has_told = { λ d app. Unit {0} };
+
     ghost same_but_taken = { λ old new. record new { handles = untaken new.handles } ≡ record old { handles = untaken old.handles } };
 
     fn take<R: Wait>(&mut self, rt: &R, app: u8) -> Option<Item> {

@@ -7,11 +7,13 @@
 mod batch;
 mod closing;
 mod desk;
+mod draining;
 mod filling;
 pub mod laws;
 mod taker;
 mod taking;
 
 pub use batch::{BATCH_LIMIT, Batch};
+pub use draining::drain_all;
 pub use taker::Taker;
 pub use taking::{report_losses, take_some};

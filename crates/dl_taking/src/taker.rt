@@ -24,6 +24,9 @@ pub trait Taker: Post {
     /// Losses of an application may be found that were not reported.
     ghost has_losses: { Self → ℕ → Type 0 };
 
+    /// All losses of an application that will ever be counted are known to be reported.
+    ghost has_told: { Self → ℕ → Type 0 };
+
     /// All else that contracts see of the two is the same.
     ghost same_but_taken: { Self → Self → Type 0 };
 
@@ -42,6 +45,7 @@ pub trait Taker: Post {
         ensures reported { took self.new ≡ with_losses app result (took self.old) }
         ensures small { reported_of app (took self.new).reported < 2 ^ 47 }
         ensures some { 0 < result → has_losses self.old app }
+        ensures all { has_told self.new app }
         ensures told { Self.told self.new ≡ Self.told self.old }
         ensures rest { same_but_taken self.old self.new };
 

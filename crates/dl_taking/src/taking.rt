@@ -60,6 +60,8 @@ pub fn report_losses<D: Taker, J: Journal, C: Clock, F: Folder>(
     requires few { core.old.hub.admitted + 32769 ≤ admitted_limit }
     ensures reports { let s = seen J.events J.noted J.spare F.told D.took in Reports (D.specs desk.old) app result
         (s core.old journal.old folder.old desk.old) (s core.new journal.new folder.new desk.new) }
+    ensures some { 0 < result → D.has_losses desk.old app }
+    ensures all { D.has_told desk.new app }
     ensures told { D.told desk.new ≡ D.told desk.old }
     ensures rest { D.same_but_taken desk.old desk.new }
 {

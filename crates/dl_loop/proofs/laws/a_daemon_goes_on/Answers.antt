@@ -1,4 +1,5 @@
 use Rattle.dl_loop.proofs.Daemons.{accept_is, hear_is, pump_is}
+use Rattle.dl_loop.proofs.Parted.{part_is}
 use Rattle.dl_loop.proofs.laws.a_daemon_goes_on.Goals as goal
 
 pub returns-clause-accepted : goal.returns-clause-accepted
@@ -9,3 +10,6 @@ returns-clause-heard g c = hear_is c.a_round_is_its_events.ensures.heard g.L.Lin
 
 pub returns-clause-pumped : goal.returns-clause-pumped
 returns-clause-pumped g c = pump_is c.a_round_is_its_events.ensures.pumped c.a_pump_is_its_events.ensures g.L.Link.told
+
+pub returns-clause-parted : goal.returns-clause-parted
+returns-clause-parted g c = part_is g.L.Link.told

@@ -1,0 +1,20 @@
+use Rattle.std.proofs.Common.{refl}
+use Rattle.dl_loop.specs.Scene.{scene}
+use Rattle.dl_loop.proofs.GoneRounds.{goes_both}
+use Rattle.dl_loop.proofs.Parted.{goes_parts}
+use Rattle.dl_loop.proofs.daemon.Daemon.round.Goals as goal
+
+pub returns-clause-round : goal.returns-clause-round
+returns-clause-round g c = record {
+  served = scene c.serve_all-answer.new.self (g.F.Folder.told c.serve_all-answer.new.folder);
+  serves = c.serve_all-answer.ensures.serves;
+  parts = c.part.ensures;
+  folder = refl;
+}
+
+pub returns-clause-goes : goal.returns-clause-goes
+returns-clause-goes g c =
+    let net = g.N.Net.told c.serve_all-answer.new.net in
+    let folder = g.F.Folder.told c.serve_all-answer.new.folder in
+    goes_both _ net net _ (scene c.serve_all-answer.new.self folder) _ c.serve_all-answer.ensures.goes
+    (goes_parts g.L.Link.told net folder c.serve_all-answer.new.self c.part.new.self c.part.ensures)

@@ -1,0 +1,52 @@
+-- A daemon later: what whoever makes many calls of it knows of the first and the last.
+use Rattle.std.specs.Prelude.{◌≡◌, ◌⊎◌, ◌+◌, ◌≤◌, ℕ, Bool, true, false, List, ◌++◌, count_by, length}
+use Rattle.std.specs.List.{AllByRecursion}
+use Rattle.dl_bytes.specs.Limits.{open_client_limit}
+use Rattle.dl_bytes.specs.declared.item.Item.{Item}
+use Rattle.dl_events.specs.declared.event.Event.{Event}
+use Rattle.dl_events.specs.declared.event.Event.TheVariants as event
+use Rattle.dl_outside.specs.Outside.{Stays}
+use Rattle.dl_outside.specs.Told.{NetTold}
+use Rattle.dl_desk.specs.Made.{IsLater}
+use Rattle.dl_lib.specs.Known.{taken_of}
+use Rattle.dl_core.specs.Follows.{HoldsTrace, Run}
+use Rattle.dl_loop.specs.Holds.{Gives}
+use Rattle.dl_loop.specs.Scene.{Scene}
+
+-- a Connect event
+abbrev pub is_connect : Event → Bool
+is_connect (event.Connect client) = true
+is_connect other = false
+
+-- an event of a round: any but one of a program that tells of itself
+abbrev pub IsOfRound : Event → Type 0
+IsOfRound (event.User channel msg moment) = ⊥
+IsOfRound other = Unit {0}
+
+-- The daemon is later by these events; it is of the same core, desk and calls. Each Connect event is one of a link that came, and no link is
+-- forgotten. The trace files that stood for the journal stand for the longer one.
+pub record IsLaterBy {L : Type 0} (more : List Event) (old new : Scene L) : Type 0 where
+  pub events : new.daemon.journal.events ≡ old.daemon.journal.events ++ more
+  pub calls : new.daemon.calls ≡ old.daemon.calls
+  pub first_core : new.daemon.first_core ≡ old.daemon.first_core
+  pub first_desk : new.daemon.first_desk ≡ old.daemon.first_desk
+  pub desk : IsLater old.daemon.desk new.daemon.desk
+  pub taken : (app : ℕ) → (items : List Item) × (taken_of new.daemon.desk.handles app ≡ taken_of old.daemon.desk.handles app ++ items)
+  pub connects : length new.daemon.links.links ≡ length old.daemon.links.links + count_by is_connect more
+  pub holds : (run : Run) → Gives run new.daemon.first_core new.daemon.desk.apps new.daemon.desk.handles
+      → HoldsTrace run old.daemon.journal.events old.daemon.core old.folder → HoldsTrace run new.daemon.journal.events new.daemon.core new.folder
+
+-- the net listens where it did, and launched whom it had; its count of faults never falls
+pub record IsNetLater {L : Type 0} (old new : NetTold L) : Type 0 where
+  pub listens : Stays old.listens_on new.listens_on
+  pub launched : Stays old.launched new.launched
+  pub faults : old.faults ≤ new.faults
+
+-- Rounds of a daemon, however many: it is later by events that no program told of itself. A link was dropped only where as many clients came as
+-- may be open at once.
+pub record GoesRound {L : Type 0} (net net_now : NetTold L) (old new : Scene L) : Type 0 where
+  pub more : List Event
+  pub later : IsLaterBy more old new
+  pub of_round : AllByRecursion IsOfRound more
+  pub net_later : IsNetLater net net_now
+  pub dropped : (new.daemon.dropped ≡ old.daemon.dropped) ⊎ (open_client_limit ≤ length new.daemon.links.links)

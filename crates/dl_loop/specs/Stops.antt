@@ -1,0 +1,77 @@
+-- A daemon that stops: what it hands on, and what it leaves.
+use Rattle.std.specs.Prelude.{◌≡◌, ℕ, ◌≤◌, List, [], ◌++◌, length, map}
+use Rattle.std.specs.List.{AllByRecursion}
+use Rattle.dl_events.specs.declared.event.Event.{Event}
+use Rattle.dl_model.specs.Journal.{IsOpen, IsWellFormed}
+use Rattle.dl_outside.specs.Links.{Links}
+use Rattle.dl_outside.specs.Told.{FolderTold, LinkTold}
+use Rattle.dl_lib.specs.State.{AccountState, ClosingState}
+use Rattle.dl_core.specs.Follows.{HoldsTrace, IsAfter, Run, source_of}
+use Rattle.dl_core.specs.State.{Core}
+use Rattle.dl_taking.specs.Draining.{MayNote, all_to_note, closing_told}
+use Rattle.dl_rounds.specs.Ready.{AreHeard, AreLinked}
+use Rattle.dl_bytes.specs.Limits.{client_limit}
+use Rattle.dl_turns.specs.Injected.{HasPosted}
+use Rattle.dl_rounds.specs.Passing.{AreAsNoted}
+use Rattle.dl_writer.specs.State.{BookState}
+use Rattle.dl_lib.specs.Making.{AreInOrder, IsMadeOf}
+use Rattle.dl_lib.specs.Settled.{IsSettled}
+use Rattle.dl_settling.specs.Settling.{Settles}
+use Rattle.dl_settling.specs.Ends.{trace_told}
+use Rattle.dl_settling.specs.State.{Stopping}
+use Rattle.dl_settling.specs.Stopped.{IsOfStop, account_told}
+use Rattle.dl_settling.specs.Went.{HaveGone, TellBytes, TellStreams}
+use Rattle.dl_loop.specs.Holds.{Gives}
+use Rattle.dl_loop.specs.State.{DaemonState, clients_of, desk_told}
+use Rattle.dl_loop.specs.Told.{IsToldBy}
+
+-- what a daemon hands on to its stop, once this stands for its desk
+abbrev pub stopping_of : {L : Type 0} → DaemonState L → ClosingState → Stopping L
+stopping_of d closing = record { core = d.core; closing = closing; journal = d.journal; links = d.links; listeners = d.listeners }
+
+-- What a stop leaves in a run: the core as it is in the end is what the account's events make of it, for what the links took, where links tell
+-- that; the journal is well-formed, and no client is open in it; the queues of injections took and refused just those of its requests; the ends
+-- of links tell the clients' streams, and the trace tells its files; the trace files that stood for the journal stand for the longer one. Clients
+-- that were as the journal had them have gone as the model of a daemon's end says, where links tell what they gave and took.
+pub record StopsIn {L : Type 0} (told : L → LinkTold) (run : Run) (d : DaemonState L) (account : AccountState) (links : Links L) (folder folder_now : FolderTold) : Type 0 where
+  pub core : Core
+  pub took : ℕ → List ℕ
+  pub after : IsAfter run account.events took core
+  pub formed : IsWellFormed run.setting (source_of run) account.events
+  pub none_open : (client : ℕ) → IsOpen client account.events → ⊥
+  pub posted : (app : ℕ) → HasPosted run.setting [] account.events app (desk_told d.first_desk) (account_told account)
+  pub ends : TellStreams run account.events (length links.links) account.outcome.links
+  pub trace : account.outcome.trace ≡ trace_told core.trace
+  pub holds : HoldsTrace run d.journal.events d.core folder → HoldsTrace run account.events core folder_now
+  pub gone : TellBytes told → (taken : ℕ → List ℕ) → AreAsNoted run d.journal.events taken (clients_of told d folder)
+      → HaveGone run account.events (map told links.links) account.outcome.links
+
+-- What a stop leaves: the journal is longer by calls, losses, requests, levels and Closes alone; it tells just what was taken, reported and set; as
+-- many links come back as there were, and so many are told as dropped; and in each run that the account may be of, it is as said above.
+pub record IsStopped {L : Type 0} (told : L → LinkTold) (d : DaemonState L) (account : AccountState) (links : Links L) (folder folder_now : FolderTold) : Type 0 where
+  pub more : List Event
+  pub events : account.events ≡ d.journal.events ++ more
+  pub of_stop : AllByRecursion IsOfStop more
+  pub apps : account.apps ≡ d.desk.apps
+  pub told_by : IsToldBy account.events (length account.apps) account.handles
+  pub many : length links.links ≡ length d.links.links
+  pub dropped : account.outcome.dropped ≡ d.dropped
+  pub runs : (run : Run) → Gives run d.first_core account.apps account.handles → StopsIn told run d account links folder folder_now
+
+-- what a stop asks of a daemon, where so many events may still be noted
+pub record MayStop {L : Type 0} (d : DaemonState L) (closing : ClosingState) (events : ℕ) : Type 0 where
+  pub apps : length closing.apps ≤ 16
+  pub clients : d.core.hub.limit ≤ client_limit
+  pub enough : all_to_note closing ≤ events
+  pub may : MayNote events (length closing.apps) d.core.hub d.journal.spare
+  pub linked : AreLinked d.links d.core d.journal.spare
+  pub heard : AreHeard d.listeners d.core (closing_told closing)
+
+-- A daemon stopped: its account is settled, with these books by their writers' numbers, and all is as said above.
+pub record Stops {L : Type 0} (told : L → LinkTold) (d : DaemonState L) (books : List BookState) (account : AccountState) (links : Links L) (folder folder_now : FolderTold) : Type 0 where
+  pub settled : IsSettled account
+  pub books_are : AreInOrder books account.books
+  pub closing : ClosingState
+  pub made : IsMadeOf d.desk books closing
+  pub settles : Settles told d.dropped (stopping_of d closing) account links folder folder_now
+  pub stopped : IsStopped told d account links folder folder_now

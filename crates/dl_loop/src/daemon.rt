@@ -1,0 +1,432 @@
+//! The daemon, and its calls.
+
+ghost use Rattle.std.specs.Prelude.{◌≡◌, ◌+◌, ◌<◌, ◌≤◌, ℕ, [], length, IfOk, OnOk, OnErr};
+ghost use Rattle.std.specs.List.{AllByRecursion};
+ghost use Rattle.dl_rounds.specs.Greetings.{IsIntroduced, hello_of, registered};
+ghost use Rattle.dl_outside.specs.Told.{NetTold};
+ghost use Rattle.dl_loop.specs.Daemon.{IsDaemon};
+ghost use Rattle.dl_loop.specs.Greeting.{Greets, GreetsFirst};
+ghost use Rattle.dl_loop.specs.Later.{GoesRound};
+ghost use Rattle.dl_loop.specs.Made.{IsBegun, IsMade, IsUntouched, fresh_listeners};
+ghost use Rattle.dl_loop.specs.RoundSteps.{AcceptsIfMay, IsRound, Serves, answer_of};
+ghost use Rattle.dl_loop.specs.Scene.{scene};
+ghost use Rattle.dl_loop.specs.Steps.{Hears, Parts, Pumps, is_failure, is_want};
+ghost use Rattle.dl_loop.specs.Takes.{TakesAll, TakesCalls, TakesLossesIfMay, TakesTurn};
+
+use crate::laws::{a_daemon_goes_on, a_daemon_goes_on_taking};
+use crate::round::Round;
+use dl_bytes::{Moment, OutOfMemory};
+use dl_core::Core;
+use dl_desk::{AppList, Desk};
+use dl_events::{Journal, Kept};
+use dl_outside::{Clock, Folder, Link, LinkList, Net};
+use dl_rounds::{Arrival, Listener, accept_one, greet, listen_all, listeners, pump_all, shut_gone};
+use dl_settling::EndRoom;
+use dl_taking::{BATCH_LIMIT, Batch, report_losses, take_some};
+use std::alloc::Global;
+use std::marker::Model;
+use std::snapshot::Snapshot;
+use std::sync::Wait;
+
+/// How many clients may come.
+const CLIENT_LIMIT: u32 = 32;
+
+/// A Connect and a Close of each.
+const MORE_EVENTS: u64 = 64;
+
+/// The live daemon over links of one kind.
+#[derive(Drop)]
+pub struct Daemon<L: Link> {
+    pub(crate) core: Core,
+    pub(crate) desk: Desk,
+    pub(crate) journal: Kept,
+    // of each client that came its link, by the clients' numbers from 1
+    pub(crate) links: LinkList<L>,
+    // of each client that may come what cuts its bytes
+    pub(crate) listeners: Vec<Listener>,
+    pub(crate) batch: Batch,
+    // room for what becomes of each client's link
+    pub(crate) ends: EndRoom,
+    // how many Log and Lost events there may be
+    pub(crate) calls: u32,
+    // how many there are
+    pub(crate) noted: u32,
+    // how many links were dropped
+    pub(crate) dropped: u32,
+    // whether an accept has failed, and whether one has wanted memory
+    pub(crate) failed: bool,
+    pub(crate) wanted: bool,
+    pub(crate) alloc: Global,
+    // the core and the desk as they were handed in, for contracts
+    pub(crate) first_core: Snapshot<Core>,
+    pub(crate) first_desk: Snapshot<Desk>,
+}
+
+impl<L: Link> Model for Daemon<L> {
+    ghost use Rattle.dl_loop.specs.State.{DaemonState, daemon_of};
+    ghost use Rattle.dl_loop.specs.Daemon.{IsDaemon};
+
+    ghost Value = { DaemonState L };
+
+    ghost view = { λ d. daemon_of d.core d.desk d.journal d.links d.listeners.items d.calls d.noted d.dropped d.failed d.wanted
+        d.first_core.value d.first_desk.value };
+
+    ghost invariant = { λ d. IsDaemon L.told (daemon_of d.core d.desk d.journal d.links d.listeners.items d.calls d.noted d.dropped d.failed
+        d.wanted d.first_core.value d.first_desk.value) };
+}
+
+impl<L: Link> Daemon<L> {
+    /// A daemon of this core and this desk, which notes in this journal: so many Log and Lost events at most. It takes all memory that its rounds
+    /// and its stop need of their own: for what cuts the bytes of 32 clients, for their links, and for these events with a Connect and a Close of each.
+    pub fn make(
+        alloc: Global,
+        core: Core,
+        desk: Desk,
+        journal: Kept,
+        calls: u32,
+    ) -> Result<Daemon<L>, OutOfMemory>
+    where
+        L: Drop,
+        requires begun { IsBegun core }
+        requires untouched { IsUntouched desk }
+        requires empty { journal.events ≡ [] }
+        ensures made { IfOk result IsMade }
+        ensures parts { IfOk result (λ d. (d.core ≡ core) × (d.desk ≡ desk) × (d.calls ≡ calls)) }
+    {
+        let mut journal = journal;
+        match make_rooms(alloc, &mut journal, calls) {
+            Ok(rooms) => Ok(Daemon::begin(alloc, core, desk, journal, rooms, calls)),
+            Err(error) => Err(error),
+        }
+    }
+
+    // The daemon of what it is made of.
+    fn begin(
+        alloc: Global,
+        core: Core,
+        desk: Desk,
+        journal: Kept,
+        rooms: Rooms<L>,
+        calls: u32,
+    ) -> Daemon<L>
+        requires begun { IsBegun core }
+        requires untouched { IsUntouched desk }
+        requires empty { journal.events ≡ [] }
+        requires room { calls + 64 ≤ journal.spare }
+        requires links { rooms.links ≡ record { links = []; room = 32 } }
+        requires listeners { rooms.listeners.items ≡ fresh_listeners }
+        ensures made { IsMade result }
+        ensures parts { (result.core ≡ core) × (result.desk ≡ desk) × (result.calls ≡ calls) }
+    {
+        let first_core = Snapshot::of(&core);
+        let first_desk = Snapshot::of(&desk);
+        let Rooms {
+            links,
+            listeners,
+            batch,
+            ends,
+        } = rooms;
+        Daemon {
+            core,
+            desk,
+            journal,
+            links,
+            listeners,
+            batch,
+            ends,
+            calls,
+            noted: 0,
+            dropped: 0,
+            failed: false,
+            wanted: false,
+            alloc,
+            first_core,
+            first_desk,
+        }
+    }
+
+    /// What is true of a daemon. It does nothing: its clause is what callers learn.
+    pub fn is_daemon(&self)
+        ensures { IsDaemon L.told self.now }
+    {
+        let _ = &self.dropped;
+    }
+
+    /// Notes what the applications of this process tell of themselves, before the first client comes. Where memory was wanting the first ones of
+    /// these messages are noted, each with its Level events.
+    pub fn hello<F: Folder>(
+        &mut self,
+        apps: &AppList,
+        moment: Moment,
+        folder: &mut F,
+    ) -> Result<(), OutOfMemory>
+        requires introduced { AllByRecursion IsIntroduced apps.now }
+        requires nobody { self.old.links.links ≡ [] }
+        requires place { registered self.old.core + length apps.now ≤ length self.old.desk.apps }
+        ensures greets { OnOk result (Greets moment (hello_of apps.now) (scene self.old (F.told folder.old)) (scene self.new (F.told folder.new))) }
+        ensures first { OnErr result (GreetsFirst moment (hello_of apps.now)
+            (scene self.old (F.told folder.old)) (scene self.new (F.told folder.new))) }
+    {
+        greet(
+            self.alloc,
+            &mut self.core,
+            &mut self.desk,
+            &mut self.journal,
+            apps,
+            moment,
+            folder,
+        )
+    }
+
+    /// One round: an accept, unless one has failed or wanted memory before; each open client is listened to; each application's calls are taken, at
+    /// most 64, and then its losses; and each open client is sent what waits for it. The link of a client that is gone is shut then, also where it was
+    /// too slow for what was taken. The net rests where nothing came, was taken or went.
+    pub fn round<R: Wait, N: Net<L = L>, C: Clock, F: Folder>(
+        &mut self,
+        rt: &R,
+        net: &mut N,
+        clock: &C,
+        folder: &mut F,
+    ) -> Round
+    where
+        L: Drop,
+        ensures round { IsRound L.told result (N.told net.old) (N.told net.new)
+            (scene self.old (F.told folder.old)) (scene self.new (F.told folder.new)) }
+        ensures goes { GoesRound (N.told net.old) (N.told net.new) (scene self.old (F.told folder.old)) (scene self.new (F.told folder.new)) }
+    {
+        let answer = self.serve_all(rt, net, clock, folder);
+        self.part();
+        answer
+    }
+}
+
+/// What clients, the calls of a round and the ends of links have room in.
+#[derive(Drop)]
+struct Rooms<L> {
+    links: LinkList<L>,
+    listeners: Vec<Listener>,
+    batch: Batch,
+    ends: EndRoom,
+}
+
+/// Takes the memory that rounds need of their own, in the journal too.
+fn make_rooms<L: Drop>(
+    alloc: Global,
+    journal: &mut Kept,
+    calls: u32,
+) -> Result<Rooms<L>, OutOfMemory>
+    ensures events { journal.new.events ≡ journal.old.events }
+    ensures room { OnOk result (calls + 64 ≤ journal.new.spare) }
+    ensures links { IfOk result (λ rooms. rooms.links ≡ record { links = []; room = 32 }) }
+    ensures listeners { IfOk result (λ rooms. rooms.listeners.items ≡ fresh_listeners) }
+{
+    journal.reserve(u64::from(calls) + MORE_EVENTS)?;
+    let links = LinkList::make(alloc, CLIENT_LIMIT)?;
+    let listeners = all_listeners(alloc)?;
+    let batch = Batch::make(alloc)?;
+    let ends = EndRoom::make(alloc)?;
+    Ok(Rooms {
+        links,
+        listeners,
+        batch,
+        ends,
+    })
+}
+
+/// The listeners of all clients that may come.
+#[tactic(auto, unfolding(crate::specs::Made::fresh_listeners))]
+fn all_listeners(alloc: Global) -> Result<Vec<Listener>, OutOfMemory>
+    ensures { IfOk result (λ listeners. listeners.items ≡ fresh_listeners) }
+{
+    listeners(alloc, CLIENT_LIMIT)
+}
+
+/// Rests where nothing moved.
+fn rest_if_idle<N: Net>(net: &mut N, moved: bool)
+    ensures { N.told net.new ≡ N.told net.old }
+{
+    if !moved {
+        net.rest();
+    }
+}
+
+/// The answer of a round, by what came of its accept.
+fn answer_of(came: Arrival) -> Round
+    ensures { result ≡ answer_of came }
+{
+    Round {
+        accepted: matches!(came, Arrival::Client(_) | Arrival::Dropped),
+        none: matches!(came, Arrival::Nobody),
+        failed: is_failure(came),
+        wanted: is_want(came),
+    }
+}
+
+/// Whether the net failed.
+fn is_failure(came: Arrival) -> bool
+    ensures { result ≡ is_failure came }
+{
+    matches!(came, Arrival::Failed)
+}
+
+/// Whether memory was wanting.
+fn is_want(came: Arrival) -> bool
+    ensures { result ≡ is_want came }
+{
+    matches!(came, Arrival::OutOfMemory)
+}
+
+impl<L: Link> Daemon<L> {
+    // All of a round but that the links of clients that are gone are shut.
+    fn serve_all<R: Wait, N: Net<L = L>, C: Clock, F: Folder>(
+        &mut self,
+        rt: &R,
+        net: &mut N,
+        clock: &C,
+        folder: &mut F,
+    ) -> Round
+    where
+        L: Drop,
+        ensures serves { Serves L.told result (N.told net.old) (N.told net.new)
+            (scene self.old (F.told folder.old)) (scene self.new (F.told folder.new)) }
+        ensures goes { GoesRound (N.told net.old) (N.told net.new) (scene self.old (F.told folder.old)) (scene self.new (F.told folder.new)) }
+    {
+        dl_rounds::laws::a_round_is_its_events();
+        self.is_daemon();
+        let came = self.accept(net);
+        self.is_daemon();
+        let heard = self.listen(rt, folder);
+        let taken = self.take_all(rt, clock, folder);
+        self.is_daemon();
+        let sent = self.pump();
+        let answer = answer_of(came);
+        rest_if_idle(net, answer.accepted || heard || taken || sent);
+        answer
+    }
+
+    // The links of clients that are gone are shut.
+    fn part(&mut self)
+        ensures { Parts L.told self.old self.new }
+    {
+        a_daemon_goes_on::<L>();
+        shut_gone(self.core.hub(), &mut self.links);
+    }
+
+    // One accept, unless an earlier one failed or wanted memory: then that one's answer again.
+    fn accept<N: Net<L = L>>(&mut self, net: &mut N) -> Arrival
+    where
+        L: Drop,
+        ensures { AcceptsIfMay L.told result (N.told net.old) (N.told net.new) self.old self.new }
+    {
+        if self.failed {
+            return Arrival::Failed;
+        }
+        if self.wanted {
+            return Arrival::OutOfMemory;
+        }
+        a_daemon_goes_on::<L>();
+        let came = accept_one(
+            &mut self.core,
+            &mut self.journal,
+            net,
+            &mut self.links,
+            &mut self.dropped,
+        );
+        self.failed = is_failure(came);
+        self.wanted = is_want(came);
+        came
+    }
+
+    // Each open client is listened to. Answers whether anything moved.
+    fn listen<R: Wait, F: Folder>(&mut self, rt: &R, folder: &mut F) -> bool
+        ensures { Hears L.told result (F.told folder.old) (F.told folder.new) self.old self.new }
+    {
+        a_daemon_goes_on::<L>();
+        listen_all(
+            rt,
+            self.alloc,
+            &mut self.core,
+            &mut self.desk,
+            &mut self.journal,
+            &mut self.links,
+            &mut self.listeners,
+            folder,
+        )
+    }
+
+    // Calls of an application are taken and admitted. Answers how many.
+    fn take_calls<R: Wait, C: Clock, F: Folder>(
+        &mut self,
+        rt: &R,
+        app: u8,
+        clock: &C,
+        folder: &mut F,
+    ) -> usize
+        requires { app < length self.old.desk.apps }
+        ensures { TakesCalls app result (scene self.old (F.told folder.old)) (scene self.new (F.told folder.new)) }
+    {
+        a_daemon_goes_on_taking::<L>();
+        let most = BATCH_LIMIT.min((self.calls - self.noted) as usize);
+        let count = take_some(
+            rt,
+            &mut self.core,
+            &mut self.desk,
+            &mut self.journal,
+            &mut self.batch,
+            app,
+            most,
+            clock,
+            folder,
+        );
+        self.noted += count as u32;
+        count
+    }
+
+    // The losses of an application are taken and told, where a Lost event may still come. Answers how many they were.
+    fn take_losses<C: Clock, F: Folder>(&mut self, app: u8, clock: &C, folder: &mut F) -> u64
+        requires { app < length self.old.desk.apps }
+        ensures { TakesLossesIfMay app (scene self.old (F.told folder.old)) (scene self.new (F.told folder.new)) }
+    {
+        a_daemon_goes_on_taking::<L>();
+        if self.noted == self.calls {
+            return 0;
+        }
+        let count = report_losses(
+            &mut self.core,
+            &mut self.desk,
+            &mut self.journal,
+            app,
+            clock,
+            folder,
+        );
+        if count != 0 {
+            self.noted += 1;
+        }
+        count
+    }
+
+    // Each application has its turn. Answers whether anything was taken.
+    fn take_all<R: Wait, C: Clock, F: Folder>(&mut self, rt: &R, clock: &C, folder: &mut F) -> bool
+        ensures takes { TakesAll (scene self.old (F.told folder.old)) (scene self.new (F.told folder.new)) }
+        ensures goes { (net : NetTold L) → GoesRound net net (scene self.old (F.told folder.old)) (scene self.new (F.told folder.new)) }
+    {
+        let apps = self.desk.apps().len() as u8;
+        let mut moved = false;
+        for app in 0..apps {
+            self.is_daemon();
+            let calls = self.take_calls(rt, app, clock, folder);
+            self.is_daemon();
+            let losses = self.take_losses(app, clock, folder);
+            moved |= calls != 0 || losses != 0;
+        }
+        moved
+    }
+
+    // Each open client is sent what waits for it. Answers whether anything moved.
+    fn pump(&mut self) -> bool
+        ensures { Pumps L.told result self.old self.new }
+    {
+        a_daemon_goes_on::<L>();
+        pump_all(&mut self.core, &mut self.journal, &mut self.links)
+    }
+}

@@ -1,0 +1,76 @@
+use Rattle.std.proofs.Common.{◌≡◌, List, length, map, refl, sym, ap, ◌∙◌, subst, arith}
+use Rattle.std.proofs.lemmas.List.{length-map}
+use Rattle.dl_registry.specs.Kept.{owed_change}
+use Rattle.dl_core.specs.State.{Core}
+use Rattle.dl_rounds.specs.Ready.{AreHeard}
+use Rattle.dl_rounds.specs.declared.listener.Listener.{Listener}
+use Rattle.dl_taking.specs.Draining.{closing_told}
+use Rattle.dl_taking.proofs.DrainedEvents.{all_drain}
+use Rattle.dl_lib.proofs.Resting.{drained_stays}
+use Rattle.dl_lib.specs.Settled.{account_of}
+use Rattle.dl_hub.specs.State.{Hub}
+use Rattle.dl_rounds.specs.Partings.{ShutsGone}
+use Rattle.dl_rounds.specs.Visits.{ClosesAll}
+use Rattle.dl_settling.specs.Ends.{ends_in}
+use Rattle.dl_settling.specs.State.{Stopping, clients_of}
+use Rattle.dl_settling.proofs.Ready.{heard_still, linked_still}
+use Rattle.dl_settling.proofs.settling.settle.Goals as goal
+
+pub close_all-requires-clause-linked : goal.close_all-requires-clause-linked
+close_all-requires-clause-linked g c =
+    let now = c.drain_all.new in
+    let drain = all_drain c.args.parts.closing.apps _ _ c.drain_all.ensures.drains in
+    linked_still drain.admits.more c.args.parts.links c.args.parts.core now.core c.args.parts.journal.spare now.journal.spare c.requires.linked drain.admits.clients
+    (ap (λ (k : Core). owed_change k.registry) drain.admits.rest ∙ c.requires.linked.settled) (omega (arith, c.drain_all.ensures.may.spare_so))
+
+pub close_all-requires-clause-heard : goal.close_all-requires-clause-heard
+close_all-requires-clause-heard g c =
+    let now = c.drain_all.new in
+    let drain = all_drain c.args.parts.closing.apps _ _ c.drain_all.ensures.drains in
+    heard_still drain.admits.more c.deref_mut.result.now c.args.parts.core now.core (closing_told c.args.parts.closing) (closing_told now.closing)
+    (subst (λ (ls : List Listener). AreHeard ls c.args.parts.core (closing_told c.args.parts.closing)) (sym c.deref_mut.ensures.value) c.requires.heard) drain.admits.clients
+    (ap (λ (k : Core). k.registry) drain.admits.rest) c.drain_all.ensures.told
+
+pub finish-account-requires : goal.finish-account-requires
+finish-account-requires g c = drained_stays c.drain_all.new.closing c.close_all.new.desk c.close_all.ensures.rest c.drain_all.ensures.drained
+
+pub fill-requires-clause-few : goal.fill-requires-clause-few
+fill-requires-clause-few g c =
+    let drain = all_drain c.args.parts.closing.apps _ _ c.drain_all.ensures.drains in
+    let many : length c.shut_gone.new.links.links ≡ length c.close_all.new.links.links =
+    sym (length-map c.shut_gone.new.links.links g.L.Link.told) ∙ c.shut_gone.ensures.shuts.many ∙ length-map c.close_all.new.links.links g.L.Link.told in
+    omega (arith, c.len.ensures, many, c.close_all.ensures.linked.many, c.close_all.ensures.linked.few, c.close_all.ensures.same.limit, drain.admits.clients.same.limit, c.requires.clients)
+
+pub returns-clause-settles : goal.returns-clause-settles
+returns-clause-settles g c =
+    let parts = c.args.parts in
+    let one = c.drain_all in
+    let other = c.close_all in
+    let drained : Stopping g.row.L.Denot = record { core = one.new.core; closing = one.new.closing; journal = one.new.journal; links = parts.links; listeners = parts.listeners.items } in
+    let closed : Stopping g.row.L.Denot = record { core = other.new.core; closing = other.new.desk; journal = other.new.journal; links = other.new.links; listeners = other.new.listeners } in
+    record {
+      drained = drained;
+      between = g.F.Folder.told one.new.folder;
+      drains = record { drains = one.ensures.drains; drained = one.ensures.drained; told = one.ensures.told; same = one.ensures.rest; links = refl; listeners = refl };
+      closed = closed;
+      closes = record {
+        closes = subst (λ (ls : List Listener). ClosesAll (clients_of g.L.Link.told (record drained { listeners = ls }) (g.F.Folder.told one.new.folder)) (clients_of g.L.Link.told closed (g.F.Folder.told other.new.folder)))
+            c.deref_mut.ensures.value other.ensures.visits;
+        none_open = other.ensures.none;
+        same = other.ensures.rest;
+        linked = other.ensures.linked;
+        heard = other.ensures.heard;
+      };
+      account_is = c.finish-account.ensures ∙ ap (account_of other.new.desk other.new.journal.events) (λ i. record {
+        links = (c.fill.ensures ∙ ap ends_in c.hub-2.ensures) i;
+        dropped = parts.dropped;
+        trace = c.trace_told.ensures i;
+      });
+      shuts = subst (λ (h : Hub). ShutsGone h (map g.L.Link.told other.new.links.links) (map g.L.Link.told c.shut_gone.new.links.links)) c.hub.ensures c.shut_gone.ensures.shuts;
+    }
+
+pub fill-requires-clause-all : goal.fill-requires-clause-all
+fill-requires-clause-all g c =
+    let many : length c.shut_gone.new.links.links ≡ length c.close_all.new.links.links =
+    sym (length-map c.shut_gone.new.links.links g.L.Link.told) ∙ c.shut_gone.ensures.shuts.many ∙ length-map c.close_all.new.links.links g.L.Link.told in
+    c.len.ensures ∙ many ∙ sym c.close_all.ensures.linked.many ∙ ap (λ (h : Hub). length h.clients) (sym c.hub-2.ensures)

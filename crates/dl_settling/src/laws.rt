@@ -1,0 +1,65 @@
+//! Laws of a stop: what it is to the journal, to each client, and to the account.
+
+ghost use Rattle.std.specs.Prelude.{◌++◌, ◌+◌, ◌≤◌, ℕ, List, All, length, map};
+ghost use Rattle.dl_bytes.specs.declared.conf.AppSpec.{AppSpec};
+ghost use Rattle.dl_events.specs.declared.event.Event.{Event};
+ghost use Rattle.dl_outside.specs.Links.{Links};
+ghost use Rattle.dl_outside.specs.Told.{FolderTold, LinkTold};
+ghost use Rattle.dl_desk.specs.Told.{PostTold};
+ghost use Rattle.dl_writer.specs.State.{IsWhole};
+ghost use Rattle.dl_lib.specs.Known.{AreGathered};
+ghost use Rattle.dl_lib.specs.State.{AccountState, ClosingState};
+ghost use Rattle.dl_core.specs.Follows.{IsAfter, Run};
+ghost use Rattle.dl_core.specs.State.{Core};
+ghost use Rattle.dl_taking.specs.Drained.{GivesTook, IsDrain};
+ghost use Rattle.dl_taking.specs.Draining.{all_to_note, closing_took};
+ghost use Rattle.dl_taking.specs.Side.{Side};
+ghost use Rattle.dl_rounds.specs.Passing.{AreAsNoted};
+ghost use Rattle.dl_rounds.specs.declared.listener.Listener.{Listener};
+ghost use Rattle.dl_settling.specs.Ends.{ends_in};
+ghost use Rattle.dl_settling.specs.Room.{IsFew, together};
+ghost use Rattle.dl_settling.specs.Settling.{Settles};
+ghost use Rattle.dl_settling.specs.State.{Stopping, clients_at, clients_of};
+ghost use Rattle.dl_settling.specs.Stopped.{IsStop, account_took};
+ghost use Rattle.dl_settling.specs.Went.{HaveGone, TellBytes, TellStreams};
+
+use dl_outside::Link;
+
+/// A stop is its events and the bytes that links took: journal, core, folder, level words and queues of injections go on by them, and a
+/// well-formed journal stays so. The journal tells just what was taken, and no client is open in the end.
+pub fn a_stop_is_its_events<L: Link>()
+    ensures { (dropped : ℕ) (old : Stopping L) (account : AccountState) (links : Links L) (folder folder_now : FolderTold)
+        → Settles L.told dropped old account links folder folder_now → IsStop L.told dropped old account links folder folder_now }
+{
+    dl_rounds::laws::clients_are_as_noted();
+}
+
+/// Clients that are as a run's events have them are so while calls and losses are admitted, where their links tell.
+pub fn clients_stay_as_noted()
+    ensures { (run : Run) (past : List Event) (taken : ℕ → List ℕ) (specs : List AppSpec) (old new : Side) (links : List LinkTold) (listeners : List Listener) (desk : PostTold)
+        → (drain : IsDrain specs old new) → GivesTook specs new.took run → AreAsNoted run past taken (clients_at links listeners old desk)
+        → AreAsNoted run (past ++ drain.admits.more) taken (clients_at links listeners new desk) }
+{}
+
+/// What stands at the end of links tells, in each run, how many frames and bytes each client's stream has.
+pub fn ends_tell_streams()
+    ensures { (run : Run) (events : List Event) (taken : ℕ → List ℕ) (core : Core) → IsAfter run events taken core
+        → TellStreams run events (length core.hub.clients) (ends_in core.hub) }
+{}
+
+/// At the end of a stop each client has gone as the model of a daemon's end says, where links tell what they gave and took; and so are the ends of
+/// their links.
+pub fn how_clients_went<L: Link>()
+    ensures { (run : Run) (taken : ℕ → List ℕ) (dropped : ℕ) (old : Stopping L) (account : AccountState) (links : Links L) (folder folder_now : FolderTold)
+        → Settles L.told dropped old account links folder folder_now → TellBytes L.told → GivesTook account.apps (account_took account) run
+        → AreAsNoted run old.journal.events taken (clients_of L.told old folder) → HaveGone run account.events (map L.told links.links) account.outcome.links }
+{
+    dl_rounds::laws::clients_are_as_noted();
+}
+
+/// All that is left of the applications fits into what may still be noted, where the books are whole and have together at most so many records as
+/// there may be events: with the Log and Lost events that there are it makes no more than these records.
+pub fn what_is_left_fits()
+    ensures { (closing : ClosingState) (noted calls : ℕ) → AreGathered closing → All IsWhole closing.books → together closing.books ≤ calls
+        → IsFew noted (closing_took closing) (length closing.apps) → noted + all_to_note closing ≤ calls }
+{}

@@ -1,0 +1,83 @@
+//! The stop.
+
+ghost use Rattle.std.specs.Prelude.{◌≡◌, ◌≤◌, ◌<◌, ℕ, All, length};
+ghost use Rattle.dl_writer.specs.State.{IsWhole};
+ghost use Rattle.dl_lib.specs.Settled.{IsSettled, TellsLosses, TellsQueued};
+ghost use Rattle.dl_bytes.specs.Limits.{client_limit};
+ghost use Rattle.dl_rounds.specs.Ready.{AreHeard, AreLinked};
+ghost use Rattle.dl_taking.specs.Draining.{MayNote, all_to_note, closing_told};
+ghost use Rattle.dl_settling.specs.Settling.{Settles};
+ghost use Rattle.dl_settling.specs.State.{stopping_of};
+
+use crate::ends::trace_told;
+use crate::parts::Parts;
+use dl_bytes::Ends;
+use dl_lib::Account;
+use dl_outside::{Clock, Folder, Link, LinkList};
+use dl_rounds::{close_all, shut_gone};
+use dl_taking::drain_all;
+use std::alloc::Global;
+use std::sync::Wait;
+
+/// Takes and tells all that is left, closes each open client, and makes the account. The links come back, by the clients' numbers, all of
+/// them shut.
+pub fn settle<R: Wait, L: Link, C: Clock, F: Folder>(
+    rt: &R,
+    alloc: Global,
+    parts: Parts<L>,
+    clock: &C,
+    folder: &mut F,
+) -> (Account, LinkList<L>)
+    requires apps { length parts.closing.apps ≤ 16 }
+    requires clients { parts.core.hub.limit ≤ client_limit }
+    requires enough { all_to_note parts.closing ≤ parts.events }
+    requires may { MayNote parts.events (length parts.closing.apps) parts.core.hub parts.journal.spare }
+    requires linked { AreLinked parts.links parts.core parts.journal.spare }
+    requires heard { AreHeard parts.listeners.items parts.core (closing_told parts.closing) }
+    ensures settles { Settles L.told parts.dropped (stopping_of parts) result.0 result.1 (F.told folder.old) (F.told folder.new) }
+    ensures settled { IsSettled result.0 }
+    ensures losses { All IsWhole result.0.books → (app : ℕ) → app < length result.0.apps → TellsLosses result.0 app }
+    ensures queued { All IsWhole result.0.books → All (TellsQueued result.0) result.0.books }
+{
+    let Parts {
+        mut core,
+        mut closing,
+        mut journal,
+        mut links,
+        mut listeners,
+        mut batch,
+        ends,
+        events,
+        dropped,
+    } = parts;
+    drain_all(
+        rt,
+        &mut core,
+        &mut closing,
+        &mut journal,
+        &mut batch,
+        events,
+        clock,
+        folder,
+    );
+    close_all(
+        rt,
+        alloc,
+        &mut core,
+        &mut closing,
+        &mut journal,
+        &mut links,
+        &mut listeners,
+        folder,
+    );
+    shut_gone(core.hub(), &mut links);
+    let ends = Ends {
+        links: ends.fill(core.hub(), links.len()),
+        dropped,
+        trace: trace_told(alloc, core),
+    };
+    let account = closing.finish(journal, ends);
+    // of an account it is known what its records tell
+    account.records();
+    (account, links)
+}

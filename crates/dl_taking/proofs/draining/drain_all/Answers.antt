@@ -1,0 +1,31 @@
+use Rattle.std.proofs.Common.{◌≡◌, ◌+◌, ◌<◌, ◌-◌, ℕ, List, length, refl, ap, ◌∙◌, subst, arith}
+use Rattle.dl_bytes.specs.declared.conf.AppSpec.{AppSpec}
+use Rattle.dl_lib.specs.State.{ClosingState}
+use Rattle.dl_taking.specs.Draining.{DrainsApp, MayNote, closing_took}
+use Rattle.dl_taking.specs.Side.{Side, seen}
+use Rattle.dl_taking.proofs.Drains.{drained_more, enough_more, first_more}
+use Rattle.dl_taking.proofs.draining.drain_all.Goals as goal
+
+pub loop-app-preserved : goal.loop-app-preserved
+loop-app-preserved g c =
+    let s = seen g.J.Journal.events g.J.Journal.noted g.J.Journal.spare g.F.Folder.told closing_took in
+    let was = c.loop-app in
+    let now = c.drain_app.new in
+    let so = was.invariant in
+    let one = c.drain_app.ensures in
+    let before : Side = s was.core was.journal was.folder was.closing in
+    let behind : Side = s now.core now.journal now.folder now.closing in
+    let specs = ap (λ (x : ClosingState). x.apps) so.same in
+    let drains : DrainsApp c.args.closing.now.apps was.app before behind = subst (λ (xs : List AppSpec). DrainsApp xs was.app before behind) specs one.drains in
+    let many : ℕ = length c.args.closing.now.apps in
+    let below : was.app < many = subst (λ (xs : List AppSpec). was.app < length xs) c.apps.ensures c.loop-app-test.true in
+    let one_less : many - was.app ≡ many - (was.app + 1) + 1 = omega (arith, below) in
+    record {
+      drains = first_more c.args.closing.now.apps was.app _ before behind so.drains drains;
+      drained = drained_more c.args.closing.now.apps was.app before behind was.closing now.closing drains refl refl one.rest one.empty one.none_lost so.drained;
+      enough = enough_more c.args.closing.now.apps was.app many was.left now.left before behind was.closing now.closing drains refl refl one.rest below so.enough one.used;
+      may = one.may (many - (was.app + 1)) (subst (λ (n : ℕ). MayNote was.left n was.core.hub (g.J.Journal.spare was.journal)) one_less so.may);
+      settled = one.settled;
+      told = one.told ∙ so.told;
+      same = one.rest ∙ so.same;
+    }
