@@ -1,0 +1,3 @@
+pub mod PlayedBooks
+pub mod PostedInjections
+pub mod Runs

@@ -1,1 +1,11 @@
 pub mod Begin
+pub mod Told
+pub mod Status
+pub mod Played
+pub mod Clients
+pub mod Folder
+pub mod Injected
+pub mod Account
+pub mod Stage
+pub mod Ends
+pub mod Program

@@ -1,6 +1,7 @@
 //! What a run begins with: its words, the configurations, the scenario and the trace, read in this order.
 
-ghost use Rattle.std.specs.Prelude.{map, string_bytes};
+ghost use Rattle.std.specs.Prelude.{IfOk, map, string_bytes};
+ghost use Rattle.dl_script.specs.Playable.{IsRunnable};
 ghost use Rattle.dl_words.specs.Run.{run_said};
 ghost use Rattle.dl_live.specs.Begin.{Asks, Begins, BeginsAs, MakesTrace, ReadsScenario};
 
@@ -40,7 +41,8 @@ fn ask<'a>(alloc: Global, words: &'a [String]) -> Result<RunWords<'a>, Status>
 
 /// The scenario of this name.
 fn read_scenario<F: Folder>(alloc: Global, folder: &mut F, name: &str) -> Result<Scenario, Status>
-    ensures { ReadsScenario name.now (F.told folder.old) (F.told folder.new) result }
+    ensures read { ReadsScenario name.now (F.told folder.old) (F.told folder.new) result }
+    ensures runnable { IfOk result IsRunnable }
 {
     match scenario_in(alloc, folder, name) {
         Ok(scenario) => Ok(scenario),
@@ -67,7 +69,8 @@ fn make_trace<F: Folder>(
 
 /// What a run begins with that these words ask for.
 fn begin_as<F: Folder>(alloc: Global, asked: RunWords, folder: &mut F) -> Result<Begun, Status>
-    ensures { BeginsAs (run_said asked.entry) (F.told folder.old) (F.told folder.new) result }
+    ensures begins { BeginsAs (run_said asked.entry) (F.told folder.old) (F.told folder.new) result }
+    ensures runnable { IfOk result (λ begun. IsRunnable begun.scenario) }
 {
     let setup = match set_up(alloc, folder, asked.conf) {
         Ok(setup) => setup,
@@ -92,7 +95,8 @@ fn begin_as<F: Folder>(alloc: Global, asked: RunWords, folder: &mut F) -> Result
 /// What a run begins with that the words ask for, the program's name first; or the status of a run that does not begin. Then
 /// no file has changed, and nothing was written.
 pub fn begin<F: Folder>(alloc: Global, words: &[String], folder: &mut F) -> Result<Begun, Status>
-    ensures { Begins (map string_bytes words.now) (F.told folder.old) (F.told folder.new) result }
+    ensures begins { Begins (map string_bytes words.now) (F.told folder.old) (F.told folder.new) result }
+    ensures runnable { IfOk result (λ begun. IsRunnable begun.scenario) }
 {
     match ask(alloc, words) {
         Ok(asked) => begin_as(alloc, asked, folder),

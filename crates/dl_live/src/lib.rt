@@ -2,5 +2,8 @@
 #![tactic(auto)]
 
 mod beginning;
+pub mod laws;
+mod staging;
 
 pub use beginning::{Begun, begin};
+pub use staging::{Stage, set_stage};

@@ -13,19 +13,20 @@ use Rattle.dl_script.specs.Spelled.{MayFollow, scenario_claim}
 use Rattle.dl_writer.specs.State.{BookState, numbers}
 use Rattle.dl_crew.specs.Plays.{ArePairs}
 use Rattle.dl_opening.specs.Opening.{IsBookOf, IsOpened}
-use Rattle.dl_opening.specs.Scenario.{count_in, count_of, writers}
+use Rattle.dl_opening.specs.Scenario.{all_calls, calls_in, count_in, count_of, writers}
 use Rattle.dl_opening.specs.declared.opened.Opened.{Opened}
 use Rattle.dl_opening.proofs.Runnable.{no_cause}
 
 -- ---- what all lines ask
 
-abbrev any_in : ScenarioLine → ℕ
-any_in (line.Calls number ctid severity count payload) = count
-any_in _ = 0
-
+-- one line after the other
 abbrev total : List ScenarioLine → ℕ
 total [] = 0
-total (entry ∷ lines) = any_in entry + total lines
+total (entry ∷ lines) = calls_in entry + total lines
+
+total_is : (lines : List ScenarioLine) → all_calls lines ≡ total lines
+total_is [] = refl
+total_is (entry ∷ lines) = let rest = total_is lines in let all = sum_by-cons calls_in entry lines in omega (arith, rest, all)
 
 total_few : (known : Declared) (lines : List ScenarioLine) → MayFollow scenario_claim known lines → known.calls ≤ 1000000 → known.calls + total lines ≤ 1000000
 total_few known [] may few = omega (arith, few)
@@ -76,7 +77,7 @@ once number calls from (suc count) = by_test (eqb number from) refl (once number
       (λ n above. ap (λ (b : Bool). cond b calls 0) (ne_eqb number n (λ is. omega (arith, is, same, above)))) in
       omega (arith, none)
 
-line_once : (entry : ScenarioLine) (from count : ℕ) → of_row (λ writer. count_in writer entry) from count ≤ any_in entry
+line_once : (entry : ScenarioLine) (from count : ℕ) → of_row (λ writer. count_in writer entry) from count ≤ calls_in entry
 line_once (line.App app) from count = let none = row_zero (λ writer. 0) from count (λ n above. refl) in omega (arith, none)
 line_once (line.Context context) from count = let none = row_zero (λ writer. 0) from count (λ n above. refl) in omega (arith, none)
 line_once (line.Writer apid) from count = let none = row_zero (λ writer. 0) from count (λ n above. refl) in omega (arith, none)
@@ -115,9 +116,15 @@ rooms lines from (apid ∷ apids) (b ∷ books) numbered pairs =
     let all = sum_by-cons (λ (b : BookState). b.room) b books in
     omega (arith, here, rest, all)
 
-pub few_calls : (lines : List ScenarioLine) (o : Opened) → IsRunnable lines → IsOpened lines o → sum_by (λ b. b.room) o.books ≤ 1000000
-few_calls lines o runs is =
+pub rooms_fit : (lines : List ScenarioLine) (o : Opened) → IsOpened lines o → sum_by (λ b. b.room) o.books ≤ all_calls lines
+rooms_fit lines o is =
     let all = rooms lines 1 (writers lines) o.books is.books.numbered is.books.each in
     let once_each = lines_once lines 1 (length o.books) in
+    let whole = total_is lines in
+    omega (arith, all, once_each, whole)
+
+pub few_calls : (lines : List ScenarioLine) → IsRunnable lines → all_calls lines ≤ 1000000
+few_calls lines runs =
     let few = total_few nothing lines runs.follows (omega arith) in
-    omega (arith, all, once_each, few)
+    let whole = total_is lines in
+    omega (arith, few, whole)

@@ -88,6 +88,15 @@ count_in writer _ = 0
 abbrev pub count_of : ℕ → List ScenarioLine → ℕ
 count_of writer lines = sum_by (count_in writer) lines
 
+-- how many calls a line asks for, whoever its writer is
+abbrev pub calls_in : ScenarioLine → ℕ
+calls_in (line.Calls number ctid severity count payload) = count
+calls_in _ = 0
+
+-- and all lines together
+abbrev pub all_calls : List ScenarioLine → ℕ
+all_calls lines = sum_by calls_in lines
+
 -- ---- clients
 
 abbrev pub clients_in : ScenarioLine → ℕ

@@ -7,12 +7,13 @@ ghost use Rattle.dl_script_lines.specs.declared.scenario.ScenarioLine.{ScenarioL
 ghost use Rattle.dl_writer.specs.State.{IsWhole};
 ghost use Rattle.dl_opening.specs.Asked.{IsAsked};
 ghost use Rattle.dl_opening.specs.Opening.{IsOpened};
-ghost use Rattle.dl_opening.specs.Scenario.{writers};
+ghost use Rattle.dl_opening.specs.Scenario.{all_calls, writers};
 ghost use Rattle.dl_opening.specs.declared.opened.Opened.{Opened};
 
-/// All books together have room for no more calls than a scenario may ask for.
+/// All books together have room for no more calls than the lines ask for, and these are no more than a scenario may ask for.
 pub fn opened_books_have_few_calls()
-    ensures { (lines : List ScenarioLine) (o : Opened) → IsRunnable lines → IsOpened lines o → sum_by (λ b. b.room) o.books ≤ 1000000 }
+    ensures room { (lines : List ScenarioLine) (o : Opened) → IsOpened lines o → sum_by (λ b. b.room) o.books ≤ all_calls lines }
+    ensures few { (lines : List ScenarioLine) → IsRunnable lines → all_calls lines ≤ 1000000 }
 {}
 
 /// What a worker calls with its book is all that the lines ask of its writer: each call of each `calls` line in order, with

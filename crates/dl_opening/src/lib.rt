@@ -3,9 +3,11 @@
 #![tactic(auto)]
 
 mod applications;
+mod asking;
 mod books;
 mod clients;
 pub mod laws;
 mod opened;
 
+pub use asking::all_calls;
 pub use opened::{Opened, open};

@@ -3,6 +3,7 @@
 #![tactic(auto)]
 
 mod answers;
+mod attendance;
 mod bind;
 mod client;
 mod clock;

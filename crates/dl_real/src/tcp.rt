@@ -4,16 +4,21 @@ ghost use Rattle.std.specs.Prelude.{◌≡◌, None};
 ghost use Rattle.dl_outside.specs.Outside.{HasRisen};
 
 use crate::answers::{came, is_memory};
+use crate::attendance::Attendance;
 use crate::client::attend;
 use crate::reading::Reading;
 use crate::resting::Resting;
 use crate::streams::{pass_on, receive};
+use dl_bytes::OutOfMemory;
 use dl_outside::{Accepted, ClientScript, Dial, DialFault, Gave, Link, Net, NetFault, Sends};
 use std::io::{Error, ErrorKind};
 use std::net::{IpAddr, Ipv4Addr, Ipv6Addr, Shutdown, TcpListener, TcpStream};
-use std::thread::{JoinHandle, Threads};
+use std::thread::Threads;
 use std::time::Clock;
 use std::{io, thread};
+
+/// How many milliseconds clients may take to end.
+const CLIENT_PATIENCE: u64 = 60_000;
 
 /// A client's connection over TCP. It tells no content. No call waits but `rest`, which sleeps about a millisecond, and
 /// up to five once nothing has gone through the link for a hundred rests.
@@ -70,6 +75,9 @@ impl<R: Clock> Link for TcpLink<R> {
     }
 
     fn shut(&mut self) {
+        if self.is_shut {
+            return;
+        }
         // A peer that is gone needs no end.
         let _ = self.stream.shutdown(Shutdown::Both);
         self.is_shut = true;
@@ -102,7 +110,9 @@ pub struct TcpNet<R> {
     address: IpAddr,
     port: u16,
     listener: Option<TcpListener>,
-    clients: Vec<JoinHandle<u64>>,
+    // how many clients were launched, and how many of them have gone
+    launched: u64,
+    gone: Option<Attendance>,
     resting: Resting,
     faults: u64,
 }
@@ -134,39 +144,52 @@ impl<R: Threads + AllocGlobal> TcpNet<R> {
         ensures faults { result.faults ≡ 0 }
         ensures port { result.port ≡ 0 }
     {
-        let clients = Vec::new(rt.alloc());
         TcpNet {
             rt,
             address,
             port: 0,
             listener: None,
-            clients,
+            launched: 0,
+            gone: None,
             resting: Resting::none(),
             faults: 0,
         }
     }
 
-    /// Stops listening, and waits until its clients have ended. Drop the links before. It tells how many bytes its
-    /// clients have read.
+    /// Stops listening, and waits until its clients have ended, a minute at most. Drop the links before. It tells how many
+    /// bytes its clients have read.
     pub fn finish(self) -> u64
     where
-        R: Drop,
+        R: Drop + Clock,
     {
         let TcpNet {
             rt,
             address: _,
             port: _,
             listener,
-            clients,
+            launched,
+            gone,
             resting: _,
             faults: _,
         } = self;
         drop(listener);
-        let mut read = 0u64;
-        for client in clients {
-            read = read.saturating_add(client.join(&rt));
+        match gone {
+            Some(gone) => gone.wait(&rt, launched, CLIENT_PATIENCE),
+            None => 0,
         }
-        read
+    }
+
+    /// The counts of its clients, for one more.
+    fn counts(&mut self) -> Result<Attendance, OutOfMemory>
+        ensures { self.new.faults ≡ self.old.faults }
+    {
+        if self.gone.is_none() {
+            self.gone = Some(Attendance::none(self.rt.alloc())?);
+        }
+        match &self.gone {
+            Some(gone) => gone.share(),
+            None => Err(OutOfMemory),
+        }
     }
 }
 
@@ -193,18 +216,19 @@ fn reached_at(address: IpAddr) -> IpAddr {
     }
 }
 
-/// A client that runs in a thread of its own.
-fn client<R: std::net::Net<Stream = TcpStream, Listener = TcpListener> + Threads + AllocGlobal>(
+/// Starts a client in a thread of its own, which is counted when it goes.
+fn start<R: std::net::Net<Stream = TcpStream, Listener = TcpListener> + Threads + AllocGlobal>(
     rt: &R,
     address: IpAddr,
     port: u16,
     script: &ClientScript,
-) -> io::Result<JoinHandle<u64>> {
+    counts: Attendance,
+) -> io::Result<()> {
     let sends = Vec::from_slice(rt.alloc(), script.sends.all())?;
     let leave = script.leave;
     let stream = TcpStream::connect(rt, (reached_at(address), port))?;
-    match thread::spawn(rt, move || attend(stream, sends, leave)) {
-        Ok(client) => Ok(client),
+    match thread::spawn(rt, move || counts.go(attend(stream, sends, leave))) {
+        Ok(_client) => Ok(()),
         Err(_) => Err(Error::from(ErrorKind::Other)),
     }
 }
@@ -247,13 +271,12 @@ where
     }
 
     fn launch(&mut self, script: &ClientScript) -> Result<(), NetFault> {
-        if self.clients.reserve(1).is_err() {
+        let Ok(counts) = self.counts() else {
             return Err(NetFault::OutOfMemory);
-        }
-        match client(&self.rt, self.address, self.port, script) {
-            Ok(client) => {
-                // There is room for it.
-                let _ = self.clients.push(client);
+        };
+        match start(&self.rt, self.address, self.port, script, counts) {
+            Ok(()) => {
+                self.launched = self.launched.saturating_add(1);
                 Ok(())
             }
             Err(error) => Err(self.refused(error)),

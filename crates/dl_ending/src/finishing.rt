@@ -1,0 +1,50 @@
+//! The report of an account is written, and the status of its run found.
+
+ghost use Rattle.std.specs.Prelude.{◌≡◌, IfOk};
+ghost use Rattle.dl_model.specs.Setting.{Setting};
+ghost use Rattle.dl_ending.specs.Ending.{CanReport, Finishes, IsTextOf, IsSettingOf, failures_with, text_of};
+
+use crate::failing::failures_with;
+use dl_bytes::{Bytes, Conf, OutOfMemory};
+use dl_left::laws::{clients_come_and_go, records_account_for_a_journal};
+use dl_left::left_of;
+use dl_lib::Account;
+use dl_outside::{Sink, write_text};
+use dl_report::report;
+use dl_startup::{Failures, Status};
+use std::alloc::Global;
+
+/// The report of an account, of a run with this configuration.
+fn report_of(alloc: Global, account: &Account, conf: &Conf) -> Result<Bytes, OutOfMemory>
+    requires { CanReport account.now }
+    ensures { IfOk result (IsTextOf conf.now account.now) }
+{
+    clients_come_and_go();
+    records_account_for_a_journal();
+    let records = account.records();
+    let events = account.events();
+    let apps = account.apps();
+    let backlog = left_of(records, events, apps, conf.ecu, conf.buffer);
+    report(alloc, records, events, apps, account.ends(), backlog, None)
+}
+
+/// Writes the report of an account, of a run with this configuration, and finds the status of the run: that of the gravest failure,
+/// of these and of those that the account tells. Where there is no memory for the report, nothing is written.
+pub fn finish<O: Sink>(
+    alloc: Global,
+    account: &Account,
+    conf: &Conf,
+    failures: Failures,
+    out: &mut O,
+) -> Status
+    requires { CanReport account.now }
+    ensures { (setting : Setting) → IsSettingOf conf.now setting →
+        Finishes (text_of setting account.now) (failures_with account.now failures) (O.told out.old) (O.told out.new) result }
+{
+    let Ok(text) = report_of(alloc, account, conf) else {
+        return Status::OutOfMemory;
+    };
+    let output = write_text(out, text.all()).is_err();
+    let failures = failures_with(account, failures);
+    Failures { output, ..failures }.status()
+}

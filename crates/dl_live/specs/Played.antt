@@ -1,0 +1,38 @@
+-- What the account of a run tells of its scenario: the applications, what they told of themselves, and each call that was asked for.
+use Rattle.std.specs.Prelude.{◌≡◌, ℕ, ◌≤◌, List, [], ◌++◌, length, map}
+use Rattle.std.specs.List.{AllByRecursion, filter_map, flat_map, range_with_len}
+use Rattle.dl_crew.specs.Calls.{content_of}
+use Rattle.dl_crew.specs.Plays.{ArePairs}
+use Rattle.dl_events.specs.declared.event.Event.{Event}
+use Rattle.dl_lib.specs.State.{AccountState}
+use Rattle.dl_opening.specs.Asked.{asked_of, without_slot}
+use Rattle.dl_opening.specs.Scenario.{apps, hello_of, specs_of, writers}
+use Rattle.dl_rounds.specs.Greetings.{IsOfGreeting, told_in}
+use Rattle.dl_script_lines.specs.declared.scenario.ScenarioLine.{ScenarioLine}
+use Rattle.dl_writer.specs.Calls.{asked}
+use Rattle.dl_writer.specs.State.{BookState, IsWhole, numbers}
+
+-- The journal begins with what the applications tell of themselves: of each application its registration and then those of its contexts, in
+-- the order of their lines, on the channel of this process, each followed by its Level events. No client has come by then, and no message
+-- follows.
+pub record IsGreeted (lines : List ScenarioLine) (events : List Event) : Type 0 where
+  pub greeting : List Event
+  pub others : List Event
+  pub parts : events ≡ greeting ++ others
+  pub of_greeting : AllByRecursion IsOfGreeting greeting
+  pub told : filter_map told_in greeting ≡ flat_map (hello_of lines) (apps lines)
+  pub no_more : filter_map told_in others ≡ []
+
+-- The records of a writer of this application are those of the calls that the lines ask of it, each call of each line, in their order, with
+-- the line's context, severity and arguments. After each the writer asked for an injection.
+pub record HasPlayedAll (lines : List ScenarioLine) (apid : List ℕ) (b : BookState) : Type 0 where
+  pub calls : map (λ r. without_slot (content_of r)) b.records ≡ asked_of apid b.writer.push.number lines
+  pub asks : length b.records ≤ asked b.writer
+  pub whole : IsWhole b
+
+-- The account is one of this scenario: its applications, what they told, and the records of all its writers.
+pub record IsOfScenario (lines : List ScenarioLine) (account : AccountState) : Type 0 where
+  pub applications : account.apps ≡ specs_of lines
+  pub greeted : IsGreeted lines account.events
+  pub numbered : numbers account.books ≡ range_with_len 1 (length account.books)
+  pub played : ArePairs (HasPlayedAll lines) (writers lines) account.books
