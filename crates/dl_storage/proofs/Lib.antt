@@ -1,0 +1,9 @@
+mod Numbering
+mod Letters
+mod Changes
+mod Writes
+mod Bounds
+mod Steps
+mod Alone
+mod Chain
+mod LastLines
