@@ -47,7 +47,7 @@ pub struct Sources<'r, 's> {
 }
 
 /// The record of a writer's call, by its number from 1.
-fn record_of(records: &RecordList, writer: u8, call: u64) -> Option<&Record>
+pub fn record_of(records: &RecordList, writer: u8, call: u64) -> Option<&Record>
     requires { (number : ℕ) → AreNumbered (records_by number records.now) }
     ensures { option_map (λ r. r.now) result ≡ record_named records.now writer call }
 {
@@ -89,7 +89,7 @@ fn apid_len(specs: &[AppSpec], app: u8) -> usize
 }
 
 /// The records that report so many lost messages of an application whose id has so many bytes.
-fn reports(ecu: Id, apid_len: usize, count: u64) -> Batch
+pub fn reports(ecu: Id, apid_len: usize, count: u64) -> Batch
     requires { apid_len ≤ 4 }
     ensures batch { (apid : List ℕ) → length apid ≡ apid_len → IsBatch result (overflow_frames ecu apid zero_id count) }
     ensures few { result.frames ≤ count }

@@ -17,7 +17,7 @@ use dl_bytes::{AppSpec, Backlog, Id};
 use dl_events::{Event, RecordList};
 
 /// Notes what an event is for the backlog.
-fn note(waiting: &mut Waiting, sources: &Sources<'_, '_>, event: &Event)
+pub fn note(waiting: &mut Waiting, sources: &Sources<'_, '_>, event: &Event)
     requires numbered { (number : ℕ) → AreNumbered (records_by number sources.now.records.now) }
     requires may { MayNote event.now waiting.old }
     ensures limit { waiting.new.limit ≡ waiting.old.limit }

@@ -9,4 +9,6 @@ pub mod laws;
 mod left;
 mod waiting;
 
-pub use left::left_of;
+pub use batch::{Batch, Sources, admitted_by, record_of, reports};
+pub use left::{left_of, note};
+pub use waiting::Waiting;

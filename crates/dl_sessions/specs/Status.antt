@@ -18,7 +18,7 @@ number OutOfMemory = 9
 -- the words of the line on standard error
 abbrev pub words_of : Status → List ℕ
 words_of Ok = []
-words_of WordsRefused = codes "dlt_why: usage: dlt_why trace FILE\n"
+words_of WordsRefused = codes "dlt_why: usage: dlt_why trace FILE or steps\n"
 words_of (BadMessage place) = codes "dlt_why: bad message at byte "
 words_of NoFile = codes "dlt_why: no such file\n"
 words_of WriteFault = codes "dlt_why: write fault\n"

@@ -49,7 +49,7 @@ impl Status {
     {
         match self {
             Status::Ok => b"",
-            Status::WordsRefused => b"dlt_why: usage: dlt_why trace FILE\n",
+            Status::WordsRefused => b"dlt_why: usage: dlt_why trace FILE or steps\n",
             Status::BadMessage(_) => b"dlt_why: bad message at byte ",
             Status::NoFile => b"dlt_why: no such file\n",
             Status::WriteFault => b"dlt_why: write fault\n",

@@ -1,9 +1,10 @@
-//! `dlt_why trace FILE` reads a trace file, or a stream as a client recorded it, and prints which messages are missing of
-//! each session, where, and what the stream tells of the cause.
+//! `dlt_why steps` plays the script of standard input, and prints what became of each of its log calls. `dlt_why trace FILE` reads a
+//! trace file, or a stream as a client recorded it, and prints which messages are missing of each session, where, and what the stream
+//! tells of the cause. No file is changed.
 #![tactic(auto)]
 
-use dl_real::{Directory, Writing};
-use dl_sessions::{Status, why};
+use dl_real::{Directory, Reading, Writing};
+use dl_why::{Status, tell_why};
 use std::env;
 use std::io::ErrorKind;
 use std::process::ExitCode;
@@ -24,8 +25,9 @@ fn main(rt: HostRuntime) -> ExitCode {
         return ExitCode::from(Status::OutOfMemory.number());
     };
     let alloc = rt.alloc();
+    let mut input = Reading::over(rt.stdin());
     let mut folder = Directory::over(rt);
     let mut out = Writing::over(rt.stdout());
     let mut err = Writing::over(rt.stderr());
-    ExitCode::from(why(alloc, &words, &mut folder, &mut out, &mut err))
+    ExitCode::from(tell_why(alloc, &words, &mut input, &mut folder, &mut out, &mut err))
 }

@@ -1,0 +1,9 @@
+pub mod Following
+pub mod Finding
+pub mod CallLines
+pub mod Counts
+pub mod RowLines
+pub mod Lawful
+pub mod Scripts
+pub mod Explaining
+pub mod Ending

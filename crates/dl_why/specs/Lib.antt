@@ -1,0 +1,7 @@
+pub mod Calls
+pub mod Rows
+pub mod Followed
+pub mod Found
+pub mod Written
+pub mod Explained
+pub mod Program

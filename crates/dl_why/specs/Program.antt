@@ -1,0 +1,127 @@
+-- What `dlt_why steps` promises.
+use Rattle.std.specs.Prelude.{◌≡◌, ℕ, Bool, true, false, List, [], ◌∷◌, codes, IfSome, IsOk, Result, Ok, Err}
+use Rattle.std.specs.Str.{bytes_eq}
+use Rattle.dl_core.specs.Settings.{setting_of}
+use Rattle.dl_outside.specs.Outside.{HasRisen}
+use Rattle.dl_outside.specs.Told.{FolderTold, SinkTold, SourceTold}
+use Rattle.dl_outside.specs.Written.{Wrote, WroteAll, WroteFront, WroteNothing}
+use Rattle.dl_script.specs.Script.{steps_of}
+use Rattle.dl_script.specs.declared.error.ScriptError.TheVariants as bad
+use Rattle.dl_sessions.specs.Program as trace
+use Rattle.dl_startup.specs.Configuration.{SayConfs}
+use Rattle.dl_startup.specs.Setup.{conf_in, conf_name, stored_in}
+use Rattle.dl_startup.specs.Status as startup
+use Rattle.dl_startup.specs.Unchanged.{IsUnchanged}
+use Rattle.dl_startup.specs.declared.configuration.Setup.{Setup}
+use Rattle.dl_startup.specs.declared.status.Status.{Status}
+use Rattle.dl_startup.specs.declared.status.Status.TheVariants as end
+use Rattle.dl_why.specs.Explained.{explained}
+use Rattle.dl_why.specs.declared.program.Start.{Start}
+use Rattle.dl_why.specs.declared.script.Script.{Script}
+
+-- ---- the script
+
+-- a script is what the input had, and these are its steps; or why there is none
+abbrev pub ReadsScript : SourceTold → SourceTold → Result Script Status → Type 0
+ReadsScript old new (Ok script) = IfSome old.left (λ all. script.text.items ≡ all) × (steps_of script.text.items ≡ Ok script.steps)
+ReadsScript old new (Err (end.ScriptRefused line kind)) = IfSome old.left (λ all. steps_of all ≡ Err (bad.Fault line kind))
+ReadsScript old new (Err end.ReadFault) = HasRisen old.faults new.faults
+ReadsScript old new (Err end.OutOfMemory) = new.faults ≡ old.faults
+ReadsScript old new (Err _) = ⊥
+
+-- what is printed of a script where these configurations are set
+abbrev pub text_of : Setup → Script → List ℕ
+text_of setup script = explained (setting_of setup.conf setup.stored 0) script.text.items script.steps
+
+-- ---- outcomes
+
+-- what the outside tells
+pub record Told : Type 0 where
+  pub input : SourceTold
+  pub folder : FolderTold
+  pub out : SinkTold
+
+abbrev pub told : SourceTold → FolderTold → SinkTold → Told
+told input folder out = record { input = input; folder = folder; out = out }
+
+-- folder and input say these configurations and this script
+pub record IsSaid (old new : Told) (setup : Setup) (script : Script) : Type 0 where
+  pub confs : IfSome old.folder.files (λ files. SayConfs conf_name files setup)
+  pub script_is : ReadsScript old.input new.input (Ok script)
+
+-- a script was explained, if this is so of its text
+abbrev pub Explains : Told → Told → (List ℕ → Type 0) → Type 0
+Explains old new P = (setup : Setup) × (script : Script) × IsSaid old new setup script × P (text_of setup script)
+
+-- What each status says: the text was written, a front of it, or nothing.
+abbrev pub Outcome : Told → Told → Status → Type 0
+Outcome old new end.Ok = Explains old new (WroteAll old.out new.out)
+Outcome old new end.WriteFault = Explains old new (WroteFront old.out new.out)
+Outcome old new (end.ConfRefused line kind) = IfSome old.folder.files (λ files. conf_in conf_name files ≡ Err (line, kind)) × WroteNothing old.out new.out
+Outcome old new (end.StoredRefused line kind) = IfSome old.folder.files (λ files. IsOk (conf_in conf_name files) × (stored_in files ≡ Err (line, kind))) × WroteNothing old.out new.out
+Outcome old new (end.ScriptRefused line kind) = ReadsScript old.input new.input (Err (end.ScriptRefused line kind)) × WroteNothing old.out new.out
+Outcome old new end.ReadFault = ReadsScript old.input new.input (Err end.ReadFault) × WroteNothing old.out new.out
+Outcome old new end.FolderFault = HasRisen old.folder.faults new.folder.faults × WroteNothing old.out new.out
+Outcome old new end.OutOfMemory = WroteNothing old.out new.out
+Outcome old new _ = ⊥
+
+-- no file is to change, and none does
+pub record Ends (old new : Told) (status : Status) : Type 0 where
+  pub outcome : Outcome old new status
+  pub unchanged : IsUnchanged old.folder new.folder
+
+-- ---- for inner functions
+
+-- what a run begins with is what folder and input say; or why it does not begin. No file is to change.
+abbrev pub Begins : SourceTold → SourceTold → FolderTold → FolderTold → Result Start Status → Type 0
+Begins input input_now folder folder_now (Ok start) =
+    IfSome folder.files (λ files. SayConfs conf_name files start.setup) × ReadsScript input input_now (Ok start.script) × IsUnchanged folder folder_now
+Begins input input_now folder folder_now (Err (end.ConfRefused line kind)) = IfSome folder.files (λ files. conf_in conf_name files ≡ Err (line, kind)) × IsUnchanged folder folder_now
+Begins input input_now folder folder_now (Err (end.StoredRefused line kind)) =
+    (IfSome folder.files (λ files. IsOk (conf_in conf_name files) × (stored_in files ≡ Err (line, kind)))) × IsUnchanged folder folder_now
+Begins input input_now folder folder_now (Err (end.ScriptRefused line kind)) = ReadsScript input input_now (Err (end.ScriptRefused line kind)) × IsUnchanged folder folder_now
+Begins input input_now folder folder_now (Err end.ReadFault) = ReadsScript input input_now (Err end.ReadFault) × IsUnchanged folder folder_now
+Begins input input_now folder folder_now (Err end.FolderFault) = HasRisen folder.faults folder_now.faults × IsUnchanged folder folder_now
+Begins input input_now folder folder_now (Err end.OutOfMemory) = IsUnchanged folder folder_now
+Begins input input_now folder folder_now (Err _) = ⊥
+
+-- the explanation was written, or a front of it, or nothing for want of memory
+abbrev pub Writes : Start → SinkTold → SinkTold → Status → Type 0
+Writes start old new end.Ok = WroteAll old new (text_of start.setup start.script)
+Writes start old new end.WriteFault = WroteFront old new (text_of start.setup start.script)
+Writes start old new end.OutOfMemory = WroteNothing old new
+Writes start old new _ = ⊥
+
+-- ---- the program
+
+-- the words ask for the steps of the input
+abbrev pub asks_for_steps : List (List ℕ) → Bool
+asks_for_steps (program ∷ word ∷ []) = bytes_eq word (codes "steps")
+asks_for_steps _ = false
+
+abbrev pub program : List ℕ
+program = codes "dlt_why"
+
+abbrev pub usage : List ℕ
+usage = codes "dlt_why trace FILE or steps"
+
+abbrev pub line_of : Status → List ℕ
+line_of status = startup.line_of program usage status
+
+-- what is said on standard error: nothing where all went well, else the line of the status, or its front
+abbrev pub Says : Status → SinkTold → SinkTold → Type 0
+Says end.Ok old new = WroteNothing old new
+Says status old new = Wrote old new (line_of status)
+
+-- what `steps` comes to
+pub record RunsSteps (old new : Told) (err err_now : SinkTold) (answer : ℕ) : Type 0 where
+  pub status : Status
+  pub number_is : answer ≡ startup.number status
+  pub ends : Ends old new status
+  pub said : Says status err err_now
+
+-- What a run of the program comes to: that of the steps, or else what `trace` comes to, which leaves the input alone.
+abbrev pub Runs : List (List ℕ) → Told → Told → SinkTold → SinkTold → ℕ → Type 0
+Runs words old new err err_now answer =
+    (asks_for_steps words ≡ true → RunsSteps old new err err_now answer)
+    × (asks_for_steps words ≡ false → (new.input ≡ old.input) × trace.Runs words (trace.sides old.folder old.out) (trace.sides new.folder new.out) err err_now answer)

@@ -1,0 +1,42 @@
+-- What the code writes of what it found. (Of the code alone: no promise rests on these words.)
+use Rattle.std.specs.Prelude.{◌≡◌, ℕ, ◌==◌, Bool, List, [], ◌++◌, codes, count_by, unwrap_or}
+use Rattle.std.specs.HashMap as hash
+use Rattle.std.specs.List.{flat_map}
+use Rattle.std.specs.Option.{option_map_or}
+use Rattle.dl_bytes.specs.declared.conf.AppSpec.{AppSpec}
+use Rattle.dl_events.specs.declared.record.Record.{Record}
+use Rattle.dl_model.specs.Along.{along}
+use Rattle.dl_promises.specs.Fates.{Fate, InRing, by_answer}
+use Rattle.dl_events.specs.declared.event.Event.{Event}
+use Rattle.dl_model.specs.Frames.{FrameSource}
+use Rattle.dl_why.specs.Found.{TellsWhole, name_of, or_later, same_call}
+use Rattle.dl_why.specs.Rows.{fate_words, heard_words, is_by, name_words, place_words, record_at}
+use Rattle.dl_why.specs.declared.calls.CallAt.{CallAt}
+use Rattle.dl_why.specs.declared.fates.Fates.{Fates}
+use Rattle.dl_why.specs.declared.rows.WriterName.{WriterName}
+
+-- what was found of a call, for a client
+abbrev pub fate_in : Fates → Record → Fate
+fate_in fates r = by_answer r.answer (or_later (hash.get same_call fates.calls (name_of r)) InRing)
+
+-- where clients have it
+abbrev pub heard_by : List Fates → Record → List ℕ
+heard_by clients r = flat_map (λ (fates : Fates). heard_words fates.client (fate_in fates r)) clients
+
+abbrev pub row_by : List AppSpec → Fates → List Fates → ℕ → Record → List ℕ
+row_by specs nobody clients line r = place_words line r ++ name_words r ++ fate_words specs r (fate_in nobody r) (heard_by clients r) ++ codes "\n"
+
+abbrev pub rows_by : List (List Record) → List AppSpec → Fates → List Fates → List CallAt → List ℕ
+rows_by records specs nobody clients calls =
+    along (λ before at. option_map_or (row_by specs nobody clients at.line) (record_at records before at) []) calls
+
+abbrev pub same_writer : WriterName → WriterName → Bool
+same_writer a b = a.number == b.number
+
+-- how many calls each writer has among these
+abbrev pub KeepsCounts : {S : Type 0} → hash.HashMap WriterName ℕ S → List CallAt → Type 0
+KeepsCounts counts calls = (writer : WriterName) → unwrap_or (hash.get same_writer counts writer) 0 ≡ count_by (is_by writer.number) calls
+
+-- what was found for a client tells what became of every call of a journal
+abbrev pub TellWhole : FrameSource → (buffer : ℕ) → List Event → Fates → Type 0
+TellWhole source buffer events fates = TellsWhole source buffer fates.client events fates.calls

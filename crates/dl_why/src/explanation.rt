@@ -1,0 +1,84 @@
+//! A script is played over a folder in memory, and its run explained.
+
+ghost use Rattle.std.specs.Prelude.{◌≡◌, ◌++◌, ℕ, None, IfOk};
+ghost use Rattle.dl_model.specs.Accounts.{AreNumbered};
+ghost use Rattle.dl_model.specs.Report.{report};
+ghost use Rattle.dl_model.specs.Setting.{Setting};
+ghost use Rattle.dl_model.specs.WholeAccounts.{records_by, source_of_records};
+ghost use Rattle.dl_left.specs.Clients.{ComeAndGo};
+ghost use Rattle.dl_script.specs.Playable.{IsPlayable};
+ghost use Rattle.dl_why.specs.Calls.{calls_in};
+ghost use Rattle.dl_why.specs.Program.{text_of};
+ghost use Rattle.dl_why.specs.Rows.{rows_of};
+
+use crate::calls::calls_in;
+use crate::findings::push_findings;
+use crate::script::Script;
+use dl_bytes::{Id, OutOfMemory};
+use dl_left::Sources;
+use dl_left::laws::{clients_come_and_go, records_account_for_a_journal};
+use dl_memory::MemoryFolder;
+use dl_promises::runs::{runs_are_accounted, runs_are_well_formed};
+use dl_report::report;
+use dl_startup::{Setup, unserved};
+use dl_world::{Played, play};
+use std::alloc::Global;
+
+/// The most bytes of a stored configuration that a run may write.
+const STORED_ROOM: usize = 1_048_576;
+
+/// The text of what was played: the rows of its calls, and its report.
+fn text_of_played(
+    alloc: Global,
+    ecu: Id,
+    buffer: u32,
+    script: &Script,
+    played: &Played,
+) -> Result<Vec<u8>, OutOfMemory>
+    requires numbered { (number : ℕ) → AreNumbered (records_by number played.now.records) }
+    requires clients { ComeAndGo played.now.events.events }
+    ensures { (setting : Setting) → setting.ecu ≡ ecu → IfOk result (λ text. text.items ≡
+        rows_of (source_of_records setting played.now.records played.now.specs) buffer played.now.records played.now.events.events played.now.specs (calls_in script.now.text.items script.now.steps)
+        ++ report played.now.records played.now.events.events played.now.specs played.now.ends played.now.backlog None) }
+{
+    let calls = calls_in(alloc, &script.text, script.steps.all())?;
+    let events = played.events.events();
+    let specs = played.specs.all();
+    let sources = Sources {
+        records: &played.records,
+        specs,
+        ecu,
+    };
+    let mut text = Vec::new(alloc);
+    push_findings(alloc, &mut text, &sources, events, buffer, &calls)?;
+    let report = report(
+        alloc,
+        &played.records,
+        events,
+        specs,
+        &played.ends,
+        played.backlog,
+        None,
+    )?;
+    text.extend_from_slice(report.all())?;
+    Ok(text)
+}
+
+/// The explanation of a script's run: each Store and each Reset goes to a folder in memory, and nothing is stored of the trace. More
+/// memory than such a folder has, or than there is, is want of memory.
+pub fn explain(alloc: Global, setup: Setup, script: &Script) -> Result<Vec<u8>, OutOfMemory>
+    requires { IsPlayable script.now.steps }
+    ensures { IfOk result (λ text. text.items ≡ text_of setup script.now) }
+{
+    let Setup { conf, stored } = setup;
+    let mut folder = MemoryFolder::make(alloc, 1, STORED_ROOM)?;
+    let played = play(alloc, &conf, stored, None, &script.steps, &mut folder)?;
+    if unserved(played.events.events()) {
+        return Err(OutOfMemory);
+    }
+    runs_are_accounted();
+    runs_are_well_formed();
+    records_account_for_a_journal();
+    clients_come_and_go();
+    text_of_played(alloc, conf.ecu, conf.buffer, script, &played)
+}

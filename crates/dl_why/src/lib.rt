@@ -1,0 +1,22 @@
+//! Why a message isn't there: what became of each log call of a step script, client by client, and what is printed of it.
+#![tactic(auto)]
+
+mod calls;
+mod explanation;
+mod fate;
+mod fates;
+mod findings;
+mod follower;
+mod program;
+mod rows;
+mod script;
+
+pub use calls::{CallAt, calls_in};
+pub use dl_startup::Status;
+pub use explanation::explain;
+pub use fate::{CallName, Fate};
+pub use fates::{Fates, find_fates};
+pub use findings::push_findings;
+pub use program::tell_why;
+pub use rows::{Findings, push_rows};
+pub use script::{Script, read_script};
