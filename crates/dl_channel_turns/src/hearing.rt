@@ -36,6 +36,7 @@ pub fn hear<J: Journal, L: Link, F: Folder>(
         (s link.old inbox.old core.old outboxes.old journal.old folder.old) (s link.new inbox.new core.new outboxes.new journal.new folder.new) }
     ensures stays { result ≡ None → Stays (L.told link.old) (L.told link.new) }
     ensures settled { owed_change core.new.registry ≡ None }
+    ensures few { core.new.hub.admitted ≤ admitted_limit }
 {
     inbox.is_within();
     let mut buffer = [0; PIECE];

@@ -12,3 +12,4 @@ mod serving;
 
 pub use hearing::hear;
 pub use outboxes::Outboxes;
+pub use serving::serve_one;

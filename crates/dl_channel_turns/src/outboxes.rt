@@ -57,7 +57,7 @@ impl Outboxes {
     }
 
     /// Puts the level of a context for a channel, where it is open. The context has this position in its program's own table.
-    fn put_level(&mut self, channel: u16, level: Level, position: u32)
+    pub fn put_level(&mut self, channel: u16, level: Level, position: u32)
         ensures { self.new ≡ changed channel (with_level level position) self.old }
     {
         if let Some(outbox) = self.boxes.get_mut(&channel) {

@@ -31,7 +31,7 @@ fn has_frames_in(msg: &UserMsg) -> bool
 
 /// Takes in a message of a channel: its frames are admitted, behind the Closes of the clients that are too slow for them, or it goes to the
 /// registry, and the Level events that it owes follow. Where memory is wanting nothing is done.
-fn serve_one<J: Journal, F: Folder>(
+pub fn serve_one<J: Journal, F: Folder>(
     core: &mut Core,
     outboxes: &mut Outboxes,
     journal: &mut J,
@@ -85,6 +85,7 @@ pub fn serve_each<J: Journal, F: Folder>(
     ensures serves { ServesAll channel moment (inbox.old.unread ++ piece.now) (result_err result) inbox.new
         (side core.old outboxes.old (J.events journal.old) (F.told folder.old)) (side core.new outboxes.new (J.events journal.new) (F.told folder.new)) }
     ensures settled { owed_change core.new.registry ≡ None }
+    ensures few { core.new.hub.admitted ≤ admitted_limit }
 {
     let mut rest = piece;
     loop {

@@ -1,0 +1,2 @@
+pub mod StillOpen
+pub mod ClosedChannels
