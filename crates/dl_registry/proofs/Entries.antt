@@ -1,13 +1,16 @@
 -- Entries of a map in their order: one changed, one gone, and searches by what they have.
-use Rattle.std.proofs.Common.{◌≡◌, ℕ, zero, suc, ◌+◌, ◌<◌, ◌≤◌, Bool, true, false, not, cond, List, [], ◌∷◌, length, map, Option, Some, None, refl, sym, ap, ◌∙◌, arith}
-use Rattle.std.specs.Prelude.{nat_eq, ◌||◌, ◌==◌, slice_get, slice_set}
-use Rattle.std.specs.List.{filter, list_any}
+use Rattle.std.proofs.Common.{◌≡◌, ℕ, zero, suc, ◌+◌, ◌<◌, ◌≤◌, Bool, true, false, not, cond, List, [], ◌∷◌, length, map, Option, Some, None, is_some, ltb, refl, sym, ap, subst, ◌∙◌, arith}
+use Rattle.std.specs.Prelude.{nat_eq, ◌||◌, ◌==◌, slice_get, slice_set, IfSome, IsSome}
+use Rattle.std.specs.List.{filter, find, list_any, position, position_or_len}
 use Rattle.std.specs.Map.{lookup, remove_entry, values_of}
 use Rattle.indexmap.specs.IndexMap.{set_value_at}
-use Rattle.std.specs.Option.{option_map_or}
+use Rattle.std.specs.Option.{option_and_then, option_map, option_map_or}
+use Rattle.std.specs.Str.{bytes_eq}
+use Rattle.std.proofs.lemmas.Bool.{ltb-false}
+use Rattle.std.proofs.lemmas.Option.{slice_get_past}
 use Rattle.std.proofs.lemmas.Map.{NonePasses, lookup-none, none_passes_from_lookup}
 use Rattle.std.proofs.lemmas.List.{length-map}
-use Rattle.dl_model.specs.Registry.{App, IsNumbered, least_free, numbers}
+use Rattle.dl_model.specs.Registry.{App, IsNumbered, least_free, numbers, of_channel}
 use Rattle.dl_registry.proofs.Numbers.{least_free_is, room_left, none_left}
 use Rattle.dl_registry.specs.Change.{changed_entry, changed_first}
 
@@ -79,3 +82,45 @@ free_number_is es n is below free smaller =
 
 pub apps_are_full : (es : List (List ℕ × App)) → ((k : ℕ) → k < 16 → list_any (nat_eq k) (numbers es) ≡ true) → 16 ≤ length es
 apps_are_full es all = omega (arith, none_left 16 (numbers es) all, length-map es (λ (e : List ℕ × App). e.1.number))
+
+-- ---- the first of a channel
+
+found_passes : {X : Type 0} (test : X → Bool) (xs : List X) (x : X) → find test xs ≡ Some x → test x ≡ true
+found_passes test [] x found = absurd (cc found)
+found_passes {X} test (y ∷ ys) x found = by (test y) refl found (λ is. found_passes test ys x is) where
+  by : (b : Bool) → test y ≡ b → cond b (Some y) (find test ys) ≡ Some x → (find test ys ≡ Some x → test x ≡ true) → test x ≡ true
+  by true passes is rest = let same : y ≡ x = cc is in subst (λ z. test z ≡ true) same passes
+  by false other is rest = rest is
+
+module _ {K X : Type 0} (test : X → Bool) where
+  first_entry : (es : List (K × X)) → slice_get es (position_or_len test (values_of es)) ≡ find (λ e. test e.1) es
+  first_entry [] = refl
+  first_entry (e ∷ es) = by (test e.1) (first_entry es) where
+    by : (b : Bool) → slice_get es (position_or_len test (values_of es)) ≡ find (λ x. test x.1) es
+        → slice_get (e ∷ es) (cond (not b) (1 + position_or_len test (values_of es)) 0) ≡ cond b (Some e) (find (λ x. test x.1) es)
+    by true rest = refl
+    by false rest = let next : 1 + position_or_len test (values_of es) ≡ suc (position_or_len test (values_of es)) = omega arith in ap (slice_get (e ∷ es)) next ∙ rest
+
+  -- the first entry is at the first place of the values
+  pub at_first_place : (es : List (K × X)) → option_and_then (slice_get es) (position test (values_of es)) ≡ find (λ e. test e.1) es
+  at_first_place es = by (ltb first (length (values_of es))) refl ∙ first_entry es where
+    first : ℕ
+    first = position_or_len test (values_of es)
+    by : (b : Bool) → ltb first (length (values_of es)) ≡ b → option_and_then (slice_get es) (cond b (Some first) None) ≡ slice_get es first
+    by true within = refl
+    by false past =
+        let long : length (values_of es) ≤ first = ltb-false first (length (values_of es)) past in
+        sym (slice_get_past es first (omega (arith, long, length-map es (λ (e : K × X). e.1))))
+
+-- an id names one application, so it leads to the first one of the channel
+pub first_is_there : (channel : ℕ) (es : List (List ℕ × App)) (place : ℕ) (result : Option (List ℕ)) → position (λ app. app.channel == channel) (values_of es) ≡ Some place
+    → result ≡ option_map (λ entry. entry.0) (slice_get es place) → IfSome result (λ apid. lookup (bytes_eq apid) es ≡ option_map (λ entry. entry.1) (slice_get es place))
+    → IfSome result (λ apid. IsSome (option_and_then (of_channel channel) (lookup (bytes_eq apid) es)))
+first_is_there channel es place None at is leads = tt
+first_is_there channel es place (Some apid) at is leads = by (slice_get es place) refl is where
+  by : (o : Option (List ℕ × App)) → slice_get es place ≡ o → Some apid ≡ option_map (λ entry. entry.0) o → IsSome (option_and_then (of_channel channel) (lookup (bytes_eq apid) es))
+  by None none same = absurd (cc same)
+  by (Some entry) entry_is same =
+      let found : find (λ e. e.1.channel == channel) es ≡ Some entry = sym (at_first_place (λ (app : App). app.channel == channel) es) ∙ (ap (option_and_then (slice_get es)) at ∙ entry_is) in
+      let passes : (entry.1.channel == channel) ≡ true = found_passes (λ (e : List ℕ × App). e.1.channel == channel) es entry found in
+      ap (λ o. is_some (option_and_then (of_channel channel) o)) (leads ∙ ap (option_map (λ (e : List ℕ × App). e.1)) entry_is) ∙ ap (λ b. is_some (cond b (Some entry.1) None)) passes

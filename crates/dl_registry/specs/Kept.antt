@@ -53,6 +53,10 @@ slot_named registry apid ctid = option_map (λ named. slot_of named.0.number nam
 abbrev pub channel_at : Registry → ℕ → Option ℕ
 channel_at registry number = option_map (λ app. app.channel) (find (λ app. app.number == number) (values_of registry.apps))
 
+-- the application of a channel that came first, of those that are there
+abbrev pub first_app : Registry → ℕ → Option (List ℕ)
+first_app registry channel = option_map (λ entry. entry.0) (find (λ entry. entry.1.channel == channel) registry.apps)
+
 -- where the context that has a slot stands in its application's own table
 abbrev pub position_at : Registry → ℕ → Option ℕ
 position_at registry slot = option_map (λ context. context.position) (context_at registry slot)

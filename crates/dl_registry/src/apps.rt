@@ -1,10 +1,11 @@
 //! The applications by their ids, in the order in which they came.
 
-ghost use Rattle.std.specs.Prelude.{◌≡◌, ◌==◌, ◌++◌, ◌∷◌, ◌<◌, ◌≤◌, [], OnOk, OnErr, IfSome, None, length, map};
-ghost use Rattle.std.specs.List.{list_any};
+ghost use Rattle.std.specs.Prelude.{◌≡◌, ◌==◌, ◌++◌, ◌∷◌, ◌<◌, ◌≤◌, [], OnOk, OnErr, IfSome, IsSome, None, length, map, slice_get};
+ghost use Rattle.std.specs.List.{find, list_any, position};
 ghost use Rattle.std.specs.Map.{lookup, remove_entry, values_of};
+ghost use Rattle.std.specs.Option.{option_and_then, option_map};
 ghost use Rattle.std.specs.Str.{bytes_eq};
-ghost use Rattle.dl_model.specs.Registry.{IsNumbered, numbers, least_free, context_of, with_new_context, without, releveled_app};
+ghost use Rattle.dl_model.specs.Registry.{IsNumbered, numbers, least_free, context_of, of_channel, with_new_context, without, releveled_app};
 ghost use Rattle.dl_registry.specs.Change.{changed_app, told_again, changed_context, context_told_again, without_context, relevel_of, changed_entry};
 
 use crate::application::Application;
@@ -36,6 +37,35 @@ fn has_number(apps: &Apps, number: u8) -> bool
     ensures { result ≡ list_any (λ app. number == app.number) (values_of apps.now.entries) }
 {
     apps.values().any(|app| number == app.number())
+}
+
+/// The id of the first application of a channel.
+pub fn first_of_channel(apps: &Apps, channel: u16) -> Option<Id>
+    ensures first { result ≡ option_map (λ entry. entry.0) (find (λ entry. entry.1.channel == channel) apps.now.entries) }
+    ensures there { IfSome result (λ apid. IsSome (option_and_then (of_channel channel) (lookup (bytes_eq apid) apps.now.entries))) }
+{
+    match first_place(apps, channel) {
+        Some(place) => id_at(apps, place),
+        None => None,
+    }
+}
+
+/// The place of the first application of a channel.
+fn first_place(apps: &Apps, channel: u16) -> Option<usize>
+    ensures { result ≡ position (λ app. app.channel == channel) (values_of apps.now.entries) }
+{
+    apps.values().position(|app| app.channel() == channel)
+}
+
+/// The id of the application at this place of the order.
+fn id_at(apps: &Apps, place: usize) -> Option<Id>
+    ensures id { result ≡ option_map (λ entry. entry.0) (slice_get apps.now.entries place) }
+    ensures leads { IfSome result (λ apid. lookup (bytes_eq apid) apps.now.entries ≡ option_map (λ entry. entry.1) (slice_get apps.now.entries place)) }
+{
+    match apps.get_index(place) {
+        Some((apid, _)) => Some(*apid),
+        None => None,
+    }
 }
 
 /// The application of this id tells itself anew.

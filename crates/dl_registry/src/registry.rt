@@ -1,15 +1,15 @@
 //! The registry: who is there, at which levels, and what each slot holds.
 
-ghost use Rattle.std.specs.Prelude.{◌≡◌, ◌<◌, ◌≤◌, ◌==◌, ◌++◌, Some, length, IfOk, IfSome, OnOk};
+ghost use Rattle.std.specs.Prelude.{◌≡◌, ◌<◌, ◌≤◌, ◌==◌, ◌++◌, Some, length, IfOk, IfSome, IsSome, OnOk};
 ghost use Rattle.std.specs.List.{find};
 ghost use Rattle.std.specs.Map.{values_of};
 ghost use Rattle.std.specs.Option.{option_map, option_or};
 ghost use Rattle.dl_bytes.specs.Limits.{last_version};
 ghost use Rattle.dl_model.specs.Registry.{IsInOrder, app_of, level_at, stored_level, owns_now, owns_of_app};
-ghost use Rattle.dl_registry.specs.Kept.{slots, made, owed_change, with_change, with_registry, slot_named, channel_at, position_at};
+ghost use Rattle.dl_registry.specs.Kept.{slots, made, owed_change, with_change, with_registry, slot_named, channel_at, first_app, position_at};
 
 use crate::application::Application;
-use crate::apps::Apps;
+use crate::apps::{Apps, first_of_channel};
 use crate::table::{SlotTable, slot_of};
 use dl_bytes::{Bytes, Id, Level, OutOfMemory, OwnLevel, Sequence, Stored, StoredLevel};
 use dl_model::{LevelChange, Slot};
@@ -161,6 +161,15 @@ impl Registry {
     {
         let found = self.app_numbered(app as u16)?;
         Some(found.channel())
+    }
+
+    /// The application of a channel that came first, of those that are there.
+    pub fn first_app(&self, channel: u16) -> Option<Id>
+        ensures first { result ≡ first_app self.now.registry channel }
+        // An id names one application.
+        ensures there { IfSome result (λ apid. IsSome (app_of self.now.registry channel apid)) }
+    {
+        first_of_channel(&self.apps, channel)
     }
 
     /// The application that has this number.

@@ -10,10 +10,10 @@ use dl_bytes::{Moment, OutOfMemory};
 use dl_core::Core;
 use dl_events::Journal;
 use dl_outside::Folder;
-use dl_socket::{Channels, Names};
+use dl_socket::Channels;
 
 /// Closes each channel that is open, in the order of their numbers. Where memory was wanting the others stay open, and the next call goes on.
-pub fn close_channels<A: Names, J: Journal, F: Folder>(
+pub fn close_channels<J: Journal, F: Folder>(
     channels: &mut Channels,
     core: &mut Core,
     journal: &mut J,
@@ -30,7 +30,7 @@ pub fn close_channels<A: Names, J: Journal, F: Folder>(
     ensures few { core.new.hub.admitted ≤ admitted_limit }
 {
     while let Some(channel) = channels.at(0) {
-        match channels.close::<A, J, F>(core, journal, channel, moment, folder) {
+        match channels.close(core, journal, channel, moment, folder) {
             Ok(()) => {}
             Err(fault) => return Err(fault),
         }

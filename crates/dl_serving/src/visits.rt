@@ -12,14 +12,14 @@ use dl_channel::ChannelEnd;
 use dl_core::Core;
 use dl_events::Journal;
 use dl_outside::{Folder, Link};
-use dl_socket::{Channels, Names};
+use dl_socket::Channels;
 
 /// How many frames one turn of a channel may need.
 const TURN_FRAMES: u64 = 4096;
 
 /// Ends a channel that is open: its link is shut, and its applications are unregistered. Answers whether it is closed: where memory was wanting it
 /// stays open, and the next call goes on.
-pub fn end_channel<A: Names, J: Journal, L: Link, F: Folder>(
+pub fn end_channel<J: Journal, L: Link, F: Folder>(
     channels: &mut Channels,
     core: &mut Core,
     journal: &mut J,
@@ -38,13 +38,13 @@ pub fn end_channel<A: Names, J: Journal, L: Link, F: Folder>(
 {
     link.shut();
     channels
-        .close::<A, J, F>(core, journal, channel, moment, folder)
+        .close(core, journal, channel, moment, folder)
         .is_ok()
 }
 
 /// Listens to a channel that is open and has no cause to end, and ends it where there is one then. Nobody is listened to where the core may not admit
 /// so many frames more as a turn may need. The answer is the cause.
-fn hear_open<A: Names, J: Journal, L: Link, F: Folder>(
+fn hear_open<J: Journal, L: Link, F: Folder>(
     channels: &mut Channels,
     core: &mut Core,
     journal: &mut J,
@@ -66,9 +66,7 @@ fn hear_open<A: Names, J: Journal, L: Link, F: Folder>(
     }
     match channels.turn(core, journal, channel, link, moment, folder) {
         Some(end) => {
-            let _closed = end_channel::<A, J, L, F>(
-                channels, core, journal, channel, link, moment, folder,
-            );
+            let _closed = end_channel(channels, core, journal, channel, link, moment, folder);
             Some(end)
         }
         None => None,
@@ -77,7 +75,7 @@ fn hear_open<A: Names, J: Journal, L: Link, F: Folder>(
 
 /// Listens to a channel that is open, and ends it where there is a cause. One that had a cause before goes on ending for it. Answers whether anything
 /// moved: the channel ends, or its link did not say that nothing had come.
-pub fn hear_channel<A: Names, J: Journal, L: Link, F: Folder>(
+pub fn hear_channel<J: Journal, L: Link, F: Folder>(
     channels: &mut Channels,
     core: &mut Core,
     journal: &mut J,
@@ -98,16 +96,12 @@ pub fn hear_channel<A: Names, J: Journal, L: Link, F: Folder>(
 {
     match *end {
         Some(_) => {
-            let _closed = end_channel::<A, J, L, F>(
-                channels, core, journal, channel, link, moment, folder,
-            );
+            let _closed = end_channel(channels, core, journal, channel, link, moment, folder);
             true
         }
         None => {
             let idles = link.idles();
-            let cause = hear_open::<A, J, L, F>(
-                channels, core, journal, channel, link, moment, folder,
-            );
+            let cause = hear_open(channels, core, journal, channel, link, moment, folder);
             *end = cause;
             cause.is_some() || link.idles() == idles
         }
@@ -115,7 +109,7 @@ pub fn hear_channel<A: Names, J: Journal, L: Link, F: Folder>(
 }
 
 /// Sends a channel that is open and has no cause to end what waits for it, and ends it where there is one then. The answer is the cause.
-fn pump_open<A: Names, J: Journal, L: Link, F: Folder>(
+fn pump_open<J: Journal, L: Link, F: Folder>(
     channels: &mut Channels,
     core: &mut Core,
     journal: &mut J,
@@ -134,9 +128,7 @@ fn pump_open<A: Names, J: Journal, L: Link, F: Folder>(
 {
     match channels.pump(channel, link) {
         Some(end) => {
-            let _closed = end_channel::<A, J, L, F>(
-                channels, core, journal, channel, link, moment, folder,
-            );
+            let _closed = end_channel(channels, core, journal, channel, link, moment, folder);
             Some(end)
         }
         None => None,
@@ -144,7 +136,7 @@ fn pump_open<A: Names, J: Journal, L: Link, F: Folder>(
 }
 
 /// Sends a channel that is open what waits for it, and ends it where there is a cause. One that had a cause before is left.
-pub fn pump_channel<A: Names, J: Journal, L: Link, F: Folder>(
+pub fn pump_channel<J: Journal, L: Link, F: Folder>(
     channels: &mut Channels,
     core: &mut Core,
     journal: &mut J,
@@ -165,7 +157,7 @@ pub fn pump_channel<A: Names, J: Journal, L: Link, F: Folder>(
     match *end {
         Some(_) => {}
         None => {
-            *end = pump_open::<A, J, L, F>(channels, core, journal, channel, link, moment, folder);
+            *end = pump_open(channels, core, journal, channel, link, moment, folder);
         }
     }
 }

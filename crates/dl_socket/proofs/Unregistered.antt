@@ -11,9 +11,9 @@ use Rattle.dl_core.specs.State.{Core}
 use Rattle.dl_model.specs.Registry.{App, Registry, app_of, app_unregistered, without}
 use Rattle.dl_model.specs.declared.registry.LevelChange.{LevelChange}
 use Rattle.dl_model.proofs.Presence.{bytes_same}
-use Rattle.dl_registry.specs.Kept.{Applies, Kept}
+use Rattle.dl_registry.specs.Kept.{Applies, Kept, first_app}
 use Rattle.dl_socket.proofs.OpenChannels.{AreOpenAs, one_open}
-use Rattle.dl_socket.specs.Closing.{UnregistersEach, HasUnregistered, apps_of, first_app}
+use Rattle.dl_socket.specs.Closing.{UnregistersEach, HasUnregistered, apps_of}
 
 -- ---- filters
 

@@ -1,17 +1,13 @@
 -- What the end of a channel comes to.
-use Rattle.std.specs.Prelude.{◌≡◌, ◌==◌, ℕ, List, [], ◌∷◌, filter, length, find, Option, Some, None}
-use Rattle.std.specs.Option.{option_map}
+use Rattle.std.specs.Prelude.{◌≡◌, ◌==◌, ℕ, List, [], ◌∷◌, filter, length, Some, None}
 use Rattle.dl_bytes.specs.declared.moment.Moment.{Moment}
 use Rattle.dl_bytes.specs.declared.user.UserMsg.TheVariants.{UnregisterApp}
 use Rattle.dl_channel.specs.State.{Outbox}
 use Rattle.dl_channel_turns.specs.Messages.{ServesOne}
 use Rattle.dl_channel_turns.specs.State.{Side, without}
 use Rattle.dl_model.specs.Registry.{App, Registry}
+use Rattle.dl_registry.specs.Kept.{first_app}
 use Rattle.dl_socket.specs.Channels.{Channels, without_inbox}
-
--- the application of a channel that came first, of those that are there
-abbrev pub first_app : Registry → ℕ → Option (List ℕ)
-first_app registry channel = option_map (λ entry. entry.0) (find (λ entry. entry.1.channel == channel) registry.apps)
 
 -- how many applications of a channel are there
 abbrev pub apps_of : Registry → ℕ → ℕ

@@ -11,7 +11,7 @@ ghost use Rattle.dl_channel_turns.specs.State.{side};
 ghost use Rattle.dl_socket.specs.Closing.{HasBegunToClose, HasClosed};
 ghost use Rattle.dl_socket.specs.Turns.{HasAsked, HasPumped, HasTurned, sight};
 
-use crate::closing::{Names, unregister_all};
+use crate::closing::unregister_all;
 use crate::fault::ChannelFault;
 use crate::messenger::Messenger;
 use dl_bytes::{Moment, OutOfMemory};
@@ -176,7 +176,7 @@ impl Channels {
 
     /// Ends a channel that is open: each of its applications that is there is unregistered first, in the order in which they came, as if the program
     /// had done it with pid 0. Where memory was wanting the channel stays open, and the next call does the rest.
-    pub fn close<A: Names, J: Journal, F: Folder>(
+    pub fn close<J: Journal, F: Folder>(
         &mut self,
         core: &mut Core,
         journal: &mut J,
@@ -194,7 +194,7 @@ impl Channels {
         ensures settled { owed_change core.new.registry ≡ None }
         ensures few { core.new.hub.admitted ≤ admitted_limit }
     {
-        unregister_all::<A, J, F>(core, &mut self.messenger, journal, channel, moment, folder)?;
+        unregister_all(core, &mut self.messenger, journal, channel, moment, folder)?;
         self.messenger.remove(channel);
         self.inboxes.shift_remove(&channel);
         Ok(())

@@ -1,30 +1,19 @@
 //! The applications of a channel that ends.
 
-ghost use Rattle.std.specs.Prelude.{◌≡◌, ◌≤◌, IfSome, IsSome, None, OnErr, OnOk};
+ghost use Rattle.std.specs.Prelude.{◌≡◌, ◌≤◌, None, OnOk};
 ghost use Rattle.dl_bytes.specs.Limits.{admitted_limit};
 ghost use Rattle.dl_channel_turns.specs.State.{side};
-ghost use Rattle.dl_model.specs.Registry.{app_of};
-ghost use Rattle.dl_registry.specs.Kept.{owed_change};
-ghost use Rattle.dl_socket.specs.Closing.{HasUnregistered, first_app};
+ghost use Rattle.dl_registry.specs.Kept.{first_app, owed_change};
+ghost use Rattle.dl_socket.specs.Closing.{HasUnregistered};
 
 use crate::messenger::Messenger;
-use dl_bytes::{Id, Moment, OutOfMemory, UserMsg};
+use dl_bytes::{Moment, OutOfMemory, UserMsg};
 use dl_core::Core;
 use dl_events::Journal;
 use dl_outside::Folder;
-use dl_registry::Registry;
-
-/// Tells the applications of a registry.
-pub trait Names {
-    /// The application of a channel that came first, of those that are there.
-    fn first_app(registry: &Registry, channel: u16) -> Option<Id>
-        ensures first { result ≡ first_app registry.now.registry channel }
-        // An id names one application.
-        ensures there { IfSome result (λ apid. IsSome (app_of registry.now.registry channel apid)) };
-}
 
 /// Unregisters all applications of a channel, in the order in which they came. Where memory was wanting the first ones were.
-pub fn unregister_all<A: Names, J: Journal, F: Folder>(
+pub fn unregister_all<J: Journal, F: Folder>(
     core: &mut Core,
     messenger: &mut Messenger,
     journal: &mut J,
@@ -41,7 +30,7 @@ pub fn unregister_all<A: Names, J: Journal, F: Folder>(
     ensures few { core.new.hub.admitted ≤ admitted_limit }
     ensures rest { messenger.new ≡ record messenger.old { outboxes = messenger.new.outboxes } }
 {
-    while let Some(apid) = A::first_app(core.registry(), channel) {
+    while let Some(apid) = core.registry().first_app(channel) {
         let msg = UserMsg::UnregisterApp { apid, pid: 0 };
         match messenger.take_in(core, journal, channel, msg, moment, folder) {
             Ok(()) => {}

@@ -11,5 +11,4 @@ mod messenger;
 mod ways;
 
 pub use channels::Channels;
-pub use closing::Names;
 pub use fault::ChannelFault;

@@ -1,8 +1,7 @@
 use Rattle.std.proofs.Common.{◌≡◌, ◌≤◌, ◌+◌, [], Some, IsSome, sym, refl, ap, subst, ◌∙◌, arith}
 use Rattle.dl_channel_turns.specs.State.{side}
 use Rattle.dl_model.specs.Registry.{app_of}
-use Rattle.dl_registry.specs.Kept.{Kept}
-use Rattle.dl_socket.specs.Closing.{first_app}
+use Rattle.dl_registry.specs.Kept.{Kept, first_app}
 use Rattle.dl_socket.specs.Messenger.{Messenger}
 use Rattle.dl_socket.proofs.Unregistered.{one_fewer, one_more}
 use Rattle.dl_socket.proofs.closing.unregister_all.Goals as goal
