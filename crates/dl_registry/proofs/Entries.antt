@@ -106,6 +106,7 @@ module _ {K X : Type 0} (test : X → Bool) where
   at_first_place es = by (ltb first (length (values_of es))) refl ∙ first_entry es where
     first : ℕ
     first = position_or_len test (values_of es)
+
     by : (b : Bool) → ltb first (length (values_of es)) ≡ b → option_and_then (slice_get es) (cond b (Some first) None) ≡ slice_get es first
     by true within = refl
     by false past =
