@@ -12,7 +12,7 @@ use Rattle.dl_outside.specs.Link.{IsFresh}
 use Rattle.dl_outside.specs.Links.{Links}
 use Rattle.dl_outside.specs.Told.{FolderTold, LinkTold, NetTold}
 use Rattle.dl_hub.specs.State.{Client, Comes, Hub, is_open}
-use Rattle.dl_core.specs.Follows.{Run, source_of}
+use Rattle.dl_core.specs.Follows.{IsAfter, Run, source_of}
 use Rattle.dl_core.specs.State.{Core}
 use Rattle.dl_well_formed.proofs.Connecting.{connect_in_turn}
 use Rattle.dl_well_formed.proofs.Following.{running_on}
@@ -23,10 +23,12 @@ use Rattle.dl_rounds.specs.declared.accepting.Arrival.TheVariants as arrival
 use Rattle.dl_rounds.specs.Ready.{AreHeard, AreLinked, open_clients}
 use Rattle.dl_loop.specs.Bounds.{HasBounds}
 use Rattle.dl_loop.specs.Daemon.{IsDaemon, TellTaken, is_noted}
-use Rattle.dl_loop.specs.Holds.{AreTaken, HoldsIn}
+use Rattle.dl_loop.specs.Holds.{AreNoted, AreTaken, HoldsIn}
 use Rattle.dl_loop.specs.State.{DaemonState, desk_told}
 use Rattle.dl_loop.specs.Told.{IsToldBy}
+use Rattle.dl_settling.specs.Went.{TellBytes}
 use Rattle.dl_settling.proofs.NoRequests.{posted_none}
+use Rattle.dl_loop.proofs.NotedDaemons.{noted_connected}
 use Rattle.dl_loop.proofs.ToldJournals.{told_more}
 
 -- the last of a longer list
@@ -37,7 +39,7 @@ last_or_before [] x y (suc place) is P before last = absurd cc
 last_or_before (z ∷ zs) x y zero is P before last = before is
 last_or_before (z ∷ zs) x y (suc place) is P before last = last_or_before zs x y place is P before (λ e same. last (ap suc e) same)
 
--- a fresh link that tells what it took took nothing
+-- a fresh link that tells what it took, or what it gave, took or gave nothing
 nothing_taken : (o : Option (List ℕ)) → IsSome o → IfSome o (λ bytes. bytes ≡ []) → o ≡ Some []
 nothing_taken None there nothing = absurd cc
 nothing_taken (Some bytes) there nothing = ap Some nothing
@@ -55,15 +57,16 @@ folder_none = record { files = None; faults = 0; changes = 0; appends = 0 }
 module _ {L : Type 0} (told : L → LinkTold) (old : DaemonState L) (is : IsDaemon told old) where
   -- a run that held goes on with a client's Connect
   holds_connected : (number : ℕ) (core : Core) (events : List Event) (link : L) → Connects number old.core core (Some old.journal.events) (Some events) → IsFresh (told link)
-      → (run : Run) → HoldsIn (TellTaken told) run (map told old.links.links) old.journal.events old.core (desk_told old.first_desk) (desk_told old.desk)
-      → HoldsIn (TellTaken told) run (map told (old.links.links ++ link ∷ [])) (old.journal.events ++ event.Connect number ∷ []) core (desk_told old.first_desk) (desk_told old.desk)
+      → (run : Run) → HoldsIn (TellTaken told) (TellBytes told) run (map told old.links.links) old.listeners old.journal.events old.core (desk_told old.first_desk) (desk_told old.desk)
+      → HoldsIn (TellTaken told) (TellBytes told) run (map told (old.links.links ++ link ∷ [])) old.listeners (old.journal.events ++ event.Connect number ∷ []) core (desk_told old.first_desk) (desk_told old.desk)
   holds_connected number core events link connects fresh run holds = record {
     took = holds.took;
-    taken = λ tells. subst (λ ls. AreTaken ls holds.took) (sym (map-append told old.links.links (link ∷ [])))
-        (taken_one_more (map told old.links.links) (told link) holds.took
-        (holds.after.hub.untaken (length (map told old.links.links) + 1) (omega (arith, length-map old.links.links told, is.linked.many)))
-        (nothing_taken (told link).taken (tells link) fresh.nothing_taken) (holds.taken tells));
-    after = (connects.after folder_none run old.journal.events holds.took tt holds.after).0;
+    taken = λ tells. subst (λ ls. AreTaken ls holds.took) one_more (taken_now tells);
+    after = after_now;
+    noted = λ tells. subst (λ ls. AreNoted run (old.journal.events ++ event.Connect number ∷ []) holds.took ls old.listeners core) one_more
+        (noted_connected run old.journal.events holds.took old.core core number connects.comes.0 (map told old.links.links) old.listeners (told link) connects.next
+        connects.comes.1 connects.comes.2 connects.comes.3 (is.linked.many ∙ sym (length-map old.links.links told))
+        (nothing_taken (told link).given (tells link).0 fresh.nothing_given) is.heard.unused after_now (taken_now (λ l. (tells l).1)) (holds.noted tells));
     formed = goes_on run.setting (source_of run) old.journal.events (event.Connect number ∷ []) holds.formed (
       subst (λ n. IsInTurn run.setting (source_of run) old.journal.events (event.Connect n) []) (sym connects.next)
           (connect_in_turn old.core [] connects.place is.linked.settled run old.journal.events holds.took holds.after is.running holds.formed),
@@ -71,7 +74,17 @@ module _ {L : Type 0} (told : L → LinkTold) (old : DaemonState L) (is : IsDaem
     );
     posted = λ app. posted_both run.setting [] old.journal.events (event.Connect number ∷ []) app (desk_told old.first_desk) (desk_told old.desk) (desk_told old.desk) (holds.posted app)
         (posted_none run.setting old.journal.events (event.Connect number ∷ []) app (desk_told old.desk) (desk_told old.desk) (tt, tt) refl refl);
-  }
+  } where
+    one_more : map told old.links.links ++ told link ∷ [] ≡ map told (old.links.links ++ link ∷ [])
+    one_more = sym (map-append told old.links.links (link ∷ []))
+
+    after_now : IsAfter run (old.journal.events ++ event.Connect number ∷ []) holds.took core
+    after_now = (connects.after folder_none run old.journal.events holds.took tt holds.after).0
+
+    taken_now : TellTaken told → AreTaken (map told old.links.links ++ told link ∷ []) holds.took
+    taken_now tells = taken_one_more (map told old.links.links) (told link) holds.took
+        (holds.after.hub.untaken (length (map told old.links.links) + 1) (omega (arith, length-map old.links.links told, is.linked.many)))
+        (nothing_taken (told link).taken (tells link) fresh.nothing_taken) (holds.taken tells)
 
   -- how many are open, one more
   one_open : (hub hub_now : Hub) → Comes hub hub_now → (open_clients hub_now ≡ open_clients hub + 1) × (length hub_now.clients ≡ length hub.clients + 1)
@@ -105,8 +118,8 @@ module _ {L : Type 0} (told : L → LinkTold) (old : DaemonState L) (is : IsDaem
         apps = is.apps;
         desk = is.desk;
         running = subst IsRunning (sym events) (running_on old.journal.events (event.Connect number ∷ []) is.running refl);
-        runs = λ run gives. subst (λ (es : List Event). HoldsIn (TellTaken told) run (map told links.links) es core (desk_told old.first_desk) (desk_told old.desk)) (sym events)
-            (subst (λ (ls : Links L). HoldsIn (TellTaken told) run (map told ls.links) (old.journal.events ++ event.Connect number ∷ []) core (desk_told old.first_desk) (desk_told old.desk)) (sym links_are)
+        runs = λ run gives. subst (λ (es : List Event). HoldsIn (TellTaken told) (TellBytes told) run (map told links.links) old.listeners es core (desk_told old.first_desk) (desk_told old.desk)) (sym events)
+            (subst (λ (ls : Links L). HoldsIn (TellTaken told) (TellBytes told) run (map told ls.links) old.listeners (old.journal.events ++ event.Connect number ∷ []) core (desk_told old.first_desk) (desk_told old.desk)) (sym links_are)
             (holds_connected number core journal.events link connects fresh run (is.runs run gives)));
       }
 

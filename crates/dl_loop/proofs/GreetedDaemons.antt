@@ -39,16 +39,18 @@ use Rattle.dl_rounds.specs.Greetings.{Greets as GreetsOne, GreetsEach, GreetsFir
 use Rattle.dl_loop.specs.Bounds.{HasBounds}
 use Rattle.dl_loop.specs.Daemon.{IsDaemon, TellTaken, is_noted}
 use Rattle.dl_loop.specs.Greeting.{Greets}
-use Rattle.dl_loop.specs.Holds.{Gives, HoldsIn}
+use Rattle.dl_loop.specs.Holds.{AreNoted, Gives, HoldsIn}
 use Rattle.dl_loop.specs.Scene.{Scene, side_of}
 use Rattle.dl_loop.specs.State.{DaemonState, SameDesk, desk_told}
 use Rattle.dl_loop.specs.Told.{IsToldBy}
 use Rattle.dl_loop.proofs.DeskRest.{later_both, same_apps, same_later, same_reported, same_taken}
 use Rattle.dl_taking.specs.Took.{Took, took_by}
 use Rattle.dl_settling.specs.Room.{IsFew}
+use Rattle.dl_settling.specs.Went.{TellBytes}
 use Rattle.dl_loop.proofs.LaterDaemons.{same_took_by, add_none, gives_before}
 use Rattle.dl_settling.proofs.NoRequests.{AsksNothing, posted_none}
 use Rattle.dl_loop.proofs.ToldJournals.{told_more}
+use Rattle.dl_loop.proofs.NotedDaemons.{noted_none}
 
 -- ---- one side and a later one
 
@@ -246,12 +248,15 @@ module _ {L : Type 0} (told : L → LinkTold) (moment : Moment) (msgs : List Use
   led = leads_each moment msgs (side_of old) (side_of new) is.linked.settled are greets.greets
 
   holds_greeted : (run : Run) → Gives run old.daemon.first_core new.daemon.desk.apps new.daemon.desk.handles
-      → HoldsIn (TellTaken told) run (map told old.daemon.links.links) (old.daemon.journal.events ++ led.0) new.daemon.core (desk_told old.daemon.first_desk) (desk_told new.daemon.desk)
+      → HoldsIn (TellTaken told) (TellBytes told) run (map told old.daemon.links.links) old.daemon.listeners (old.daemon.journal.events ++ led.0) new.daemon.core (desk_told old.daemon.first_desk) (desk_told new.daemon.desk)
   holds_greeted run gives =
-      let holds = is.runs run (gives_before run old.daemon.first_core old.daemon.desk new.daemon.desk greets.desk gives) in record {
+      let holds = is.runs run (gives_before run old.daemon.first_core old.daemon.desk new.daemon.desk greets.desk gives) in
+      let after_now = (led.1.after run old.daemon.journal.events holds.took tt holds.after).0 in record {
         took = holds.took;
         taken = holds.taken;
-        after = (led.1.after run old.daemon.journal.events holds.took tt holds.after).0;
+        after = after_now;
+        noted = λ tells. subst (λ (ls : List L). AreNoted run (old.daemon.journal.events ++ led.0) holds.took (map told ls) old.daemon.listeners new.daemon.core) (sym nobody)
+            (noted_none run (old.daemon.journal.events ++ led.0) holds.took old.daemon.listeners new.daemon.core after_now);
         formed = led.1.formed run old.daemon.journal.events holds.took holds.after is.running holds.formed;
         posted = λ app. posted_both run.setting [] old.daemon.journal.events led.0 app (desk_told old.daemon.first_desk) (desk_told old.daemon.desk) (desk_told new.daemon.desk) (holds.posted app)
             (posted_none run.setting old.daemon.journal.events led.0 app (desk_told old.daemon.desk) (desk_told new.daemon.desk) (says_nothing led.0 led.1.kinds).asks (led.1.pushed app) (led.1.refusals app));
@@ -304,7 +309,7 @@ module _ {L : Type 0} (told : L → LinkTold) (moment : Moment) (msgs : List Use
         apps = subst (λ (specs : List AppSpec). length specs ≤ 16) (sym apps) is.apps;
         desk = later_both old.daemon.first_desk old.daemon.desk new.daemon.desk is.desk (same_later old.daemon.desk new.daemon.desk same);
         running = subst IsRunning (sym events) (running_on old.daemon.journal.events led.0 is.running (none_stops led.0 led.1.kinds));
-        runs = λ run gives. subst (λ (es : List Event). HoldsIn (TellTaken told) run (map told old.daemon.links.links) es new.daemon.core (desk_told old.daemon.first_desk) (desk_told new.daemon.desk)) (sym events)
+        runs = λ run gives. subst (λ (es : List Event). HoldsIn (TellTaken told) (TellBytes told) run (map told old.daemon.links.links) old.daemon.listeners es new.daemon.core (desk_told old.daemon.first_desk) (desk_told new.daemon.desk)) (sym events)
             (holds_greeted run gives);
       })
 

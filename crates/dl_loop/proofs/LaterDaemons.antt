@@ -27,17 +27,19 @@ use Rattle.dl_well_formed.proofs.Following.{stays_formed}
 use Rattle.dl_turns.specs.State.{side}
 use Rattle.dl_turns.proofs.PostedSides.{posted_both}
 use Rattle.dl_rounds.specs.Clients.{Clients}
-use Rattle.dl_rounds.specs.Passing.{AreLater, IsOfClients, took_all}
+use Rattle.dl_rounds.specs.Passing.{AreLater, IsOfClients, StayAsNoted, took_all}
 use Rattle.dl_rounds.specs.Ready.{AreHeard, AreLinked, KeepsRoom}
 use Rattle.dl_rounds.specs.declared.listener.Listener.{Listener}
 use Rattle.dl_taking.specs.Took.{Took, took_by}
 use Rattle.dl_settling.specs.Room.{IsFew}
+use Rattle.dl_settling.specs.Went.{TellBytes}
 use Rattle.dl_loop.specs.Bounds.{HasBounds}
 use Rattle.dl_loop.specs.Daemon.{IsDaemon, TellTaken, is_noted}
 use Rattle.dl_loop.specs.Holds.{AreTaken, Gives, HoldsIn}
 use Rattle.dl_loop.specs.State.{DaemonState, SameDesk, clients_of, desk_told}
 use Rattle.dl_loop.specs.Told.{IsToldBy}
 use Rattle.dl_loop.proofs.ToldJournals.{told_more}
+use Rattle.dl_loop.proofs.NotedDaemons.{each_tells, noted_later}
 use Rattle.dl_loop.proofs.DeskRest.{later_both, same_apps, same_later, same_reported, same_taken}
 
 -- ---- events of clients take nothing
@@ -96,14 +98,17 @@ add_none n = omega arith
 
 module _ {L : Type 0} (told : L → LinkTold) (old : DaemonState L) (is : IsDaemon told old) where
   -- a run that held goes on with the events and the bytes of a round over clients
-  holds_later : (desk : DeskState) (folder : FolderTold) (new : Clients) (later : AreLater (clients_of told old folder) new) → new.side.desk ≡ desk_told desk → SameDesk old.desk desk
+  holds_later : (desk : DeskState) (folder : FolderTold) (new : Clients) (stays : StayAsNoted (clients_of told old folder) new) → new.side.desk ≡ desk_told desk → SameDesk old.desk desk
       → (run : Run) → Gives run old.first_core desk.apps desk.handles
-      → HoldsIn (TellTaken told) run new.links (old.journal.events ++ later.more) new.side.core (desk_told old.first_desk) new.side.desk
-  holds_later desk folder new later told_so same run gives =
+      → HoldsIn (TellTaken told) (TellBytes told) run new.links new.listeners (old.journal.events ++ stays.later.more) new.side.core (desk_told old.first_desk) new.side.desk
+  holds_later desk folder new stays told_so same run gives =
+      let later = stays.later in
       let holds = is.runs run (gives_before run old.first_core old.desk desk same gives) in record {
         took = took_all holds.took later.sent;
         taken = λ tells. taken_later (clients_of told old folder) new holds.took later (holds.taken tells);
         after = (later.after run old.journal.events holds.took holds.after).0;
+        noted = λ tells. noted_later run old.journal.events holds.took (clients_of told old folder) new stays (each_tells told old.links.links tells)
+            (holds.noted tells (desk_told old.desk) (Some old.journal.events) folder);
         formed = stays_formed old.core later.more later.formed run old.journal.events holds.took holds.after holds.formed;
         posted = λ app. posted_both run.setting [] old.journal.events later.more app (desk_told old.first_desk) (desk_told old.desk) new.side.desk (holds.posted app)
             (later.posts run old.journal.events holds.took holds.after app);
@@ -111,11 +116,12 @@ module _ {L : Type 0} (told : L → LinkTold) (old : DaemonState L) (is : IsDaem
 
   -- a daemon is one after it
   pub later_daemon : (core : Core) (desk : DeskState) (journal : Journaled) (links : Links L) (listeners : List Listener) (folder folder_now : FolderTold)
-      → AreLater (clients_of told old folder) (record { links = map told links.links; listeners = listeners; side = side core (desk_told desk) (Some journal.events) folder_now })
+      → StayAsNoted (clients_of told old folder) (record { links = map told links.links; listeners = listeners; side = side core (desk_told desk) (Some journal.events) folder_now })
       → IsRunning journal.events → core.hub.admitted ≡ old.core.hub.admitted → SameDesk old.desk desk
       → AreLinked links core journal.spare → AreHeard listeners core (desk_told desk) → KeepsRoom old.core core old.journal.spare journal.spare → IsSameHub old.core.hub core.hub
       → IsDaemon told (record old { core = core; desk = desk; journal = journal; links = links; listeners = listeners })
-  later_daemon core desk journal links listeners folder folder_now later running admitted same linked heard room same_hub =
+  later_daemon core desk journal links listeners folder folder_now stays running admitted same linked heard room same_hub =
+      let later = stays.later in
       let events : journal.events ≡ old.journal.events ++ later.more = cc later.events in
       let none = of_clients_take_nothing later.more later.of_clients in
       let many : length links.links ≡ length old.links.links = omega (arith, length-map links.links told, length-map old.links.links told, later.many) in
@@ -140,6 +146,6 @@ module _ {L : Type 0} (told : L → LinkTold) (old : DaemonState L) (is : IsDaem
         apps = subst (λ (specs : List AppSpec). length specs ≤ 16) (sym (same_apps old.desk desk same)) is.apps;
         desk = later_both old.first_desk old.desk desk is.desk (same_later old.desk desk same);
         running = running;
-        runs = λ run gives. subst (λ (es : List Event). HoldsIn (TellTaken told) run (map told links.links) es core (desk_told old.first_desk) (desk_told desk)) (sym events)
-            (holds_later desk folder (record { links = map told links.links; listeners = listeners; side = side core (desk_told desk) (Some journal.events) folder_now }) later refl same run gives);
+        runs = λ run gives. subst (λ (es : List Event). HoldsIn (TellTaken told) (TellBytes told) run (map told links.links) listeners es core (desk_told old.first_desk) (desk_told desk)) (sym events)
+            (holds_later desk folder (record { links = map told links.links; listeners = listeners; side = side core (desk_told desk) (Some journal.events) folder_now }) stays refl same run gives);
       }

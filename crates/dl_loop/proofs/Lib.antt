@@ -1,6 +1,7 @@
 pub mod ToldJournals
 pub mod AdmittedBounds
 pub mod DeskRest
+pub mod NotedDaemons
 pub mod Accepted
 pub mod Visited
 pub mod LaterDaemons
@@ -15,6 +16,7 @@ pub mod GreetedDaemons
 pub mod TakesTurned
 pub mod GoneRounds
 pub mod NewDesks
+pub mod DroppedLinks
 pub mod OrderedBooks
 pub mod StoppedDaemons
 pub mod OpenClients

@@ -31,7 +31,9 @@ use Rattle.dl_loop.specs.Made.{IsBegun, IsUntouched}
 use Rattle.dl_loop.specs.State.{desk_told}
 use Rattle.dl_loop.specs.Told.{IsToldBy}
 use Rattle.dl_loop.proofs.DeskRest.{later_none}
+use Rattle.dl_settling.specs.Went.{TellBytes}
 use Rattle.dl_settling.proofs.NoRequests.{still}
+use Rattle.dl_loop.proofs.NotedDaemons.{noted_none}
 
 -- a registry with nobody there owes no Level event
 none_owed : (held : ℕ → Slot) (level : ℕ) (stored : List StoredLevel) (all : List ℕ) → first_change held (record { level = level; stored = stored; apps = [] }) all ≡ None
@@ -124,11 +126,12 @@ made_daemon told core desk journal links listeners calls begins untouched events
       apps = untouched.few;
       desk = later_none desk;
       running = subst IsRunning (sym events) refl;
-      runs = λ run gives. subst (λ (es : List Event). HoldsIn (TellTaken told) run (map told links.links) es (begun conf stored 0 trace) (desk_told desk) (desk_told desk)) (sym events)
-          (subst (λ (ls : Links _). HoldsIn (TellTaken told) run (map told ls.links) [] (begun conf stored 0 trace) (desk_told desk) (desk_told desk)) (sym no_links) (record {
+      runs = λ run gives. subst (λ (es : List Event). HoldsIn (TellTaken told) (TellBytes told) run (map told links.links) listeners es (begun conf stored 0 trace) (desk_told desk) (desk_told desk)) (sym events)
+          (subst (λ (ls : Links _). HoldsIn (TellTaken told) (TellBytes told) run (map told ls.links) listeners [] (begun conf stored 0 trace) (desk_told desk) (desk_told desk)) (sym no_links) (record {
             took = λ number. [];
             taken = λ tells place link there. absurd cc;
             after = gives.begins;
+            noted = λ tells. noted_none run [] (λ number. []) listeners (begun conf stored 0 trace) gives.begins;
             formed = tt;
             posted = λ app. record { took = sym (append-nil _); refused = still _; full = tt };
           }));

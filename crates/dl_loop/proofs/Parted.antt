@@ -19,6 +19,7 @@ use Rattle.dl_loop.specs.State.{DaemonState, clients_of}
 use Rattle.dl_loop.specs.Steps.{Parts}
 use Rattle.dl_loop.proofs.DeskRest.{later_none}
 use Rattle.dl_loop.proofs.GoneRounds.{net_none}
+use Rattle.dl_loop.proofs.NotedDaemons.{each_tells, noted_parted}
 
 -- links that are shut took what they took
 taken_parted : (hub : Hub) (old new : List LinkTold) (took : ℕ → List ℕ) → ShutsGone hub old new → AreTaken old took → AreTaken new took
@@ -65,6 +66,9 @@ part_is {L} told old new is parts =
             took = holds.took;
             taken = λ tells. taken_parted old.core.hub (map told old.links.links) (map told new.links.links) holds.took parts.shuts (holds.taken tells);
             after = holds.after;
+            noted = λ tells. noted_parted run old.journal.events holds.took old.core old.listeners (map told old.links.links) (map told new.links.links) parts.shuts
+                (each_tells told old.links.links tells)
+                (taken_parted old.core.hub (map told old.links.links) (map told new.links.links) holds.took parts.shuts (holds.taken (λ l. (tells l).1))) (holds.noted tells);
             formed = holds.formed;
             posted = holds.posted;
           };

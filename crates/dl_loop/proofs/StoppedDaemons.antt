@@ -30,7 +30,6 @@ use Rattle.dl_taking.specs.Drained.{GivesTook}
 use Rattle.dl_taking.specs.Draining.{closing_told, closing_took}
 use Rattle.dl_taking.specs.Takes.{TellAllTaken}
 use Rattle.dl_taking.specs.Took.{Took, took_by}
-use Rattle.dl_turns.specs.State.{side}
 use Rattle.dl_turns.specs.Injected.{HasPosted}
 use Rattle.dl_turns.specs.Later.{level_in}
 use Rattle.dl_turns.proofs.PostedSides.{posted_both}
@@ -46,7 +45,7 @@ use Rattle.dl_settling.proofs.Rooms.{left_fits}
 use Rattle.dl_settling.proofs.WentClients.{streams_told}
 use Rattle.dl_loop.specs.Daemon.{IsDaemon}
 use Rattle.dl_loop.specs.Holds.{Gives}
-use Rattle.dl_loop.specs.State.{DaemonState, clients_of, desk_told}
+use Rattle.dl_loop.specs.State.{DaemonState, desk_told}
 use Rattle.dl_loop.specs.Stops.{IsStopped, MayStop, StopsIn, stopping_of}
 use Rattle.dl_loop.specs.Told.{IsToldBy}
 use Rattle.dl_loop.proofs.AdmittedBounds.{bounds_few}
@@ -167,8 +166,7 @@ module _ {L : Type 0} (told : L → LinkTold) (d : DaemonState L) (books : List 
             (subst (TellStreams run account.events (length stop.core.hub.clients)) (sym ends) (streams_told run account.events taken stop.core after));
         trace = ap (λ (o : Ends). o.trace) stop.outcome;
         holds = λ held. subst (λ (es : List Event). HoldsTrace run es stop.core folder_now) events (on.holds held);
-        gone = λ bytes taken_before noted. went run taken_before bytes took
-            (subst (λ (t : PostTold). AreAsNoted run d.journal.events taken_before (record (clients_of told d folder) { side = side d.core t (Some d.journal.events) folder })) (sym told_so) noted);
+        gone = λ tells. went run holds.took tells took (holds.noted tells (closing_told closing) (Some d.journal.events) folder);
       }
 
   pub stopped_so : IsStopped told d account links folder folder_now

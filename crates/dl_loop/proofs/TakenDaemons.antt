@@ -29,6 +29,7 @@ use Rattle.dl_turns.specs.Later.{level_in}
 use Rattle.dl_turns.proofs.PostedSides.{posted_both}
 use Rattle.dl_well_formed.proofs.Following.{running_on}
 use Rattle.dl_settling.specs.Room.{IsFew}
+use Rattle.dl_settling.specs.Went.{TellBytes}
 use Rattle.dl_loop.specs.Bounds.{HasBounds}
 use Rattle.dl_loop.specs.Daemon.{IsDaemon, TellTaken, is_noted}
 use Rattle.dl_loop.specs.Holds.{Gives, HoldsIn}
@@ -37,6 +38,7 @@ use Rattle.dl_loop.specs.Takes.{SameButTaken}
 use Rattle.dl_loop.specs.Told.{IsToldBy}
 use Rattle.dl_loop.proofs.DeskRest.{later_both}
 use Rattle.dl_settling.proofs.NoRequests.{posted_none}
+use Rattle.dl_loop.proofs.NotedDaemons.{all_of_drain, noted_taken}
 use Rattle.dl_loop.proofs.TakenEvents.{IsCounted, as_many, entries_count, open_before, served_before, taken_set_nothing}
 
 -- ---- the desk
@@ -89,13 +91,15 @@ module _ {L : Type 0} (told : L → LinkTold) (old : DaemonState L) (is : IsDaem
     (core : Core) (desk : DeskState) (journal : Journaled) (noted : ℕ) (took : Took entries GivesIt frames folder folder_now old core desk journal noted) where
   -- a run that held goes on
   holds_taken : (run : Run) → Gives run old.first_core desk.apps desk.handles
-      → HoldsIn (TellTaken told) run (map told old.links.links) (old.journal.events ++ took.admits.more) core (desk_told old.first_desk) (desk_told desk)
+      → HoldsIn (TellTaken told) (TellBytes told) run (map told old.links.links) old.listeners (old.journal.events ++ took.admits.more) core (desk_told old.first_desk) (desk_told desk)
   holds_taken run gives =
       let holds = is.runs run (took.gives_before run gives) in
       let it = took.gives_it run gives in record {
         took = holds.took;
         taken = holds.taken;
         after = (took.admits.after run old.journal.events holds.took it holds.after).0;
+        noted = λ tells. noted_taken run old.journal.events holds.took (part old.core (Some old.journal.events) folder) (part core (Some journal.events) folder_now) took.admits
+            (all_of_drain entries took.admits.more took.counted took.admits.noted) it (map told old.links.links) old.listeners (holds.noted tells);
         formed = took.admits.formed run old.journal.events holds.took it holds.after is.running holds.formed;
         posted = λ app. posted_both run.setting [] old.journal.events took.admits.more app (desk_told old.first_desk) (desk_told old.desk) (desk_told desk) (holds.posted app)
             (posted_none run.setting old.journal.events took.admits.more app (desk_told old.desk) (desk_told desk) (taken_set_nothing took.admits.more took.kinds).asks
@@ -162,5 +166,5 @@ module _ {L : Type 0} (told : L → LinkTold) (old : DaemonState L) (is : IsDaem
         apps = subst (λ (specs : List AppSpec). length specs ≤ 16) (sym apps) is.apps;
         desk = later_both old.first_desk old.desk desk is.desk (taken_later old.desk desk took.desk_same);
         running = subst IsRunning (sym events) (running_on old.journal.events more is.running took.admits.running);
-        runs = λ run gives. subst (λ (es : List Event). HoldsIn (TellTaken told) run (map told old.links.links) es core (desk_told old.first_desk) (desk_told desk)) (sym events) (holds_taken run gives);
+        runs = λ run gives. subst (λ (es : List Event). HoldsIn (TellTaken told) (TellBytes told) run (map told old.links.links) old.listeners es core (desk_told old.first_desk) (desk_told desk)) (sym events) (holds_taken run gives);
       }

@@ -10,6 +10,7 @@ use Rattle.dl_core.specs.Follows.{Run}
 use Rattle.dl_taking.specs.Took.{took_by}
 use Rattle.dl_rounds.specs.Ready.{AreHeard, AreLinked, open_clients}
 use Rattle.dl_settling.specs.Room.{IsFew}
+use Rattle.dl_settling.specs.Went.{TellBytes}
 use Rattle.dl_loop.specs.Bounds.{HasBounds}
 use Rattle.dl_loop.specs.Holds.{Gives, HoldsIn}
 use Rattle.dl_loop.specs.State.{DaemonState, desk_told}
@@ -48,4 +49,4 @@ pub record IsDaemon {L : Type 0} (told : L → LinkTold) (d : DaemonState L) : T
   pub desk : IsLater d.first_desk d.desk
   pub running : IsRunning d.journal.events
   pub runs : (run : Run) → Gives run d.first_core d.desk.apps d.desk.handles
-      → HoldsIn (TellTaken told) run (map told d.links.links) d.journal.events d.core (desk_told d.first_desk) (desk_told d.desk)
+      → HoldsIn (TellTaken told) (TellBytes told) run (map told d.links.links) d.listeners d.journal.events d.core (desk_told d.first_desk) (desk_told d.desk)

@@ -1,9 +1,9 @@
 -- What is true of a daemon in each run that it may be of, between any two calls.
-use Rattle.std.specs.Prelude.{◌≡◌, ℕ, ◌+◌, List, [], slice_get, Some}
+use Rattle.std.specs.Prelude.{◌≡◌, ℕ, ◌+◌, List, [], slice_get, Option, Some}
 use Rattle.dl_bytes.specs.declared.conf.AppSpec.{AppSpec}
 use Rattle.dl_events.specs.declared.event.Event.{Event}
 use Rattle.dl_model.specs.Journal.{IsWellFormed}
-use Rattle.dl_outside.specs.Told.{LinkTold}
+use Rattle.dl_outside.specs.Told.{FolderTold, LinkTold}
 use Rattle.dl_desk.specs.Handles.{HandlesState}
 use Rattle.dl_desk.specs.Lists.{At}
 use Rattle.dl_desk.specs.Told.{PostTold}
@@ -12,6 +12,9 @@ use Rattle.dl_core.specs.Admission.{GivesFrames}
 use Rattle.dl_core.specs.Follows.{IsAfter, Run, source_of}
 use Rattle.dl_core.specs.State.{Core}
 use Rattle.dl_turns.specs.Injected.{HasPosted}
+use Rattle.dl_turns.specs.State.{side}
+use Rattle.dl_rounds.specs.Passing.{AreAsNoted}
+use Rattle.dl_rounds.specs.declared.listener.Listener.{Listener}
 
 -- The run begins where the daemon began, and gives the frame of each call that was taken of a ring and the APID of each application.
 pub record Gives (run : Run) (first : Core) (apps : List AppSpec) (handles : HandlesState) : Type 0 where
@@ -23,11 +26,19 @@ pub record Gives (run : Run) (first : Core) (apps : List AppSpec) (handles : Han
 abbrev pub AreTaken : List LinkTold → (ℕ → List ℕ) → Type 0
 AreTaken links took = (place : ℕ) (link : LinkTold) → slice_get links place ≡ Some link → link.taken ≡ Some (took (place + 1))
 
--- In a run: the core is what these events make of it, for what the links took, where links tell that; the journal is well-formed; and the
--- queues of injections took and refused, since the daemon began, just those of its requests.
-pub record HoldsIn (Tells : Type 0) (run : Run) (links : List LinkTold) (events : List Event) (core : Core) (first desk : PostTold) : Type 0 where
+-- The clients of these links and listeners are as these events have them: the Request events of an open one are the requests of what its link
+-- gave. That sees of the daemon its core alone, so it is so whatever desk, journal and folder tell.
+abbrev pub AreNoted : Run → List Event → (ℕ → List ℕ) → List LinkTold → List Listener → Core → Type 0
+AreNoted run events took links listeners core = (desk : PostTold) (journal : Option (List Event)) (folder : FolderTold)
+    → AreAsNoted run events took (record { links = links; listeners = listeners; side = side core desk journal folder })
+
+-- In a run: the core is what these events make of it, for what the links took, where links tell that; where they tell what they gave too, links,
+-- listeners and journal tell the same of each client; the journal is well-formed; and the queues of injections took and refused, since the
+-- daemon began, just those of its requests.
+pub record HoldsIn (TellTook TellBoth : Type 0) (run : Run) (links : List LinkTold) (listeners : List Listener) (events : List Event) (core : Core) (first desk : PostTold) : Type 0 where
   pub took : ℕ → List ℕ
-  pub taken : Tells → AreTaken links took
+  pub taken : TellTook → AreTaken links took
   pub after : IsAfter run events took core
+  pub noted : TellBoth → AreNoted run events took links listeners core
   pub formed : IsWellFormed run.setting (source_of run) events
   pub posted : (app : ℕ) → HasPosted run.setting [] events app first desk

@@ -3,6 +3,7 @@ use Rattle.std.specs.Prelude.{◌≡◌, ℕ, ◌+◌, ◌≤◌, false, List, [
 use Rattle.dl_bytes.specs.declared.conf.Conf.{Conf}
 use Rattle.dl_bytes.specs.declared.conf.Stored.{Stored}
 use Rattle.dl_trace.specs.State.{Trace}
+use Rattle.dl_desk.specs.Posting.{pushed_of, refusals_of}
 use Rattle.dl_desk.specs.State.{DeskState}
 use Rattle.dl_lib.specs.Known.{taken_of}
 use Rattle.dl_core.specs.Settings.{begun}
@@ -15,13 +16,15 @@ use Rattle.dl_loop.specs.State.{DaemonState}
 unfoldable pub IsBegun : Core → Type 0
 IsBegun core = (conf : Conf) × (stored : Stored) × (trace : Option Trace) × (core ≡ begun conf stored 0 trace)
 
--- No call of the desk has taken calls or losses, or set a level; it has at most 16 applications.
+-- No call of the desk has taken calls or losses, set a level or injected anything; it has at most 16 applications.
 pub record IsUntouched (desk : DeskState) : Type 0 where
   pub few : length desk.apps ≤ 16
   pub taken : (app : ℕ) → taken_of desk.handles app ≡ []
   pub reported : desk.handles.losses.reported ≡ []
   pub sets : desk.handles.levels.sets ≡ []
   pub first : desk.handles.levels.first ≡ 0
+  pub pushed : (app : ℕ) → pushed_of desk.handles app ≡ []
+  pub refusals : (app : ℕ) → refusals_of desk.handles app ≡ 0
 
 -- the listeners of 32 clients that sent nothing yet
 unfoldable pub fresh_listeners : List Listener

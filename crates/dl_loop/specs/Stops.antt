@@ -12,7 +12,6 @@ use Rattle.dl_taking.specs.Draining.{MayNote, all_to_note, closing_told}
 use Rattle.dl_rounds.specs.Ready.{AreHeard, AreLinked}
 use Rattle.dl_bytes.specs.Limits.{client_limit}
 use Rattle.dl_turns.specs.Injected.{HasPosted}
-use Rattle.dl_rounds.specs.Passing.{AreAsNoted}
 use Rattle.dl_writer.specs.State.{BookState}
 use Rattle.dl_lib.specs.Making.{AreInOrder, IsMadeOf}
 use Rattle.dl_lib.specs.Settled.{IsSettled}
@@ -22,7 +21,7 @@ use Rattle.dl_settling.specs.State.{Stopping}
 use Rattle.dl_settling.specs.Stopped.{IsOfStop, account_told}
 use Rattle.dl_settling.specs.Went.{HaveGone, TellBytes, TellStreams}
 use Rattle.dl_loop.specs.Holds.{Gives}
-use Rattle.dl_loop.specs.State.{DaemonState, clients_of, desk_told}
+use Rattle.dl_loop.specs.State.{DaemonState, desk_told}
 use Rattle.dl_loop.specs.Told.{IsToldBy}
 
 -- what a daemon hands on to its stop, once this stands for its desk
@@ -31,8 +30,8 @@ stopping_of d closing = record { core = d.core; closing = closing; journal = d.j
 
 -- What a stop leaves in a run: the core as it is in the end is what the account's events make of it, for what the links took, where links tell
 -- that; the journal is well-formed, and no client is open in it; the queues of injections took and refused just those of its requests; the ends
--- of links tell the clients' streams, and the trace tells its files; the trace files that stood for the journal stand for the longer one. Clients
--- that were as the journal had them have gone as the model of a daemon's end says, where links tell what they gave and took.
+-- of links tell the clients' streams, and the trace tells its files; the trace files that stood for the journal stand for the longer one. The
+-- clients have gone as the model of a daemon's end says, where links tell what they gave and took.
 pub record StopsIn {L : Type 0} (told : L → LinkTold) (run : Run) (d : DaemonState L) (account : AccountState) (links : Links L) (folder folder_now : FolderTold) : Type 0 where
   pub core : Core
   pub took : ℕ → List ℕ
@@ -43,8 +42,7 @@ pub record StopsIn {L : Type 0} (told : L → LinkTold) (run : Run) (d : DaemonS
   pub ends : TellStreams run account.events (length links.links) account.outcome.links
   pub trace : account.outcome.trace ≡ trace_told core.trace
   pub holds : HoldsTrace run d.journal.events d.core folder → HoldsTrace run account.events core folder_now
-  pub gone : TellBytes told → (taken : ℕ → List ℕ) → AreAsNoted run d.journal.events taken (clients_of told d folder)
-      → HaveGone run account.events (map told links.links) account.outcome.links
+  pub gone : TellBytes told → HaveGone run account.events (map told links.links) account.outcome.links
 
 -- What a stop leaves: the journal is longer by calls, losses, requests, levels and Closes alone; it tells just what was taken, reported and set; as
 -- many links come back as there were, and so many are told as dropped; and in each run that the account may be of, it is as said above.

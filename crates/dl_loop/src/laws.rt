@@ -8,6 +8,8 @@ ghost use Rattle.dl_bytes.specs.declared.user.UserMsg.{UserMsg};
 ghost use Rattle.dl_events.specs.declared.event.Event.{Event};
 ghost use Rattle.dl_losses.specs.Losses.{report, reported_of};
 ghost use Rattle.dl_losses.specs.declared.keeper.Report.{Report};
+ghost use Rattle.dl_model.specs.ClientEnds.{MayDrop};
+ghost use Rattle.dl_outside.specs.Links.{Links};
 ghost use Rattle.dl_outside.specs.Told.{FolderTold, NetTold};
 ghost use Rattle.dl_desk.specs.Made.{IsNew};
 ghost use Rattle.dl_desk.specs.State.{DeskState};
@@ -25,6 +27,7 @@ ghost use Rattle.dl_loop.specs.RoundSteps.{IsRound};
 ghost use Rattle.dl_loop.specs.Scene.{Scene, scene};
 ghost use Rattle.dl_loop.specs.State.{DaemonState, clients_of, desk_told};
 ghost use Rattle.dl_loop.specs.Steps.{Accepts, GoesOn, Hears, Parts, Pumps};
+ghost use Rattle.dl_loop.specs.Stops.{IsStopped};
 ghost use Rattle.dl_loop.specs.Takes.{TakesCalls, TakesLosses};
 ghost use Rattle.dl_loop.specs.Told.{IsToldBy};
 ghost use Rattle.dl_loop.specs.declared.round.Round.{Round};
@@ -36,9 +39,10 @@ pub fn what_is_told_is_the_journal()
     ensures { (events : List Event) (s : AccountState) → IsToldBy events (length s.apps) s.handles → IsJournalOf events s }
 {}
 
-/// A daemon may be made of a desk that was just made.
+/// A daemon may be made of a desk that was just made, and of one of which writers were made since.
 pub fn a_new_desk_is_untouched()
-    ensures { (desk : DeskState) (specs : List AppSpec) → length specs ≤ 16 → IsNew desk specs → IsUntouched desk }
+    ensures new { (desk : DeskState) (specs : List AppSpec) → length specs ≤ 16 → IsNew desk specs → IsUntouched desk }
+    ensures with_writers { (desk : DeskState) (specs : List AppSpec) → length specs ≤ 16 → IsNew (record desk { owners = [] }) specs → IsUntouched desk }
 {}
 
 /// A daemon that was just made is one.
@@ -57,7 +61,7 @@ pub fn a_daemon_goes_on<L: Link>()
         → Pumps L.told moved old new → GoesOn old new → IsDaemon L.told new }
     ensures parted { (old new : DaemonState L) → IsDaemon L.told old → Parts L.told old new → IsDaemon L.told new }
 {
-    dl_rounds::laws::a_round_is_its_events();
+    dl_rounds::laws::clients_are_as_noted();
     dl_turns::laws::a_pump_is_its_events();
 }
 
@@ -81,6 +85,14 @@ pub fn rounds_go_on<L: Link>()
     ensures none { (net : NetTold L) (s : Scene L) → GoesRound net net s s }
     ensures both { (net net_between net_now : NetTold L) (first second third : Scene L) → GoesRound net net_between first second
         → GoesRound net_between net_now second third → GoesRound net net_now first third }
+{}
+
+/// Links are dropped only where as many clients had come as may be open at once: in rounds of a daemon to which nobody had come, and in its stop.
+pub fn links_are_dropped_where_they_may_be<L: Link>()
+    ensures rounds { (net net_now : NetTold L) (old new : Scene L) → old.daemon.links.links ≡ [] → old.daemon.dropped ≡ 0 → GoesRound net net_now old new
+        → MayDrop new.daemon.journal.events new.daemon.dropped }
+    ensures stop { (d : DaemonState L) (account : AccountState) (links : Links L) (folder folder_now : FolderTold) → MayDrop d.journal.events d.dropped
+        → IsStopped L.told d account links folder folder_now → MayDrop account.events account.outcome.dropped }
 {}
 
 /// Each client that is open after a round has a link that gave a byte in it or had nothing to give yet; and nothing is left to send to it, or its
