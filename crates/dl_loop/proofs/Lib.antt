@@ -19,3 +19,4 @@ pub mod OrderedBooks
 pub mod StoppedDaemons
 pub mod OpenClients
 pub mod Parted
+pub mod ComingRounds
