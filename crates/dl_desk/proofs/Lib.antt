@@ -5,3 +5,4 @@ pub mod Desks
 pub mod Posts
 pub mod Assembling
 pub mod Steps
+pub mod FoundInto

@@ -1,6 +1,6 @@
 //! The pass of a ring that takes, with a counter of what it took.
 
-ghost use Rattle.std.specs.Prelude.{◌≡◌, ◌+◌, ◌%◌, ◌^◌, List, ◌∷◌, [], ◌++◌, length, IfSome, OnSome, IfNone};
+ghost use Rattle.std.specs.Prelude.{◌≡◌, ◌+◌, ◌%◌, ◌^◌, true, false, List, ◌∷◌, [], ◌++◌, length, IfSome, OnSome, IfNone};
 ghost use Rattle.dl_bytes.specs.declared.item.Item.{Item as item_type};
 ghost use Rattle.dl_ring.specs.Order.{Holds};
 ghost use Rattle.dl_ring.specs.State.{with_pass};
@@ -50,6 +50,21 @@ impl CountedTake {
             self.count = self.count.wrapping_add(1);
         }
         item
+    }
+
+    /// Takes the oldest item into one that the caller keeps, and tells whether there was one. Where there was none, the caller's item stays.
+    pub fn take_into<R: Wait>(&mut self, rt: &R, item: &mut Item) -> bool
+        ensures taken { result ≡ true → self.new ≡ record self.old { taken = self.old.taken ++ item.new ∷ [] } }
+        ensures rest { result ≡ true → (contents : List item_type) × Holds self.new contents }
+        ensures none { result ≡ false → self.new ≡ record self.old { empties = self.old.empties + 1 } }
+        ensures empty { result ≡ false → Holds self.new [] }
+        ensures kept { result ≡ false → item.new ≡ item.old }
+    {
+        let found = self.pass.take_into(rt, item);
+        if found {
+            self.count = self.count.wrapping_add(1);
+        }
+        found
     }
 
     /// Takes in a pass that pushes no more, and answers how many of its pushes were refused.

@@ -1,6 +1,6 @@
 //! The daemon's side while the writers log.
 
-ghost use Rattle.std.specs.Prelude.{◌≡◌, ◌+◌, ◌-◌, ◌*◌, ◌^◌, ◌<◌, ◌≤◌, ◌↔◌, ℕ, List, [], length, IfOk, IfErr, IfSome, IfNone, IsErr, OnOk, OnErr, OnSome};
+ghost use Rattle.std.specs.Prelude.{◌≡◌, ◌+◌, ◌-◌, ◌*◌, ◌^◌, ◌<◌, ◌≤◌, ◌↔◌, ℕ, true, false, List, [], length, IfOk, IfErr, IfSome, IfNone, IsErr, OnOk, OnErr, OnSome};
 ghost use Rattle.std.specs.Result.{result_err};
 ghost use Rattle.dl_bytes.specs.declared.item.Item.{Item as item_type};
 ghost use Rattle.dl_levels.specs.History.{current_version};
@@ -90,6 +90,20 @@ impl Desk {
         ensures later { IsLater self.old self.new }
     {
         self.handles.take(rt, app)
+    }
+
+    /// Takes the oldest call in the ring of an application into one that the caller keeps, and tells whether there was one: what `take` does, with
+    /// the call's bytes copied once. Where there was none, the caller's call stays.
+    pub fn take_into<R: Wait>(&mut self, rt: &R, app: u8, item: &mut Item) -> bool
+        requires { app < length self.old.apps }
+        ensures taken { result ≡ true → self.new ≡ record self.old { handles = with_item self.old.handles app item.new } }
+        ensures rest { result ≡ true → (contents : List item_type) × RingHolds self.new.handles app contents }
+        ensures none { result ≡ false → self.new ≡ record self.old { handles = with_empty_take self.old.handles app } }
+        ensures empty { result ≡ false → RingHolds self.new.handles app [] }
+        ensures kept { result ≡ false → item.new ≡ item.old }
+        ensures later { IsLater self.old self.new }
+    {
+        self.handles.take_into(rt, app, item)
     }
 
     /// How many calls of an application were lost since the last call of this kind: one swap of its loss word.

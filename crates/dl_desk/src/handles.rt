@@ -1,6 +1,6 @@
 //! The daemon's handles of all that it shares with the writers.
 
-ghost use Rattle.std.specs.Prelude.{◌≡◌, ◌+◌, ◌-◌, ◌*◌, ◌%◌, ◌^◌, ◌<◌, ◌≤◌, ◌↔◌, List, ℕ, [], ◌∷◌, ◌++◌, length, All, IfOk, IfErr, IfSome, IfNone, IsErr, OnOk, OnErr, OnSome};
+ghost use Rattle.std.specs.Prelude.{◌≡◌, ◌+◌, ◌-◌, ◌*◌, ◌%◌, ◌^◌, ◌<◌, ◌≤◌, ◌↔◌, true, false, List, ℕ, [], ◌∷◌, ◌++◌, length, All, IfOk, IfErr, IfSome, IfNone, IsErr, OnOk, OnErr, OnSome};
 ghost use Rattle.dl_bytes.specs.declared.item.Item.{Item as item_type};
 ghost use Rattle.dl_levels.specs.History.{current_version, IsEntry};
 ghost use Rattle.dl_levels.specs.declared.history.Read.{Read};
@@ -46,6 +46,19 @@ impl DaemonHandles {
         ensures empty { IfNone result (RingHolds self.new app []) }
     {
         self.apps[usize::from(app)].ring.take(rt)
+    }
+
+    /// Takes the oldest call in the ring of an application into one that the caller keeps, and tells whether there was one. Where there was none,
+    /// the caller's call stays.
+    pub fn take_into<R: Wait>(&mut self, rt: &R, app: u8, item: &mut Item) -> bool
+        requires { app < length self.old.apps }
+        ensures taken { result ≡ true → self.new ≡ with_item self.old app item.new }
+        ensures rest { result ≡ true → (contents : List item_type) × RingHolds self.new app contents }
+        ensures none { result ≡ false → self.new ≡ with_empty_take self.old app }
+        ensures empty { result ≡ false → RingHolds self.new app [] }
+        ensures kept { result ≡ false → item.new ≡ item.old }
+    {
+        self.apps[usize::from(app)].ring.take_into(rt, item)
     }
 
     /// How many calls of an application were lost since the last time, which are told to no one else.

@@ -1,6 +1,6 @@
 //! The daemon's side once the writers have ended: it takes back their handles, and then what they left.
 
-ghost use Rattle.std.specs.Prelude.{◌≡◌, ◌+◌, ◌-◌, ◌*◌, ◌^◌, ◌<◌, ◌≤◌, ◌↔◌, ℕ, List, length, All, IfOk, IfErr, IfSome, IfNone, IsErr, IsTrue, OnOk, OnErr, OnSome};
+ghost use Rattle.std.specs.Prelude.{◌≡◌, ◌+◌, ◌-◌, ◌*◌, ◌^◌, ◌<◌, ◌≤◌, ◌↔◌, ℕ, true, false, List, length, All, IfOk, IfErr, IfSome, IfNone, IsErr, IsTrue, OnOk, OnErr, OnSome};
 ghost use Rattle.std.specs.List.{range_with_len};
 ghost use Rattle.std.specs.Option.{IsNone};
 ghost use Rattle.dl_bytes.specs.declared.item.Item.{Item as item_type};
@@ -104,6 +104,23 @@ impl Closing {
         let item = self.handles.take(rt, app)?;
         self.calls[usize::from(app)] -= 1;
         Some(item)
+    }
+
+    /// Takes the oldest call in the ring of an application into one that the caller keeps, and tells whether there was one: what `take` does, with
+    /// the call's bytes copied once. False exactly where the ring is empty; then the caller's call stays.
+    pub fn take_into<R: Wait>(&mut self, rt: &R, app: u8, item: &mut Item) -> bool
+        requires { app < length self.old.apps }
+        ensures taken { result ≡ true → self.new ≡ record self.old { handles = with_item self.old.handles app item.new } }
+        ensures rest { result ≡ true → (contents : List item_type) × RingHolds self.new.handles app contents }
+        ensures none { result ≡ false → self.new ≡ record self.old { handles = with_empty_take self.old.handles app } }
+        ensures empty { (result ≡ false) ↔ IsEmpty self.old app }
+        ensures kept { result ≡ false → item.new ≡ item.old }
+    {
+        if !self.handles.take_into(rt, app, item) {
+            return false;
+        }
+        self.calls[usize::from(app)] -= 1;
+        true
     }
 
     /// How many calls of an application were lost that were not told yet.

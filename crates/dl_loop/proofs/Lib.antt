@@ -21,3 +21,4 @@ pub mod OrderedBooks
 pub mod StoppedDaemons
 pub mod OpenClients
 pub mod Parted
+pub mod ComingRounds

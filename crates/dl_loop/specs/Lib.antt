@@ -10,4 +10,5 @@ pub mod Takes
 pub mod Greeting
 pub mod Later
 pub mod RoundSteps
+pub mod Coming
 pub mod Stops

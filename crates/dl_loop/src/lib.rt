@@ -6,6 +6,7 @@
 //! say that each keeps that invariant.
 #![tactic(auto)]
 
+pub mod accept_laws;
 mod daemon;
 pub mod laws;
 mod round;
