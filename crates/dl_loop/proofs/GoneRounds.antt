@@ -21,6 +21,11 @@ use Rattle.dl_core.specs.Admission.{GivesFrame, GivesFrames}
 use Rattle.dl_hub.specs.State.{Client, HasPlace, is_open}
 use Rattle.dl_core.specs.Follows.{HoldsTrace, Run}
 use Rattle.dl_core.specs.State.{Core}
+use Rattle.dl_folders.specs.Later.{IsFolderLater}
+use Rattle.dl_folders.proofs.LaterFolders.{folder_both, folder_none}
+use Rattle.dl_folders.proofs.LeftFiles.{leaves_alone, leaves_both}
+use Rattle.dl_trace.specs.State.{Trace}
+use Rattle.dl_admission.specs.Kept.{end_of}
 use Rattle.dl_admission.specs.Admission.{Entry}
 use Rattle.dl_admission.specs.Telling.{IsTaken}
 use Rattle.dl_rounds.specs.Arrivals.{Arrives, ConnectsAs}
@@ -31,6 +36,7 @@ use Rattle.dl_rounds.specs.Visits.{HearsAll, Pumped}
 use Rattle.dl_rounds.specs.Clients.{Clients, VisitsAll}
 use Rattle.dl_rounds.specs.Passing.{AreLater, IsOfClients}
 use Rattle.dl_turns.specs.State.{side}
+use Rattle.dl_turns.proofs.LaterStages.{WhatLinksTake}
 use Rattle.dl_loop.specs.Daemon.{IsDaemon}
 use Rattle.dl_loop.specs.Holds.{Gives}
 use Rattle.dl_loop.specs.Later.{GoesRound, IsLaterBy, IsNetLater, IsOfRound, is_connect}
@@ -39,9 +45,12 @@ use Rattle.dl_loop.specs.Scene.{Scene, scene}
 use Rattle.dl_loop.specs.State.{DaemonState, SameDesk, clients_of, desk_told}
 use Rattle.dl_loop.specs.Steps.{Hears, Pumps}
 use Rattle.dl_loop.specs.Takes.{TakesCalls, TakesLossesIfMay}
+use Rattle.dl_loop.proofs.FolderEvents.{folder_kept, keeps_still, leaves_kept}
+use Rattle.dl_loop.proofs.FolderSides.{FolderGoesOn, heard_on, pumped_on, same_more}
 use Rattle.dl_loop.proofs.DeskRest.{later_both, later_none, same_later, same_taken}
 use Rattle.dl_loop.proofs.LaterDaemons.{gives_before}
 use Rattle.dl_loop.proofs.TakenDaemons.{Took, taken_later}
+use Rattle.dl_loop.proofs.TakenEvents.{taken_set_nothing}
 use Rattle.dl_loop.proofs.TakenSteps.{calls_grow, calls_took, front, losses_grow, losses_took}
 
 -- ---- the net
@@ -80,7 +89,7 @@ module _ {L : Type 0} where
     apids = subst (λ (apps : List AppSpec). (app : ℕ) → At apps app (λ spec. run.apid app ≡ spec.apid)) later.desk.apps gives.apids;
   })
 
-  later_by_none : (s : Scene L) → IsLaterBy [] s s
+  pub later_by_none : (s : Scene L) → IsLaterBy [] s s
   later_by_none s = record {
     events = sym (append-nil s.daemon.journal.events);
     calls = refl;
@@ -90,9 +99,11 @@ module _ {L : Type 0} where
     taken = λ app. ([], sym (append-nil (taken_of s.daemon.desk.handles app)));
     connects = omega arith;
     holds = λ run gives holds. holds;
+    leaves = leaves_alone s.daemon.core s.daemon.core s.folder refl;
+    folder = λ run gives. folder_none run.setting s.daemon.journal.events (end_of s.daemon.core.trace) s.folder;
   }
 
-  later_by_both : (first second : List Event) (a b c : Scene L) → IsLaterBy first a b → IsLaterBy second b c → IsLaterBy (first ++ second) a c
+  pub later_by_both : (first second : List Event) (a b c : Scene L) → IsLaterBy first a b → IsLaterBy second b c → IsLaterBy (first ++ second) a c
   later_by_both first second a b c one two = record {
     events = two.events ∙ ap (λ (es : List Event). es ++ second) one.events ∙ append_assoc a.daemon.journal.events first second;
     calls = two.calls ∙ one.calls;
@@ -105,6 +116,11 @@ module _ {L : Type 0} where
     );
     connects = omega (arith, one.connects, two.connects, sum_by-append (λ (e : Event). cond (is_connect e) 1 0) first second);
     holds = λ run gives holds. two.holds run gives (one.holds run (gives_back second b c run two gives) holds);
+    leaves = leaves_both a.daemon.core b.daemon.core c.daemon.core a.folder b.folder c.folder one.leaves two.leaves;
+    folder = λ run gives.
+        folder_both run.setting a.daemon.journal.events first second (end_of a.daemon.core.trace) (end_of b.daemon.core.trace) (end_of c.daemon.core.trace) a.folder b.folder c.folder
+        (one.folder run (gives_back second b c run two gives))
+        (subst (λ (es : List Event). IsFolderLater run.setting es second (end_of b.daemon.core.trace) (end_of c.daemon.core.trace) b.folder c.folder) one.events (two.folder run gives));
   }
 
   -- no round goes nowhere, and rounds go on
@@ -166,8 +182,9 @@ open_few (c ∷ clients) = omega (arith, sum_by-cons (λ (x : Client). cond (is_
 module _ {L : Type 0} (told : L → LinkTold) (net : NetTold L) (old : DaemonState L) (is : IsDaemon told old) where
   pub goes_later : (core : Core) (desk : DeskState) (journal : Journaled) (links : Links L) (listeners : List Listener) (folder folder_now : FolderTold)
       → AreLater (clients_of told old folder) (record { links = map told links.links; listeners = listeners; side = side core (desk_told desk) (Some journal.events) folder_now })
+      → FolderGoesOn (side old.core (desk_told old.desk) (Some old.journal.events) folder) (side core (desk_told desk) (Some journal.events) folder_now)
       → SameDesk old.desk desk → GoesRound net net (scene old folder) (scene (record old { core = core; desk = desk; journal = journal; links = links; listeners = listeners }) folder_now)
-  goes_later core desk journal links listeners folder folder_now later same =
+  goes_later core desk journal links listeners folder folder_now later on same =
       let events : journal.events ≡ old.journal.events ++ later.more = cc later.events in
       let of_round = clients_of_round later.more later.of_clients in record {
         more = later.more;
@@ -182,6 +199,11 @@ module _ {L : Type 0} (told : L → LinkTold) (net : NetTold L) (old : DaemonSta
           holds = λ run gives holds.
               let held = is.runs run (gives_before run old.first_core old.desk desk same gives) in
               subst (λ (es : List Event). HoldsTrace run es core folder_now) (sym events) ((later.after run old.journal.events held.took held.after).1 holds);
+          leaves = on.1.leaves;
+          folder = λ run gives.
+              let held = is.runs run (gives_before run old.first_core old.desk desk same gives) in
+              subst (λ (es : List Event). IsFolderLater run.setting old.journal.events es (end_of old.core.trace) (end_of core.trace) folder folder_now)
+              (same_more old.journal.events (Some journal.events) on.0 later.more on.1.events later.events) (on.1.later run old.journal.events held.took held.after);
         };
         of_round = of_round.kinds;
         net_later = net_none net;
@@ -191,14 +213,15 @@ module _ {L : Type 0} (told : L → LinkTold) (net : NetTold L) (old : DaemonSta
   pub goes_hears : ((moved : Bool) (old new : Clients) → HearsAll moved old new → AreLater old new) → (moved : Bool) (folder folder_now : FolderTold) (new : DaemonState L) → Hears told moved folder folder_now old new
       → GoesRound net net (scene old folder) (scene new folder_now)
   goes_hears events moved folder folder_now new hears = subst (λ (d : DaemonState L). GoesRound net net (scene old folder) (scene d folder_now)) (sym hears.rest)
-      (goes_later new.core new.desk new.journal new.links new.listeners folder folder_now (events moved _ _ hears.visits) hears.desk)
+      (goes_later new.core new.desk new.journal new.links new.listeners folder folder_now (events moved _ _ hears.visits) (heard_on moved _ _ hears.visits) hears.desk)
 
-  pub goes_pumps : ((moved : Bool) (old new : Clients) → VisitsAll Pumped moved old new → AreLater old new) → (moved : Bool) (folder : FolderTold) (new : DaemonState L) → Pumps told moved old new
+  pub goes_pumps : WhatLinksTake → ((moved : Bool) (old new : Clients) → VisitsAll Pumped moved old new → AreLater old new) → (moved : Bool) (folder : FolderTold) (new : DaemonState L) → Pumps told moved old new
       → GoesRound net net (scene old folder) (scene new folder)
-  goes_pumps events moved folder new pumps =
+  goes_pumps takes events moved folder new pumps =
       let enough : length (map told old.links.links) ≤ length old.listeners = omega (arith, length-map old.links.links told, is.linked.many, is.linked.few, is.heard.enough) in
       subst (λ (d : DaemonState L). GoesRound net net (scene old folder) (scene d folder)) (sym pumps.rest)
-      (goes_later new.core old.desk new.journal new.links old.listeners folder folder (events moved _ _ (pumps.visits (desk_told old.desk) folder old.listeners enough)) refl)
+      (goes_later new.core old.desk new.journal new.links old.listeners folder folder (events moved _ _ (pumps.visits (desk_told old.desk) folder old.listeners enough))
+      (pumped_on takes moved _ _ (pumps.visits (desk_told old.desk) folder old.listeners enough)) refl)
 
   -- ---- what is taken
 
@@ -220,6 +243,9 @@ module _ {L : Type 0} (told : L → LinkTold) (net : NetTold L) (old : DaemonSta
           holds = λ run gives holds.
               let held = is.runs run (took.gives_before run gives) in
               subst (λ (es : List Event). HoldsTrace run es core folder_now) (sym events) ((took.admits.after run old.journal.events held.took (took.gives_it run gives) held.after).1 holds);
+          leaves = leaves_kept old.core core folder folder_now took.admits.trace;
+          folder = λ run gives.
+              folder_kept old.core.trace core.trace folder folder_now took.admits.trace run.setting old.journal.events took.admits.more (taken_set_nothing took.admits.more took.kinds).asks;
         };
         of_round = of_round.kinds;
         net_later = net_none net;
@@ -258,6 +284,8 @@ module _ {L : Type 0} (told : L → LinkTold) (net : NetTold L) (old : DaemonSta
           taken = λ app. ([], sym (append-nil (taken_of old.desk.handles app)));
           connects = omega arith;
           holds = λ run gives holds. holds;
+          leaves = leaves_alone old.core old.core folder refl;
+          folder = λ run gives. folder_none run.setting old.journal.events (end_of old.core.trace) folder;
         };
         of_round = tt;
         net_later = later;
@@ -294,6 +322,10 @@ module _ {L : Type 0} (told : L → LinkTold) (net : NetTold L) (old : DaemonSta
           holds = λ run gives holds.
               let held = is.runs run gives in
               subst (λ (es : List Event). HoldsTrace run es core folder) (sym events) ((connects.after folder run old.journal.events held.took tt held.after).1 holds);
+          leaves = leaves_kept old.core core folder folder (keeps_still old.core.trace core.trace folder folder (ap (λ (c : Core). c.trace) connects.rest) refl);
+          folder = λ run gives.
+              folder_kept old.core.trace core.trace folder folder (keeps_still old.core.trace core.trace folder folder (ap (λ (c : Core). c.trace) connects.rest) refl) run.setting old.journal.events
+              (event.Connect number ∷ []) (tt, tt);
         };
         of_round = (tt, tt);
         net_later = record { listens = listens; launched = launched; faults = omega (arith, arrives.1.2) };

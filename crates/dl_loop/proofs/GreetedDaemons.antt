@@ -13,7 +13,7 @@ use Rattle.dl_events.specs.declared.event.Event.TheVariants as event
 use Rattle.dl_losses.specs.Losses.{reported_of}
 use Rattle.dl_losses.specs.declared.keeper.Report.{Report}
 use Rattle.dl_model.specs.Accounts.{name_of, order}
-use Rattle.dl_model.specs.Frames.{user_frames}
+use Rattle.dl_model.specs.Frames.{stored, user_frames}
 use Rattle.dl_model.specs.Journal.{IsRunning, IsWellFormed, is_stop}
 use Rattle.dl_model.specs.Report.{reported}
 use Rattle.dl_model.specs.declared.registry.LevelChange.{LevelChange}
@@ -28,6 +28,8 @@ use Rattle.dl_core.specs.Follows.{Adds, HoldsTrace, IsAfter, Run, source_of}
 use Rattle.dl_core.specs.State.{Core}
 use Rattle.dl_lib.specs.Known.{taken_of}
 use Rattle.dl_well_formed.proofs.Following.{running_on}
+use Rattle.dl_admission.specs.Kept.{KeepsTrace, end_of}
+use Rattle.dl_admission.proofs.KeptTraces.{trace_both, trace_each, trace_none}
 use Rattle.dl_well_formed.proofs.InTurn.{level_in_turn, user_in_turn}
 use Rattle.dl_turns.specs.Events.{SetsLevel, SetsLevels}
 use Rattle.dl_turns.specs.Later.{IsDeskLater}
@@ -40,13 +42,15 @@ use Rattle.dl_loop.specs.Bounds.{HasBounds}
 use Rattle.dl_loop.specs.Daemon.{IsDaemon, TellTaken, is_noted}
 use Rattle.dl_loop.specs.Greeting.{Greets}
 use Rattle.dl_loop.specs.Holds.{AreNoted, Gives, HoldsIn}
-use Rattle.dl_loop.specs.Scene.{Scene, side_of}
+use Rattle.dl_loop.specs.Scene.{Scene, side_of, scene}
+use Rattle.dl_loop.specs.Later.{IsLaterBy, IsLaterGreeted, is_connect}
 use Rattle.dl_loop.specs.State.{DaemonState, SameDesk, desk_told}
 use Rattle.dl_loop.specs.Told.{IsToldBy}
 use Rattle.dl_loop.proofs.DeskRest.{later_both, same_apps, same_later, same_reported, same_taken}
 use Rattle.dl_taking.specs.Took.{Took, took_by}
 use Rattle.dl_settling.specs.Room.{IsFew}
 use Rattle.dl_settling.specs.Went.{TellBytes}
+use Rattle.dl_loop.proofs.FolderEvents.{folder_kept, keeps_still, leaves_kept}
 use Rattle.dl_loop.proofs.LaterDaemons.{same_took_by, add_none, gives_before}
 use Rattle.dl_settling.proofs.NoRequests.{AsksNothing, posted_none}
 use Rattle.dl_loop.proofs.ToldJournals.{told_more}
@@ -67,6 +71,7 @@ record Leads (more : List Event) (old new : Side) : Type 0 where
   refusals : (app : ℕ) → new.desk.refusals app ≡ old.desk.refusals app
   admitted : new.core.hub.admitted ≡ old.core.hub.admitted
   limit : new.core.hub.limit ≡ old.core.hub.limit
+  trace : KeepsTrace old.core.trace new.core.trace old.folder new.folder
 
 none_stops : (more : List Event) → AllByRecursion IsOfGreeting more → list_any is_stop more ≡ false
 none_stops [] are = refl
@@ -95,6 +100,7 @@ leads_none side = record {
   refusals = λ app. refl;
   admitted = refl;
   limit = refl;
+  trace = trace_none side.core.trace side.folder;
 }
 
 leads_both : (first second : List Event) (a b c : Side) → Leads first a b → Leads second b c → Leads (first ++ second) a c
@@ -114,6 +120,7 @@ leads_both first second a b c one two = record {
   refusals = λ app. two.refusals app ∙ one.refusals app;
   admitted = two.admitted ∙ one.admitted;
   limit = two.limit ∙ one.limit;
+  trace = trace_both a.core.trace b.core.trace c.core.trace a.folder b.folder c.folder one.trace two.trace;
 }
 
 leads_level : (next : LevelChange) (old new : Side) → SetsLevel next old new → Leads (event.Level next.slot next.level ∷ []) old new
@@ -128,6 +135,7 @@ leads_level next old new sets = record {
   refusals = λ app. ap (λ (d : PostTold). d.refusals app) sets.desk;
   admitted = ap (λ (c : Core). c.hub.admitted) sets.core;
   limit = ap (λ (c : Core). c.hub.limit) sets.core;
+  trace = keeps_still old.core.trace new.core.trace old.folder new.folder (ap (λ (c : Core). c.trace) sets.core) sets.folder;
 }
 
 -- the same with its events
@@ -170,6 +178,7 @@ leads_one moment msg old new settled is greets =
         refusals = λ app. ap (λ (d : PostTold). d.refusals app) greets.desk;
         admitted = greets.notes.admitted ∙ ap (λ n. old.core.hub.admitted + n) (no_frames old.core.ecu msg is) ∙ add_none old.core.hub.admitted;
         limit = greets.notes.same.limit;
+        trace = trace_each (map (stored old.core.ecu moment) (user_frames old.core.ecu msg)) old.core.trace greets.between.core.trace old.folder greets.between.folder greets.notes.stores greets.notes.others;
       }) levels.1,
       levels.2,
     )
@@ -189,11 +198,12 @@ record SaysNothing (more : List Event) : Type 0 where
   losses : (app : ℕ) → reported app more ≡ 0
   noted : count_by is_noted more ≡ 0
   asks : AllByRecursion AsksNothing more
+  none_come : count_by is_connect more ≡ 0
 
 says_nothing : (more : List Event) → AllByRecursion IsOfGreeting more → SaysNothing more
-says_nothing [] are = record { calls = λ app. refl; losses = λ app. refl; noted = refl; asks = tt }
-says_nothing (event.User channel msg moment ∷ more) are = let rest = says_nothing more are.1 in record { calls = rest.calls; losses = rest.losses; noted = rest.noted; asks = (tt, rest.asks) }
-says_nothing (event.Level slot level ∷ more) are = let rest = says_nothing more are.1 in record { calls = rest.calls; losses = rest.losses; noted = rest.noted; asks = (tt, rest.asks) }
+says_nothing [] are = record { calls = λ app. refl; losses = λ app. refl; noted = refl; asks = tt; none_come = refl }
+says_nothing (event.User channel msg moment ∷ more) are = let rest = says_nothing more are.1 in record { calls = rest.calls; losses = rest.losses; noted = rest.noted; asks = (tt, rest.asks); none_come = rest.none_come }
+says_nothing (event.Level slot level ∷ more) are = let rest = says_nothing more are.1 in record { calls = rest.calls; losses = rest.losses; noted = rest.noted; asks = (tt, rest.asks); none_come = rest.none_come }
 says_nothing (event.Log app writer call moment ∷ more) are = absurd are.0
 says_nothing (event.Lost app count moment ∷ more) are = absurd are.0
 says_nothing (event.Connect client ∷ more) are = absurd are.0
@@ -313,6 +323,31 @@ module _ {L : Type 0} (told : L → LinkTold) (moment : Moment) (msgs : List Use
             (holds_greeted run gives);
       })
 
+  -- it is later by what they told
+  pub greet_later : IsLaterGreeted old new
+  greet_later =
+      let events : new.daemon.journal.events ≡ old.daemon.journal.events ++ led.0 = cc led.1.events in
+      let none = says_nothing led.0 led.1.kinds in
+      let same = greets.desk in (
+        led.0,
+        led.1.kinds,
+        record {
+          events = events;
+          calls = ap (λ (d : DaemonState L). d.calls) greets.rest;
+          first_core = ap (λ (d : DaemonState L). d.first_core) greets.rest;
+          first_desk = ap (λ (d : DaemonState L). d.first_desk) greets.rest;
+          desk = same_later old.daemon.desk new.daemon.desk same;
+          taken = λ app. ([], same_taken old.daemon.desk new.daemon.desk same app ∙ sym (append-nil (taken_of old.daemon.desk.handles app)));
+          connects = omega (arith, ap (λ (d : DaemonState L). length d.links.links) greets.rest, none.none_come);
+          holds = λ run gives holds.
+              let held = is.runs run (gives_before run old.daemon.first_core old.daemon.desk new.daemon.desk same
+                  (subst (λ (first : Core). Gives run first new.daemon.desk.apps new.daemon.desk.handles) (ap (λ (d : DaemonState L). d.first_core) greets.rest) gives)) in
+              subst (λ (es : List Event). HoldsTrace run es new.daemon.core new.folder) (sym events) ((led.1.after run old.daemon.journal.events held.took tt held.after).1 holds);
+          leaves = leaves_kept old.daemon.core new.daemon.core old.folder new.folder led.1.trace;
+          folder = λ run gives. folder_kept old.daemon.core.trace new.daemon.core.trace old.folder new.folder led.1.trace run.setting old.daemon.journal.events led.0 none.asks;
+        },
+      )
+
 -- ---- by its answer
 
 pub greet_ok : {L : Type 0} (told : L → LinkTold) (moment : Moment) (msgs : List UserMsg) (old new : Scene L) → IsDaemon told old.daemon → old.daemon.links.links ≡ [] → AllByRecursion IsRegistration msgs
@@ -323,3 +358,17 @@ greet_ok told moment msgs old new is nobody are may spare desk rest (Ok done) gr
     greet_is told moment msgs old new is nobody are (record { greets = greets; desk = desk; rest = rest }) may spare
 greet_ok told moment msgs old new is nobody are may spare desk rest (Err wanting) greets first =
     greet_is told moment first.0 old new is nobody (front_are first.0 first.1 (subst (λ (ms : List UserMsg). AllByRecursion IsRegistration ms) first.2 are)) (record { greets = first.3; desk = desk; rest = rest }) may spare
+
+pub greet_goes : {L : Type 0} (told : L → LinkTold) (moment : Moment) (msgs : List UserMsg) (old new : Scene L) → IsDaemon told old.daemon → old.daemon.links.links ≡ [] → AllByRecursion IsRegistration msgs
+    → MayGreet new.daemon.core (desk_told new.daemon.desk) new.daemon.journal.spare → old.daemon.journal.spare ≤ new.daemon.journal.spare → SameDesk old.daemon.desk new.daemon.desk
+    → new.daemon ≡ record old.daemon { core = new.daemon.core; desk = new.daemon.desk; journal = new.daemon.journal }
+    → {T E : Type 0} (result : Result T E) → OnOk result (GreetsEach moment msgs (side_of old) (side_of new)) → OnErr result (GreetsFirst moment msgs (side_of old) (side_of new)) → IsLaterGreeted old new
+greet_goes told moment msgs old new is nobody are may spare desk rest (Ok done) greets first =
+    greet_later told moment msgs old new is nobody are (record { greets = greets; desk = desk; rest = rest }) may spare
+greet_goes told moment msgs old new is nobody are may spare desk rest (Err wanting) greets first =
+    greet_later told moment first.0 old new is nobody (front_are first.0 first.1 (subst (λ (ms : List UserMsg). AllByRecursion IsRegistration ms) first.2 are)) (record { greets = first.3; desk = desk; rest = rest }) may spare
+
+-- the daemon before is told by its fields
+pub greeted_seen : {L : Type 0} (shown old new : DaemonState L) (folder folder_now : FolderTold) → shown ≡ old → IsLaterGreeted (scene shown folder) (scene new folder_now)
+    → IsLaterGreeted (scene old folder) (scene new folder_now)
+greeted_seen shown old new folder folder_now is later = subst (λ (d : DaemonState _). IsLaterGreeted (scene d folder) (scene new folder_now)) is later

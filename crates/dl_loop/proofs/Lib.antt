@@ -12,12 +12,15 @@ pub mod TakenEvents
 pub mod TakenDaemons
 pub mod FewEvents
 pub mod TakenSteps
+pub mod FolderEvents
+pub mod FolderSides
 pub mod GreetedDaemons
 pub mod TakesTurned
 pub mod GoneRounds
 pub mod NewDesks
 pub mod DroppedLinks
 pub mod OrderedBooks
+pub mod StoppedFolders
 pub mod StoppedDaemons
 pub mod OpenClients
 pub mod Parted

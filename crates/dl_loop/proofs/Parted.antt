@@ -6,6 +6,9 @@ use Rattle.std.proofs.lemmas.Option.{slice_get-get_or, slice_get_within}
 use Rattle.dl_outside.specs.Outside.{Stays}
 use Rattle.dl_outside.specs.Told.{FolderTold, LinkTold, NetTold}
 use Rattle.dl_hub.specs.State.{Hub, Waiting, outbox_of}
+use Rattle.dl_folders.proofs.LaterFolders.{folder_none}
+use Rattle.dl_folders.proofs.LeftFiles.{leaves_alone}
+use Rattle.dl_admission.specs.Kept.{end_of}
 use Rattle.dl_rounds.specs.Clients.{Clients}
 use Rattle.dl_rounds.specs.Partings.{ShutsGone}
 use Rattle.dl_rounds.specs.Passing.{EachOpen}
@@ -89,6 +92,8 @@ goes_parts {L} told net folder old new parts =
         taken = λ app. ([], sym (append-nil _));
         connects = omega (arith, many);
         holds = λ run gives holds. holds;
+        leaves = leaves_alone old.core old.core folder refl;
+        folder = λ run gives. folder_none run.setting old.journal.events (end_of old.core.trace) folder;
       };
       of_round = tt;
       net_later = net_none net;

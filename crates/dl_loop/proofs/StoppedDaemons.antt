@@ -26,6 +26,8 @@ use Rattle.dl_hub.specs.State.{outbox_of}
 use Rattle.dl_core.specs.Admission.{GivesFrame, GivesFrames}
 use Rattle.dl_core.specs.Follows.{HoldsTrace, IsAfter, Run, source_of}
 use Rattle.dl_core.specs.State.{Core}
+use Rattle.dl_folders.specs.Later.{IsFolderLater}
+use Rattle.dl_admission.specs.Kept.{end_of}
 use Rattle.dl_taking.specs.Drained.{GivesTook}
 use Rattle.dl_taking.specs.Draining.{closing_told, closing_took}
 use Rattle.dl_taking.specs.Takes.{TellAllTaken}
@@ -49,6 +51,8 @@ use Rattle.dl_loop.specs.State.{DaemonState, desk_told}
 use Rattle.dl_loop.specs.Stops.{IsStopped, MayStop, StopsIn, stopping_of}
 use Rattle.dl_loop.specs.Told.{IsToldBy}
 use Rattle.dl_loop.proofs.AdmittedBounds.{bounds_few}
+use Rattle.dl_loop.proofs.FolderSides.{same_more}
+use Rattle.dl_loop.proofs.StoppedFolders.{FolderStops}
 
 -- ---- what stands for the desk tells what the desk told
 
@@ -106,7 +110,8 @@ module _ {L : Type 0} (told : L → LinkTold) (d : DaemonState L) (books : List 
     (is : IsDaemon told d) (made : IsMadeOf d.desk books closing) (stop : IsStop told d.dropped (stopping_of d closing) account links folder folder_now)
     (went : (run : Run) (taken : ℕ → List ℕ) → TellBytes told → GivesTook account.apps (account_took account) run → AreAsNoted run d.journal.events taken (stopping.clients_of told (stopping_of d closing) folder)
     → HaveGone run account.events (map told links.links) account.outcome.links)
-    (outbox : (run : Run) (events : List Event) (taken : ℕ → List ℕ) (core : Core) (client : ℕ) → IsAfter run events taken core → IsSome (outbox_of core.hub client) ↔ IsOpen client events) where
+    (outbox : (run : Run) (events : List Event) (taken : ℕ → List ℕ) (core : Core) (client : ℕ) → IsAfter run events taken core → IsSome (outbox_of core.hub client) ↔ IsOpen client events)
+    (stops : FolderStops (stopping_of d closing) account folder folder_now) where
   apps_so : account.apps ≡ d.desk.apps
   apps_so = stop.apps ∙ made.kept.apps
 
@@ -179,6 +184,14 @@ module _ {L : Type 0} (told : L → LinkTold) (d : DaemonState L) (books : List 
     many = stop.many;
     dropped = ap (λ (o : Ends). o.dropped) stop.outcome;
     runs = runs_so;
+    last_core = stops.core;
+    leaves = stops.leaves;
+    trace = stops.trace;
+    folder_later = λ run gives.
+        let holds = is.runs run (gives_before run gives) in
+        subst (λ (es : List Event). IsFolderLater run.setting d.journal.events es (end_of d.core.trace) account.outcome.trace.end folder folder_now)
+        (same_more d.journal.events (Some account.events) stops.more stop.more (ap Some stops.events) (ap Some stop.events))
+        (stops.later run d.journal.events holds.took (record { frames = gives.frames; apids = gives.apids }) holds.after);
   }
 
 -- the books of the account are those that were taken back

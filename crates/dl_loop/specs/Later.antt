@@ -10,6 +10,10 @@ use Rattle.dl_outside.specs.Told.{NetTold}
 use Rattle.dl_desk.specs.Made.{IsLater}
 use Rattle.dl_lib.specs.Known.{taken_of}
 use Rattle.dl_core.specs.Follows.{HoldsTrace, Run}
+use Rattle.dl_folders.specs.Files.{Leaves}
+use Rattle.dl_folders.specs.Later.{IsFolderLater}
+use Rattle.dl_admission.specs.Kept.{end_of}
+use Rattle.dl_rounds.specs.Greetings.{IsOfGreeting}
 use Rattle.dl_loop.specs.Holds.{Gives}
 use Rattle.dl_loop.specs.Scene.{Scene}
 
@@ -24,7 +28,8 @@ IsOfRound (event.User channel msg moment) = ⊥
 IsOfRound other = Unit {0}
 
 -- The daemon is later by these events; it is of the same core, desk and calls. Each Connect event is one of a link that came, and no link is
--- forgotten. The trace files that stood for the journal stand for the longer one.
+-- forgotten. The trace files that stood for the journal stand for the longer one. No file of others changed in the folder, and a trace that is kept
+-- stays in its directory; the folder's faults and its stored configuration are later by these events.
 pub record IsLaterBy {L : Type 0} (more : List Event) (old new : Scene L) : Type 0 where
   pub events : new.daemon.journal.events ≡ old.daemon.journal.events ++ more
   pub calls : new.daemon.calls ≡ old.daemon.calls
@@ -35,6 +40,13 @@ pub record IsLaterBy {L : Type 0} (more : List Event) (old new : Scene L) : Type
   pub connects : length new.daemon.links.links ≡ length old.daemon.links.links + count_by is_connect more
   pub holds : (run : Run) → Gives run new.daemon.first_core new.daemon.desk.apps new.daemon.desk.handles
       → HoldsTrace run old.daemon.journal.events old.daemon.core old.folder → HoldsTrace run new.daemon.journal.events new.daemon.core new.folder
+  pub leaves : Leaves old.daemon.core new.daemon.core old.folder new.folder
+  pub folder : (run : Run) → Gives run new.daemon.first_core new.daemon.desk.apps new.daemon.desk.handles
+      → IsFolderLater run.setting old.daemon.journal.events more (end_of old.daemon.core.trace) (end_of new.daemon.core.trace) old.folder new.folder
+
+-- The daemon is later by events that its own applications told of themselves, and by the levels that these owed.
+abbrev pub IsLaterGreeted : {L : Type 0} → Scene L → Scene L → Type 0
+IsLaterGreeted old new = (more : List Event) × AllByRecursion IsOfGreeting more × IsLaterBy more old new
 
 -- the net listens where it did, and launched whom it had; its count of faults never falls
 pub record IsNetLater {L : Type 0} (old new : NetTold L) : Type 0 where

@@ -8,6 +8,9 @@ use Rattle.dl_outside.specs.Told.{FolderTold, LinkTold}
 use Rattle.dl_lib.specs.State.{AccountState, ClosingState}
 use Rattle.dl_core.specs.Follows.{HoldsTrace, IsAfter, Run, source_of}
 use Rattle.dl_core.specs.State.{Core}
+use Rattle.dl_folders.specs.Files.{Leaves}
+use Rattle.dl_folders.specs.Later.{IsFolderLater}
+use Rattle.dl_admission.specs.Kept.{end_of}
 use Rattle.dl_taking.specs.Draining.{MayNote, all_to_note, closing_told}
 use Rattle.dl_rounds.specs.Ready.{AreHeard, AreLinked}
 use Rattle.dl_bytes.specs.Limits.{client_limit}
@@ -45,7 +48,9 @@ pub record StopsIn {L : Type 0} (told : L → LinkTold) (run : Run) (d : DaemonS
   pub gone : TellBytes told → HaveGone run account.events (map told links.links) account.outcome.links
 
 -- What a stop leaves: the journal is longer by calls, losses, requests, levels and Closes alone; it tells just what was taken, reported and set; as
--- many links come back as there were, and so many are told as dropped; and in each run that the account may be of, it is as said above.
+-- many links come back as there were, and so many are told as dropped; and in each run that the account may be of, it is as said above. No file of
+-- others changed in the folder, and the trace that is told of stayed in its directory, where one was kept; the folder's faults and its stored
+-- configuration are later by these events.
 pub record IsStopped {L : Type 0} (told : L → LinkTold) (d : DaemonState L) (account : AccountState) (links : Links L) (folder folder_now : FolderTold) : Type 0 where
   pub more : List Event
   pub events : account.events ≡ d.journal.events ++ more
@@ -55,6 +60,11 @@ pub record IsStopped {L : Type 0} (told : L → LinkTold) (d : DaemonState L) (a
   pub many : length links.links ≡ length d.links.links
   pub dropped : account.outcome.dropped ≡ d.dropped
   pub runs : (run : Run) → Gives run d.first_core account.apps account.handles → StopsIn told run d account links folder folder_now
+  pub last_core : Core
+  pub leaves : Leaves d.core last_core folder folder_now
+  pub trace : account.outcome.trace ≡ trace_told last_core.trace
+  pub folder_later : (run : Run) → Gives run d.first_core account.apps account.handles
+      → IsFolderLater run.setting d.journal.events more (end_of d.core.trace) account.outcome.trace.end folder folder_now
 
 -- what a stop asks of a daemon, where so many events may still be noted
 pub record MayStop {L : Type 0} (d : DaemonState L) (closing : ClosingState) (events : ℕ) : Type 0 where

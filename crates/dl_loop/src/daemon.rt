@@ -6,7 +6,7 @@ ghost use Rattle.dl_rounds.specs.Greetings.{IsIntroduced, hello_of, registered};
 ghost use Rattle.dl_outside.specs.Told.{NetTold};
 ghost use Rattle.dl_loop.specs.Daemon.{IsDaemon};
 ghost use Rattle.dl_loop.specs.Greeting.{Greets, GreetsFirst};
-ghost use Rattle.dl_loop.specs.Later.{GoesRound};
+ghost use Rattle.dl_loop.specs.Later.{GoesRound, IsLaterGreeted};
 ghost use Rattle.dl_loop.specs.Made.{IsBegun, IsMade, IsUntouched, fresh_listeners};
 ghost use Rattle.dl_loop.specs.RoundSteps.{AcceptsIfMay, IsRound, Serves, answer_of};
 ghost use Rattle.dl_loop.specs.Scene.{scene};
@@ -166,6 +166,7 @@ impl<L: Link> Daemon<L> {
         ensures greets { OnOk result (Greets moment (hello_of apps.now) (scene self.old (F.told folder.old)) (scene self.new (F.told folder.new))) }
         ensures first { OnErr result (GreetsFirst moment (hello_of apps.now)
             (scene self.old (F.told folder.old)) (scene self.new (F.told folder.new))) }
+        ensures later { IsLaterGreeted (scene self.old (F.told folder.old)) (scene self.new (F.told folder.new)) }
     {
         greet(
             self.alloc,
@@ -292,6 +293,7 @@ impl<L: Link> Daemon<L> {
         ensures goes { GoesRound (N.told net.old) (N.told net.new) (scene self.old (F.told folder.old)) (scene self.new (F.told folder.new)) }
     {
         dl_rounds::laws::a_round_is_its_events();
+        dl_core::laws::what_links_take();
         self.is_daemon();
         let came = self.accept(net);
         self.is_daemon();

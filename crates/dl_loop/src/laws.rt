@@ -21,7 +21,7 @@ ghost use Rattle.dl_rounds.specs.declared.accepting.Arrival.{Arrival};
 ghost use Rattle.dl_loop.specs.Bounds.{HasBounds};
 ghost use Rattle.dl_loop.specs.Daemon.{IsDaemon};
 ghost use Rattle.dl_loop.specs.Greeting.{Greets};
-ghost use Rattle.dl_loop.specs.Later.{GoesRound};
+ghost use Rattle.dl_loop.specs.Later.{GoesRound, IsLaterBy};
 ghost use Rattle.dl_loop.specs.Made.{IsMade, IsUntouched};
 ghost use Rattle.dl_loop.specs.RoundSteps.{IsRound};
 ghost use Rattle.dl_loop.specs.Scene.{Scene, scene};
@@ -93,6 +93,13 @@ pub fn links_are_dropped_where_they_may_be<L: Link>()
         → MayDrop new.daemon.journal.events new.daemon.dropped }
     ensures stop { (d : DaemonState L) (account : AccountState) (links : Links L) (folder folder_now : FolderTold) → MayDrop d.journal.events d.dropped
         → IsStopped L.told d account links folder folder_now → MayDrop account.events account.outcome.dropped }
+{}
+
+/// A daemon that is later by some events and then by others is later by all of them; and by no event it is as it was.
+pub fn a_daemon_is_later<L: Link>()
+    ensures none { (s : Scene L) → IsLaterBy [] s s }
+    ensures both { (some others : List Event) (first second third : Scene L) → IsLaterBy some first second → IsLaterBy others second third
+        → IsLaterBy (some ++ others) first third }
 {}
 
 /// Each client that is open after a round has a link that gave a byte in it or had nothing to give yet; and nothing is left to send to it, or its

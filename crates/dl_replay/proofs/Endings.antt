@@ -13,7 +13,8 @@ use Rattle.dl_bytes.specs.declared.outcome.TraceEnd.{TraceEnd}
 use Rattle.dl_bytes.specs.declared.outcome.TraceEnd.TheVariants as end
 use Rattle.dl_model.specs.Marks.{Mark, journal}
 use Rattle.dl_outside.specs.Outside.{HasRisen}
-use Rattle.dl_world.specs.Played.{IsTraced, failures, files_with, frames_in, is_failed, trace_failures}
+use Rattle.dl_folders.specs.Later.{trace_failures}
+use Rattle.dl_world.specs.Played.{IsTraced, failures, files_with, frames_in, is_failed}
 use Rattle.dl_world.specs.declared.played.Played.{Played}
 use Rattle.dl_replay.specs.declared.begin.Start.{Start}
 use Rattle.dl_startup.specs.declared.status.Status.{Status}

@@ -29,7 +29,8 @@ use Rattle.dl_report.specs.Counts.{HasStreams}
 use Rattle.dl_trace.specs.Made.{IsMade}
 use Rattle.dl_trace.specs.Stands.{HasFiles, IsTraceName}
 use Rattle.dl_trace.specs.State.{Trace, IsAfter}
-use Rattle.dl_world.specs.Played.{ChangesOwnFiles, Holds, IsPlayed, IsTraced, failures, files_with, frames_in, is_failed}
+use Rattle.dl_folders.specs.Files.{ChangesOwnFiles}
+use Rattle.dl_world.specs.Played.{Holds, IsPlayed, IsTraced, failures, files_with, frames_in, is_failed}
 use Rattle.dl_world.specs.declared.played.Played.{Played}
 use Rattle.dl_replay.specs.declared.begin.Start.{Start}
 use Rattle.dl_replay.specs.declared.task.Task.{Task}

@@ -4,14 +4,13 @@ use Rattle.std.specs.Prelude.{option_map}
 use Rattle.std.specs.Option.{option_map_or}
 use Rattle.dl_bytes.specs.declared.outcome.TraceEnd.{TraceEnd}
 use Rattle.dl_bytes.specs.declared.outcome.TraceEnd.TheVariants.{Failed, Spent, NoMemory}
-use Rattle.dl_outside.specs.Folder.{Files}
-use Rattle.dl_trace.specs.Stands.{ChangesTraceFiles}
 use Rattle.dl_trace.specs.State.{Trace}
 use Rattle.dl_core.specs.Storing.{StoresTill, StoresIn, StoresEach, ChangesTraceAlone}
 use Rattle.dl_core.specs.State.{Core}
 use Rattle.dl_outside.specs.Told.{FolderTold}
-use Rattle.dl_world.specs.Folders.{Leaves}
-use Rattle.dl_world.specs.Played.{ChangesOwnFiles, trace_failures}
+use Rattle.dl_folders.specs.Files.{Leaves}
+use Rattle.dl_folders.specs.Later.{trace_failures}
+use Rattle.dl_folders.proofs.TracedFiles.{own_files}
 
 abbrev pub failed_in : Option Trace → ℕ
 failed_in trace = option_map_or (λ (t : Trace). trace_failures t.state.end) trace 0
@@ -95,17 +94,6 @@ stores_each (frame ∷ frames) old new told told_now stores =
     fails_both old stores.0 new told.faults stores.1.faults told_now.faults
     (stores_in (frame ∷ []) old stores.0 told stores.1 stores.2)
     (stores_each frames stores.0 new stores.1 told_now stores.3)
-
--- no file of others changes
-own_files : (trace : Option Trace) (told told_now : FolderTold) → ChangesTraceAlone trace told told_now → ChangesOwnFiles trace told.files told_now.files
-own_files trace told told_now changes = by trace told.files refl changes where
-  by : (kept : Option Trace) (o : Option Files) → told.files ≡ o → ChangesTraceAlone kept told told_now → ChangesOwnFiles kept told.files told_now.files
-  by None None is changes = subst (λ (files : Option Files). ChangesOwnFiles None files told_now.files) (sym is) tt
-  by None (Some folder) is changes = subst (λ (files : Option Files). ChangesOwnFiles None files told_now.files) (sym is) (folder, changes ∙ is, λ name other. refl)
-  by (Some kept) None is changes = subst (λ (files : Option Files). ChangesOwnFiles (Some kept) files told_now.files) (sym is) tt
-  by (Some kept) (Some folder) is changes =
-      let there = subst (λ (files : Option Files). ChangesTraceFiles kept.directory files told_now.files) is changes in
-      subst (λ (files : Option Files). ChangesOwnFiles (Some kept) files told_now.files) (sym is) (there.0, there.1, λ name not_trace other. there.2 name not_trace)
 
 pub leaves_where : (old new : Core) (stored : Option Trace) (told told_now : FolderTold) → ChangesTraceAlone old.trace told told_now → Fails old.trace stored told.faults told_now.faults → new.trace ≡ stored
     → Leaves old new told told_now

@@ -20,7 +20,6 @@ pub mod StepLines
 pub mod Needs
 pub mod Served
 pub mod StoredFiles
-pub mod AskedFiles
 pub mod Emptying
 pub mod FedClients
 pub mod FedStreams
@@ -32,7 +31,6 @@ pub mod Delivering
 pub mod Counting
 pub mod Coming
 pub mod Going
-pub mod LeftFiles
 pub mod Named
 pub mod Telling
 pub mod Asking

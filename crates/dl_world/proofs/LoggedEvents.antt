@@ -38,7 +38,8 @@ use Rattle.dl_world.proofs.Composing.{run_before}
 use Rattle.dl_world.proofs.Doings.{holds_by, the_events, no_answers}
 use Rattle.dl_world.proofs.Failing.{Fails}
 use Rattle.dl_world.proofs.Noting.{IsNoTurn, noted_before, journal_noted}
-use Rattle.dl_world.proofs.StoredFiles.{KeepsStored, asked_in, holds_on, stored_unasked}
+use Rattle.dl_folders.specs.Files.{KeepsStored}
+use Rattle.dl_world.proofs.StoredFiles.{asked_in, holds_on, stored_unasked}
 
 -- ---- an event that the folder may see
 

@@ -17,7 +17,6 @@ use Rattle.dl_model.specs.Journal.{registry_of, slots_of}
 use Rattle.dl_model.specs.Marks.{Mark, Noted, Answered, journal}
 use Rattle.dl_model.specs.Reply.{apid_of, asked, ctid_of, Folder}
 use Rattle.dl_model.specs.Setting.{Setting}
-use Rattle.dl_model.specs.TraceFiles.{six_digits}
 use Rattle.dl_outside.specs.Folder.{Files, Puts, Removes}
 use Rattle.dl_outside.specs.Told.{FolderTold}
 use Rattle.dl_outside.specs.declared.folder.FolderFault.{FolderFault}
@@ -25,10 +24,8 @@ use Rattle.dl_outside.specs.declared.folder.FolderFault.TheVariants as fault
 use Rattle.dl_services.specs.Wish.{needed, wanted}
 use Rattle.dl_services.specs.declared.wish.Want.{Want}
 use Rattle.dl_services.specs.declared.wish.Want.TheVariants as want
-use Rattle.dl_trace.specs.State.{Trace}
-use Rattle.dl_trace.specs.Stands.{ChangesTraceFiles, IsTraceName}
 use Rattle.dl_core.specs.Serving.{Answers, done_by, stored_name}
-use Rattle.dl_core.specs.Storing.{ChangesTraceAlone}
+use Rattle.dl_folders.specs.Files.{KeepsStored}
 use Rattle.dl_world.specs.Follows.{answer_of, answers_in, is_failure}
 use Rattle.dl_world.specs.Stored.{HoldsStored, file_by, file_from, file_with, stored_after}
 use Rattle.dl_world.proofs.Noting.{journal_noted}
@@ -100,34 +97,6 @@ stored_unasked setting first done (mark ∷ more) none =
 -- the folder tells its files, and among them this content of the file
 abbrev pub Has : Option (List ℕ) → Option Files → Type 0
 Has content told = IsSomeAnd told (λ folder. map.get folder stored_name ≡ content)
-
--- the folder goes on telling, and the file is as it was
-abbrev pub KeepsStored : Option Files → Option Files → Type 0
-KeepsStored None told_now = Unit {0}
-KeepsStored (Some folder) told_now = Has (map.get folder stored_name) told_now
-
--- no trace file has its name, which is too short
-name_length : (directory digits : List ℕ) → length digits ≡ 6 → length (directory ++ codes "/dlt_offlinetrace." ++ digits ++ codes ".dlt") ≢ 14
-name_length directory digits six e =
-    let front : length (directory ++ codes "/dlt_offlinetrace.") ≡ length directory + 18 = length-append directory (codes "/dlt_offlinetrace.") in
-    let behind = length-append (directory ++ codes "/dlt_offlinetrace.") digits in
-    let whole = length-append ((directory ++ codes "/dlt_offlinetrace.") ++ digits) (codes ".dlt") in
-    absurd (omega (arith, front, behind, whole, six, e))
-
-no_trace_name : (directory : List ℕ) → IsTraceName directory stored_name → ⊥
-no_trace_name directory is = name_length directory (six_digits is.0) refl (ap length (sym is.3))
-
--- what the trace writes leaves it alone
-pub traced_keeps : (trace : Option Trace) (told told_now : FolderTold) → ChangesTraceAlone trace told told_now → KeepsStored told.files told_now.files
-traced_keeps trace told told_now changes = by trace told.files refl changes where
-  by : (kept : Option Trace) (o : Option Files) → told.files ≡ o → ChangesTraceAlone kept told told_now → KeepsStored told.files told_now.files
-  by kept None is changes = subst (λ (files : Option Files). KeepsStored files told_now.files) (sym is) tt
-  by None (Some folder) is changes =
-      subst (λ (files : Option Files). KeepsStored files told_now.files) (sym is) (subst (Has (map.get folder stored_name)) (sym (changes ∙ is)) refl)
-  by (Some kept) (Some folder) is changes =
-      let there = subst (λ (files : Option Files). ChangesTraceFiles kept.directory files told_now.files) is changes in
-      subst (λ (files : Option Files). KeepsStored files told_now.files) (sym is)
-      (subst (Has (map.get folder stored_name)) (sym there.1) (there.2 stored_name (no_trace_name kept.directory)))
 
 -- where the events make the same of it
 pub holds_same : (setting : Setting) (first : Option (List ℕ)) (events events_now : List Event) (told : Option Files) → stored_after setting first events_now ≡ stored_after setting first events

@@ -20,7 +20,7 @@ use Rattle.dl_world.proofs.Doings.{the_events}
 use Rattle.dl_world.proofs.Failing.{Fails}
 use Rattle.dl_world.proofs.LoggedEvents.{IsPutBy, does_event}
 use Rattle.dl_world.proofs.Noting.{IsNoTurn, noted_before}
-use Rattle.dl_world.proofs.StoredFiles.{KeepsStored}
+use Rattle.dl_folders.specs.Files.{KeepsStored}
 
 no_turn_message : (channel : ℕ) (msg : UserMsg) (at : Moment) → IsNoTurn (event.User channel msg at)
 no_turn_message channel msg at = record { connects = refl; closes = refl; nobody = λ number. refl }

@@ -32,12 +32,13 @@ use Rattle.dl_core.specs.Serving.{stored_name}
 use Rattle.dl_core.specs.State.{Core}
 use Rattle.dl_core.specs.Follows.{Run, IsTraceAfter, HoldsTrace, stored_by}
 use Rattle.dl_outside.specs.Told.{FolderTold}
-use Rattle.dl_world.specs.Folders.{directory_of}
+use Rattle.dl_folders.specs.Files.{directory_of}
 use Rattle.dl_world.specs.Follows.{IsRunOf, IsAfter, Goes, Does, BeginWith, answer_of, answers_in, is_failure, failures_of}
 use Rattle.dl_world.specs.Known.{MayCome}
 use Rattle.dl_world.specs.Left.{IsLeft, told_of}
 use Rattle.dl_script.specs.Playable.{HasShortText, IsPlayable}
-use Rattle.dl_world.specs.Played.{frames_in, files_with, IsTraced, TellsOf, Holds, is_failed, trace_failures, IsPlayed}
+use Rattle.dl_folders.specs.Later.{trace_failures}
+use Rattle.dl_world.specs.Played.{frames_in, files_with, IsTraced, TellsOf, Holds, is_failed, IsPlayed}
 use Rattle.dl_world.specs.Stored.{HoldsStored}
 use Rattle.dl_world.specs.declared.played.Played.{Played}
 use Rattle.dl_world.specs.declared.world.World.{World}

@@ -27,7 +27,7 @@ use Rattle.dl_core.specs.Follows.{Run, HoldsTrace}
 use Rattle.dl_core.specs.State.{Core}
 use Rattle.dl_world.specs.State.{Client, client_at, channel_at, taken_by}
 use Rattle.dl_world.specs.Fed.{IsFedBy, IsHeardBy}
-use Rattle.dl_world.specs.Played.{trace_failures}
+use Rattle.dl_folders.specs.Later.{trace_failures}
 use Rattle.dl_world.specs.Stored.{HoldsStored}
 use Rattle.dl_world.specs.declared.world.World.{World}
 

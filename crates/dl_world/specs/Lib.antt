@@ -2,7 +2,6 @@ pub mod Played
 pub mod Stored
 pub mod State
 pub mod Fed
-pub mod Folders
 pub mod Follows
 pub mod Known
 pub mod Left

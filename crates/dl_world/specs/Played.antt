@@ -1,12 +1,11 @@
 -- What a run of steps leaves: its records and its journal, what each client was sent, the backlog, and the trace files.
-use Rattle.std.specs.Prelude.{◌≡◌, ◌≢◌, ℕ, ◌+◌, ◌-◌, ◌^◌, ◌<◌, ◌≤◌, min, Bool, true, false, List, [], ◌++◌, length, map, count_by, Option, Some, None, IfSome, IsSomeAnd, IfOk, Result}
+use Rattle.std.specs.Prelude.{◌≡◌, ℕ, ◌+◌, ◌-◌, ◌^◌, ◌<◌, ◌≤◌, min, Bool, true, false, List, [], ◌++◌, length, map, count_by, Option, Some, None, IfSome, IsSomeAnd, IfOk, Result}
 use Rattle.std.specs.FinMap as files
 use Rattle.dl_bytes.specs.declared.conf.Conf.{Conf}
 use Rattle.dl_bytes.specs.declared.conf.Stored.{Stored}
 use Rattle.dl_bytes.specs.declared.outcome.Done.{Done}
 use Rattle.dl_bytes.specs.declared.outcome.Done.TheVariants as did
-use Rattle.dl_bytes.specs.declared.outcome.TraceEnd.{TraceEnd}
-use Rattle.dl_bytes.specs.declared.outcome.TraceEnd.TheVariants.{Failed, Spent}
+use Rattle.dl_bytes.specs.declared.outcome.TraceEnd.TheVariants.{Spent}
 use Rattle.dl_bytes.specs.declared.outcome.TraceState.{TraceState}
 use Rattle.dl_script_lines.specs.declared.step.Step.{Step}
 use Rattle.dl_model.specs.Setting.{Setting}
@@ -20,9 +19,10 @@ use Rattle.dl_model.specs.Steps.{run}
 use Rattle.dl_outside.specs.Folder.{Files}
 use Rattle.dl_outside.specs.Told.{FolderTold}
 use Rattle.dl_trace.specs.State.{IsAfter, Trace, listed}
-use Rattle.dl_trace.specs.Stands.{HasFiles, IsTraceName}
+use Rattle.dl_trace.specs.Stands.{HasFiles}
 use Rattle.dl_core.specs.Serving.{stored_name}
 use Rattle.dl_core.specs.Settings.{setting_of}
+use Rattle.dl_folders.specs.Later.{trace_failures}
 use Rattle.dl_world.specs.Stored.{HoldsStored}
 use Rattle.dl_world.specs.declared.played.Played.{Played}
 
@@ -61,24 +61,10 @@ Holds setting stood done (Some trace) state told told_now =
 
 -- ---- the folder
 
--- no file changes but the trace files, where a trace is kept, and the stored configuration
-abbrev pub ChangesOwnFiles : Option Trace → Option Files → Option Files → Type 0
-ChangesOwnFiles None told told_now =
-    IfSome told (λ folder. (now : Files) × (told_now ≡ Some now)
-    × ((name : List ℕ) → name ≢ stored_name → files.get now name ≡ files.get folder name))
-ChangesOwnFiles (Some trace) told told_now =
-    IfSome told (λ folder. (now : Files) × (told_now ≡ Some now)
-    × ((name : List ℕ) → ¬ (IsTraceName trace.directory name) → name ≢ stored_name → files.get now name ≡ files.get folder name))
-
 -- a request to store or to reset that the folder failed at
 abbrev pub is_failed : Mark → Bool
 is_failed (Answered did.Failed) = true
 is_failed _ = false
-
--- how often the trace ended by a failure: once or never
-abbrev pub trace_failures : Option TraceEnd → ℕ
-trace_failures (Some Failed) = 1
-trace_failures _ = 0
 
 -- how often the folder failed: at a request, or at the trace, which ends by it
 abbrev pub failures : List Mark → TraceState → ℕ

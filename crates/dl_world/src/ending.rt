@@ -7,7 +7,7 @@ ghost use Rattle.dl_model.specs.Journal.{is_connect};
 ghost use Rattle.dl_model.specs.Marks.{Mark, apps, journal, writer_numbers};
 ghost use Rattle.dl_model.specs.Steps.{close, drain, end_of, finish, in_sequence};
 ghost use Rattle.dl_core.specs.Follows.{Run};
-ghost use Rattle.dl_world.specs.Folders.{Leaves};
+ghost use Rattle.dl_folders.specs.Files.{Leaves};
 ghost use Rattle.dl_world.specs.Follows.{Does, Doing, IsAfter};
 ghost use Rattle.dl_world.specs.Left.{IsLeft, links_in, told_of};
 

@@ -7,7 +7,7 @@ ghost use Rattle.dl_model.specs.Marks.{moment};
 ghost use Rattle.dl_model.specs.Steps.{act_of, begin_call, count, drain, finish, push, take_injection, take_log, take_losses, whole_call};
 ghost use Rattle.dl_world_calls.specs.State.{next_item};
 ghost use Rattle.dl_registry.specs.Kept.{owed_change};
-ghost use Rattle.dl_world.specs.Folders.{Leaves};
+ghost use Rattle.dl_folders.specs.Files.{Leaves};
 ghost use Rattle.dl_world.specs.Follows.{Does, Doing, Loads, noting};
 
 use crate::delivery::make_room;

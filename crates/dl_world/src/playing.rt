@@ -5,7 +5,8 @@ ghost use Rattle.dl_model.specs.TraceFiles.{StoredFile};
 ghost use Rattle.dl_trace.specs.Made.{IsMade};
 ghost use Rattle.dl_trace.specs.State as traces;
 ghost use Rattle.dl_script.specs.Playable.{IsPlayable};
-ghost use Rattle.dl_world.specs.Played.{ChangesOwnFiles, Plays};
+ghost use Rattle.dl_folders.specs.Files.{ChangesOwnFiles};
+ghost use Rattle.dl_world.specs.Played.{Plays};
 
 use crate::played::Played;
 use crate::world::World;

@@ -6,7 +6,7 @@ ghost use Rattle.dl_model.specs.Steps.{ask, in_sequence, receive, request_now};
 ghost use Rattle.dl_registry.specs.Kept.{owed_change};
 ghost use Rattle.dl_hub.specs.State.{client_of, outbox_of};
 ghost use Rattle.dl_core.specs.Serving.{IsRequest, injection_in};
-ghost use Rattle.dl_world.specs.Folders.{Leaves};
+ghost use Rattle.dl_folders.specs.Files.{Leaves};
 ghost use Rattle.dl_world.specs.Follows.{Does, Queues};
 
 use crate::world::World;

@@ -5,7 +5,7 @@ ghost use Rattle.dl_script_lines.specs.declared.step.Step.TheVariants as line;
 ghost use Rattle.dl_model.specs.Marks.{Clocked, moment_at};
 ghost use Rattle.dl_model.specs.Steps.{act_of, just};
 ghost use Rattle.dl_world_calls.specs.State.{app_named};
-ghost use Rattle.dl_world.specs.Folders.{Leaves};
+ghost use Rattle.dl_folders.specs.Files.{Leaves};
 ghost use Rattle.dl_world.specs.Follows.{Does, Doing, next_level};
 ghost use Rattle.dl_world.specs.Known.{MayCome};
 

@@ -1,5 +1,6 @@
 use Rattle.dl_loop.specs.Stops.{stopping_of}
 use Rattle.dl_loop.proofs.StoppedDaemons.{stopped_so}
+use Rattle.dl_loop.proofs.StoppedFolders.{folder_stops}
 use Rattle.dl_loop.proofs.stop_laws.what_a_stop_leaves.Goals as goal
 
 pub returns : goal.returns
@@ -8,3 +9,4 @@ returns g c = λ d books closing account links folder folder_now is made settles
     (c.a_stop_is_its_events.ensures d.dropped (stopping_of d closing) account links folder folder_now settles)
     (λ run taken bytes gives noted. c.how_clients_went.ensures run taken d.dropped (stopping_of d closing) account links folder folder_now settles bytes gives noted)
     c.who_has_an_outbox.ensures
+    (folder_stops g.L.Link.told d.dropped (stopping_of d closing) account links folder folder_now c.what_links_take.ensures settles)

@@ -37,4 +37,4 @@ returns-clause-goes g c =
     subst (λ (n : NetTold g.row.L.Denot). GoesRound n0 n (scene d0 f0) (scene d4 f2)) (sym c.rest_if_idle.ensures)
     (goes_both n0 n1 n1 (scene d0 f0) (scene d1 f0) (scene d4 f2) (goes_accepts told n0 d0 c.is_daemon.ensures c.accept-came.result n1 f0 d1 c.accept-came.ensures)
     (goes_both n1 n1 n1 (scene d1 f0) (scene d2 f1) (scene d4 f2) (goes_hears told n1 d1 c.is_daemon-2.ensures events.heard c.listen-heard.result f0 f1 d2 c.listen-heard.ensures)
-    (goes_both n1 n1 n1 (scene d2 f1) (scene d3 f2) (scene d4 f2) (c.take_all-taken.ensures.goes n1) (goes_pumps told n1 d3 c.is_daemon-3.ensures events.pumped c.pump-sent.result f2 d4 c.pump-sent.ensures))))
+    (goes_both n1 n1 n1 (scene d2 f1) (scene d3 f2) (scene d4 f2) (c.take_all-taken.ensures.goes n1) (goes_pumps told n1 d3 c.is_daemon-3.ensures c.what_links_take.ensures events.pumped c.pump-sent.result f2 d4 c.pump-sent.ensures))))

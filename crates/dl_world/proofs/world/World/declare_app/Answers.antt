@@ -6,7 +6,7 @@ use Rattle.dl_world_calls.proofs.Acts.{on_ok}
 use Rattle.dl_world.specs.Follows.{Does}
 use Rattle.dl_world.specs.declared.world.World.{World}
 use Rattle.dl_world.proofs.Declared.{declares_app, does_two}
-use Rattle.dl_world.proofs.LeftFiles.{leaves_alone}
+use Rattle.dl_folders.proofs.LeftFiles.{leaves_alone}
 use Rattle.dl_world.proofs.world.World.declare_app.Goals as goal
 
 pub returns-in_err-add_app-clause-leaves : goal.returns-in_err-add_app-clause-leaves

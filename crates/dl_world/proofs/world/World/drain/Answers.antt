@@ -4,7 +4,7 @@ use Rattle.dl_model.specs.Steps.{take_losses}
 use Rattle.dl_world_calls.specs.Follows as calls
 use Rattle.dl_world_calls.proofs.Acts.{on_ok}
 use Rattle.dl_world.specs.Follows.{Does}
-use Rattle.dl_world.proofs.LeftFiles.{leaves_alone, leaves_both}
+use Rattle.dl_folders.proofs.LeftFiles.{leaves_alone, leaves_both}
 use Rattle.dl_world.proofs.Turning.{does_first, does_next}
 use Rattle.dl_world.proofs.Drains.{takes, drains, drains_nobody}
 use Rattle.dl_world.proofs.world.World.drain.Goals as goal

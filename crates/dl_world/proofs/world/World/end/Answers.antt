@@ -8,7 +8,7 @@ use Rattle.dl_model.specs.Steps.{in_sequence, close}
 use Rattle.dl_world_calls.proofs.Acts.{on_ok}
 use Rattle.dl_core.specs.State.{Core}
 use Rattle.dl_world.specs.Follows.{Doing}
-use Rattle.dl_world.proofs.LeftFiles.{leaves_alone}
+use Rattle.dl_folders.proofs.LeftFiles.{leaves_alone}
 use Rattle.dl_world.proofs.Ends.{ended}
 use Rattle.dl_world.proofs.world.World.end.Goals as goal
 

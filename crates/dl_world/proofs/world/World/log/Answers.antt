@@ -3,7 +3,7 @@ use Rattle.dl_core.specs.State.{Core}
 use Rattle.dl_world_calls.proofs.Acts.{on_ok}
 use Rattle.dl_model.specs.Steps.{take_log}
 use Rattle.dl_world.specs.Follows.{Does}
-use Rattle.dl_world.proofs.LeftFiles.{leaves_alone}
+use Rattle.dl_folders.proofs.LeftFiles.{leaves_alone}
 use Rattle.dl_world.proofs.Drains.{logs_with_take, logs_alone}
 use Rattle.dl_world.proofs.world.World.log.Goals as goal
 

@@ -9,7 +9,7 @@ use Rattle.dl_world.specs.State.{client_at}
 use Rattle.dl_world.specs.declared.world.World.{World}
 use Rattle.dl_world.proofs.Asking.{open_so, shut_so}
 use Rattle.dl_world.proofs.Deeds.{does_nothing}
-use Rattle.dl_world.proofs.LeftFiles.{leaves_alone}
+use Rattle.dl_folders.proofs.LeftFiles.{leaves_alone}
 use Rattle.dl_world.proofs.Receiving.{does_receive, receives_nothing}
 use Rattle.dl_world.proofs.world.World.receive.Goals as goal
 

@@ -5,10 +5,10 @@ use Rattle.dl_hub.proofs.Following.{one_of}
 use Rattle.dl_world_calls.proofs.Acts.{on_ok}
 use Rattle.dl_core.specs.Follows.{Run}
 use Rattle.dl_core.specs.State.{Core}
-use Rattle.dl_world.proofs.LeftFiles.{leaves_alone}
+use Rattle.dl_folders.proofs.LeftFiles.{leaves_alone}
 use Rattle.dl_world.specs.Follows.{IsAfter, IsBefore}
 use Rattle.dl_world.specs.declared.world.World.{World}
-use Rattle.dl_world.proofs.AskedFiles.{request_leaves}
+use Rattle.dl_folders.proofs.AskedFiles.{request_leaves}
 use Rattle.dl_world.proofs.Served.{does_request, has_served, room_for, wanted_by}
 use Rattle.dl_world.proofs.world.World.serve.Goals as goal
 

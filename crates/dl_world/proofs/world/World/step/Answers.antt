@@ -8,7 +8,7 @@ use Rattle.dl_core.specs.State.{Core}
 use Rattle.dl_world_calls.proofs.Acts.{on_ok}
 use Rattle.dl_world.proofs.Claims.{owner_is_known, contexts_are_few}
 use Rattle.dl_world.proofs.Declared.{declares_writer}
-use Rattle.dl_world.proofs.LeftFiles.{leaves_alone}
+use Rattle.dl_folders.proofs.LeftFiles.{leaves_alone}
 use Rattle.dl_world.proofs.StepLines.{of_line, levels_line}
 use Rattle.dl_world.proofs.world.World.step.Goals as goal
 

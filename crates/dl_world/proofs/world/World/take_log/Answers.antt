@@ -6,7 +6,7 @@ use Rattle.dl_world_calls.specs.State.{next_item}
 use Rattle.dl_world_calls.proofs.Acts.{on_ok}
 use Rattle.dl_world.specs.Follows.{Doing}
 use Rattle.dl_world.specs.declared.world.World.{World}
-use Rattle.dl_world.proofs.LeftFiles.{leaves_alone}
+use Rattle.dl_folders.proofs.LeftFiles.{leaves_alone}
 use Rattle.dl_world.proofs.Telling.{does_note}
 use Rattle.dl_world.proofs.Takes.{is_there, is_not_there, takes_of_nobody, takes_no_call, takes_call}
 use Rattle.dl_world.proofs.world.World.take_log.Goals.{then-apps-app-via-then-apps-app, then-apps-app-via-else-apps-app+then-is_none}

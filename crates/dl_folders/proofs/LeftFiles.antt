@@ -6,8 +6,7 @@ use Rattle.dl_trace.specs.State.{Trace}
 use Rattle.dl_trace.specs.Stands.{IsTraceName}
 use Rattle.dl_core.specs.State.{Core}
 use Rattle.dl_outside.specs.Told.{FolderTold}
-use Rattle.dl_world.specs.Folders.{Leaves}
-use Rattle.dl_world.specs.Played.{ChangesOwnFiles}
+use Rattle.dl_folders.specs.Files.{ChangesOwnFiles, Leaves}
 
 abbrev directory_in : Option Trace → Option (List ℕ)
 directory_in trace = option_map (λ (t : Trace). t.directory) trace

@@ -14,8 +14,7 @@ use Rattle.dl_core.specs.Serving.{Answers, stored_name}
 use Rattle.dl_core.specs.State.{Core}
 use Rattle.dl_core.proofs.Requested.{put_other, gone_other}
 use Rattle.dl_outside.specs.Told.{FolderTold}
-use Rattle.dl_world.specs.Folders.{Leaves}
-use Rattle.dl_world.specs.Played.{ChangesOwnFiles}
+use Rattle.dl_folders.specs.Files.{ChangesOwnFiles, Leaves}
 
 -- ---- the others stay
 
@@ -63,12 +62,12 @@ own_files (Some trace) (Some files) told_now kept = (kept.0, kept.1, λ name not
 
 -- ---- the faults
 
-caused : (result : Result (Unit {0}) FolderFault) (faults faults_now : ℕ) → HasCause faults faults_now result → faults ≤ faults_now
+pub caused : (result : Result (Unit {0}) FolderFault) (faults faults_now : ℕ) → HasCause faults faults_now result → faults ≤ faults_now
 caused (Ok made) faults faults_now cause = omega (arith, cause)
 caused (Err fault.Failed) faults faults_now cause = cause.0
 caused (Err fault.OutOfMemory) faults faults_now cause = omega (arith, cause)
 
-faults_later : (wants : Want) (pushed : Bool) (answer : Done) (told told_now : FolderTold) → Answers wants pushed answer told told_now → told.faults ≤ told_now.faults
+pub faults_later : (wants : Want) (pushed : Bool) (answer : Done) (told told_now : FolderTold) → Answers wants pushed answer told told_now → told.faults ≤ told_now.faults
 faults_later want.Nothing pushed answer told told_now acts = omega (arith, ap (λ (f : FolderTold). f.faults) acts.1)
 faults_later (want.Put text stored) pushed answer told told_now acts = caused acts.0 told.faults told_now.faults acts.3
 faults_later want.Remove pushed answer told told_now acts = caused acts.0 told.faults told_now.faults acts.3

@@ -1,0 +1,4 @@
+pub mod LeftFiles
+pub mod AskedFiles
+pub mod TracedFiles
+pub mod LaterFolders
