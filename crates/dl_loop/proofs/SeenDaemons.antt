@@ -2,8 +2,8 @@
 use Rattle.std.proofs.Common.{◌≡◌, ℕ, ◌+◌, ◌-◌, ◌<◌, Bool, cond, eqb, inl, inr, List, [], ◌∷◌, ◌++◌, Some, length, map, take, drop, refl, sym, ap, subst, ◌∙◌, arith}
 use Rattle.std.proofs.lemmas.Bool.Decides.{eqb_tells}
 use Rattle.dl_outside.specs.Told.{FolderTold, LinkTold, NetTold}
-use Rattle.dl_desk.specs.Handles.{RingHolds}
 use Rattle.dl_taking.specs.Takes.{TakesSome}
+use Rattle.dl_taking.specs.Took.{empties_of}
 use Rattle.dl_turns.specs.State.{side}
 use Rattle.dl_rounds.specs.Clients.{Clients}
 use Rattle.dl_rounds.specs.Visits.{Heard, HearsAll}
@@ -61,12 +61,12 @@ heard_length moved old new hears = visits_keep Heard (λ (c : Clients). length c
 -- ---- taking
 
 pub calls_of : {L : Type 0} (app count most : ℕ) (folder folder_now : FolderTold) (old new : DaemonState L) → most ≡ most_of old
-    → TakesSome app most count (taking_of (scene old folder)) (taking_of (scene new folder_now)) → (count < most → RingHolds new.desk.handles app [])
+    → TakesSome app most count (taking_of (scene old folder)) (taking_of (scene new folder_now)) → (count < most → empties_of new.desk.handles app ≡ empties_of old.desk.handles app + 1)
     → desk_told new.desk ≡ desk_told old.desk → SameButTaken old.desk new.desk → new.noted ≡ old.noted + count
     → new ≡ record old { core = new.core; desk = new.desk; journal = new.journal; noted = new.noted } → TakesCalls app count (scene old folder) (scene new folder_now)
 calls_of app count most folder folder_now old new is takes empty same desk noted rest = record {
   takes = subst (λ n. TakesSome app n count (taking_of (scene old folder)) (taking_of (scene new folder_now))) is takes;
-  empty = subst (λ n. count < n → RingHolds new.desk.handles app []) is empty;
+  empty = subst (λ n. count < n → empties_of new.desk.handles app ≡ empties_of old.desk.handles app + 1) is empty;
   told = same;
   desk = desk;
   noted = noted;

@@ -1,9 +1,8 @@
 -- What a round takes of the programs that log.
-use Rattle.std.specs.Prelude.{◌≡◌, ℕ, zero, suc, ◌+◌, ◌-◌, ◌<◌, ◌==◌, min, [], ◌⊎◌, length, if◌then◌else◌}
-use Rattle.dl_desk.specs.Handles.{RingHolds}
+use Rattle.std.specs.Prelude.{◌≡◌, ℕ, zero, suc, ◌+◌, ◌-◌, ◌<◌, ◌==◌, min, ◌⊎◌, length, if◌then◌else◌}
 use Rattle.dl_desk.specs.State.{DeskState}
 use Rattle.dl_taking.specs.Takes.{Reports, TakesSome}
-use Rattle.dl_taking.specs.Took.{untaken}
+use Rattle.dl_taking.specs.Took.{empties_of, untaken}
 use Rattle.dl_loop.specs.Scene.{Scene, taking_of}
 use Rattle.dl_loop.specs.State.{DaemonState, desk_told}
 
@@ -15,10 +14,10 @@ SameButTaken old new = (record new { handles = untaken new.handles }) ≡ (recor
 abbrev pub most_of : {L : Type 0} → DaemonState L → ℕ
 most_of d = min 64 (d.calls - d.noted)
 
--- Calls of an application were taken and admitted, as many as may be, or fewer where its ring was found empty.
+-- Calls of an application were taken and admitted, as many as may be. They are fewer only where its ring was then found empty, once.
 pub record TakesCalls {L : Type 0} (app count : ℕ) (old new : Scene L) : Type 0 where
   pub takes : TakesSome app (most_of old.daemon) count (taking_of old) (taking_of new)
-  pub empty : count < most_of old.daemon → RingHolds new.daemon.desk.handles app []
+  pub empty : count < most_of old.daemon → empties_of new.daemon.desk.handles app ≡ empties_of old.daemon.desk.handles app + 1
   pub told : desk_told new.daemon.desk ≡ desk_told old.daemon.desk
   pub desk : SameButTaken old.daemon.desk new.daemon.desk
   pub noted : new.daemon.noted ≡ old.daemon.noted + count

@@ -18,15 +18,15 @@ use Rattle.dl_taking.proofs.Tooks.{calls_both, calls_none}
 pub fills_none : (app most : ℕ) (took : Took) (batch : List Item) → batch ≡ [] → Fills app most took took batch
 fills_none app most took batch nothing = record { items = []; taken = sym (calls_none app took); few = omega arith; batch_is = nothing }
 
-pub fills_more : (app most : ℕ) (took took_now took_new : Took) (batch batch_new : List Item) (item own : Item) → Fills app most took took_now batch → took_new ≡ with_calls app (item ∷ []) took_now
-    → own ≡ owned app item → batch_new ≡ batch ++ own ∷ [] → length batch < most → Fills app most took took_new batch_new
-fills_more app most took took_now took_new batch batch_new item own so taken its added within =
+pub fills_more : (app most : ℕ) (took took_now took_new : Took) (batch batch_new : List Item) (item : Item) → Fills app most took took_now batch → took_new ≡ with_calls app (item ∷ []) took_now
+    → batch_new ≡ batch ++ owned app item ∷ [] → length batch < most → Fills app most took took_new batch_new
+fills_more app most took took_now took_new batch batch_new item so taken added within =
     let count : length (so.items ++ item ∷ []) ≡ length so.items + 1 = length-append so.items (item ∷ []) in
     let as_many : length batch ≡ length so.items = ap (λ (xs : List Item). length xs) so.batch_is ∙ length-map so.items (owned app) in record {
       items = so.items ++ item ∷ [];
       taken = taken ∙ ap (with_calls app (item ∷ [])) so.taken ∙ calls_both app so.items (item ∷ []) took;
       few = omega (arith, count, as_many, within);
-      batch_is = added ∙ ap (λ (x : Item). batch ++ x ∷ []) its ∙ ap (λ (xs : List Item). xs ++ owned app item ∷ []) so.batch_is ∙ sym (map-append (owned app) so.items (item ∷ []));
+      batch_is = added ∙ ap (λ (xs : List Item). xs ++ owned app item ∷ []) so.batch_is ∙ sym (map-append (owned app) so.items (item ∷ []));
     }
 
 pub fills_still : (app most : ℕ) (took took_now took_new : Took) (batch : List Item) → Fills app most took took_now batch → took_new ≡ took_now → Fills app most took took_new batch

@@ -1,7 +1,7 @@
 -- What is taken, call after call.
 use Rattle.std.proofs.Common.{◌≡◌, ◌≢◌, ℕ, zero, suc, ◌+◌, ◌<◌, ◌==◌, Bool, true, false, cond, List, [], ◌∷◌, ◌++◌, length, append_assoc, append-nil, Option, Some, None, slice_get, inl, inr, refl, sym, ap, ◌∙◌, subst, arith}
-use Rattle.std.specs.Prelude.{◌↔◌, IfNone, IfSome, unwrap_or}
-use Rattle.std.specs.Option.{option_map, IsNone}
+use Rattle.std.specs.Prelude.{◌↔◌, unwrap_or}
+use Rattle.std.specs.Option.{option_map}
 use Rattle.std.proofs.lemmas.Bool.Decides.{eqb_tells}
 use Rattle.dl_bytes.specs.declared.item.Item.{Item}
 use Rattle.dl_bytes.specs.declared.item.Injection.{Injection}
@@ -16,7 +16,7 @@ use Rattle.dl_desk.proofs.Places.{map-changed_at}
 use Rattle.dl_lib.specs.Books.{lost_of}
 use Rattle.dl_lib.specs.Known.{IsEmpty, IsTold, taken_of}
 use Rattle.dl_lib.specs.State.{ClosingState}
-use Rattle.dl_taking.specs.Took.{Took, took_by, untaken, with_calls, without_takes}
+use Rattle.dl_taking.specs.Took.{Took, empties_of, took_by, untaken, with_calls, without_takes}
 
 -- ---- calls behind calls
 
@@ -76,6 +76,12 @@ module _ (s : HandlesState) (app : ℕ) where
   pub took_empty : took_by (with_empty_take s app) ≡ took_by s
   took_empty = λ i. record { taken = λ n. ap (λ (o : Option (List Item)). unwrap_or o []) (kept (λ (e : AppHandles). e.ring.taken) app finds_none s.apps n (λ e. refl)) i; reported = s.losses.reported }
 
+  pub empties_item : (item : Item) → empties_of (with_item s app item) app ≡ empties_of s app
+  empties_item item = ap (λ (o : Option ℕ). unwrap_or o 0) (kept (λ (e : AppHandles). e.ring.empties) app (takes_item item) s.apps app (λ e. refl))
+
+  pub empties_more : app < length s.apps → empties_of (with_empty_take s app) app ≡ empties_of s app + 1
+  empties_more within = there (λ (e : AppHandles). e.ring.empties) app finds_none (λ (n : ℕ). n + 1) s.apps 0 within (λ e. refl)
+
   pub told_item : (apps : ℕ) (item : Item) → told_by apps (with_item s app item) ≡ told_by apps s
   told_item apps item = λ i. record {
     apps = apps;
@@ -100,39 +106,38 @@ module _ (s : HandlesState) (app : ℕ) where
   pub untaken_empty : untaken (with_empty_take s app) ≡ untaken s
   untaken_empty = ap (λ (apps : List AppHandles). record s { apps = apps; losses = record s.losses { reported = [] } }) (map-changed_at without_takes app finds_none s.apps (λ e. refl))
 
--- ---- by what a take found
-
-pub on_some : {A : Type 0} (P Q : A → Type 0) (o : Option A) → ((x : A) → P x → Q x) → IfSome o P → IfSome o Q
-on_some P Q None goes is = tt
-on_some P Q (Some x) goes is = goes x is
-
-pub on_none : {A : Type 0} (P Q : Type 0) (o : Option A) → (o ≡ None → P → Q) → IfNone o P → IfNone o Q
-on_none P Q None goes is = goes refl is
-on_none P Q (Some x) goes is = tt
-
 -- ---- the desk
 
-pub desk_told : (found : Option Item) (old new : DeskState) (app : ℕ) → IfSome found (λ item. new ≡ record old { handles = with_item old.handles app item })
-    → IfNone found (new ≡ record old { handles = with_empty_take old.handles app }) → told_by (length new.apps) new.handles ≡ told_by (length old.apps) old.handles
-desk_told (Some item) old new app is _ = ap (λ (d : DeskState). told_by (length d.apps) d.handles) is ∙ told_item old.handles app (length old.apps) item
-desk_told None old new app _ is = ap (λ (d : DeskState). told_by (length d.apps) d.handles) is ∙ told_empty old.handles app (length old.apps)
+module _ (old new : DeskState) (app : ℕ) where
+  pub desk_told : (found : Bool) (item : Item) → (found ≡ true → new ≡ record old { handles = with_item old.handles app item })
+      → (found ≡ false → new ≡ record old { handles = with_empty_take old.handles app }) → told_by (length new.apps) new.handles ≡ told_by (length old.apps) old.handles
+  desk_told true item some none = ap (λ (d : DeskState). told_by (length d.apps) d.handles) (some refl) ∙ told_item old.handles app (length old.apps) item
+  desk_told false item some none = ap (λ (d : DeskState). told_by (length d.apps) d.handles) (none refl) ∙ told_empty old.handles app (length old.apps)
 
-pub desk_same : (found : Option Item) (old new : DeskState) (app : ℕ) → IfSome found (λ item. new ≡ record old { handles = with_item old.handles app item })
-    → IfNone found (new ≡ record old { handles = with_empty_take old.handles app }) → record new { handles = untaken new.handles } ≡ record old { handles = untaken old.handles }
-desk_same (Some item) old new app is _ = ap (λ (d : DeskState). record d { handles = untaken d.handles }) is ∙ ap (λ (h : HandlesState). record old { handles = h }) (untaken_item old.handles app item)
-desk_same None old new app _ is = ap (λ (d : DeskState). record d { handles = untaken d.handles }) is ∙ ap (λ (h : HandlesState). record old { handles = h }) (untaken_empty old.handles app)
+  pub desk_same : (found : Bool) (item : Item) → (found ≡ true → new ≡ record old { handles = with_item old.handles app item })
+      → (found ≡ false → new ≡ record old { handles = with_empty_take old.handles app }) → record new { handles = untaken new.handles } ≡ record old { handles = untaken old.handles }
+  desk_same true item some none = ap (λ (d : DeskState). record d { handles = untaken d.handles }) (some refl) ∙ ap (λ (h : HandlesState). record old { handles = h }) (untaken_item old.handles app item)
+  desk_same false item some none = ap (λ (d : DeskState). record d { handles = untaken d.handles }) (none refl) ∙ ap (λ (h : HandlesState). record old { handles = h }) (untaken_empty old.handles app)
+
+  -- a take that found none, and one that gave a call
+  pub desk_empty : app < length old.handles.apps → new ≡ record old { handles = with_empty_take old.handles app } → empties_of new.handles app ≡ empties_of old.handles app + 1
+  desk_empty within is = ap (λ (d : DeskState). empties_of d.handles app) is ∙ empties_more old.handles app within
+
+  pub desk_full : (item : Item) → new ≡ record old { handles = with_item old.handles app item } → empties_of new.handles app ≡ empties_of old.handles app
+  desk_full item is = ap (λ (d : DeskState). empties_of d.handles app) is ∙ empties_item old.handles app item
 
 -- ---- what stands for it once the writers are back
 
-pub closing_told : (found : Option Item) (old new : ClosingState) (app : ℕ) → IfSome found (λ item. new ≡ record old { handles = with_item old.handles app item })
-    → IfNone found (new ≡ record old { handles = with_empty_take old.handles app }) → told_by (length new.apps) new.handles ≡ told_by (length old.apps) old.handles
-closing_told (Some item) old new app is _ = ap (λ (c : ClosingState). told_by (length c.apps) c.handles) is ∙ told_item old.handles app (length old.apps) item
-closing_told None old new app _ is = ap (λ (c : ClosingState). told_by (length c.apps) c.handles) is ∙ told_empty old.handles app (length old.apps)
+module _ (old new : ClosingState) (app : ℕ) where
+  pub closing_told : (found : Bool) (item : Item) → (found ≡ true → new ≡ record old { handles = with_item old.handles app item })
+      → (found ≡ false → new ≡ record old { handles = with_empty_take old.handles app }) → told_by (length new.apps) new.handles ≡ told_by (length old.apps) old.handles
+  closing_told true item some none = ap (λ (c : ClosingState). told_by (length c.apps) c.handles) (some refl) ∙ told_item old.handles app (length old.apps) item
+  closing_told false item some none = ap (λ (c : ClosingState). told_by (length c.apps) c.handles) (none refl) ∙ told_empty old.handles app (length old.apps)
 
-pub closing_same : (found : Option Item) (old new : ClosingState) (app : ℕ) → IfSome found (λ item. new ≡ record old { handles = with_item old.handles app item })
-    → IfNone found (new ≡ record old { handles = with_empty_take old.handles app }) → record new { handles = untaken new.handles } ≡ record old { handles = untaken old.handles }
-closing_same (Some item) old new app is _ = ap (λ (c : ClosingState). record c { handles = untaken c.handles }) is ∙ ap (λ (h : HandlesState). record old { handles = h }) (untaken_item old.handles app item)
-closing_same None old new app _ is = ap (λ (c : ClosingState). record c { handles = untaken c.handles }) is ∙ ap (λ (h : HandlesState). record old { handles = h }) (untaken_empty old.handles app)
+  pub closing_same : (found : Bool) (item : Item) → (found ≡ true → new ≡ record old { handles = with_item old.handles app item })
+      → (found ≡ false → new ≡ record old { handles = with_empty_take old.handles app }) → record new { handles = untaken new.handles } ≡ record old { handles = untaken old.handles }
+  closing_same true item some none = ap (λ (c : ClosingState). record c { handles = untaken c.handles }) (some refl) ∙ ap (λ (h : HandlesState). record old { handles = h }) (untaken_item old.handles app item)
+  closing_same false item some none = ap (λ (c : ClosingState). record c { handles = untaken c.handles }) (none refl) ∙ ap (λ (h : HandlesState). record old { handles = h }) (untaken_empty old.handles app)
 
 pub empty_now : (old new : ClosingState) (app : ℕ) → new ≡ record old { handles = with_empty_take old.handles app } → IsEmpty old app → IsEmpty new app
 empty_now old new app is empty =
@@ -141,8 +146,3 @@ empty_now old new app is empty =
 pub told_now : (old new : ClosingState) (app count : ℕ) → new ≡ record old { handles = with_report old.handles app count }
     → reported_of app old.handles.losses.reported + count ≡ lost_of app old.books → IsTold new app
 told_now old new app count is all = subst (λ (c : ClosingState). IsTold c app) (sym is) (reported_more app count old.handles.losses.reported ∙ all)
-
-pub found_empty : (found : Option Item) (old new : ClosingState) (app : ℕ) → IfNone found (new ≡ record old { handles = with_empty_take old.handles app }) → IsNone found ↔ IsEmpty old app
-    → IfNone found (IsEmpty new app)
-found_empty (Some item) old new app is empty = tt
-found_empty None old new app is empty = empty_now old new app is (empty.0 refl)

@@ -1,5 +1,6 @@
 -- What was taken of the rings and loss words of applications.
-use Rattle.std.specs.Prelude.{ℕ, ◌<◌, ◌==◌, List, [], ◌∷◌, ◌++◌, map, if◌then◌else◌}
+use Rattle.std.specs.Prelude.{ℕ, ◌<◌, ◌==◌, List, [], ◌∷◌, ◌++◌, map, slice_get, unwrap_or, if◌then◌else◌}
+use Rattle.std.specs.Option.{option_map}
 use Rattle.dl_bytes.specs.declared.item.Item.{Item}
 use Rattle.dl_losses.specs.Losses.{report, reported_of}
 use Rattle.dl_losses.specs.declared.keeper.Report.{Report}
@@ -17,6 +18,10 @@ pub record Took : Type 0 where
 -- what these handles took
 abbrev pub took_by : HandlesState → Took
 took_by handles = record { taken = taken_of handles; reported = handles.losses.reported }
+
+-- how often a take found the ring of an application empty
+abbrev pub empties_of : HandlesState → ℕ → ℕ
+empties_of handles app = unwrap_or (option_map (λ e. e.ring.empties) (slice_get handles.apps app)) 0
 
 -- these calls more were taken of an application's ring
 abbrev pub with_calls : ℕ → List Item → Took → Took

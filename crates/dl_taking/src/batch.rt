@@ -1,29 +1,34 @@
 //! Calls that were taken together, and are noted at one moment.
 
-ghost use Rattle.std.specs.Prelude.{◌≡◌, ◌<◌, ◌++◌, ◌∷◌, [], length, IfOk};
+ghost use Rattle.std.specs.Prelude.{◌≡◌, ◌<◌, true, false, [], length, IfOk};
+ghost use Rattle.dl_taking.specs.Filling.{FillsOne};
 
-use dl_bytes::{Item, OutOfMemory};
+use crate::taker::Taker;
+use dl_bytes::{Id, Item, OutOfMemory, Payload, Severity};
 use std::alloc::Global;
 use std::marker::Model;
+use std::sync::Wait;
 
 /// The most calls of a batch.
 pub const BATCH_LIMIT: usize = 64;
 
-/// At most 64 calls. Their memory is taken once, when the batch is made.
+/// At most 64 calls. Their memory is taken once, when the batch is made, and a call is copied into it where it is to lie.
 #[derive(Debug, Drop)]
 pub struct Batch {
+    // the first ones are the calls, and whatever lies in the others is no call yet
     items: Vec<Item>,
+    count: usize,
 }
 
 impl Model for Batch {
-    ghost use Rattle.std.specs.Prelude.{◌≤◌, List, vec_capacity};
+    ghost use Rattle.std.specs.Prelude.{◌≡◌, ◌≤◌, List, length, take};
     ghost use Rattle.dl_bytes.specs.declared.item.Item.{Item as item_type};
 
     ghost Value = { List item_type };
 
-    ghost view = { λ b. b.items.items };
+    ghost view = { λ b. take b.count b.items.items };
 
-    ghost invariant = { λ b. 64 ≤ vec_capacity b.items };
+    ghost invariant = { λ b. (length b.items.items ≡ 64) × (b.count ≤ 64) };
 }
 
 impl Batch {
@@ -31,37 +36,68 @@ impl Batch {
     pub fn make(alloc: Global) -> Result<Batch, OutOfMemory>
         ensures { IfOk result (λ batch. batch ≡ []) }
     {
-        Ok(Batch {
-            items: Vec::with_capacity(alloc, BATCH_LIMIT)?,
-        })
+        let mut items = Vec::with_capacity(alloc, BATCH_LIMIT)?;
+        for _place in 0..BATCH_LIMIT {
+            items.push(no_item()).unwrap();
+        }
+        Ok(Batch { items, count: 0 })
     }
 
     /// The calls, the first one first.
     pub fn items(&self) -> &[Item]
         ensures { result.now ≡ self.now }
     {
-        &self.items
+        &self.items[..self.count]
     }
 
     /// How many there are.
     pub fn len(&self) -> usize
         ensures { result ≡ length self.now }
     {
-        self.items.len()
+        self.count
     }
 
     /// Lets go of all.
     pub fn clear(&mut self)
         ensures { self.new ≡ [] }
     {
-        self.items.clear();
+        self.count = 0;
     }
 
-    /// Adds a call at the end.
-    pub fn add(&mut self, item: Item)
-        requires { length self.old < 64 }
-        ensures { self.new ≡ self.old ++ item ∷ [] }
+    /// Takes the oldest call in the ring of an application to the end of the batch, as the application's own, and tells whether there was one:
+    /// there was none only where the ring was found empty.
+    pub fn take<R: Wait, D: Taker>(&mut self, rt: &R, desk: &mut D, app: u8) -> bool
+        requires app { app < length (D.specs desk.old) }
+        requires room { length self.old < 64 }
+        ensures taken { result ≡ true → FillsOne app (D.took desk.old) (D.took desk.new) self.old self.new }
+        ensures none { result ≡ false → D.took desk.new ≡ D.took desk.old }
+        ensures kept { result ≡ false → self.new ≡ self.old }
+        ensures empty { result ≡ false → D.found_empty desk.old desk.new app }
+        ensures later { result ≡ true → (later : D) → D.found_empty desk.new later app → D.found_empty desk.old later app }
+        ensures told { D.told desk.new ≡ D.told desk.old }
+        ensures rest { D.same_but_taken desk.old desk.new }
     {
-        self.items.push(item).unwrap();
+        let item = &mut self.items[self.count];
+        if !desk.take_into(rt, app, item) {
+            return false;
+        }
+        item.app = app;
+        self.count += 1;
+        true
+    }
+}
+
+/// What lies where no call was taken to.
+fn no_item() -> Item {
+    Item {
+        app: 0,
+        writer: 0,
+        severity: Severity::Info,
+        mcnt: 0,
+        at: 0,
+        apid: Id::from_bytes([0; 4]),
+        ctid: Id::from_bytes([0; 4]),
+        call: 0,
+        payload: Payload::new(),
     }
 }

@@ -16,7 +16,7 @@ impl Taker for Closing {
 
     ghost specs = { λ c. c.apps };
 
-    ghost is_empty = { IsEmpty };
+    ghost found_empty = { λ old new app. IsEmpty new app };
 
     ghost has_losses = { HasLosses };
 
@@ -24,9 +24,9 @@ impl Taker for Closing {
 
     ghost same_but_taken = { λ old new. record new { handles = untaken new.handles } ≡ record old { handles = untaken old.handles } };
 
-    fn take<R: Wait>(&mut self, rt: &R, app: u8) -> Option<Item> {
+    fn take_into<R: Wait>(&mut self, rt: &R, app: u8, item: &mut Item) -> bool {
         self.have_handles();
-        Closing::take(self, rt, app)
+        Closing::take_into(self, rt, app, item)
     }
 
     fn losses(&mut self, app: u8) -> u64 {

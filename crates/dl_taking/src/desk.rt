@@ -6,17 +6,16 @@ use dl_desk::Desk;
 use std::sync::Wait;
 
 impl Taker for Desk {
-    ghost use Rattle.std.specs.Prelude.{◌≡◌, [], refl};
+    ghost use Rattle.std.specs.Prelude.{◌≡◌, ◌+◌, refl};
     ghost use Rattle.std.proofs.Common.{ap, ◌∙◌};
-    ghost use Rattle.dl_desk.specs.Handles.{RingHolds};
     ghost use Rattle.dl_desk.specs.State.{DeskState};
-    ghost use Rattle.dl_taking.specs.Took.{took_by, untaken};
+    ghost use Rattle.dl_taking.specs.Took.{empties_of, took_by, untaken};
 
     ghost took = { λ d. took_by d.handles };
 
     ghost specs = { λ d. d.apps };
 
-    ghost is_empty = { λ d app. RingHolds d.handles app [] };
+    ghost found_empty = { λ old new app. empties_of new.handles app ≡ empties_of old.handles app + 1 };
 
     // writers may count one at any time
     ghost has_losses = { λ d app. Unit {0} };
@@ -26,9 +25,9 @@ impl Taker for Desk {
 
     ghost same_but_taken = { λ old new. record new { handles = untaken new.handles } ≡ record old { handles = untaken old.handles } };
 
-    fn take<R: Wait>(&mut self, rt: &R, app: u8) -> Option<Item> {
+    fn take_into<R: Wait>(&mut self, rt: &R, app: u8, item: &mut Item) -> bool {
         self.have_handles();
-        Desk::take(self, rt, app)
+        Desk::take_into(self, rt, app, item)
     }
 
     fn losses(&mut self, app: u8) -> u64 {

@@ -1,6 +1,6 @@
 //! What takes calls and losses: the desk while the writers log, and what stands for it once they are back.
 
-ghost use Rattle.std.specs.Prelude.{◌≡◌, ◌<◌, ◌^◌, ℕ, List, ◌∷◌, [], length, IfSome, IfNone};
+ghost use Rattle.std.specs.Prelude.{◌≡◌, ◌<◌, ◌^◌, ℕ, true, false, List, ◌∷◌, [], length};
 ghost use Rattle.dl_bytes.specs.declared.conf.AppSpec.{AppSpec as spec_type};
 ghost use Rattle.dl_losses.specs.Losses.{reported_of};
 ghost use Rattle.dl_desk.specs.Lists.{At};
@@ -18,8 +18,8 @@ pub trait Taker: Post {
     /// The applications, by their numbers.
     ghost specs: { Self → List spec_type };
 
-    /// The ring of an application is known to be empty.
-    ghost is_empty: { Self → ℕ → Type 0 };
+    /// Since the first of the two the ring of an application was found empty, once.
+    ghost found_empty: { Self → Self → ℕ → Type 0 };
 
     /// Losses of an application may be found that were not reported.
     ghost has_losses: { Self → ℕ → Type 0 };
@@ -30,12 +30,15 @@ pub trait Taker: Post {
     /// All else that contracts see of the two is the same.
     ghost same_but_taken: { Self → Self → Type 0 };
 
-    /// The oldest call in the ring of an application. None comes only where the ring was empty at that step.
-    fn take<R: Wait>(&mut self, rt: &R, app: u8) -> Option<Item>
+    /// Takes the oldest call in the ring of an application into one that the caller keeps, and tells whether there was one. There was none only
+    /// where the ring was empty at that step; then the caller's call stays.
+    fn take_into<R: Wait>(&mut self, rt: &R, app: u8, item: &mut Item) -> bool
         requires { app < length (specs self.old) }
-        ensures taken { IfSome result (λ item. took self.new ≡ with_calls app (item ∷ []) (took self.old)) }
-        ensures none { IfNone result (took self.new ≡ took self.old) }
-        ensures empty { IfNone result (is_empty self.new app) }
+        ensures taken { result ≡ true → took self.new ≡ with_calls app (item.new ∷ []) (took self.old) }
+        ensures none { result ≡ false → took self.new ≡ took self.old }
+        ensures empty { result ≡ false → found_empty self.old self.new app }
+        ensures later { result ≡ true → (later : Self) → found_empty self.new later app → found_empty self.old later app }
+        ensures kept { result ≡ false → item.new ≡ item.old }
         ensures told { Self.told self.new ≡ Self.told self.old }
         ensures rest { same_but_taken self.old self.new };
 

@@ -36,7 +36,7 @@ pub fn take_some<R: Wait, D: Taker, J: Journal, C: Clock, F: Folder>(
     requires few { core.old.hub.admitted + most ≤ admitted_limit }
     ensures takes { let s = seen J.events J.noted J.spare F.told D.took in TakesSome app most result
         (s core.old journal.old folder.old desk.old) (s core.new journal.new folder.new desk.new) }
-    ensures empty { result < most → D.is_empty desk.new app }
+    ensures empty { result < most → D.found_empty desk.old desk.new app }
     ensures told { D.told desk.new ≡ D.told desk.old }
     ensures rest { D.same_but_taken desk.old desk.new }
 {

@@ -2,11 +2,13 @@ use Rattle.std.proofs.Common.{◌∙◌, arith}
 use Rattle.dl_taking.proofs.Steps.{fills_more}
 use Rattle.dl_taking.proofs.filling.fill.Goals as goal
 
-pub loop-desk-preserved : goal.loop-desk-preserved
-loop-desk-preserved g c =
-    let so = c.loop-desk.invariant in
+pub loop-batch-preserved : goal.loop-batch-preserved
+loop-batch-preserved g c =
+    let so = c.loop-batch.invariant in
+    let one = c.take.ensures.taken c.if-not-take.false in
     record {
-      fills = fills_more c.args.app c.args.most _ _ _ _ _ c.in-Some.item c.of_app.result so.fills c.in-Some.ensures.taken c.of_app.ensures c.add.ensures (omega (arith, c.loop-desk-test.true));
+      fills = fills_more c.args.app c.args.most _ _ _ _ _ one.0 so.fills one.1 one.2 (omega (arith, c.loop-batch-test.true));
+      later = λ later found. so.later later (c.take.ensures.later c.if-not-take.false later found);
       told = c.take.ensures.told ∙ so.told;
-      same = g.met.D.Taker.taken_trans c.args.desk.now c.loop-desk.desk c.take.new.self so.same c.take.ensures.rest;
+      same = g.met.D.Taker.taken_trans c.args.desk.now c.loop-batch.desk c.take.new.desk so.same c.take.ensures.rest;
     }
