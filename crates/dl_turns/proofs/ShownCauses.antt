@@ -9,7 +9,7 @@ use Rattle.dl_outside.specs.Told.{LinkTold}
 use Rattle.dl_outside.specs.declared.link.Gave.{Gave}
 use Rattle.dl_outside.specs.declared.link.Gave.TheVariants as gave
 use Rattle.dl_core.specs.State.{Core}
-use Rattle.dl_turns.specs.Gone.{IsShown, Tells}
+use Rattle.dl_turns.specs.Gone.{IsShown, ShowsCause, Tells}
 use Rattle.dl_turns.specs.State.{Side, Stage}
 use Rattle.dl_turns.specs.Stopping.{HasStopCause, HasTried, IsClosedIn, IsStop, IsWoundUp}
 use Rattle.dl_turns.specs.Turns.{Hears, Heeds, IsPump, IsTurn, Listens, Refuses, SendsRightly, ServesEach}
@@ -132,3 +132,31 @@ not_pumped client why link link_now old new pump is =
 
 pub not_stopped : {A : Type 0} (why : Why) → IsStop why → why ≡ Left → A
 not_stopped why stop is = absurd (subst IsStop is stop)
+
+-- ---- for each link, whatever it tells
+
+-- what a link did, as far as its counts tell
+abbrev counted : LinkTold → LinkDid
+counted link = record { given = []; taken = []; is_over = true; faults = link.faults; idles = link.idles; waits = link.waits }
+
+by_counts : (link : LinkTold) (why : Why) → IsShown (counted link) why → ShowsCause link why
+by_counts link Broken shown = shown
+by_counts link (Stuck left) shown = shown.0
+by_counts link _ shown = tt
+
+by_cause : (link link_now : LinkTold) (why : Why) → IsStop why → HasStopCause why link link_now → ShowsCause link_now why
+by_cause link link_now Stopped stop cause = tt
+by_cause link link_now (Stuck left) stop cause = omega (arith, cause.0.0, cause.0.1)
+by_cause link link_now _ stop cause = absurd stop
+
+pub turn_counts : (client : ℕ) (why : Why) (old new : Stage) → IsTurn client (Some why) old new → ShowsCause new.link why
+turn_counts client why old new turn = by_counts new.link why (by_turn (counted new.link) client why old new turn refl (λ left. refl))
+
+pub pump_counts : (client : ℕ) (why : Why) (old new : Stage) → IsPump client (Some why) old.link new.link old.side new.side → ShowsCause new.link why
+pump_counts client why old new pump = by_counts new.link why (by_pump (counted new.link) client why old.link new.link old.side new.side pump refl)
+
+pub stop_counts : (client : ℕ) (why : Why) (old new : Stage) → IsWoundUp client why old new → ShowsCause new.link why
+stop_counts client why old new wound = elim wound.ends [
+  | inl closed ↦ by_counts new.link why (closed_shown (counted new.link) client why wound.last new closed.1 refl (λ left. refl))
+  | inr stopped ↦ by_cause old.link new.link why stopped.2 (stop_cause_of client why old new wound)
+]

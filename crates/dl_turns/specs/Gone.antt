@@ -32,6 +32,12 @@ IsShown did (Stuck bytes) = (0 < did.waits) × WasTried did
 IsShown did Stopped = (0 < did.idles) ⊎ WasTried did
 IsShown did other = Unit {0}
 
+-- What every link shows of that by its counts, whatever else it tells: it failed, or it took nothing.
+abbrev pub ShowsCause : LinkTold → Why → Type 0
+ShowsCause link Broken = 0 < link.faults
+ShowsCause link (Stuck bytes) = 0 < link.waits
+ShowsCause link other = Unit {0}
+
 -- ---- in each run in which the client was open before
 
 -- it is open afterwards, with these events and these bytes more

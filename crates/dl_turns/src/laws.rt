@@ -5,7 +5,7 @@ ghost use Rattle.dl_events.specs.declared.event.Why.{Why};
 ghost use Rattle.dl_events.specs.declared.event.Why.TheVariants.{Left};
 ghost use Rattle.dl_model.specs.ClientEnds.{LinkDid, asked_by};
 ghost use Rattle.dl_outside.specs.Outside.{HasRisen};
-ghost use Rattle.dl_turns.specs.Gone.{Goes, IsShown, StaysOpen, Tells};
+ghost use Rattle.dl_turns.specs.Gone.{Goes, IsShown, ShowsCause, StaysOpen, Tells};
 ghost use Rattle.dl_turns.specs.Later.{IsLater, IsLaterStage};
 ghost use Rattle.dl_turns.specs.State.{Side, Stage};
 ghost use Rattle.dl_turns.specs.Stopping.{HasStopCause, IsWoundUp};
@@ -68,4 +68,11 @@ pub fn links_show_why_clients_went()
     ensures stop { (client : ℕ) (why : Why) (old new : Stage) (did : LinkDid) → IsWoundUp client why old new → Tells old.link new.link did
         → (why ≡ Left → did.is_over ≡ true) → IsShown did why }
     ensures left { (client : ℕ) (old new : Stage) → IsTurn client (Some Left) old new → IsSome old.link.over → new.link.over ≡ Some true }
+{}
+
+/// Every link shows by its counts why its client went, whatever else it tells.
+pub fn counts_show_why_clients_went()
+    ensures turn { (client : ℕ) (why : Why) (old new : Stage) → IsTurn client (Some why) old new → ShowsCause new.link why }
+    ensures pump { (client : ℕ) (why : Why) (old new : Stage) → IsPump client (Some why) old.link new.link old.side new.side → ShowsCause new.link why }
+    ensures stop { (client : ℕ) (why : Why) (old new : Stage) → IsWoundUp client why old new → ShowsCause new.link why }
 {}
