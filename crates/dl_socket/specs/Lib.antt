@@ -6,3 +6,4 @@ pub mod Channels
 pub mod Turns
 pub mod Closing
 pub mod Told
+pub mod Listening

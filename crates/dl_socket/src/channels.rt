@@ -1,14 +1,19 @@
 //! The channels of programs outside.
 
-ghost use Rattle.std.specs.Prelude.{◌≡◌, ◌<◌, ◌≤◌, ◌+◌, None, IfErr, IfNone, IfOk, IfSome, IsSome, OnErr, OnOk, OnSome, slice_get};
+ghost use Rattle.std.specs.Prelude.{◌≡◌, ◌<◌, ◌≤◌, ◌+◌, ◌^◌, ℕ, length, nat_eq, None, IfErr, IfNone, IfOk, IfSome, IsSome, OnErr, OnOk, OnSome, slice_get};
+ghost use Rattle.std.specs.List.{IsDistinct};
 ghost use Rattle.dl_bytes.specs.Limits.{admitted_limit, message_limit};
 ghost use Rattle.dl_channel_turns.specs.Turns.{Stays};
 ghost use Rattle.dl_hub.specs.State.{outbox_of};
+ghost use Rattle.dl_rounds.specs.Ready.{AreLinked, KeepsRoom};
+ghost use Rattle.dl_rounds.specs.Rounds.{seen};
+ghost use Rattle.dl_rounds.specs.Visits.{ClosesAll, HearsAll};
 ghost use Rattle.dl_registry.specs.Kept.{owed_change};
 ghost use Rattle.dl_turns.specs.Events.{HasServed};
 ghost use Rattle.dl_socket.specs.Channels.{IsOpen, Opens, Refuses, channel_limit, none_opened, open_channel_limit, open_in, with_channel};
 ghost use Rattle.dl_channel_turns.specs.State.{side};
 ghost use Rattle.dl_socket.specs.Closing.{HasBegunToClose, HasClosed};
+ghost use Rattle.dl_socket.specs.Listening.{HaveListeners, HaveServed};
 ghost use Rattle.dl_socket.specs.Turns.{HasAsked, HasPumped, HasTurned, sight};
 
 use crate::closing::unregister_all;
@@ -19,7 +24,8 @@ use dl_channel::{ChannelEnd, Inbox, Outbox};
 use dl_core::Core;
 use dl_events::{Journal, Why};
 use dl_message::Cutter;
-use dl_outside::{Folder, Link};
+use dl_outside::{Folder, Link, LinkList};
+use dl_rounds::{Listener, close_all, listen_all};
 use dl_turns::client_turn;
 use indexmap::IndexMap;
 use std::alloc::Global;
@@ -137,6 +143,15 @@ impl Channels {
         }
     }
 
+    /// What always holds of the channels that are open, for callers whose own promise rests on it. It costs nothing.
+    pub fn are_apart(&self)
+        // None is open twice.
+        ensures apart { IsDistinct nat_eq (open_in self.now) }
+        ensures few { length self.now.inboxes < 2 ^ 63 }
+    {
+        let _open = self.inboxes.iter();
+    }
+
     /// The turn of a channel that is open: its link is asked once for at most 4096 bytes, and the messages that they make whole are taken in, in
     /// order, each with the Level events that it owes, which are put for their channels. The answer is why the channel ends, where it does.
     pub fn turn<J: Journal, L: Link, F: Folder>(
@@ -244,5 +259,72 @@ impl Channels {
             link,
             folder,
         )
+    }
+    /// Listens to each client of the daemon that is open once, in the order of their numbers: each has such a turn. Answers whether anything moved.
+    pub fn listen_all<R: Wait, J: Journal, L: Link, F: Folder>(
+        &mut self,
+        rt: &R,
+        core: &mut Core,
+        journal: &mut J,
+        links: &mut LinkList<L>,
+        listeners: &mut [Listener],
+        folder: &mut F,
+    ) -> bool
+        requires linked { AreLinked links.old core.old (J.spare journal.old) }
+        requires heard { HaveListeners listeners.old core.old }
+        ensures serves { HaveServed (HearsAll result) core.old.registry
+            (λ desk. seen L.told (λ d. d) J.events F.told links.old listeners.old core.old desk journal.old folder.old)
+            (λ desk. seen L.told (λ d. d) J.events F.told links.new listeners.new core.new desk journal.new folder.new) self.old self.new }
+        ensures linked { AreLinked links.new core.new (J.spare journal.new) }
+        ensures heard { HaveListeners listeners.new core.new }
+        ensures room { KeepsRoom core.old core.new (J.spare journal.old) (J.spare journal.new) }
+    {
+        let registry = core.registry();
+        registry.slots_are_apart();
+        self.messenger.learn(registry);
+        listen_all(
+            rt,
+            self.alloc,
+            core,
+            &mut self.messenger,
+            journal,
+            links,
+            listeners,
+            folder,
+        )
+    }
+
+    /// Closes each client of the daemon that is open, in the order of their numbers, as the daemon stops: each has its closing turns before that.
+    pub fn close_clients<R: Wait, J: Journal, L: Link, F: Folder>(
+        &mut self,
+        rt: &R,
+        core: &mut Core,
+        journal: &mut J,
+        links: &mut LinkList<L>,
+        listeners: &mut [Listener],
+        folder: &mut F,
+    )
+        requires linked { AreLinked links.old core.old (J.spare journal.old) }
+        requires heard { HaveListeners listeners.old core.old }
+        ensures serves { HaveServed ClosesAll core.old.registry
+            (λ desk. seen L.told (λ d. d) J.events F.told links.old listeners.old core.old desk journal.old folder.old)
+            (λ desk. seen L.told (λ d. d) J.events F.told links.new listeners.new core.new desk journal.new folder.new) self.old self.new }
+        ensures none { (number : ℕ) → outbox_of core.new.hub number ≡ None }
+        ensures linked { AreLinked links.new core.new (J.spare journal.new) }
+        ensures heard { HaveListeners listeners.new core.new }
+    {
+        let registry = core.registry();
+        registry.slots_are_apart();
+        self.messenger.learn(registry);
+        close_all(
+            rt,
+            self.alloc,
+            core,
+            &mut self.messenger,
+            journal,
+            links,
+            listeners,
+            folder,
+        );
     }
 }

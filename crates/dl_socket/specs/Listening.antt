@@ -1,0 +1,30 @@
+-- What visits to the daemon's clients come to, beside programs outside.
+use Rattle.std.specs.Prelude.{◌≡◌, ℕ, List, ◌++◌}
+use Rattle.dl_core.specs.State.{Core}
+use Rattle.dl_desk.specs.Told.{PostTold}
+use Rattle.dl_levels.specs.declared.history.Change.{Change}
+use Rattle.dl_registry.specs.Kept.{Kept}
+use Rattle.dl_rounds.specs.Clients.{Clients}
+use Rattle.dl_rounds.specs.Ready.{AreHeard}
+use Rattle.dl_rounds.specs.declared.listener.Listener.{Listener}
+use Rattle.dl_turns.specs.Events.{IsDeskOf}
+use Rattle.dl_socket.specs.Channels.{Channels}
+use Rattle.dl_socket.specs.Messenger.{full_queue}
+use Rattle.dl_socket.specs.Turns.{told_each}
+
+-- Each client that may come has a listener, whatever sets levels for the registry.
+abbrev pub HaveListeners : List Listener → Core → Type 0
+HaveListeners listeners core = (desk : PostTold) → IsDeskOf core.registry desk → AreHeard listeners core desk
+
+-- Clients were visited so: the levels that their requests set are told the programs that have their contexts, in order. What sets the levels has the
+-- versions of the registry before it, and no queue took an injection.
+pub record HaveServed (Visits : Clients → Clients → Type 0) (registry : Kept) (before after : PostTold → Clients) (old new : Channels) : Type 0 where
+  pub desk : PostTold
+  pub desk_now : PostTold
+  pub desk_so : IsDeskOf registry desk
+  pub visits : Visits (before desk) (after desk_now)
+  pub changes : List Change
+  pub sets : desk_now.sets ≡ desk.sets ++ changes
+  pub pushed : (app : ℕ) → (desk.pushed app ≡ full_queue) × (desk_now.pushed app ≡ full_queue)
+  pub told_so : new.outboxes ≡ told_each registry.registry changes old.outboxes
+  pub is : new ≡ record old { outboxes = new.outboxes }
