@@ -291,7 +291,7 @@ module _ {L : Type 0} (told : L → LinkTold) (moment : Moment) (msgs : List Use
             ∙ sym (ap (λ xs. map name_of (taken_of old.daemon.desk.handles app) ++ xs) (none.calls app) ∙ append-nil _))
             (λ app. ap (reported_of app) (same_reported old.daemon.desk new.daemon.desk same)
             ∙ sym (ap (λ n. reported_of app old.daemon.desk.handles.losses.reported + n) (none.losses app) ∙ add_none _))
-            (λ app beyond. (none.calls app, none.losses app)) led.1.desk.sets));
+            (λ app beyond. (none.calls app, none.losses app)) led.1.desk.first led.1.desk.sets));
         linked = record {
           many = came ∙ sym had ∙ is.linked.many;
           few = omega (arith, came);
@@ -341,7 +341,7 @@ module _ {L : Type 0} (told : L → LinkTold) (moment : Moment) (msgs : List Use
           connects = omega (arith, ap (λ (d : DaemonState L). length d.links.links) greets.rest, none.none_come);
           holds = λ run gives holds.
               let held = is.runs run (gives_before run old.daemon.first_core old.daemon.desk new.daemon.desk same
-                  (subst (λ (first : Core). Gives run first new.daemon.desk.apps new.daemon.desk.handles) (ap (λ (d : DaemonState L). d.first_core) greets.rest) gives)) in
+              (subst (λ (first : Core). Gives run first new.daemon.desk.apps new.daemon.desk.handles) (ap (λ (d : DaemonState L). d.first_core) greets.rest) gives)) in
               subst (λ (es : List Event). HoldsTrace run es new.daemon.core new.folder) (sym events) ((led.1.after run old.daemon.journal.events held.took tt held.after).1 holds);
           leaves = leaves_kept old.daemon.core new.daemon.core old.folder new.folder led.1.trace;
           folder = λ run gives. folder_kept old.daemon.core.trace new.daemon.core.trace old.folder new.folder led.1.trace run.setting old.daemon.journal.events led.0 none.asks;

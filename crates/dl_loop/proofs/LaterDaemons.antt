@@ -130,7 +130,7 @@ module _ {L : Type 0} (told : L → LinkTold) (old : DaemonState L) (is : IsDaem
             (told_more old.journal.events later.more (length old.desk.apps) old.desk.handles desk.handles is.told_by
             (λ app. ap (map name_of) (same_taken old.desk desk same app) ∙ sym (ap (λ xs. map name_of (taken_of old.desk.handles app) ++ xs) (none.calls app) ∙ append-nil _))
             (λ app. ap (reported_of app) (same_reported old.desk desk same) ∙ sym (ap (λ n. reported_of app old.desk.handles.losses.reported + n) (none.losses app) ∙ add_none _))
-            (λ app beyond. (none.calls app, none.losses app)) later.desk.sets));
+            (λ app beyond. (none.calls app, none.losses app)) later.desk.first later.desk.sets));
         linked = linked;
         heard = heard;
         room = record {

@@ -109,6 +109,7 @@ made_daemon told core desk journal links listeners calls begins untouched events
         admitted = λ app. sym (ap (map name_of) (untouched.taken app));
         losses = λ app. sym (ap (reported_of app) untouched.reported);
         alone = λ app beyond. (refl, refl);
+        first = untouched.first;
         levels = untouched.sets;
       });
       linked = subst (λ ls. AreLinked ls (begun conf stored 0 trace) journal.spare) (sym no_links)

@@ -135,6 +135,7 @@ module _ {L : Type 0} (told : L → LinkTold) (d : DaemonState L) (books : List 
           tells.admitted app ∙ ap (map name_of) (other.0 ∙ ap (λ (t : Took). t.taken app) took_so) ∙ sym (is.told_by.admitted app) ∙ before.0,
           tells.losses app ∙ other.1 ∙ ap (λ (t : Took). reported_of app t.reported) took_so ∙ sym (is.told_by.losses app) ∙ before.1,
         );
+    first = stop.first ∙ made.kept.first ∙ is.told_by.first;
     levels = stop.sets ∙ ap (λ (cs : List Change). cs ++ filter_map level_in stop.more) (made.kept.sets ∙ is.told_by.levels) ∙ sym (filter_map-append level_in d.journal.events stop.more)
         ∙ ap (filter_map level_in) (sym stop.events);
   }
@@ -181,6 +182,7 @@ module _ {L : Type 0} (told : L → LinkTold) (d : DaemonState L) (books : List 
     of_stop = stop.of_stop;
     apps = apps_so;
     told_by = told_by_so;
+    taken = λ app. (let more = stop.taken_more app in (more.0, more.1 ∙ ap (λ (t : Took). t.taken app ++ more.0) took_so));
     many = stop.many;
     dropped = ap (λ (o : Ends). o.dropped) stop.outcome;
     runs = runs_so;

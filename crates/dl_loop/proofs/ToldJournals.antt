@@ -48,14 +48,15 @@ pub told_more : (events more : List Event) (apps : ℕ) (old new : HandlesState)
     → ((app : ℕ) → map name_of (taken_of new app) ≡ map name_of (taken_of old app) ++ order app more)
     → ((app : ℕ) → reported_of app new.losses.reported ≡ reported_of app old.losses.reported + reported app more)
     → ((app : ℕ) → apps ≤ app → (order app more ≡ []) × (reported app more ≡ 0))
-    → new.levels.sets ≡ old.levels.sets ++ filter_map level_in more
+    → new.levels.first ≡ old.levels.first → new.levels.sets ≡ old.levels.sets ++ filter_map level_in more
     → IsToldBy (events ++ more) apps new
-told_more events more apps old new told taken losses alone sets = record {
+told_more events more apps old new told taken losses alone first sets = record {
   admitted = λ app. filter_map-append (logged_of app) events more ∙ ap (λ xs. xs ++ order app more) (told.admitted app) ∙ sym (taken app);
   losses = λ app. sum_by-append (lost_of app) events more ∙ ap (λ n. n + reported app more) (told.losses app) ∙ sym (losses app);
   alone = λ app beyond. (
     filter_map-append (logged_of app) events more ∙ ap (λ xs. xs ++ order app more) (told.alone app beyond).0 ∙ (alone app beyond).0,
     sum_by-append (lost_of app) events more ∙ ap (λ n. n + reported app more) (told.alone app beyond).1 ∙ ap (λ n. 0 + n) (alone app beyond).1,
   );
+  first = first ∙ told.first;
   levels = sets ∙ ap (λ xs. xs ++ filter_map level_in more) told.levels ∙ sym (filter_map-append level_in events more);
 }

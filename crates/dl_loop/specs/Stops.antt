@@ -1,10 +1,12 @@
 -- A daemon that stops: what it hands on, and what it leaves.
 use Rattle.std.specs.Prelude.{◌≡◌, ℕ, ◌≤◌, List, [], ◌++◌, length, map}
 use Rattle.std.specs.List.{AllByRecursion}
+use Rattle.dl_bytes.specs.declared.item.Item.{Item}
 use Rattle.dl_events.specs.declared.event.Event.{Event}
 use Rattle.dl_model.specs.Journal.{IsOpen, IsWellFormed}
 use Rattle.dl_outside.specs.Links.{Links}
 use Rattle.dl_outside.specs.Told.{FolderTold, LinkTold}
+use Rattle.dl_lib.specs.Known.{taken_of}
 use Rattle.dl_lib.specs.State.{AccountState, ClosingState}
 use Rattle.dl_core.specs.Follows.{HoldsTrace, IsAfter, Run, source_of}
 use Rattle.dl_core.specs.State.{Core}
@@ -47,15 +49,16 @@ pub record StopsIn {L : Type 0} (told : L → LinkTold) (run : Run) (d : DaemonS
   pub holds : HoldsTrace run d.journal.events d.core folder → HoldsTrace run account.events core folder_now
   pub gone : TellBytes told → HaveGone run account.events (map told links.links) account.outcome.links
 
--- What a stop leaves: the journal is longer by calls, losses, requests, levels and Closes alone; it tells just what was taken, reported and set; as
--- many links come back as there were, and so many are told as dropped; and in each run that the account may be of, it is as said above. No file of
--- others changed in the folder, and the trace that is told of stayed in its directory, where one was kept; the folder's faults and its stored
+-- What a stop leaves: the journal is longer by calls, losses, requests, levels and Closes alone; more was taken, and the journal tells just what
+-- was taken, reported and set; as many links come back as there were, and so many are told as dropped; and in each run that the account may be of, it
+-- is as said above. No file of others changed in the folder, and the trace that is told of stayed in its directory, where one was kept; the folder's faults and its stored
 -- configuration are later by these events.
 pub record IsStopped {L : Type 0} (told : L → LinkTold) (d : DaemonState L) (account : AccountState) (links : Links L) (folder folder_now : FolderTold) : Type 0 where
   pub more : List Event
   pub events : account.events ≡ d.journal.events ++ more
   pub of_stop : AllByRecursion IsOfStop more
   pub apps : account.apps ≡ d.desk.apps
+  pub taken : (app : ℕ) → (items : List Item) × (taken_of account.handles app ≡ taken_of d.desk.handles app ++ items)
   pub told_by : IsToldBy account.events (length account.apps) account.handles
   pub many : length links.links ≡ length d.links.links
   pub dropped : account.outcome.dropped ≡ d.dropped
