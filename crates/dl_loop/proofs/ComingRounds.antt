@@ -13,7 +13,8 @@ use Rattle.dl_rounds.specs.Visits.{HearsAll, Pumped}
 use Rattle.dl_rounds.specs.declared.accepting.Arrival.{Arrival}
 use Rattle.dl_rounds.specs.declared.accepting.Arrival.TheVariants as arrival
 use Rattle.dl_loop.specs.Coming.{EndsAccepts, HasWaited, HaveCome, TellsAccept, came_in}
-use Rattle.dl_loop.specs.Later.{GoesRound, is_connect}
+use Rattle.dl_loop.specs.Later.{GoesRound}
+use Rattle.dl_model.specs.Journal.{is_connect}
 use Rattle.dl_loop.specs.RoundSteps.{AcceptsIfMay, HasEnded, IsRound, Serves, answer_of}
 use Rattle.dl_loop.specs.Scene.{Scene}
 use Rattle.dl_loop.specs.State.{DaemonState, desk_told}

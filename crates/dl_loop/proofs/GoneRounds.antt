@@ -39,7 +39,8 @@ use Rattle.dl_turns.specs.State.{side}
 use Rattle.dl_turns.proofs.LaterStages.{WhatLinksTake}
 use Rattle.dl_loop.specs.Daemon.{IsDaemon}
 use Rattle.dl_loop.specs.Holds.{Gives}
-use Rattle.dl_loop.specs.Later.{GoesRound, IsLaterBy, IsNetLater, IsOfRound, is_connect}
+use Rattle.dl_loop.specs.Later.{GoesRound, IsLaterBy, IsNetLater, IsOfRound}
+use Rattle.dl_model.specs.Journal.{is_connect}
 use Rattle.dl_loop.specs.RoundSteps.{AcceptsIfMay}
 use Rattle.dl_loop.specs.Scene.{Scene, scene}
 use Rattle.dl_loop.specs.State.{DaemonState, SameDesk, clients_of, desk_told}

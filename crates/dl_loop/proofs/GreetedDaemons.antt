@@ -14,7 +14,7 @@ use Rattle.dl_losses.specs.Losses.{reported_of}
 use Rattle.dl_losses.specs.declared.keeper.Report.{Report}
 use Rattle.dl_model.specs.Accounts.{name_of, order}
 use Rattle.dl_model.specs.Frames.{stored, user_frames}
-use Rattle.dl_model.specs.Journal.{IsRunning, IsWellFormed, is_stop}
+use Rattle.dl_model.specs.Journal.{IsRunning, IsWellFormed, is_stop, is_connect}
 use Rattle.dl_model.specs.Report.{reported}
 use Rattle.dl_model.specs.declared.registry.LevelChange.{LevelChange}
 use Rattle.dl_outside.specs.Told.{FolderTold, LinkTold}
@@ -43,7 +43,7 @@ use Rattle.dl_loop.specs.Daemon.{IsDaemon, TellTaken, is_noted}
 use Rattle.dl_loop.specs.Greeting.{Greets}
 use Rattle.dl_loop.specs.Holds.{AreNoted, Gives, HoldsIn}
 use Rattle.dl_loop.specs.Scene.{Scene, side_of, scene}
-use Rattle.dl_loop.specs.Later.{IsLaterBy, IsLaterGreeted, is_connect}
+use Rattle.dl_loop.specs.Later.{IsLaterBy, IsLaterGreeted}
 use Rattle.dl_loop.specs.State.{DaemonState, SameDesk, desk_told}
 use Rattle.dl_loop.specs.Told.{IsToldBy}
 use Rattle.dl_loop.proofs.DeskRest.{later_both, same_apps, same_later, same_reported, same_taken}

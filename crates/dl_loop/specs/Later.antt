@@ -1,10 +1,11 @@
 -- A daemon later: what whoever makes many calls of it knows of the first and the last.
-use Rattle.std.specs.Prelude.{◌≡◌, ◌⊎◌, ◌+◌, ◌≤◌, ℕ, Bool, true, false, List, ◌++◌, count_by, length}
+use Rattle.std.specs.Prelude.{◌≡◌, ◌⊎◌, ◌+◌, ◌≤◌, ℕ, List, ◌++◌, count_by, length}
 use Rattle.std.specs.List.{AllByRecursion}
 use Rattle.dl_bytes.specs.Limits.{open_client_limit}
 use Rattle.dl_bytes.specs.declared.item.Item.{Item}
 use Rattle.dl_events.specs.declared.event.Event.{Event}
 use Rattle.dl_events.specs.declared.event.Event.TheVariants as event
+use Rattle.dl_model.specs.Journal.{is_connect}
 use Rattle.dl_outside.specs.Outside.{Stays}
 use Rattle.dl_outside.specs.Told.{NetTold}
 use Rattle.dl_desk.specs.Made.{IsLater}
@@ -16,11 +17,6 @@ use Rattle.dl_admission.specs.Kept.{end_of}
 use Rattle.dl_rounds.specs.Greetings.{IsOfGreeting}
 use Rattle.dl_loop.specs.Holds.{Gives}
 use Rattle.dl_loop.specs.Scene.{Scene}
-
--- a Connect event
-abbrev pub is_connect : Event → Bool
-is_connect (event.Connect client) = true
-is_connect other = false
 
 -- an event of a round: any but one of a program that tells of itself
 abbrev pub IsOfRound : Event → Type 0

@@ -3,7 +3,8 @@
 ghost use Rattle.std.specs.Prelude.{◌≡◌, ◌+◌, ℕ, [], IfSome, count_by, length};
 ghost use Rattle.dl_outside.specs.Told.{NetTold};
 ghost use Rattle.dl_loop.specs.Coming.{HasWaited, HaveCome, TellsAccept, came_in};
-ghost use Rattle.dl_loop.specs.Later.{GoesRound, is_connect};
+ghost use Rattle.dl_loop.specs.Later.{GoesRound};
+ghost use Rattle.dl_model.specs.Journal.{is_connect};
 ghost use Rattle.dl_loop.specs.RoundSteps.{IsRound};
 ghost use Rattle.dl_loop.specs.Scene.{Scene};
 ghost use Rattle.dl_loop.specs.State.{DaemonState};
