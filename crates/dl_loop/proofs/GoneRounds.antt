@@ -97,6 +97,7 @@ module _ {L : Type 0} where
     first_core = refl;
     first_desk = refl;
     desk = later_none s.daemon.desk;
+    owners = refl;
     taken = λ app. ([], sym (append-nil (taken_of s.daemon.desk.handles app)));
     connects = omega arith;
     holds = λ run gives holds. holds;
@@ -111,6 +112,7 @@ module _ {L : Type 0} where
     first_core = two.first_core ∙ one.first_core;
     first_desk = two.first_desk ∙ one.first_desk;
     desk = later_both a.daemon.desk b.daemon.desk c.daemon.desk one.desk two.desk;
+    owners = two.owners ∙ one.owners;
     taken = λ app. (
       (one.taken app).0 ++ (two.taken app).0,
       (two.taken app).1 ∙ ap (λ (items : List Item). items ++ (two.taken app).0) (one.taken app).1 ∙ append_assoc (taken_of a.daemon.desk.handles app) (one.taken app).0 (two.taken app).0,
@@ -195,6 +197,7 @@ module _ {L : Type 0} (told : L → LinkTold) (net : NetTold L) (old : DaemonSta
           first_core = refl;
           first_desk = refl;
           desk = same_later old.desk desk same;
+          owners = ap (λ (d : DeskState). d.owners) same;
           taken = λ app. ([], same_taken old.desk desk same app ∙ sym (append-nil (taken_of old.desk.handles app)));
           connects = omega (arith, length-map links.links told, length-map old.links.links told, later.many, of_round.none_come);
           holds = λ run gives holds.
@@ -239,6 +242,7 @@ module _ {L : Type 0} (told : L → LinkTold) (net : NetTold L) (old : DaemonSta
           first_core = refl;
           first_desk = refl;
           desk = taken_later old.desk desk took.desk_same;
+          owners = ap (λ (d : DeskState). d.owners) took.desk_same;
           taken = grows;
           connects = omega (arith, of_round.none_come);
           holds = λ run gives holds.
@@ -282,6 +286,7 @@ module _ {L : Type 0} (told : L → LinkTold) (net : NetTold L) (old : DaemonSta
           first_core = refl;
           first_desk = refl;
           desk = later_none old.desk;
+          owners = refl;
           taken = λ app. ([], sym (append-nil (taken_of old.desk.handles app)));
           connects = omega arith;
           holds = λ run gives holds. holds;
@@ -318,6 +323,7 @@ module _ {L : Type 0} (told : L → LinkTold) (net : NetTold L) (old : DaemonSta
           first_core = refl;
           first_desk = refl;
           desk = later_none old.desk;
+          owners = refl;
           taken = λ app. ([], sym (append-nil (taken_of old.desk.handles app)));
           connects = omega (arith, longer, one);
           holds = λ run gives holds.

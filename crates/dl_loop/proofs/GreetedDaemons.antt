@@ -20,6 +20,7 @@ use Rattle.dl_model.specs.declared.registry.LevelChange.{LevelChange}
 use Rattle.dl_outside.specs.Told.{FolderTold, LinkTold}
 use Rattle.dl_promises.proofs.LongerJournals.{goes_on}
 use Rattle.dl_desk.specs.Apps.{AppState}
+use Rattle.dl_desk.specs.State.{DeskState}
 use Rattle.dl_desk.specs.Told.{PostTold}
 use Rattle.dl_registry.specs.Kept.{owed_change}
 use Rattle.dl_hub.specs.State.{Client, Hub, is_open, outbox_of}
@@ -337,6 +338,7 @@ module _ {L : Type 0} (told : L → LinkTold) (moment : Moment) (msgs : List Use
           first_core = ap (λ (d : DaemonState L). d.first_core) greets.rest;
           first_desk = ap (λ (d : DaemonState L). d.first_desk) greets.rest;
           desk = same_later old.daemon.desk new.daemon.desk same;
+          owners = ap (λ (d : DeskState). d.owners) greets.desk;
           taken = λ app. ([], same_taken old.daemon.desk new.daemon.desk same app ∙ sym (append-nil (taken_of old.daemon.desk.handles app)));
           connects = omega (arith, ap (λ (d : DaemonState L). length d.links.links) greets.rest, none.none_come);
           holds = λ run gives holds.

@@ -89,6 +89,7 @@ goes_parts {L} told net folder old new parts =
         first_core = refl;
         first_desk = refl;
         desk = later_none old.desk;
+        owners = refl;
         taken = λ app. ([], sym (append-nil _));
         connects = omega (arith, many);
         holds = λ run gives holds. holds;

@@ -23,7 +23,7 @@ abbrev pub IsOfRound : Event → Type 0
 IsOfRound (event.User channel msg moment) = ⊥
 IsOfRound other = Unit {0}
 
--- The daemon is later by these events; it is of the same core, desk and calls. Each Connect event is one of a link that came, and no link is
+-- The daemon is later by these events; it is of the same core, desk, writers and calls. Each Connect event is one of a link that came, and no link is
 -- forgotten. The trace files that stood for the journal stand for the longer one. No file of others changed in the folder, and a trace that is kept
 -- stays in its directory; the folder's faults and its stored configuration are later by these events.
 pub record IsLaterBy {L : Type 0} (more : List Event) (old new : Scene L) : Type 0 where
@@ -32,6 +32,7 @@ pub record IsLaterBy {L : Type 0} (more : List Event) (old new : Scene L) : Type
   pub first_core : new.daemon.first_core ≡ old.daemon.first_core
   pub first_desk : new.daemon.first_desk ≡ old.daemon.first_desk
   pub desk : IsLater old.daemon.desk new.daemon.desk
+  pub owners : new.daemon.desk.owners ≡ old.daemon.desk.owners
   pub taken : (app : ℕ) → (items : List Item) × (taken_of new.daemon.desk.handles app ≡ taken_of old.daemon.desk.handles app ++ items)
   pub connects : length new.daemon.links.links ≡ length old.daemon.links.links + count_by is_connect more
   pub holds : (run : Run) → Gives run new.daemon.first_core new.daemon.desk.apps new.daemon.desk.handles
