@@ -1,3 +1,14 @@
 pub mod PlayedBooks
 pub mod PostedInjections
 pub mod Runs
+pub mod Introductions
+pub mod Assembled
+pub mod PlayedCalls
+pub mod Starting
+pub mod LaunchedNets
+pub mod TakenFrames
+pub mod GatheredLinks
+pub mod PlayedDaemons
+pub mod ComeTo
+pub mod Performed
+pub mod EndedRuns

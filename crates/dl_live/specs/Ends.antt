@@ -1,5 +1,6 @@
 -- How a run ends: its statuses, one line each.
-use Rattle.std.specs.Prelude.{◌≡◌, ◌≢◌, ℕ, ◌≤◌, ◌⊎◌, false, List, ◌++◌, Some, None, IfSome}
+use Rattle.std.specs.Prelude.{◌≡◌, ◌≢◌, ℕ, ◌≤◌, ◌⊎◌, false, List, ◌++◌, Some, None, IfSome, Bool, true, Option}
+use Rattle.dl_bytes.specs.declared.outcome.TraceEnd.{TraceEnd}
 use Rattle.dl_bytes.specs.declared.outcome.TraceEnd.TheVariants as end
 use Rattle.dl_ending.specs.Ending.{text_of, unheard}
 use Rattle.dl_lib.specs.State.{AccountState}
@@ -10,6 +11,7 @@ use Rattle.dl_outside.specs.Written.{Wrote, WroteAll, WroteFront, WroteNothing}
 use Rattle.dl_script_lines.specs.declared.scenario.ScenarioLine.{ScenarioLine}
 use Rattle.dl_startup.specs.Failures.{unserved}
 use Rattle.dl_startup.specs.Unchanged.{FolderWell, IsUnchanged}
+use Rattle.dl_startup.specs.declared.failures.Failures.{Failures}
 use Rattle.dl_startup.specs.declared.status.Status.{Status}
 use Rattle.dl_startup.specs.declared.status.Status.TheVariants.{Ok, WriteFault, FolderFault, NetFault, OutOfMemory, NamesSpent}
 use Rattle.dl_live.specs.declared.beginning.Begun.{Begun}
@@ -64,3 +66,21 @@ Ends begun account old new OutOfMemory =
     WroteNothing old.out new.out
     ⊎ (WroteAll old.out new.out (text_of (setting begun) account) × NetWell old.net new.net × FolderWell old.folder new.folder × HasNames account)
 Ends begun account old new _ = ⊥
+
+-- ---- when the report is written
+
+-- What is known of a run when its report is written: whether net and folder failed, why its trace ended, and whether memory was wanted.
+pub record KnownOf {L : Type 0} (begun : Begun) (account : AccountState) (old new : Told L) (net folder : Bool) (cause : Option TraceEnd) (memory : Bool) : Type 0 where
+  pub net_failed : net ≡ true → HasRisen old.net.faults new.net.faults
+  pub net_well : net ≡ false → NetWell old.net new.net
+  pub folder_failed : folder ≡ true → HasRisen old.folder.faults new.folder.faults
+  pub folder_well : folder ≡ false → FolderWell old.folder new.folder
+  pub cause_is : account.outcome.trace.end ≡ cause
+  pub trace_failed : cause ≡ Some end.Failed → HasRisen old.folder.faults new.folder.faults
+  pub served : memory ≡ false → (unserved account.events ≡ false) × (unheard account.events ≡ false)
+  pub launched : net ≡ false → IfSome old.net.launched (λ before. new.net.launched ≡ Some (before ++ scripts_of begun.scenario))
+  pub all_came : net ≡ false → memory ≡ false → IfSome old.net.waiting (λ before. clients begun.scenario ≤ came account)
+
+-- what went wrong in it, beside its account
+abbrev pub failed_so : Bool → Bool → Bool → Failures
+failed_so net folder memory = record { net = net; folder = folder; names_spent = false; journal_full = false; output = false; memory = memory }

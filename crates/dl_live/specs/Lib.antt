@@ -7,5 +7,6 @@ pub mod Folder
 pub mod Injected
 pub mod Account
 pub mod Stage
+pub mod Playing
 pub mod Ends
 pub mod Program

@@ -1,9 +1,14 @@
 //! Laws on what a run comes to.
 
-ghost use Rattle.std.specs.Prelude.{◌≡◌, ℕ, ◌<◌, List, [], Option, length};
-ghost use Rattle.std.specs.List.{range_with_len};
-ghost use Rattle.dl_crew.specs.Plays.{ArePairs, HasPlayed};
+ghost use Rattle.std.specs.Prelude.{◌≡◌, ℕ, ◌+◌, ◌^◌, ◌<◌, ◌≤◌, ◌||◌, All, Bool, List, [], Option, length};
+ghost use Rattle.std.specs.List.{AllByRecursion, range_with_len};
+ghost use Rattle.dl_bytes.specs.declared.outcome.TraceEnd.{TraceEnd};
+ghost use Rattle.dl_crew.specs.Plays.{ArePairs, CanPlay, HasPlayed};
+ghost use Rattle.dl_desk.specs.Made.{IsLater};
+ghost use Rattle.dl_desk.specs.State.{DeskState};
 ghost use Rattle.dl_desk.specs.Told.{PostTold, told_by};
+ghost use Rattle.dl_ending.specs.Ending.{Finishes, failures_with, text_of, unheard};
+ghost use Rattle.dl_lib.specs.Making.{AreMadeWith};
 ghost use Rattle.dl_lib.specs.Settled.{IsSettled};
 ghost use Rattle.dl_lib.specs.State.{AccountState};
 ghost use Rattle.dl_model.specs.Setting.{Setting};
@@ -11,14 +16,24 @@ ghost use Rattle.dl_opening.specs.Opening.{IsOpened};
 ghost use Rattle.dl_opening.specs.Scenario.{writers};
 ghost use Rattle.dl_opening.specs.declared.opened.Opened.{Opened};
 ghost use Rattle.dl_outside.specs.Links.{Links};
-ghost use Rattle.dl_outside.specs.Told.{LinkTold, SinkTold};
+ghost use Rattle.dl_outside.specs.Told.{FolderTold, LinkTold, NetTold, SinkTold};
+ghost use Rattle.dl_rounds.specs.Greetings.{IsIntroduced, registered};
 ghost use Rattle.dl_script.specs.Playable.{IsRunnable};
 ghost use Rattle.dl_script_lines.specs.declared.scenario.ScenarioLine.{ScenarioLine};
+ghost use Rattle.dl_settling.specs.Room.{together};
+ghost use Rattle.dl_startup.specs.Failures.{unserved};
+ghost use Rattle.dl_startup.specs.Setup.{IsBegun};
 ghost use Rattle.dl_startup.specs.declared.status.Status.{Status};
 ghost use Rattle.dl_turns.specs.Injected.{HasPosted};
-ghost use Rattle.dl_writer.specs.State.{BookState, numbers};
+ghost use Rattle.dl_writer.specs.State.{BookState, IsWhole, numbers};
+ghost use Rattle.dl_live.specs.declared.beginning.Begun.{Begun};
+ghost use Rattle.dl_live.specs.declared.players.Players.{Players};
+ghost use Rattle.dl_live.specs.Account.{IsPlayedOut, setting};
+ghost use Rattle.dl_live.specs.Clients.{IsHeard};
+ghost use Rattle.dl_live.specs.Ends.{Ends, KnownOf, failed_so};
 ghost use Rattle.dl_live.specs.Injected.{IsInjected};
 ghost use Rattle.dl_live.specs.Played.{HasPlayedAll};
+ghost use Rattle.dl_live.specs.Playing.{ArePlayersOf, CanBePlayed, HasBeenPlayed};
 ghost use Rattle.dl_live.specs.Program.{ChangesNoOther, IsRun, Outcome, Says};
 ghost use Rattle.dl_live.specs.Told.{Told};
 
@@ -53,4 +68,38 @@ pub fn an_outcome_is_a_run<L: Link>()
     ensures { (said : List (List ℕ)) (old new : Told L) (err err_now : SinkTold) (status : Status) (account : Option AccountState) (links : Links L)
         → Outcome L.told said old new status account links → ChangesNoOther said old.folder new.folder → Says status err err_now
         → IsRun L.told said old new err err_now status account links }
+{}
+
+/// What the calls of a run ask of what was assembled for it: its applications introduce themselves and have a place at the desk, its clients and its
+/// books are few enough, and each book has room. And what the stop asks of the books that the crew played: they are whole, they are of the desk as it is
+/// then, and there are no more calls than the daemon may note.
+pub fn what_was_assembled_can_be_played<L: Link>()
+    ensures introduced { (p : Players L) → CanBePlayed p → AllByRecursion IsIntroduced p.apps }
+    ensures nobody { (p : Players L) → CanBePlayed p → p.daemon.links.links ≡ [] }
+    ensures place { (p : Players L) → CanBePlayed p → registered p.daemon.core + length p.apps ≤ length p.daemon.desk.apps }
+    ensures scripts { (p : Players L) → CanBePlayed p → length p.scripts < 2 ^ 32 }
+    ensures books { (p : Players L) → CanBePlayed p → (length p.books ≤ 32) × All (CanPlay p.plan.contexts p.plan.lines) p.books }
+    ensures whole { (p : Players L) (books : List BookState) → CanBePlayed p → ArePairs (HasPlayed p.plan.contexts p.plan.lines) p.books books → All IsWhole books }
+    ensures made { (p : Players L) (books : List BookState) (desk : DeskState) → CanBePlayed p → ArePairs (HasPlayed p.plan.contexts p.plan.lines) p.books books
+        → IsLater p.daemon.desk desk → AreMadeWith desk books }
+    ensures few { (p : Players L) (books : List BookState) → CanBePlayed p → ArePairs (HasPlayed p.plan.contexts p.plan.lines) p.books books
+        → together books ≤ p.daemon.calls }
+{}
+
+/// A run that was played is played out: its journal is well-formed and its records account for it, it is of the scenario, its clients were served, and net
+/// and folder are what its events made of them.
+pub fn what_was_played_is_its_account<L: Link>()
+    ensures { (begun : Begun) (p : Players L) (wanted failed : Bool) (net heard net_now : NetTold L) (folder folder_now : FolderTold) (account : AccountState)
+        (links : Links L) → IsRunnable begun.scenario → ArePlayersOf begun p → IsBegun begun.conf folder.files begun.trace → IsHeard begun.port net heard
+        → HasBeenPlayed L.told p wanted failed heard net_now folder folder_now account links
+        → IsPlayedOut L.told begun net net_now folder folder_now account links }
+{}
+
+/// The status that is found as a report is written says how the run ended.
+pub fn a_status_says_how_a_run_ended<L: Link>()
+    ensures { (begun : Begun) (account : AccountState) (old new : Told L) (net folder memory : Bool) (status : Status)
+        → ((cause : Option TraceEnd) → account.outcome.trace.end ≡ cause
+        → KnownOf begun account old new net folder cause (memory || (unserved account.events || unheard account.events)))
+        → Finishes (text_of (setting begun) account) (failures_with account (failed_so net folder memory)) old.out new.out status
+        → Ends begun account old new status }
 {}
