@@ -1,2 +1,4 @@
 pub mod StillOpen
-pub mod ClosedChannels
+pub mod Behind
+pub mod LeftOpen
+pub mod Visiting

@@ -1,3 +1,3 @@
 pub mod Accepting
 pub mod Visits
-pub mod Closing
+pub mod Rounds
