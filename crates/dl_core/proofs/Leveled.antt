@@ -27,7 +27,7 @@ use Rattle.dl_registry.proofs.Following.{change_is_level, change_follows}
 use Rattle.dl_events.specs.declared.event.Event.TheVariants as event
 use Rattle.dl_registry.specs.Kept as registry
 use Rattle.dl_registry.specs.Kept.{Kept, Applies, slots, owed_change, with_change, with_registry}
-use Rattle.dl_registry.specs.Table.{raised, unset}
+use Rattle.dl_slots.specs.Table.{raised, unset}
 use Rattle.dl_core.specs.State.{Core}
 use Rattle.dl_core.specs.Follows.{AddsAlone}
 use Rattle.dl_core.specs.Waiting.{waiting, changes_by}

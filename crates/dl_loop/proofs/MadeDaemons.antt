@@ -16,7 +16,7 @@ use Rattle.dl_model.specs.declared.registry.Slot.{Slot}
 use Rattle.dl_model.specs.Registry.{all_slots, first_change}
 use Rattle.dl_desk.specs.State.{DeskState}
 use Rattle.dl_registry.specs.Kept.{made, owed_change, slots}
-use Rattle.dl_registry.specs.Table.{unset}
+use Rattle.dl_slots.specs.Table.{unset}
 use Rattle.dl_bytes.specs.Limits.{client_limit}
 use Rattle.dl_hub.specs.State.{Client, fresh, outbox_of}
 use Rattle.std.specs.Option.{option_and_then}

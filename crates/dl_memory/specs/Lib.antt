@@ -1,5 +1,2 @@
 pub mod Kept
-pub mod Wire
 pub mod Shelf
-pub mod Clients
-pub mod Counted

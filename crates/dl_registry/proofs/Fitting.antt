@@ -10,7 +10,7 @@ use Rattle.dl_model.specs.declared.registry.Context.{Context}
 use Rattle.dl_model.specs.declared.registry.Slot.{Slot}
 use Rattle.dl_bytes.specs.Limits.{last_version}
 use Rattle.dl_model.specs.Registry.{App, Registry, IsInOrder, IsNumbered, context_of, effective, level_at, places, slot_of, with_app, with_new_app, with_context, with_new_context, without}
-use Rattle.dl_registry.specs.Table.{Table, held_at, wanted_at, differing}
+use Rattle.dl_slots.specs.Table.{Table, held_at, wanted_at, differing}
 use Rattle.dl_registry.specs.Change.{context_told_again, without_context}
 use Rattle.dl_registry.specs.Kept.{Fits}
 use Rattle.dl_registry.proofs.Finding.{valued, valued-push, valued-found, valued-set_value, valued-remove, valued-free}

@@ -19,7 +19,7 @@ use Rattle.std.proofs.lemmas.Bool.Decides.{eqb_tells, leb_tells}
 use Rattle.dl_model.proofs.Order.{in_order-with_app, in_order-with_new_app, in_order-without, placed_of_found}
 use Rattle.dl_registry.specs.Change.{changed_app, changed_context, told_again, context_told_again, without_context}
 use Rattle.dl_registry.specs.Kept.{Kept, Applies, Fits, kept_of, slots, with_registry}
-use Rattle.dl_registry.specs.Table.{Table, held_at, wanted_at, IsFirstFree}
+use Rattle.dl_slots.specs.Table.{Table, held_at, wanted_at, IsFirstFree}
 use Rattle.dl_registry.proofs.Finding.{valued, valued_tells}
 use Rattle.dl_registry.proofs.Fitting.{level_of, level_at-same, level_at-one, level_at-new_app, level_at-without, level_of-told, level_of-new, level_of-gone, level_at-found, fits-same, fits-one, fits-app_gone, place_of}
 use Rattle.dl_registry.proofs.Numbers.{least_free_is, room_left, none_left}

@@ -13,9 +13,9 @@ ghost use Rattle.dl_registry.specs.Kept.{Applies, slots};
 use crate::application::Application;
 use crate::apps;
 use crate::registry::{LAST_VERSION, Registry, copied, own_for};
-use crate::table::slot_of;
 use dl_bytes::{Bytes, Id, OwnLevel, UserMsg};
 use dl_model::{Context, RegistryFault};
+use dl_slots::slot_of;
 
 /// Whether an id has no letter.
 fn is_zero(id: Id) -> bool

@@ -7,16 +7,16 @@ ghost use Rattle.dl_model.specs.Registry.{wears, wears_app, wears_context, unles
 ghost use Rattle.dl_registry.specs.Change.{relevel_of};
 ghost use Rattle.dl_registry.specs.Kept.{Sets, slots};
 ghost use Rattle.dl_registry.specs.Refresh.{level_in_app, level_in_apps};
-ghost use Rattle.dl_registry.specs.Table.{wanted_at};
+ghost use Rattle.dl_slots.specs.Table.{wanted_at};
 
 use crate::application::Application;
 use crate::apps::{self, Apps};
 use crate::info::matching_of;
 use crate::registry::{LAST_VERSION, Registry};
 use crate::relevel::Relevel;
-use crate::table::{SlotTable, slot_of};
 use dl_bytes::{Id, Level, OwnLevel, Sequence, StoredLevel};
 use dl_model::{Context, SetFault};
+use dl_slots::{SlotTable, slot_of};
 use std::alloc::Global;
 
 /// A default level, with own levels for contexts.

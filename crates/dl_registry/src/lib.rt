@@ -12,7 +12,6 @@ pub mod laws;
 mod levels;
 mod registry;
 mod relevel;
-mod table;
 
 pub use dl_bytes::Stored;
 pub use dl_model::{LevelChange, RegistryFault, SetFault};

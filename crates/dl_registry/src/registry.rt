@@ -10,9 +10,9 @@ ghost use Rattle.dl_registry.specs.Kept.{slots, made, owed_change, with_change, 
 
 use crate::application::Application;
 use crate::apps::{Apps, first_of_channel};
-use crate::table::{SlotTable, slot_of};
 use dl_bytes::{Bytes, Id, Level, OutOfMemory, OwnLevel, Sequence, Stored, StoredLevel};
 use dl_model::{LevelChange, Slot};
+use dl_slots::{SlotTable, slot_of};
 use indexmap::IndexMap;
 use std::alloc::Global;
 use std::marker::Model;

@@ -23,7 +23,7 @@ use Rattle.dl_model.specs.declared.registry.Context.{Context}
 use Rattle.dl_model.specs.declared.registry.LevelChange.{LevelChange}
 use Rattle.dl_model.specs.declared.registry.Slot.{Slot}
 use Rattle.dl_registry.specs.Kept.{Kept, owed_change, slots, with_change}
-use Rattle.dl_registry.specs.Table.{raised, unset}
+use Rattle.dl_slots.specs.Table.{raised, unset}
 use Rattle.dl_registry.proofs.Following.{change_is_level}
 use Rattle.dl_core.specs.Follows.{AddsAlone}
 use Rattle.dl_core.specs.State.{Core}

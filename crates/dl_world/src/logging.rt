@@ -1,14 +1,13 @@
 //! Log calls: up to their rings and counts, and on to the daemon.
 
-ghost use Rattle.std.specs.Prelude.{◌≡◌, ◌≤◌, ◌<◌, None, Some, OnOk, length};
+ghost use Rattle.std.specs.Prelude.{◌≡◌, ◌≤◌, ◌<◌, None, OnOk, length};
 ghost use Rattle.dl_events.specs.declared.event.Event.TheVariants as event;
 ghost use Rattle.dl_script_lines.specs.declared.step.Step.TheVariants as line;
 ghost use Rattle.dl_model.specs.Marks.{moment};
 ghost use Rattle.dl_model.specs.Steps.{act_of, begin_call, count, drain, finish, push, take_injection, take_log, take_losses, whole_call};
-ghost use Rattle.dl_world_calls.specs.State.{next_item};
 ghost use Rattle.dl_registry.specs.Kept.{owed_change};
 ghost use Rattle.dl_folders.specs.Files.{Leaves};
-ghost use Rattle.dl_world.specs.Follows.{Does, Doing, Loads, noting};
+ghost use Rattle.dl_world.specs.Follows.{Does, Doing, Loads, NotesNext, noting};
 
 use crate::delivery::make_room;
 use crate::world::World;
@@ -101,7 +100,7 @@ impl World {
     fn note_log<F: Folder>(&mut self, app: u8, folder: &mut F) -> Result<(), OutOfMemory>
         requires settled { owed_change self.old.core.registry ≡ None }
         requires known { app < length self.old.calls.apps }
-        ensures does { OnOk result ((item : Item) → next_item self.old.calls app ≡ Some item → Does (λ setting answers. noting (λ now. event.Log app item.writer item.call (moment now)) setting) self.old self.new (F.told folder.old) (F.told folder.new)) }
+        ensures does { OnOk result (NotesNext app self.old self.new (F.told folder.old) (F.told folder.new)) }
         ensures leaves { Leaves self.old.core self.new.core (F.told folder.old) (F.told folder.new) }
     {
         let Some(item) = self.calls.next(app) else {

@@ -3,7 +3,8 @@
 ghost use Rattle.std.specs.Prelude.{None};
 
 use crate::captures::CAPTURES;
-use dl_memory::{Failing, MemoryDial, MemorySink, MemorySource};
+use dl_failing::Failing;
+use dl_memory::{MemoryDial, MemorySink, MemorySource};
 use dl_outside::{Dial, DialFault};
 use dl_receive::{Received, receive};
 use std::alloc::{AllocError, Global};

@@ -10,7 +10,9 @@ use dl_bytes::{
 };
 use dl_core::Core;
 use dl_events::{Event, Journal, Kept};
-use dl_memory::{Failing, Manner, MemoryFolder, MemoryLink};
+use dl_failing::Failing;
+use dl_memory::MemoryFolder;
+use dl_memory_net::{Manner, MemoryLink};
 use dl_registry::LAST_VERSION;
 use dl_trace::Trace;
 use std::alloc::Global;

@@ -2,7 +2,8 @@
 
 use dl_bytes::{Backlog, Frame, Id};
 use dl_hub::{Hub, HubFault, Pumped};
-use dl_memory::{Failing, Manner, MemoryLink, Turn};
+use dl_failing::Failing;
+use dl_memory_net::{Manner, MemoryLink, Turn};
 use std::alloc::{AllocError, Global};
 use std::test::Fail;
 

@@ -3,7 +3,8 @@
 ghost use Rattle.std.specs.Prelude.{◌<◌, IfOk, length};
 
 use dl_bytes::{Bytes, Conf, Frame, Id, Level, Moment, OutOfMemory, Severity};
-use dl_memory::{Failing, MemoryFolder};
+use dl_failing::Failing;
+use dl_memory::MemoryFolder;
 use dl_outside::Folder;
 use dl_trace::{StoredBatch, Trace, TraceEnd, TraceState};
 use std::alloc::Global;

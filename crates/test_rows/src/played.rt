@@ -1,6 +1,7 @@
 //! One run of the replay over objects in memory.
 
-use dl_memory::{Failing, MemoryFolder, MemorySink, MemorySource};
+use dl_failing::Failing;
+use dl_memory::{MemoryFolder, MemorySink, MemorySource};
 use dl_outside::Folder;
 use dl_replay::replay;
 use std::alloc::{AllocError, Global};

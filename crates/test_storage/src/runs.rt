@@ -2,7 +2,8 @@
 
 use dl_bytes::{Id, Item, Level, Moment, OutOfMemory, Payload, Severity};
 use dl_events::{Answer, Event, Record, RecordList};
-use dl_memory::{Failing, MemoryFolder};
+use dl_failing::Failing;
+use dl_memory::MemoryFolder;
 use dl_outside::Folder;
 use dl_storage::{StoreEnds, read_storage, storage_lines, store};
 use std::alloc::Global;

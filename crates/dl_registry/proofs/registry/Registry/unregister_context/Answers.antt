@@ -7,7 +7,7 @@ use Rattle.dl_model.specs.Registry.{App, Registry, app_of, slot_of, without}
 use Rattle.dl_model.proofs.Order.{app_of_found}
 use Rattle.dl_registry.specs.Change.{without_context}
 use Rattle.dl_registry.specs.Kept.{Kept, Fits}
-use Rattle.dl_registry.specs.Table.{wanted_at}
+use Rattle.dl_slots.specs.Table.{wanted_at}
 use Rattle.dl_registry.proofs.Messages.{fits-remove_context}
 use Rattle.dl_registry.proofs.registry.Registry.unregister_context.Goals as goal
 
