@@ -1,5 +1,5 @@
 -- What `dlt_why steps` promises.
-use Rattle.std.specs.Prelude.{◌≡◌, ℕ, Bool, true, false, List, [], ◌∷◌, codes, IfSome, IsOk, Result, Ok, Err}
+use Rattle.std.specs.Prelude.{◌≡◌, ℕ, Bool, true, false, List, [], ◌∷◌, codes, map, IfSome, IsOk, Result, Ok, Err, String, string_bytes}
 use Rattle.std.specs.Str.{bytes_eq}
 use Rattle.dl_core.specs.Settings.{setting_of}
 use Rattle.dl_outside.specs.Outside.{HasRisen}
@@ -125,3 +125,8 @@ abbrev pub Runs : List (List ℕ) → Told → Told → SinkTold → SinkTold �
 Runs words old new err err_now answer =
     (asks_for_steps words ≡ true → RunsSteps old new err err_now answer)
     × (asks_for_steps words ≡ false → (new.input ≡ old.input) × trace.Runs words (trace.sides old.folder old.out) (trace.sides new.folder new.out) err err_now answer)
+
+-- What the program comes to: its words, what input, folder, output and standard error told before and after, and the exit status.
+abbrev pub TellsWhy : {Z : Type 0} → List (String Z) → (input input_now : SourceTold) → (folder folder_now : FolderTold) → (out out_now err err_now : SinkTold) → ℕ → Type 0
+TellsWhy words input input_now folder folder_now out out_now err err_now answer =
+    Runs (map string_bytes words) (told input folder out) (told input_now folder_now out_now) err err_now answer

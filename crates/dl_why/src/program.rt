@@ -5,7 +5,7 @@ ghost use Rattle.dl_outside.specs.Told.{FolderTold, SinkTold};
 ghost use Rattle.dl_script.specs.Playable.{IsPlayable};
 ghost use Rattle.dl_startup.specs.Configuration.{SetsUp};
 ghost use Rattle.dl_startup.specs.Setup.{conf_name};
-ghost use Rattle.dl_why.specs.Program.{Begins, Ends, Runs, RunsSteps, Writes, asks_for_steps, told};
+ghost use Rattle.dl_why.specs.Program.{Begins, Ends, RunsSteps, TellsWhy, Writes, asks_for_steps, told};
 
 use crate::explanation::explain;
 use crate::script::{Script, read_script};
@@ -113,7 +113,8 @@ pub fn tell_why<F: Folder, I: Source, O: Sink, E: Sink>(
     out: &mut O,
     err: &mut E,
 ) -> u8
-    ensures { Runs (map string_bytes words.now) (told (I.told input.old) (F.told folder.old) (O.told out.old)) (told (I.told input.new) (F.told folder.new) (O.told out.new)) (E.told err.old) (E.told err.new) result }
+    ensures { TellsWhy words.now (I.told input.old) (I.told input.new) (F.told folder.old) (F.told folder.new)
+        (O.told out.old) (O.told out.new) (E.told err.old) (E.told err.new) result }
 {
     if asks_for_steps(words) {
         run_steps(alloc, input, folder, out, err)

@@ -1,8 +1,8 @@
 //! The hub: what waits, what each client is sent, and links that take little, nothing, or fail.
 
 use dl_bytes::{Backlog, Frame, Id};
-use dl_hub::{Hub, HubFault, Pumped};
 use dl_failing::Failing;
+use dl_hub::{Hub, HubFault, Pumped};
 use dl_memory_net::{Manner, MemoryLink, Turn};
 use std::alloc::{AllocError, Global};
 use std::test::Fail;
