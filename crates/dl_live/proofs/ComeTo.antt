@@ -133,7 +133,7 @@ module _ {L : Type 0} (told : L → LinkTold) (begun : Begun) (p : Players L) (w
   pub gives_before : Gives (run_of begun stood.stood account) been.rounded.daemon.first_core been.rounded.daemon.desk.apps been.rounded.daemon.desk.handles
   gives_before = daemons.gives_before told begun p wanted failed net net_now folder folder_now account links are been goes greeted stood.stood stood.after framed
 
-  pub stops_in : StopsIn told (run_of begun stood.stood account) been.rounded.daemon account links been.rounded.folder folder_now
+  pub stops_in : StopsIn told (run_of begun stood.stood account) been.rounded.daemon been.stops.stopped.last_core account links been.rounded.folder folder_now
   stops_in = been.stops.stopped.runs (run_of begun stood.stood account) gives
 
   -- ---- the clients

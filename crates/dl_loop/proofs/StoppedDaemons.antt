@@ -107,11 +107,11 @@ first_all P [] ys all = tt
 first_all P (x ∷ xs) ys all = (all.0, first_all P xs ys all.1)
 
 module _ {L : Type 0} (told : L → LinkTold) (d : DaemonState L) (books : List BookState) (closing : ClosingState) (account : AccountState) (links : Links L) (folder folder_now : FolderTold)
-    (is : IsDaemon told d) (made : IsMadeOf d.desk books closing) (stop : IsStop told d.dropped (stopping_of d closing) account links folder folder_now)
+    (core : Core) (is : IsDaemon told d) (made : IsMadeOf d.desk books closing) (stop : IsStop told d.dropped core (stopping_of d closing) account links folder folder_now)
     (went : (run : Run) (taken : ℕ → List ℕ) → TellBytes told → GivesTook account.apps (account_took account) run → AreAsNoted run d.journal.events taken (stopping.clients_of told (stopping_of d closing) folder)
     → HaveGone run account.events (map told links.links) account.outcome.links)
     (outbox : (run : Run) (events : List Event) (taken : ℕ → List ℕ) (core : Core) (client : ℕ) → IsAfter run events taken core → IsSome (outbox_of core.hub client) ↔ IsOpen client events)
-    (stops : FolderStops (stopping_of d closing) account folder folder_now) where
+    (stops : FolderStops (stopping_of d closing) core account folder folder_now) where
   apps_so : account.apps ≡ d.desk.apps
   apps_so = stop.apps ∙ made.kept.apps
 
@@ -150,28 +150,27 @@ module _ {L : Type 0} (told : L → LinkTold) (d : DaemonState L) (books : List 
     apids = subst (λ (specs : List AppSpec). (app : ℕ) → At specs app (λ spec. run.apid app ≡ spec.apid)) apps_so gives.apids;
   }
 
-  runs_so : (run : Run) → Gives run d.first_core account.apps account.handles → StopsIn told run d account links folder folder_now
+  runs_so : (run : Run) → Gives run d.first_core account.apps account.handles → StopsIn told run d core account links folder folder_now
   runs_so run gives =
       let holds = is.runs run (gives_before run gives) in
       let took : GivesTook account.apps (account_took account) run = record { frames = gives.frames; apids = gives.apids } in
       let on = stop.runs run d.journal.events holds.took took holds.after in
       let events = sym stop.events in
       let taken : ℕ → List ℕ = took_all holds.took stop.sent in
-      let after : IsAfter run account.events taken stop.core = subst (λ (es : List Event). IsAfter run es taken stop.core) events on.after in
-      let ends : account.outcome.links ≡ ends_in stop.core.hub = ap (λ (o : Ends). o.links) stop.outcome in
+      let after : IsAfter run account.events taken core = subst (λ (es : List Event). IsAfter run es taken core) events on.after in
+      let ends : account.outcome.links ≡ ends_in core.hub = ap (λ (o : Ends). o.links) stop.outcome in
       record {
-        core = stop.core;
         took = taken;
         after = after;
         formed = subst (IsWellFormed run.setting (source_of run)) events (on.formed is.running holds.formed);
-        none_open = λ client open_so. not_some (outbox_of stop.core.hub client) (stop.none_open client) ((outbox run account.events taken stop.core client after).1 open_so);
+        none_open = λ client open_so. not_some (outbox_of core.hub client) (stop.none_open client) ((outbox run account.events taken core client after).1 open_so);
         posted = λ app. subst (λ (es : List Event). HasPosted run.setting [] es app (desk_told d.first_desk) (account_told account)) events
             (posted_both run.setting [] d.journal.events stop.more app (desk_told d.first_desk) (desk_told d.desk) (account_told account) (holds.posted app)
             (subst (λ (t : PostTold). HasPosted run.setting d.journal.events stop.more app t (account_told account)) told_so (on.posted app)));
         ends = subst (λ (n : ℕ). TellStreams run account.events n account.outcome.links) stop.clients
-            (subst (TellStreams run account.events (length stop.core.hub.clients)) (sym ends) (streams_told run account.events taken stop.core after));
+            (subst (TellStreams run account.events (length core.hub.clients)) (sym ends) (streams_told run account.events taken core after));
         trace = ap (λ (o : Ends). o.trace) stop.outcome;
-        holds = λ held. subst (λ (es : List Event). HoldsTrace run es stop.core folder_now) events (on.holds held);
+        holds = λ held. subst (λ (es : List Event). HoldsTrace run es core folder_now) events (on.holds held);
         gone = λ tells. went run holds.took tells took (holds.noted tells (closing_told closing) (Some d.journal.events) folder);
       }
 
@@ -185,8 +184,8 @@ module _ {L : Type 0} (told : L → LinkTold) (d : DaemonState L) (books : List 
     taken = λ app. (let more = stop.taken_more app in (more.0, more.1 ∙ ap (λ (t : Took). t.taken app ++ more.0) took_so));
     many = stop.many;
     dropped = ap (λ (o : Ends). o.dropped) stop.outcome;
+    last_core = core;
     runs = runs_so;
-    last_core = stops.core;
     leaves = stops.leaves;
     trace = stops.trace;
     folder_later = λ run gives.

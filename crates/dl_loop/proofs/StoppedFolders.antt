@@ -40,9 +40,8 @@ told_end (Some trace) = refl
 
 -- ---- a stop
 
--- The folder of a stop: no file of others changed, and it is later by the events of the stop, in each run that gives what was taken.
-pub record FolderStops {L : Type 0} (old : Stopping L) (account : AccountState) (folder folder_now : FolderTold) : Type 0 where
-  pub core : Core
+-- The folder of a stop that ends with this core: no file of others changed, and it is later by the events of the stop, in each run that gives what was taken.
+pub record FolderStops {L : Type 0} (old : Stopping L) (core : Core) (account : AccountState) (folder folder_now : FolderTold) : Type 0 where
   pub trace : account.outcome.trace ≡ trace_told core.trace
   pub leaves : Leaves old.core core folder folder_now
   pub more : List Event
@@ -76,12 +75,11 @@ module _ {L : Type 0} (told : L → LinkTold) (takes : WhatLinksTake) (dropped :
         apids = (subst (λ (specs : List AppSpec). GivesTook specs (closing_took closed.closing) run) apps gives).apids;
       }
 
-  stops : FolderStops old (account_of closed.closing closed.journal.events (ends_of closed.core dropped)) folder folder_now
+  stops : FolderStops old closed.core (account_of closed.closing closed.journal.events (ends_of closed.core dropped)) folder folder_now
   stops =
       let drained_events : drained.journal.events ≡ old.journal.events ++ first.admits.more = cc first.admits.events in
       let closed_events : closed.journal.events ≡ drained.journal.events ++ on.0 = cc on.1.events in
       record {
-        core = closed.core;
         trace = refl;
         leaves = leaves_both old.core drained.core closed.core folder between folder_now (leaves_kept old.core drained.core folder between first.admits.trace) on.1.leaves;
         more = first.admits.more ++ on.0;
@@ -95,7 +93,7 @@ module _ {L : Type 0} (told : L → LinkTold) (takes : WhatLinksTake) (dropped :
       }
 
 pub folder_stops : {L : Type 0} (told : L → LinkTold) (dropped : ℕ) (old : Stopping L) (account : AccountState) (links : Links L) (folder folder_now : FolderTold) → WhatLinksTake
-    → Settles told dropped old account links folder folder_now → FolderStops old account folder folder_now
+    → (settles : Settles told dropped old account links folder folder_now) → FolderStops old settles.closed.core account folder folder_now
 folder_stops told dropped old account links folder folder_now takes settles =
-    subst (λ (a : AccountState). FolderStops old a folder folder_now) (sym settles.account_is)
+    subst (λ (a : AccountState). FolderStops old settles.closed.core a folder folder_now) (sym settles.account_is)
     (stops told takes dropped old settles.drained settles.closed folder settles.between folder_now settles.drains settles.closes)

@@ -33,12 +33,11 @@ use Rattle.dl_loop.specs.Told.{IsToldBy}
 abbrev pub stopping_of : {L : Type 0} → DaemonState L → ClosingState → Stopping L
 stopping_of d closing = record { core = d.core; closing = closing; journal = d.journal; links = d.links; listeners = d.listeners }
 
--- What a stop leaves in a run: the core as it is in the end is what the account's events make of it, for what the links took, where links tell
+-- What a stop leaves in a run: this core, as it is in the end, is what the account's events make of it, for what the links took, where links tell
 -- that; the journal is well-formed, and no client is open in it; the queues of injections took and refused just those of its requests; the ends
 -- of links tell the clients' streams, and the trace tells its files; the trace files that stood for the journal stand for the longer one. The
 -- clients have gone as the model of a daemon's end says, where links tell what they gave and took.
-pub record StopsIn {L : Type 0} (told : L → LinkTold) (run : Run) (d : DaemonState L) (account : AccountState) (links : Links L) (folder folder_now : FolderTold) : Type 0 where
-  pub core : Core
+pub record StopsIn {L : Type 0} (told : L → LinkTold) (run : Run) (d : DaemonState L) (core : Core) (account : AccountState) (links : Links L) (folder folder_now : FolderTold) : Type 0 where
   pub took : ℕ → List ℕ
   pub after : IsAfter run account.events took core
   pub formed : IsWellFormed run.setting (source_of run) account.events
@@ -62,8 +61,8 @@ pub record IsStopped {L : Type 0} (told : L → LinkTold) (d : DaemonState L) (a
   pub told_by : IsToldBy account.events (length account.apps) account.handles
   pub many : length links.links ≡ length d.links.links
   pub dropped : account.outcome.dropped ≡ d.dropped
-  pub runs : (run : Run) → Gives run d.first_core account.apps account.handles → StopsIn told run d account links folder folder_now
   pub last_core : Core
+  pub runs : (run : Run) → Gives run d.first_core account.apps account.handles → StopsIn told run d last_core account links folder folder_now
   pub leaves : Leaves d.core last_core folder folder_now
   pub trace : account.outcome.trace ≡ trace_told last_core.trace
   pub folder_later : (run : Run) → Gives run d.first_core account.apps account.handles

@@ -166,9 +166,8 @@ module _ {L : Type 0} (told : L → LinkTold) (old drained closed : Stopping L) 
       }
 
   stop_so : (dropped : ℕ) (links : Links L) → ShutsGone closed.core.hub (map told closed.links.links) (map told links.links)
-      → IsStop told dropped old (account_of closed.closing closed.journal.events (ends_of closed.core dropped)) links folder folder_now
+      → IsStop told dropped closed.core old (account_of closed.closing closed.journal.events (ends_of closed.core dropped)) links folder folder_now
   stop_so dropped links shuts = record {
-    core = closed.core;
     more = events_more;
     events = closed_events ∙ ap (λ (es : List Event). es ++ later.more) drained_events ∙ append_assoc old.journal.events first.admits.more later.more;
     of_stop = all_both IsOfStop first.admits.more later.more (of_drain first.admits.more first.kinds).of_stop (of_clients later.more later.of_clients).of_stop;
@@ -205,8 +204,8 @@ module _ {L : Type 0} (told : L → LinkTold) (old drained closed : Stopping L) 
   }
 
 pub is_stop : {L : Type 0} (told : L → LinkTold) (dropped : ℕ) (old : Stopping L) (account : AccountState) (links : Links L) (folder folder_now : FolderTold)
-    → ((was now : Clients) → ClosesAll was now → StayAsNoted was now) → Settles told dropped old account links folder folder_now → IsStop told dropped old account links folder folder_now
+    → ((was now : Clients) → ClosesAll was now → StayAsNoted was now) → (settles : Settles told dropped old account links folder folder_now) → IsStop told dropped settles.closed.core old account links folder folder_now
 is_stop {L} told dropped old account links folder folder_now stay settles =
-    subst (λ (a : AccountState). IsStop told dropped old a links folder folder_now) (sym settles.account_is)
+    subst (λ (a : AccountState). IsStop told dropped settles.closed.core old a links folder folder_now) (sym settles.account_is)
     (stop_so told old settles.drained settles.closed folder settles.between folder_now settles.drains settles.closes
     (stay (clients_of told settles.drained settles.between) (clients_of told settles.closed folder_now) settles.closes.closes).later dropped links settles.shuts)

@@ -45,11 +45,10 @@ pub record RunsOn (run : Run) (past more : List Event) (taken sent : ℕ → Lis
   pub formed : IsRunning past → IsWellFormed run.setting (source_of run) past → IsWellFormed run.setting (source_of run) (past ++ more)
   pub posted : (app : ℕ) → HasPosted run.setting past more app told told_now
 
--- A stop is its events: the journal is longer by them, and each run that gives what was taken goes on with them. A journal that told just what
+-- A stop after which the core is this one is its events: the journal is longer by them, and each run that gives what was taken goes on with them. A journal that told just what
 -- was taken does so with them, and the levels that were set are those of its Level events. No client is open in the end, each has its link, which is shut, and what stands
 -- at the end is that of the core as it is then.
-pub record IsStop {L : Type 0} (told : L → LinkTold) (dropped : ℕ) (old : Stopping L) (account : AccountState) (links : Links L) (folder folder_now : FolderTold) : Type 0 where
-  pub core : Core
+pub record IsStop {L : Type 0} (told : L → LinkTold) (dropped : ℕ) (core : Core) (old : Stopping L) (account : AccountState) (links : Links L) (folder folder_now : FolderTold) : Type 0 where
   pub more : List Event
   pub events : account.events ≡ old.journal.events ++ more
   pub of_stop : AllByRecursion IsOfStop more

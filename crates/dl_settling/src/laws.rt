@@ -29,7 +29,7 @@ use dl_outside::Link;
 /// well-formed journal stays so. The journal tells just what was taken, and no client is open in the end.
 pub fn a_stop_is_its_events<L: Link>()
     ensures { (dropped : ℕ) (old : Stopping L) (account : AccountState) (links : Links L) (folder folder_now : FolderTold)
-        → Settles L.told dropped old account links folder folder_now → IsStop L.told dropped old account links folder folder_now }
+        → (settles : Settles L.told dropped old account links folder folder_now) → IsStop L.told dropped settles.closed.core old account links folder folder_now }
 {
     dl_rounds::laws::clients_are_as_noted();
 }

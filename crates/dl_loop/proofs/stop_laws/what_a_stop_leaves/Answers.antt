@@ -5,7 +5,7 @@ use Rattle.dl_loop.proofs.stop_laws.what_a_stop_leaves.Goals as goal
 
 pub returns : goal.returns
 returns g c = λ d books closing account links folder folder_now is made settles.
-    stopped_so g.L.Link.told d books closing account links folder folder_now is made
+    stopped_so g.L.Link.told d books closing account links folder folder_now settles.closed.core is made
     (c.a_stop_is_its_events.ensures d.dropped (stopping_of d closing) account links folder folder_now settles)
     (λ run taken bytes gives noted. c.how_clients_went.ensures run taken d.dropped (stopping_of d closing) account links folder folder_now settles bytes gives noted)
     c.who_has_an_outbox.ensures
