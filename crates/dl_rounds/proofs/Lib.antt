@@ -12,3 +12,5 @@ pub mod VisitedClients
 pub mod NotedClients
 pub mod GreetedEvents
 pub mod ShutLinks
+pub mod ServedClients
+pub mod ShownClients

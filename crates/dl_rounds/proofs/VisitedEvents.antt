@@ -215,7 +215,7 @@ pumped_visit pumps shown number moved old new pumped = record {
 
 pub closed_visit : ((client : ℕ) (why : Why) (old new : Stage) → IsWoundUp client why old new → IsLaterStage client (Some why) old new)
     → ((client : ℕ) (why : Why) (old new : Stage) (did : LinkDid) → IsWoundUp client why old new → Tells old.link new.link did → (why ≡ Left → did.is_over ≡ true) → IsShown did why)
-    → (number : ℕ) (moved : Bool) (old new : Client) → Closed number moved old new → IsVisit number old new
+    → {Tells : Type 0} (number : ℕ) (moved : Bool) (old new : Client) → Closed Tells number moved old new → IsVisit number old new
 closed_visit stops shown number moved old new closed = record {
   why = Some closed.why;
   link = closed.link;

@@ -6,3 +6,4 @@ pub mod Arrivals
 pub mod Greetings
 pub mod Passing
 pub mod Partings
+pub mod Shown

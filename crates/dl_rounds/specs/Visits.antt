@@ -2,6 +2,7 @@
 use Rattle.std.specs.Prelude.{◌≡◌, ◌≤◌, ℕ, nat_lt, Bool, true, List, length, ◌||◌, ◌==◌, Option, Some, None, is_some, IfNone, IsSome}
 use Rattle.dl_events.specs.declared.event.Event.{Event}
 use Rattle.dl_events.specs.declared.event.Why.{Why}
+use Rattle.dl_events.specs.declared.event.Why.TheVariants.{Left}
 use Rattle.dl_outside.specs.Link.{StaysOver}
 use Rattle.dl_outside.specs.Outside.{Stays}
 use Rattle.dl_outside.specs.Told.{FolderTold, LinkTold}
@@ -53,13 +54,15 @@ pub record Pumped (number : ℕ) (moved : Bool) (old new : Client) : Type 0 wher
   pub listener : new.listener ≡ old.listener
   pub moves : moved ≡ (is_some why || nat_lt 0 pump.pumps.count)
 
--- A client was closed at the daemon's stop: it had its closing turns and its Close, and its link is shut.
-pub record Closed (number : ℕ) (moved : Bool) (old new : Client) : Type 0 where
+-- A client was closed at the daemon's stop: it had its closing turns and its Close, and its link is shut. Where it left, its link was over, if
+-- links tell that.
+pub record Closed (Tells : Type 0) (number : ℕ) (moved : Bool) (old new : Client) : Type 0 where
   pub why : Why
   pub link : LinkTold
   pub wound_up : IsWoundUp number why (stage_of old) (record (stage_of new) { link = link })
   pub shut : IsShut link new.link
   pub served : HasServed number new.listener.served new.side.core
+  pub left : why ≡ Left → Tells → link.over ≡ Some true
   pub moves : moved ≡ true
 
 -- A pump sees neither desk nor folder nor listener: whatever these are, the client was pumped.
@@ -83,5 +86,5 @@ PumpsAll moved links links_now old new events events_now =
     (record { links = links_now; listeners = listeners; side = side new desk events_now folder })
 
 -- each was closed
-abbrev pub ClosesAll : Clients → Clients → Type 0
-ClosesAll old new = (moved : Bool) × VisitsAll Closed moved old new
+abbrev pub ClosesAll : Type 0 → Clients → Clients → Type 0
+ClosesAll Tells old new = (moved : Bool) × VisitsAll (Closed Tells) moved old new

@@ -3,6 +3,7 @@
 ghost use Rattle.std.specs.Prelude.{◌≡◌, ℕ, List, None, map};
 ghost use Rattle.dl_desk.specs.Told.{PostTold};
 ghost use Rattle.dl_hub.specs.State.{IsSameHub, outbox_of};
+ghost use Rattle.dl_turns.specs.Gone.{TellOver};
 ghost use Rattle.dl_rounds.specs.declared.listener.Listener.{Listener as listener_type};
 ghost use Rattle.dl_rounds.specs.Rounds.{seen};
 ghost use Rattle.dl_rounds.specs.Ready.{AreHeard, AreLinked, KeepsRoom};
@@ -86,7 +87,7 @@ pub fn close_all<R: Wait, D: Post, J: Journal, L: Link, F: Folder>(
 )
     requires linked { AreLinked links.old core.old (J.spare journal.old) }
     requires heard { AreHeard listeners.old core.old (D.told desk.old) }
-    ensures visits { let c = seen L.told D.told J.events F.told in ClosesAll
+    ensures visits { let c = seen L.told D.told J.events F.told in ClosesAll (TellOver L.told)
         (c links.old listeners.old core.old desk.old journal.old folder.old) (c links.new listeners.new core.new desk.new journal.new folder.new) }
     ensures none { (number : ℕ) → outbox_of core.new.hub number ≡ None }
     ensures linked { AreLinked links.new core.new (J.spare journal.new) }

@@ -3,6 +3,7 @@ use Rattle.std.specs.Prelude.{get_or, slice_get, ◌||◌}
 use Rattle.std.proofs.lemmas.Bool.{cases_lt}
 use Rattle.std.proofs.lemmas.Option.{slice_get-get_or}
 use Rattle.dl_hub.specs.State.{Hub, IsNextOpen}
+use Rattle.dl_turns.specs.Gone.{TellOver}
 use Rattle.dl_rounds.specs.Clients.{Clients}
 use Rattle.dl_rounds.specs.Rounds.{seen}
 use Rattle.dl_rounds.specs.Visits.{Closed}
@@ -50,7 +51,7 @@ loop-client-preserved g c =
     record {
       behind = λ later new rest.
           so.behind (true || later) new
-          (visited_next g.L.Link.told g.D.Post.told g.J.Journal.events g.F.Folder.told Closed was.last client true later was.links c.of_mut-link.result.now now.link
+          (visited_next g.L.Link.told g.D.Post.told g.J.Journal.events g.F.Folder.told (Closed (TellOver g.L.Link.told)) was.last client true later was.links c.of_mut-link.result.now now.link
           was.listeners listener now.listener was.core now.core was.desk now.desk was.journal now.journal was.folder now.folder new next c.of_mut-link.ensures.value ear heard rest);
       linked = linked_again client was.links _ was.core now.core _ _ so.linked but (set_length was.links.links (client - 1) now.link) refl c.close_one.ensures.settled c.close_one.ensures.spare;
       heard = heard_again client was.listeners listener now.listener was.core now.core _ _ so.heard ear within.0 within.1 but (λ some. open_and_gone now.core.hub client some (stop_closed client heard.why _ _ heard.wound_up)) heard.served
@@ -67,7 +68,7 @@ returns-clause-visits g c =
     let told = seen g.L.Link.told g.D.Post.told g.J.Journal.events g.F.Folder.told in
     let end : Clients = told was.links was.listeners was.core was.desk was.journal was.folder in
     let none = subst (λ (h : Hub). IsNextOpen h was.last None) c.hub.ensures c.in_default.ensures in
-    was.invariant.behind false end (visited_none Closed was.last end none)
+    was.invariant.behind false end (visited_none (Closed (TellOver g.L.Link.told)) was.last end none)
 
 pub returns-clause-none : goal.returns-clause-none
 returns-clause-none g c = λ number.
