@@ -6,3 +6,5 @@ pub mod StandingStreams
 pub mod NotedDrains
 pub mod WentClients
 pub mod Rooms
+pub mod ShownDrains
+pub mod EndedClients

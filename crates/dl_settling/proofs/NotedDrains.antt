@@ -15,6 +15,7 @@ use Rattle.dl_events.specs.declared.event.Why.TheVariants as why
 use Rattle.dl_message.specs.Cut.{rest_fault, rest_of}
 use Rattle.dl_message.specs.Cutting.{Cutting}
 use Rattle.dl_message.specs.Requests.{requests}
+use Rattle.dl_model.specs.Backlog.{outbox_limit}
 use Rattle.dl_model.specs.ClientEnds.{HasGone, LinkDid, asked_by, asked_in}
 use Rattle.dl_model.specs.ClientStream.{sent, stream, traffic}
 use Rattle.dl_model.specs.Report.{why_of}
@@ -133,15 +134,15 @@ over_longer : (past more : List Event) (number : ℕ) (did : LinkDid) → IsOver
 over_longer past more number did over before after is =
     over before (after ++ more) (ap (λ (es : List Event). es ++ more) is ∙ append_assoc before (event.Close number why.Left ∷ after) more)
 
-no_outbox : {A : Type 0} (o : Option A) → is_some o ≡ false → o ≡ None
+pub no_outbox : {A : Type 0} (o : Option A) → is_some o ≡ false → o ≡ None
 no_outbox None none = refl
 no_outbox (Some x) none = absurd cc
 
-some_of : {A : Type 0} (o : Option A) → IsSome o → (x : A) × (o ≡ Some x)
+pub some_of : {A : Type 0} (o : Option A) → IsSome o → (x : A) × (o ≡ Some x)
 some_of None some = absurd cc
 some_of (Some x) some = (x, refl)
 
-as_some : {A B : Type 0} (f : A → B) (o n : Option A) → option_map f n ≡ option_map f o → IsSome n → IsSome o
+pub as_some : {A B : Type 0} (f : A → B) (o n : Option A) → option_map f n ≡ option_map f o → IsSome n → IsSome o
 as_some f None None same some = absurd cc
 as_some f None (Some x) same some = absurd cc
 as_some f (Some x) n same some = refl
@@ -155,6 +156,51 @@ module _ (run : Run) (past : List Event) (taken : ℕ → List ℕ) {es : List E
 
   now : IsAfter run (past ++ more) taken new.core
   now = (admits.after run past taken gives is).0
+
+  -- of a client that was gone before as much is left
+  pub left_before : (number : ℕ) (c c_now : HubClient) → client_of old.core.hub number ≡ Some c → client_of new.core.hub number ≡ Some c_now → c.outbox ≡ None → c_now.outbox ≡ None → c_now.left ≡ c.left
+  left_before number c c_now at at_now shut shut_now =
+      let a = left_of run past taken old.core number c is at shut in
+      let b = left_of run (past ++ more) taken new.core number c_now now at_now shut_now in
+      let source = source_of run in
+      let still : StandsAfter source run.setting.buffer number (stream source run.setting.buffer number past) past = record {
+        shut = (its_stream run past taken old.core is number c at).is_there ∙ ap (λ (o : Option _). is_some o) shut;
+        same = refl;
+      } in
+      let same = (stands_on source run.setting.buffer number (stream source run.setting.buffer number past) past more kinds still).same in
+      let all : taken number ++ b.left ≡ taken number ++ a.left = sym b.parts ∙ ap (λ (fs : List (List ℕ)). concat fs) same ∙ a.parts in
+      omega (arith, ap length all, length-append (taken number) a.left, length-append (taken number) b.left, a.size_is, b.size_is)
+
+  -- what one is that was closed as slow
+  pub record WasSlow (number : ℕ) : Type 0 where
+    pub parts : Parts number more
+    pub place : past ++ more ≡ (past ++ parts.before) ++ event.Close number (why.Slow parts.room parts.need) ∷ parts.after
+    pub whole : stream (source_of run) run.setting.buffer number (past ++ more) ≡ stream (source_of run) run.setting.buffer number (past ++ parts.before)
+    pub left : List ℕ
+    pub took : concat (stream (source_of run) run.setting.buffer number (past ++ parts.before)) ≡ taken number ++ left
+    pub room_so : parts.room + length left ≡ outbox_limit run.setting.buffer
+
+  pub was_slow : (number : ℕ) → IsSome (why_of number more) → WasSlow number
+  was_slow number some =
+      let source = source_of run in
+      let buffer = run.setting.buffer in
+      let parts = parts_of number more kinds some in
+      let close : Event = event.Close number (why.Slow parts.room parts.need) in
+      let kinds_parted = subst (AllByRecursion IsOfDrain) parts.parted kinds in
+      let room = rooms_at run taken past parts.before close parts.after (subst (TellRooms run taken past) parts.parted (admits.rooms run past taken gives is)) in
+      let place : past ++ more ≡ (past ++ parts.before) ++ close ∷ parts.after = ap (λ (events : List Event). past ++ events) parts.parted ∙ sym (append_assoc past parts.before (close ∷ parts.after)) in
+      let kinds_after = (back_all IsOfDrain parts.before (close ∷ parts.after) kinds_parted).1 in
+      let same : stream source buffer number (((past ++ parts.before) ++ close ∷ []) ++ parts.after) ≡ stream source buffer number (past ++ parts.before) =
+      (stands_on source buffer number (stream source buffer number (past ++ parts.before)) ((past ++ parts.before) ++ close ∷ []) parts.after kinds_after
+      (stands_closing source buffer number (why.Slow parts.room parts.need) (past ++ parts.before))).same in
+      record {
+        parts = parts;
+        place = place;
+        whole = ap (stream source buffer number) (place ∙ sym (append_assoc (past ++ parts.before) (close ∷ []) parts.after)) ∙ same;
+        left = room.0;
+        took = room.1;
+        room_so = room.2;
+      }
 
   module _ (number : ℕ) (was client : Client) (core_was : was.side.core ≡ old.core) (core_now : client.side.core ≡ new.core) (link : client.link ≡ was.link) (listener : client.listener ≡ was.listener)
       (noted : IsAsNoted run past number was) (there : IsSome (client_of new.core.hub number)) (took : (bytes : List ℕ) → was.link.taken ≡ Some bytes → bytes ≡ taken number) where
@@ -171,36 +217,18 @@ module _ (run : Run) (past : List Event) (taken : ℕ → List ℕ) {es : List E
         let c = some_of (client_of old.core.hub number) (as_some replies (client_of old.core.hub number) (client_of new.core.hub number) (same_replies old.core.hub new.core.hub number admits.clients.replies) there) in
         let shut : c.0.outbox ≡ None = sym (ap (λ (o : Option HubClient). option_and_then (λ (k : HubClient). k.outbox) o) c.1) ∙ gone_old in
         let shut_now : c_now.0.outbox ≡ None = sym (ap (λ (o : Option HubClient). option_and_then (λ (k : HubClient). k.outbox) o) c_now.1) ∙ none in
-        let a = left_of run past taken old.core number c.0 is c.1 shut in
-        let b = left_of run (past ++ more) taken new.core number c_now.0 now c_now.1 shut_now in
-        let source = source_of run in
-        let still : StandsAfter source run.setting.buffer number (stream source run.setting.buffer number past) past = record {
-          shut = (its_stream run past taken old.core is number c.0 c.1).is_there ∙ ap (λ (o : Option _). is_some o) shut;
-          same = refl;
-        } in
-        let same = (stands_on source run.setting.buffer number (stream source run.setting.buffer number past) past more kinds still).same in
-        let all : taken number ++ b.left ≡ taken number ++ a.left = sym b.parts ∙ ap (λ (fs : List (List ℕ)). concat fs) same ∙ a.parts in
-        let left : c_now.0.left ≡ c.0.left = omega (arith, ap length all, length-append (taken number) a.left, length-append (taken number) b.left, a.size_is, b.size_is) in
+        let left : c_now.0.left ≡ c.0.left = left_before number c.0 c_now.0 c.1 c_now.1 shut shut_now in
         let tells_was : Did was.link did = subst (λ (l : LinkTold). Did l did) link tells in
         gone_longer run past more taken taken old.core new.core number did c.0 c_now.0 is now c.1 c_now.1 shut shut_now left refl (took did.taken tells_was.taken)
         (noted.gone_so (ap (λ (k : Core). outbox_of k.hub number) core_was ∙ gone_old) did tells_was (over_longer past more number did over))
 
     went_now : IsSome (why_of number more) → (did : LinkDid) → Did client.link did → HasGone run.setting (source_of run) (past ++ more) number did
     went_now some did tells =
-        let source = source_of run in
-        let buffer = run.setting.buffer in
-        let parts = parts_of number more kinds some in
+        let slow = was_slow number some in
+        let parts = slow.parts in
         let close : Event = event.Close number (why.Slow parts.room parts.need) in
         let kinds_parted = subst (AllByRecursion IsOfDrain) parts.parted kinds in
-        let room = rooms_at run taken past parts.before close parts.after (subst (TellRooms run taken past) parts.parted (admits.rooms run past taken gives is)) in
         let cut = opened (admits.clients.go number some).0 did.given tells.given in
-        let place : past ++ more ≡ (past ++ parts.before) ++ close ∷ parts.after = ap (λ (events : List Event). past ++ events) parts.parted ∙ sym (append_assoc past parts.before (close ∷ parts.after)) in
-        let kinds_after = (back_all IsOfDrain parts.before (close ∷ parts.after) kinds_parted).1 in
-        let same : stream source buffer number (((past ++ parts.before) ++ close ∷ []) ++ parts.after) ≡ stream source buffer number (past ++ parts.before) =
-        (stands_on source buffer number (stream source buffer number (past ++ parts.before)) ((past ++ parts.before) ++ close ∷ []) parts.after kinds_after
-        (stands_closing source buffer number (why.Slow parts.room parts.need) (past ++ parts.before))).same in
-        let whole : stream source buffer number (past ++ more) ≡ stream source buffer number (past ++ parts.before) =
-        ap (stream source buffer number) (place ∙ sym (append_assoc (past ++ parts.before) (close ∷ []) parts.after)) ∙ same in
         let asked : requests did.given ≡ asked_by number (past ++ parts.before) =
         sym cut.1 ∙ sym (asked_still number past parts.before (front_all IsOfDrain parts.before (close ∷ parts.after) kinds_parted)) in
         let took_so : did.taken ≡ taken number = took did.taken (ap (λ (l : LinkTold). l.taken) (sym link) ∙ tells.taken) in
@@ -208,10 +236,10 @@ module _ (run : Run) (past : List Event) (taken : ℕ → List ℕ) {es : List E
           before = past ++ parts.before;
           cause = why.Slow parts.room parts.need;
           after = parts.after;
-          place = place;
-          left = room.0;
-          took = ap (λ (fs : List (List ℕ)). concat fs) whole ∙ room.1 ∙ ap (λ (bytes : List ℕ). bytes ++ room.0) (sym took_so);
-          so = room.2;
+          place = slow.place;
+          left = slow.left;
+          took = ap (λ (fs : List (List ℕ)). concat fs) slow.whole ∙ slow.took ∙ ap (λ (bytes : List ℕ). bytes ++ slow.left) (sym took_so);
+          so = slow.room_so;
           asked = inl asked;
           malformed = λ bad same. absurd (both_so (is_some (rest_fault message_limit (rest_of message_limit did.given))) (not_bad did.given client.listener.cutter cut.0) bad);
           too_many = λ many full. absurd (omega (arith, many, full, ap length asked));

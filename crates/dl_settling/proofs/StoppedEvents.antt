@@ -29,6 +29,7 @@ use Rattle.dl_taking.specs.Draining.{closing_told, closing_took}
 use Rattle.dl_taking.specs.Takes.{TellAllTaken}
 use Rattle.dl_taking.specs.Took.{Took}
 use Rattle.dl_taking.proofs.DrainedEvents.{all_drain}
+use Rattle.dl_turns.specs.Gone.{TellOver}
 use Rattle.dl_turns.specs.Later.{level_in}
 use Rattle.dl_turns.proofs.PostedSides.{posted_both}
 use Rattle.dl_rounds.specs.Clients.{Clients}
@@ -204,7 +205,7 @@ module _ {L : Type 0} (told : L → LinkTold) (old drained closed : Stopping L) 
   }
 
 pub is_stop : {L : Type 0} (told : L → LinkTold) (dropped : ℕ) (old : Stopping L) (account : AccountState) (links : Links L) (folder folder_now : FolderTold)
-    → ((was now : Clients) → ClosesAll was now → StayAsNoted was now) → (settles : Settles told dropped old account links folder folder_now) → IsStop told dropped settles.closed.core old account links folder folder_now
+    → ((was now : Clients) → ClosesAll (TellOver told) was now → StayAsNoted was now) → (settles : Settles told dropped old account links folder folder_now) → IsStop told dropped settles.closed.core old account links folder folder_now
 is_stop {L} told dropped old account links folder folder_now stay settles =
     subst (λ (a : AccountState). IsStop told dropped settles.closed.core old a links folder folder_now) (sym settles.account_is)
     (stop_so told old settles.drained settles.closed folder settles.between folder_now settles.drains settles.closes

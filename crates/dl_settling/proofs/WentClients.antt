@@ -26,6 +26,7 @@ use Rattle.dl_taking.specs.Drained.{GivesTook, IsDrain}
 use Rattle.dl_taking.specs.Draining.{closing_told, closing_took}
 use Rattle.dl_taking.specs.Took.{Took}
 use Rattle.dl_taking.proofs.DrainedEvents.{all_drain}
+use Rattle.dl_turns.specs.Gone.{TellOver}
 use Rattle.dl_rounds.specs.Clients.{Client, Clients}
 use Rattle.dl_rounds.specs.Passing.{AreAsNoted, Did, IsOverIfLeft, StayAsNoted, TellFrom, took_all}
 use Rattle.dl_rounds.specs.Visits.{ClosesAll, IsShut}
@@ -39,13 +40,13 @@ use Rattle.dl_settling.proofs.StoppedEvents.{same_took, shut_at, there_too, with
 
 -- ---- ends by their places
 
-end_at : (f : ℕ → LinkEnd) (first many place : ℕ) → place < many → slice_get (map f (range_with_len first many)) place ≡ Some (f (first + place))
+pub end_at : (f : ℕ → LinkEnd) (first many place : ℕ) → place < many → slice_get (map f (range_with_len first many)) place ≡ Some (f (first + place))
 end_at f first zero place below = absurd (omega (arith, below))
 end_at f first (suc many) zero below = let same : first ≡ first + 0 = omega arith in ap (λ (n : ℕ). Some (f n)) same
 end_at f first (suc many) (suc place) below = let same : first + 1 + place ≡ first + suc place = omega arith in end_at f (first + 1) many place (omega (arith, below)) ∙ ap (λ (n : ℕ). Some (f n)) same
 
 -- the client at a place
-client_at : (hub : Hub) (place : ℕ) → place < length hub.clients → (c : HubClient) × (client_of hub (place + 1) ≡ Some c)
+pub client_at : (hub : Hub) (place : ℕ) → place < length hub.clients → (c : HubClient) × (client_of hub (place + 1) ≡ Some c)
 client_at hub place below =
     let entry = entry_of hub.clients place below in
     let back : place + 1 - 1 ≡ place = omega arith in
@@ -62,7 +63,7 @@ pub record HasStream (run : Run) (events : List Event) (number : ℕ) (c : HubCl
   pub frames : c.frames ≡ length (stream (source_of run) run.setting.buffer number events)
   pub bytes : c.bytes ≡ size_of (stream (source_of run) run.setting.buffer number events)
 
-stream_of : (run : Run) (events : List Event) (taken : ℕ → List ℕ) (core : Core) (number : ℕ) (c : HubClient) → IsAfter run events taken core → client_of core.hub number ≡ Some c → HasStream run events number c
+pub stream_of : (run : Run) (events : List Event) (taken : ℕ → List ℕ) (core : Core) (number : ℕ) (c : HubClient) → IsAfter run events taken core → client_of core.hub number ≡ Some c → HasStream run events number c
 stream_of run events taken core number c is there =
     let its = its_stream run events taken core is number c there in
     let frames : (ecu : List ℕ) (buffer : ℕ) → List (List ℕ) = λ ecu buffer. sent ecu buffer number (traffic (source_of run) events) in
@@ -72,7 +73,7 @@ stream_of run events taken core number c is there =
       bytes = sym its.bytes ∙ ap size_of same;
     }
 
-some_is : {A : Type 0} (x y : A) (o : Option A) → o ≡ Some x → o ≡ Some y → x ≡ y
+pub some_is : {A : Type 0} (x y : A) (o : Option A) → o ≡ Some x → o ≡ Some y → x ≡ y
 some_is x y None a b = absurd cc
 some_is x y (Some z) a b = cc
 
@@ -116,7 +117,7 @@ did_before was now did shut given taken tells = record {
 }
 
 -- a list goes so far
-get_of : {A : Type 0} (xs : List A) (place : ℕ) → place < length xs → (x : A) × (slice_get xs place ≡ Some x)
+pub get_of : {A : Type 0} (xs : List A) (place : ℕ) → place < length xs → (x : A) × (slice_get xs place ≡ Some x)
 get_of [] place below = absurd (omega (arith, below))
 get_of (x ∷ xs) zero below = (x, refl)
 get_of (x ∷ xs) (suc place) below = get_of xs place (omega (arith, below))
@@ -130,7 +131,7 @@ same_test left took size is = elim (eqb_tells left 0) [
 -- ---- all of it
 
 module _ {L : Type 0} (told : L → LinkTold) (dropped : ℕ) (old : Stopping L) (account : AccountState) (links : Links L) (folder folder_now : FolderTold)
-    (stay : (was now : Clients) → ClosesAll was now → StayAsNoted was now) (settles : Settles told dropped old account links folder folder_now) (bytes : TellBytes told)
+    (stay : (was now : Clients) → ClosesAll (TellOver told) was now → StayAsNoted was now) (settles : Settles told dropped old account links folder folder_now) (bytes : TellBytes told)
     (run : Run) (gives : GivesTook account.apps (account_took account) run) (taken : ℕ → List ℕ) (noted : AreAsNoted run old.journal.events taken (clients_of told old folder)) where
   drained : Stopping L
   drained = settles.drained

@@ -2,6 +2,7 @@ use Rattle.std.proofs.Common.{◌≡◌, List, length, map, refl, sym, ap, ◌�
 use Rattle.std.proofs.lemmas.List.{length-map}
 use Rattle.dl_registry.specs.Kept.{owed_change}
 use Rattle.dl_core.specs.State.{Core}
+use Rattle.dl_turns.specs.Gone.{TellOver}
 use Rattle.dl_rounds.specs.Ready.{AreHeard}
 use Rattle.dl_rounds.specs.declared.listener.Listener.{Listener}
 use Rattle.dl_taking.specs.Draining.{closing_told}
@@ -54,7 +55,7 @@ returns-clause-settles g c =
       drains = record { drains = one.ensures.drains; drained = one.ensures.drained; told = one.ensures.told; same = one.ensures.rest; links = refl; listeners = refl };
       closed = closed;
       closes = record {
-        closes = subst (λ (ls : List Listener). ClosesAll (clients_of g.L.Link.told (record drained { listeners = ls }) (g.F.Folder.told one.new.folder)) (clients_of g.L.Link.told closed (g.F.Folder.told other.new.folder)))
+        closes = subst (λ (ls : List Listener). ClosesAll (TellOver g.L.Link.told) (clients_of g.L.Link.told (record drained { listeners = ls }) (g.F.Folder.told one.new.folder)) (clients_of g.L.Link.told closed (g.F.Folder.told other.new.folder)))
             c.deref_mut.ensures.value other.ensures.visits;
         none_open = other.ensures.none;
         same = other.ensures.rest;
