@@ -20,7 +20,9 @@ use Rattle.dl_turns.proofs.PostedSides.{posted_both}
 use Rattle.dl_rounds.specs.Arrivals.{Arrives, Connects, ConnectsAs}
 use Rattle.dl_rounds.specs.declared.accepting.Arrival.{Arrival}
 use Rattle.dl_rounds.specs.declared.accepting.Arrival.TheVariants as arrival
+use Rattle.dl_turns.specs.Gone.{TellOver}
 use Rattle.dl_rounds.specs.Ready.{AreHeard, AreLinked, open_clients}
+use Rattle.dl_rounds.specs.Shown.{AllShowWhy}
 use Rattle.dl_loop.specs.Bounds.{HasBounds}
 use Rattle.dl_loop.specs.Daemon.{IsDaemon, TellTaken, is_noted}
 use Rattle.dl_loop.specs.Holds.{AreNoted, AreTaken, HoldsIn}
@@ -29,6 +31,7 @@ use Rattle.dl_loop.specs.Told.{IsToldBy}
 use Rattle.dl_settling.specs.Went.{TellBytes}
 use Rattle.dl_settling.proofs.NoRequests.{posted_none}
 use Rattle.dl_loop.proofs.NotedDaemons.{noted_connected}
+use Rattle.dl_loop.proofs.ShownDaemons.{shown_connected}
 use Rattle.dl_loop.proofs.ToldJournals.{told_more}
 
 -- the last of a longer list
@@ -121,6 +124,11 @@ module _ {L : Type 0} (told : L → LinkTold) (old : DaemonState L) (is : IsDaem
         runs = λ run gives. subst (λ (es : List Event). HoldsIn (TellTaken told) (TellBytes told) run (map told links.links) old.listeners es core (desk_told old.first_desk) (desk_told old.desk)) (sym events)
             (subst (λ (ls : Links L). HoldsIn (TellTaken told) (TellBytes told) run (map told ls.links) old.listeners (old.journal.events ++ event.Connect number ∷ []) core (desk_told old.first_desk) (desk_told old.desk)) (sym links_are)
             (holds_connected number core journal.events link connects fresh run (is.runs run gives)));
+        shown = λ run gives. subst (λ (es : List Event). AllShowWhy (TellOver told) es core.hub (map told links.links)) (sym events)
+            (subst (λ (ls : Links L). AllShowWhy (TellOver told) (old.journal.events ++ event.Connect number ∷ []) core.hub (map told ls.links)) (sym links_are)
+            (subst (AllShowWhy (TellOver told) (old.journal.events ++ event.Connect number ∷ []) core.hub) (sym (map-append told old.links.links (link ∷ [])))
+            (shown_connected old.journal.events (event.Connect number ∷ []) old.core.hub core.hub connects.comes.0 (map told old.links.links) (told link) connects.comes.1 connects.comes.2 connects.same.buffer
+            (is.linked.many ∙ sym (length-map old.links.links told)) (is.shown run gives))));
       }
 
   -- a daemon is one where no client came
@@ -141,6 +149,7 @@ module _ {L : Type 0} (told : L → LinkTold) (old : DaemonState L) (is : IsDaem
         desk = is.desk;
         running = is.running;
         runs = is.runs;
+        shown = is.shown;
       })))
 
   -- a daemon is one after an accept, whatever came of it

@@ -7,7 +7,9 @@ use Rattle.dl_desk.specs.State.{DeskState}
 use Rattle.dl_core.specs.State.{Core}
 use Rattle.dl_rounds.specs.Clients.{Clients, VisitsAll}
 use Rattle.dl_rounds.specs.Passing.{StayAsNoted}
+use Rattle.dl_turns.specs.Gone.{TellOver}
 use Rattle.dl_rounds.specs.Ready.{AreHeard}
+use Rattle.dl_rounds.specs.Shown.{ShowWhy, TellOvers}
 use Rattle.dl_rounds.specs.Visits.{HearsAll, Pumped}
 use Rattle.dl_rounds.specs.declared.listener.Listener.{Listener}
 use Rattle.dl_rounds.specs.declared.accepting.Arrival.{Arrival}
@@ -23,6 +25,7 @@ use Rattle.dl_loop.specs.Steps.{Accepts, GoesOn, Hears, Pumps}
 use Rattle.dl_loop.proofs.Accepted.{accepted, folder_none}
 use Rattle.dl_loop.proofs.LaterDaemons.{later_daemon}
 use Rattle.dl_loop.proofs.MadeDaemons.{made_daemon}
+use Rattle.dl_loop.proofs.ShownDaemons.{tell_overs}
 use Rattle.dl_loop.proofs.Visited.{PumpsAreEvents, heard_admits_none, heard_runs, pumped_admits_none, pumped_runs}
 
 pub made_is : {L : Type 0} (told : L → LinkTold) (d : DaemonState L) → IsMade d → IsDaemon told d
@@ -45,6 +48,7 @@ made_is told d made =
       running = m.running;
       runs = λ run gives. subst (λ (first : DeskState). HoldsIn (TellTaken told) (TellBytes told) run (map told d.links.links) d.listeners d.journal.events d.core (desk_told first) (desk_told d.desk)) (sym made.first_desk)
           (m.runs run (subst (λ (first : Core). Gives run first d.desk.apps d.desk.handles) made.first_core gives));
+      shown = λ run gives. m.shown run (subst (λ (first : Core). Gives run first d.desk.apps d.desk.handles) made.first_core gives);
     }
 
 pub accept_is : {L : Type 0} (told : L → LinkTold) (came : Arrival) (net net_now : NetTold L) (old new : DaemonState L) → IsDaemon told old
@@ -52,19 +56,21 @@ pub accept_is : {L : Type 0} (told : L → LinkTold) (came : Arrival) (net net_n
 accept_is {L} told came net net_now old new is accepts = subst (λ (d : DaemonState L). IsDaemon told d) (sym accepts.rest)
     (accepted told old is came net net_now new.core new.journal new.links new.dropped new.failed new.wanted accepts.arrives accepts.connects accepts.linked accepts.heard accepts.spare accepts.unused)
 
-pub hear_is : ((moved : Bool) (old new : Clients) → HearsAll moved old new → StayAsNoted old new) → {L : Type 0} (told : L → LinkTold) (moved : Bool) (folder folder_now : FolderTold) (old new : DaemonState L)
+pub hear_is : ((moved : Bool) (old new : Clients) → HearsAll moved old new → StayAsNoted old new) → {L : Type 0} (told : L → LinkTold)
+    → ((moved : Bool) (old new : Clients) → HearsAll moved old new → (TellOver told → TellOvers old.links) → ShowWhy (TellOver told) old → ShowWhy (TellOver told) new) → (moved : Bool) (folder folder_now : FolderTold) (old new : DaemonState L)
     → IsDaemon told old → Hears told moved folder folder_now old new → GoesOn old new → IsDaemon told new
-hear_is stays {L} told moved folder folder_now old new is hears goes = subst (λ (d : DaemonState L). IsDaemon told d) (sym hears.rest)
-    (later_daemon told old is new.core new.desk new.journal new.links new.listeners folder folder_now (stays moved _ _ hears.visits) (heard_runs moved _ _ hears.visits is.running)
+hear_is stays {L} told shows moved folder folder_now old new is hears goes = subst (λ (d : DaemonState L). IsDaemon told d) (sym hears.rest)
+    (later_daemon told old is new.core new.desk new.journal new.links new.listeners folder folder_now (stays moved _ _ hears.visits) (shows moved _ _ hears.visits (tell_overs told old.links.links)) (heard_runs moved _ _ hears.visits is.running)
     (heard_admits_none moved _ _ hears.visits) hears.desk goes.linked goes.heard goes.room goes.same)
 
-pub pump_is : ((moved : Bool) (old new : Clients) → VisitsAll Pumped moved old new → StayAsNoted old new) → PumpsAreEvents → {L : Type 0} (told : L → LinkTold) (moved : Bool) (old new : DaemonState L)
+pub pump_is : ((moved : Bool) (old new : Clients) → VisitsAll Pumped moved old new → StayAsNoted old new) → PumpsAreEvents → {L : Type 0} (told : L → LinkTold)
+    → ((moved : Bool) (old new : Clients) → VisitsAll Pumped moved old new → ShowWhy (TellOver told) old → ShowWhy (TellOver told) new) → (moved : Bool) (old new : DaemonState L)
     → IsDaemon told old → Pumps told moved old new → GoesOn old new → IsDaemon told new
-pump_is stays pump {L} told moved old new is pumps goes =
+pump_is stays pump {L} told shows moved old new is pumps goes =
     let enough : length (map told old.links.links) ≤ length old.listeners = omega (arith, length-map old.links.links told, is.linked.many, is.linked.few, is.heard.enough) in
     let visits = pumps.visits (desk_told old.desk) folder_none old.listeners enough in
     let desk : new.desk ≡ old.desk = ap (λ (d : DaemonState L). d.desk) pumps.rest in
     let listeners : new.listeners ≡ old.listeners = ap (λ (d : DaemonState L). d.listeners) pumps.rest in
     subst (λ (d : DaemonState L). IsDaemon told d) (sym pumps.rest)
-    (later_daemon told old is new.core old.desk new.journal new.links old.listeners folder_none folder_none (stays moved _ _ visits) (pumped_runs pump moved _ _ visits is.running)
+    (later_daemon told old is new.core old.desk new.journal new.links old.listeners folder_none folder_none (stays moved _ _ visits) (shows moved _ _ visits) (pumped_runs pump moved _ _ visits is.running)
     (pumped_admits_none moved _ _ visits) refl goes.linked (subst (λ (de : DeskState). AreHeard old.listeners new.core (desk_told de)) desk (subst (λ (ls : List Listener). AreHeard ls new.core (desk_told new.desk)) listeners goes.heard)) goes.room goes.same)

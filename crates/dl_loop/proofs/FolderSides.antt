@@ -227,6 +227,6 @@ pub pumped_on : WhatLinksTake → (moved : Bool) (old new : Clients) → VisitsA
 pumped_on takes moved old new pumps = visits_on Pumped (λ number here was now pumped. on_pump takes number pumped.why was.link pumped.link was.side now.side pumped.pump)
     0 pumps.0 moved old new pumps.1
 
-pub closed_on : WhatLinksTake → (old new : Clients) → ClosesAll old new → FolderGoesOn old.side new.side
-closed_on takes old new closes = visits_on Closed (λ number here was now closed. on_wound_up takes number closed.why (stage_of was) (record (stage_of now) { link = closed.link }) closed.wound_up)
+pub closed_on : WhatLinksTake → {Tells : Type 0} (old new : Clients) → ClosesAll Tells old new → FolderGoesOn old.side new.side
+closed_on takes {Tells} old new closes = visits_on (Closed Tells) (λ number here was now closed. on_wound_up takes number closed.why (stage_of was) (record (stage_of now) { link = closed.link }) closed.wound_up)
     0 closes.1.0 closes.0 old new closes.1.1

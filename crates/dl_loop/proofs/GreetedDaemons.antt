@@ -29,22 +29,24 @@ use Rattle.dl_core.specs.Follows.{Adds, HoldsTrace, IsAfter, Run, source_of}
 use Rattle.dl_core.specs.State.{Core}
 use Rattle.dl_lib.specs.Known.{taken_of}
 use Rattle.dl_well_formed.proofs.Following.{running_on}
-use Rattle.dl_admission.specs.Kept.{KeepsTrace, end_of}
+use Rattle.dl_admission.specs.Kept.{KeepsTrace}
 use Rattle.dl_admission.proofs.KeptTraces.{trace_both, trace_each, trace_none}
 use Rattle.dl_well_formed.proofs.InTurn.{level_in_turn, user_in_turn}
 use Rattle.dl_turns.specs.Events.{SetsLevel, SetsLevels}
+use Rattle.dl_turns.specs.Gone.{TellOver}
 use Rattle.dl_turns.specs.Later.{IsDeskLater}
 use Rattle.dl_turns.specs.State.{Side}
 use Rattle.dl_turns.proofs.AddedEvents.{each_both, each_none}
 use Rattle.dl_turns.proofs.LaterSides.{desk_both}
 use Rattle.dl_turns.proofs.PostedSides.{posted_both}
 use Rattle.dl_rounds.specs.Greetings.{Greets as GreetsOne, GreetsEach, GreetsFirst, IsContext, IsIntroduced, IsOfGreeting, IsRegistration, MayGreet, hello_of}
+use Rattle.dl_rounds.specs.Shown.{AllShowWhy}
 use Rattle.dl_loop.specs.Bounds.{HasBounds}
 use Rattle.dl_loop.specs.Daemon.{IsDaemon, TellTaken, is_noted}
 use Rattle.dl_loop.specs.Greeting.{Greets}
 use Rattle.dl_loop.specs.Holds.{AreNoted, Gives, HoldsIn}
 use Rattle.dl_loop.specs.Scene.{Scene, side_of, scene}
-use Rattle.dl_loop.specs.Later.{IsLaterBy, IsLaterGreeted}
+use Rattle.dl_loop.specs.Later.{IsLaterGreeted}
 use Rattle.dl_loop.specs.State.{DaemonState, SameDesk, desk_told}
 use Rattle.dl_loop.specs.Told.{IsToldBy}
 use Rattle.dl_loop.proofs.DeskRest.{later_both, same_apps, same_later, same_reported, same_taken}
@@ -322,6 +324,7 @@ module _ {L : Type 0} (told : L → LinkTold) (moment : Moment) (msgs : List Use
         running = subst IsRunning (sym events) (running_on old.daemon.journal.events led.0 is.running (none_stops led.0 led.1.kinds));
         runs = λ run gives. subst (λ (es : List Event). HoldsIn (TellTaken told) (TellBytes told) run (map told old.daemon.links.links) old.daemon.listeners es new.daemon.core (desk_told old.daemon.first_desk) (desk_told new.daemon.desk)) (sym events)
             (holds_greeted run gives);
+        shown = λ run gives. subst (λ (ls : List L). AllShowWhy (TellOver told) new.daemon.journal.events new.daemon.core.hub (map told ls)) (sym nobody) (λ number link there gone at. absurd (cc at));
       })
 
   -- it is later by what they told

@@ -2,6 +2,7 @@ pub mod ToldJournals
 pub mod AdmittedBounds
 pub mod DeskRest
 pub mod NotedDaemons
+pub mod ShownDaemons
 pub mod Accepted
 pub mod Visited
 pub mod LaterDaemons

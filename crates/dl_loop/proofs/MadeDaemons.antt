@@ -23,7 +23,9 @@ use Rattle.std.specs.Option.{option_and_then}
 use Rattle.dl_core.specs.Settings.{begun}
 use Rattle.dl_core.specs.State.{Core}
 use Rattle.dl_turns.specs.Events.{IsDeskOf}
+use Rattle.dl_turns.specs.Gone.{TellOver}
 use Rattle.dl_rounds.specs.Ready.{AreHeard, AreLinked, fresh_listener}
+use Rattle.dl_rounds.specs.Shown.{AllShowWhy}
 use Rattle.dl_rounds.specs.declared.listener.Listener.{Listener}
 use Rattle.dl_loop.specs.Daemon.{IsDaemon, TellTaken, is_noted}
 use Rattle.dl_loop.specs.Holds.{HoldsIn}
@@ -136,4 +138,5 @@ made_daemon told core desk journal links listeners calls begins untouched events
             formed = tt;
             posted = λ app. record { took = sym (append-nil _); refused = still _; full = tt };
           }));
+      shown = λ run gives. subst (λ (ls : Links _). AllShowWhy (TellOver told) journal.events (begun conf stored 0 trace).hub (map told ls.links)) (sym no_links) (λ number link there gone at. absurd (cc at));
     })

@@ -23,6 +23,7 @@ use Rattle.dl_loop.specs.Steps.{Parts}
 use Rattle.dl_loop.proofs.DeskRest.{later_none}
 use Rattle.dl_loop.proofs.GoneRounds.{net_none}
 use Rattle.dl_loop.proofs.NotedDaemons.{each_tells, noted_parted}
+use Rattle.dl_loop.proofs.ShownDaemons.{shown_parted}
 
 -- links that are shut took what they took
 taken_parted : (hub : Hub) (old new : List LinkTold) (took : ℕ → List ℕ) → ShutsGone hub old new → AreTaken old took → AreTaken new took
@@ -75,6 +76,7 @@ part_is {L} told old new is parts =
             formed = holds.formed;
             posted = holds.posted;
           };
+      shown = λ run gives. shown_parted old.journal.events old.core.hub (map told old.links.links) (map told new.links.links) parts.shuts (is.shown run gives);
     })
 
 -- a round goes on with it

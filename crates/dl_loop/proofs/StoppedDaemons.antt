@@ -32,17 +32,19 @@ use Rattle.dl_taking.specs.Drained.{GivesTook}
 use Rattle.dl_taking.specs.Draining.{closing_told, closing_took}
 use Rattle.dl_taking.specs.Takes.{TellAllTaken}
 use Rattle.dl_taking.specs.Took.{Took, took_by}
+use Rattle.dl_turns.specs.Gone.{TellOver}
 use Rattle.dl_turns.specs.Injected.{HasPosted}
 use Rattle.dl_turns.specs.Later.{level_in}
 use Rattle.dl_turns.proofs.PostedSides.{posted_both}
 use Rattle.dl_rounds.specs.Passing.{AreAsNoted, took_all}
 use Rattle.dl_rounds.specs.Ready.{AreHeard}
+use Rattle.dl_rounds.specs.Shown.{AllShowWhy}
 use Rattle.dl_settling.specs.Ends.{ends_in}
 use Rattle.dl_settling.specs.Room.{IsFew, together}
 use Rattle.dl_settling.specs.Settling.{Settles}
 use Rattle.dl_settling.specs.State as stopping
 use Rattle.dl_settling.specs.Stopped.{IsStop, account_told, account_took}
-use Rattle.dl_settling.specs.Went.{HaveGone, TellBytes, TellStreams}
+use Rattle.dl_settling.specs.Went.{HaveEnded, HaveGone, TellBytes, TellStreams}
 use Rattle.dl_settling.proofs.Rooms.{left_fits}
 use Rattle.dl_settling.proofs.WentClients.{streams_told}
 use Rattle.dl_loop.specs.Daemon.{IsDaemon}
@@ -110,6 +112,8 @@ module _ {L : Type 0} (told : L → LinkTold) (d : DaemonState L) (books : List 
     (core : Core) (is : IsDaemon told d) (made : IsMadeOf d.desk books closing) (stop : IsStop told d.dropped core (stopping_of d closing) account links folder folder_now)
     (went : (run : Run) (taken : ℕ → List ℕ) → TellBytes told → GivesTook account.apps (account_took account) run → AreAsNoted run d.journal.events taken (stopping.clients_of told (stopping_of d closing) folder)
     → HaveGone run account.events (map told links.links) account.outcome.links)
+    (ended : (run : Run) (taken : ℕ → List ℕ) → GivesTook account.apps (account_took account) run → IsAfter run d.journal.events taken d.core
+    → AllShowWhy (TellOver told) d.journal.events d.core.hub (map told d.links.links) → HaveEnded (TellOver told) run.setting account.events (map told links.links) account.outcome.links)
     (outbox : (run : Run) (events : List Event) (taken : ℕ → List ℕ) (core : Core) (client : ℕ) → IsAfter run events taken core → IsSome (outbox_of core.hub client) ↔ IsOpen client events)
     (stops : FolderStops (stopping_of d closing) core account folder folder_now) where
   apps_so : account.apps ≡ d.desk.apps
@@ -171,6 +175,7 @@ module _ {L : Type 0} (told : L → LinkTold) (d : DaemonState L) (books : List 
             (subst (TellStreams run account.events (length core.hub.clients)) (sym ends) (streams_told run account.events taken core after));
         trace = ap (λ (o : Ends). o.trace) stop.outcome;
         holds = λ held. subst (λ (es : List Event). HoldsTrace run es core folder_now) events (on.holds held);
+        ended = ended run holds.took took holds.after (is.shown run (gives_before run gives));
         gone = λ tells. went run holds.took tells took (holds.noted tells (closing_told closing) (Some d.journal.events) folder);
       }
 

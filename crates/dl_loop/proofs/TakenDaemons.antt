@@ -25,6 +25,7 @@ use Rattle.dl_admission.specs.Telling.{IsTaken}
 use Rattle.dl_taking.specs.Took.{took_by, without_takes}
 use Rattle.dl_taking.specs.Takes.{TellAllTaken}
 use Rattle.dl_turns.specs.Events.{IsDeskOf}
+use Rattle.dl_turns.specs.Gone.{TellOver}
 use Rattle.dl_turns.specs.Later.{level_in}
 use Rattle.dl_turns.proofs.PostedSides.{posted_both}
 use Rattle.dl_well_formed.proofs.Following.{running_on}
@@ -37,7 +38,9 @@ use Rattle.dl_loop.specs.State.{DaemonState, desk_told}
 use Rattle.dl_loop.specs.Takes.{SameButTaken}
 use Rattle.dl_loop.specs.Told.{IsToldBy}
 use Rattle.dl_loop.proofs.DeskRest.{later_both}
+use Rattle.dl_rounds.specs.Shown.{AllShowWhy}
 use Rattle.dl_settling.proofs.NoRequests.{posted_none}
+use Rattle.dl_settling.proofs.ShownDrains.{shown_taken}
 use Rattle.dl_loop.proofs.NotedDaemons.{all_of_drain, noted_taken}
 use Rattle.dl_loop.proofs.TakenEvents.{IsCounted, as_many, entries_count, open_before, served_before, taken_set_nothing}
 
@@ -168,4 +171,10 @@ module _ {L : Type 0} (told : L → LinkTold) (old : DaemonState L) (is : IsDaem
         desk = later_both old.first_desk old.desk desk is.desk (taken_later old.desk desk took.desk_same);
         running = subst IsRunning (sym events) (running_on old.journal.events more is.running took.admits.running);
         runs = λ run gives. subst (λ (es : List Event). HoldsIn (TellTaken told) (TellBytes told) run (map told old.links.links) old.listeners es core (desk_told old.first_desk) (desk_told desk)) (sym events) (holds_taken run gives);
+        shown = λ run gives.
+            let before = took.gives_before run gives in
+            let holds = is.runs run before in
+            subst (λ (es : List Event). AllShowWhy (TellOver told) es core.hub (map told old.links.links)) (sym events)
+            (shown_taken run old.journal.events holds.took (part old.core (Some old.journal.events) folder) (part core (Some journal.events) folder_now) took.admits
+            (all_of_drain entries more took.counted took.admits.noted) (took.gives_it run gives) holds.after (map told old.links.links) (is.shown run before));
       }

@@ -8,7 +8,9 @@ use Rattle.dl_outside.specs.Told.{LinkTold}
 use Rattle.dl_desk.specs.Made.{IsLater}
 use Rattle.dl_core.specs.Follows.{Run}
 use Rattle.dl_taking.specs.Took.{took_by}
+use Rattle.dl_turns.specs.Gone.{TellOver}
 use Rattle.dl_rounds.specs.Ready.{AreHeard, AreLinked, open_clients}
+use Rattle.dl_rounds.specs.Shown.{AllShowWhy}
 use Rattle.dl_settling.specs.Room.{IsFew}
 use Rattle.dl_settling.specs.Went.{TellBytes}
 use Rattle.dl_loop.specs.Bounds.{HasBounds}
@@ -37,7 +39,7 @@ TellTaken {L} told = (link : L) → IsSome (told link).taken
 -- A daemon whose links tell this. Its journal tells just what was taken, reported and set; its clients are linked and heard, and the next
 -- round has room; there is no more than one Log or Lost event for each call that was taken and each loss that was reported; no client was closed
 -- at a stop; the desk is the one that was handed in, later; and in each run that it may be of, core and
--- journal stand for each other.
+-- journal stand for each other, and clients that are gone show why.
 pub record IsDaemon {L : Type 0} (told : L → LinkTold) (d : DaemonState L) : Type 0 where
   pub told_by : IsToldBy d.journal.events (length d.desk.apps) d.desk.handles
   pub linked : AreLinked d.links d.core d.journal.spare
@@ -50,3 +52,4 @@ pub record IsDaemon {L : Type 0} (told : L → LinkTold) (d : DaemonState L) : T
   pub running : IsRunning d.journal.events
   pub runs : (run : Run) → Gives run d.first_core d.desk.apps d.desk.handles
       → HoldsIn (TellTaken told) (TellBytes told) run (map told d.links.links) d.listeners d.journal.events d.core (desk_told d.first_desk) (desk_told d.desk)
+  pub shown : (run : Run) → Gives run d.first_core d.desk.apps d.desk.handles → AllShowWhy (TellOver told) d.journal.events d.core.hub (map told d.links.links)

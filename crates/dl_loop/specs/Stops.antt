@@ -16,6 +16,7 @@ use Rattle.dl_admission.specs.Kept.{end_of}
 use Rattle.dl_taking.specs.Draining.{MayNote, all_to_note, closing_told}
 use Rattle.dl_rounds.specs.Ready.{AreHeard, AreLinked}
 use Rattle.dl_bytes.specs.Limits.{client_limit}
+use Rattle.dl_turns.specs.Gone.{TellOver}
 use Rattle.dl_turns.specs.Injected.{HasPosted}
 use Rattle.dl_writer.specs.State.{BookState}
 use Rattle.dl_lib.specs.Making.{AreInOrder, IsMadeOf}
@@ -24,7 +25,7 @@ use Rattle.dl_settling.specs.Settling.{Settles}
 use Rattle.dl_settling.specs.Ends.{trace_told}
 use Rattle.dl_settling.specs.State.{Stopping}
 use Rattle.dl_settling.specs.Stopped.{IsOfStop, account_told}
-use Rattle.dl_settling.specs.Went.{HaveGone, TellBytes, TellStreams}
+use Rattle.dl_settling.specs.Went.{HaveEnded, HaveGone, TellBytes, TellStreams}
 use Rattle.dl_loop.specs.Holds.{Gives}
 use Rattle.dl_loop.specs.State.{DaemonState, desk_told}
 use Rattle.dl_loop.specs.Told.{IsToldBy}
@@ -36,7 +37,8 @@ stopping_of d closing = record { core = d.core; closing = closing; journal = d.j
 -- What a stop leaves in a run: this core, as it is in the end, is what the account's events make of it, for what the links took, where links tell
 -- that; the journal is well-formed, and no client is open in it; the queues of injections took and refused just those of its requests; the ends
 -- of links tell the clients' streams, and the trace tells its files; the trace files that stood for the journal stand for the longer one. The
--- clients have gone as the model of a daemon's end says, where links tell what they gave and took.
+-- clients have gone as the model of a daemon's end says, where links tell what they gave and took; and whatever links tell, each client has its
+-- Close, for a cause that its link's counts and the end of its link show.
 pub record StopsIn {L : Type 0} (told : L → LinkTold) (run : Run) (d : DaemonState L) (core : Core) (account : AccountState) (links : Links L) (folder folder_now : FolderTold) : Type 0 where
   pub took : ℕ → List ℕ
   pub after : IsAfter run account.events took core
@@ -47,6 +49,7 @@ pub record StopsIn {L : Type 0} (told : L → LinkTold) (run : Run) (d : DaemonS
   pub trace : account.outcome.trace ≡ trace_told core.trace
   pub holds : HoldsTrace run d.journal.events d.core folder → HoldsTrace run account.events core folder_now
   pub gone : TellBytes told → HaveGone run account.events (map told links.links) account.outcome.links
+  pub ended : HaveEnded (TellOver told) run.setting account.events (map told links.links) account.outcome.links
 
 -- What a stop leaves: the journal is longer by calls, losses, requests, levels and Closes alone; more was taken, and the journal tells just what
 -- was taken, reported and set; as many links come back as there were, and so many are told as dropped; and in each run that the account may be of, it

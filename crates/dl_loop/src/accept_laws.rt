@@ -19,7 +19,7 @@ pub fn what_an_answer_tells<L: Link>()
     ensures tells { (answer : Round) (net net_now : NetTold L) (old new : Scene L) → IsRound L.told answer net net_now old new
         → TellsAccept answer net net_now new.daemon }
 {
-    dl_rounds::laws::a_round_is_its_events();
+    dl_rounds::laws::a_round_is_its_events::<L>();
 }
 
 /// In rounds one after the other the connections of all of them came, and without a round none.
@@ -40,5 +40,5 @@ pub fn who_came<L: Link>()
     ensures all { (came : ℕ) (net net_now : NetTold L) (old new : DaemonState L) → HaveCome came net net_now old new
         → IfSome net_now.waiting (λ links. links ≡ []) → IfSome net.waiting (λ links. came ≡ length links) }
 {
-    dl_rounds::laws::a_round_is_its_events();
+    dl_rounds::laws::a_round_is_its_events::<L>();
 }

@@ -292,7 +292,7 @@ impl<L: Link> Daemon<L> {
             (scene self.old (F.told folder.old)) (scene self.new (F.told folder.new)) }
         ensures goes { GoesRound (N.told net.old) (N.told net.new) (scene self.old (F.told folder.old)) (scene self.new (F.told folder.new)) }
     {
-        dl_rounds::laws::a_round_is_its_events();
+        dl_rounds::laws::a_round_is_its_events::<L>();
         dl_core::laws::what_links_take();
         self.is_daemon();
         let came = self.accept(net);

@@ -61,7 +61,8 @@ pub fn a_daemon_goes_on<L: Link>()
         → Pumps L.told moved old new → GoesOn old new → IsDaemon L.told new }
     ensures parted { (old new : DaemonState L) → IsDaemon L.told old → Parts L.told old new → IsDaemon L.told new }
 {
-    dl_rounds::laws::clients_are_as_noted();
+    dl_rounds::laws::clients_are_as_noted::<L>();
+    dl_rounds::laws::gone_clients_show_why::<L>();
     dl_turns::laws::a_pump_is_its_events();
 }
 

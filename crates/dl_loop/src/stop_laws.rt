@@ -32,6 +32,7 @@ pub fn what_a_stop_leaves<L: Link>()
 {
     dl_settling::laws::a_stop_is_its_events::<L>();
     dl_settling::laws::how_clients_went::<L>();
+    dl_settling::laws::how_clients_ended::<L>();
     dl_well_formed::clients::who_has_an_outbox();
     dl_core::laws::what_links_take();
 }
