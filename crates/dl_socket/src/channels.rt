@@ -10,6 +10,7 @@ ghost use Rattle.dl_rounds.specs.Rounds.{seen};
 ghost use Rattle.dl_rounds.specs.Visits.{ClosesAll, HearsAll};
 ghost use Rattle.dl_registry.specs.Kept.{owed_change};
 ghost use Rattle.dl_turns.specs.Events.{HasServed};
+ghost use Rattle.dl_turns.specs.Gone.{TellOver};
 ghost use Rattle.dl_socket.specs.Channels.{IsOpen, Opens, Refuses, channel_limit, none_opened, open_channel_limit, open_in, with_channel};
 ghost use Rattle.dl_channel_turns.specs.State.{side};
 ghost use Rattle.dl_socket.specs.Closing.{HasBegunToClose, HasClosed};
@@ -306,7 +307,7 @@ impl Channels {
     )
         requires linked { AreLinked links.old core.old (J.spare journal.old) }
         requires heard { HaveListeners listeners.old core.old }
-        ensures serves { HaveServed ClosesAll core.old.registry
+        ensures serves { HaveServed (ClosesAll (TellOver L.told)) core.old.registry
             (λ desk. seen L.told (λ d. d) J.events F.told links.old listeners.old core.old desk journal.old folder.old)
             (λ desk. seen L.told (λ d. d) J.events F.told links.new listeners.new core.new desk journal.new folder.new) self.old self.new }
         ensures none { (number : ℕ) → outbox_of core.new.hub number ≡ None }
