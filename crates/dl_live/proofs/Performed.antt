@@ -30,6 +30,7 @@ use Rattle.dl_settling.specs.Ends.{trace_told}
 use Rattle.dl_settling.specs.Went.{TellBytes, TellStreams}
 use Rattle.dl_startup.specs.Setup.{IsBegun}
 use Rattle.dl_trace.specs.Stands.{HasFiles}
+use Rattle.dl_turns.specs.Gone.{TellOver}
 use Rattle.dl_trace.specs.State.{Trace}
 use Rattle.dl_live.specs.declared.beginning.Begun.{Begun}
 use Rattle.dl_live.specs.declared.players.Players.{Players}
@@ -122,7 +123,7 @@ module _ {L : Type 0} (link_told : L → LinkTold) (begun : Begun) (p : Players 
 
   -- ---- the clients
 
-  pub served : AreServed (TellBytes link_told) run account.events (map link_told links.links) account.outcome
+  pub served : AreServed (TellBytes link_told) (TellOver link_told) run account.events (map link_told links.links) account.outcome
   served =
       let stops = come.stops_in link_told begun p wanted failed net net_now folder folder_now account links runnable are begins been in
       let long : length (map link_told links.links) ≡ length links.links = length-map links.links link_told in
@@ -132,6 +133,7 @@ module _ {L : Type 0} (link_told : L → LinkTold) (begun : Begun) (p : Players 
         none_open = stops.none_open;
         streams = subst (λ (n : ℕ). TellStreams run account.events n account.outcome.links) (sym long) stops.ends;
         dropped = come.drops link_told begun p wanted failed net net_now folder folder_now account links runnable are begins been;
+        ended = stops.ended;
         gone = stops.gone;
       }
 

@@ -11,18 +11,21 @@ use Rattle.dl_outside.specs.Outside.{Stays}
 use Rattle.dl_outside.specs.Told.{LinkTold, NetTold}
 use Rattle.dl_outside.specs.declared.client.ClientScript.{ClientScript}
 use Rattle.dl_script_lines.specs.declared.scenario.ScenarioLine.{ScenarioLine}
-use Rattle.dl_settling.specs.Went.{HaveGone, TellStreams}
+use Rattle.dl_settling.specs.Went.{HaveEnded, HaveGone, TellStreams}
 
 -- ---- the clients
 
 -- The clients of a journal with their links, by number. None is open any more. What is told of the ends of their links are the frames and the bytes of
--- their streams; links were dropped only where they may be; and where links of this kind tell what they gave and took, each client has gone as the
--- model of a daemon's end says, and whether its link took all of its stream is so.
-pub record AreServed (Tells : Type 0) (run : Run) (events : List Event) (links : List LinkTold) (outcome : Ends) : Type 0 where
+-- their streams; links were dropped only where they may be. Whatever links tell, each client has its Close, for a cause that its link's counts show, and
+-- of one that left, that its link is over, where links of this kind tell that; and its link took all of its stream, or left some of it, as the cause
+-- tells. Where links of this kind tell what they gave and took, each client has gone as the model of a daemon's end says, and whether its link took all
+-- of its stream is so.
+pub record AreServed (Tells TellsOver : Type 0) (run : Run) (events : List Event) (links : List LinkTold) (outcome : Ends) : Type 0 where
   pub many : length links ≡ count_by is_connect events
   pub none_open : (client : ℕ) → IsOpen client events → ⊥
   pub streams : TellStreams run events (length links) outcome.links
   pub dropped : MayDrop events outcome.dropped
+  pub ended : HaveEnded TellsOver run.setting events links outcome.links
   pub gone : Tells → HaveGone run events links outcome.links
 
 -- ---- the net
