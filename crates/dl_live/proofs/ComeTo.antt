@@ -66,7 +66,7 @@ what_stood conf files None begun = record { stood = []; after = tt; told = tt }
 what_stood conf files (Some kept) begun = record { stood = begun.2.0; after = begun.2.1; told = begun.2.2 }
 
 module _ {L : Type 0} (told : L → LinkTold) (begun : Begun) (p : Players L) (wanted failed : Bool) (net net_now : NetTold L) (folder folder_now : FolderTold)
-    (account : AccountState) (links : Links L) (runnable : IsRunnable begun.scenario) (are : ArePlayersOf begun p) (begins : IsBegun begun.conf folder.files begun.trace)
+    (account : AccountState) (links : Links L) (runnable : IsRunnable begun.scenario) (are : ArePlayersOf begun p) (files : Option Files) (begins : IsBegun begun.conf files begun.trace)
     (been : HasBeenPlayed told p wanted failed net net_now folder folder_now account links) where
   abbrev lines : List ScenarioLine
   lines = begun.scenario
@@ -92,7 +92,7 @@ module _ {L : Type 0} (told : L → LinkTold) (begun : Begun) (p : Players L) (w
   numbered = same_numbers p.plan.contexts p.plan.lines p.books been.books been.played ∙ are.opened.books.numbered
       ∙ ap (range_with_len 1) (sym (as_many (HasPlayed p.plan.contexts p.plan.lines) p.books been.books been.played))
 
-  same_books : account.books ≡ been.books
+  pub same_books : account.books ≡ been.books
   same_books = stay_in_order been.books account.books numbered been.stops.books_are
 
   all_played : ArePairs (HasPlayedAll lines) (writers lines) account.books
@@ -110,8 +110,8 @@ module _ {L : Type 0} (told : L → LinkTold) (begun : Begun) (p : Players L) (w
     played = all_played;
   }
 
-  pub stood : HaveStood begun.conf folder.files begun.trace
-  stood = what_stood begun.conf folder.files begun.trace begins
+  pub stood : HaveStood begun.conf files begun.trace
+  stood = what_stood begun.conf files begun.trace begins
 
   pub is_account : IsAccountIn (setting begun) account
   is_account = daemons.is_account told begun p wanted failed net net_now folder folder_now account links are been goes greeted stood.stood stood.after

@@ -12,3 +12,8 @@ pub mod PlayedDaemons
 pub mod ComeTo
 pub mod Performed
 pub mod EndedRuns
+pub mod SentClosures
+pub mod KnownRuns
+pub mod BegunRuns
+pub mod PerformedRuns
+pub mod PlayedSteps

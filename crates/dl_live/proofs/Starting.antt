@@ -10,7 +10,8 @@ use Rattle.dl_crew.proofs.Pairs.{as_many, same_numbers, still_made, still_whole}
 use Rattle.dl_desk.specs.Apps.{AppState}
 use Rattle.dl_desk.specs.Made.{IsLater}
 use Rattle.dl_desk.specs.State.{DeskState}
-use Rattle.dl_lib.specs.Making.{AreMadeWith}
+use Rattle.dl_lib.specs.Making.{AreMadeWith, IsMissing}
+use Rattle.dl_lib.proofs.InOrder.{one_within}
 use Rattle.dl_lib.proofs.OpenBooks.{made_with, stay}
 use Rattle.dl_opening.specs.Opening.{IsOpened}
 use Rattle.dl_opening.specs.Scenario.{apps, clients}
@@ -24,6 +25,7 @@ use Rattle.dl_outside.specs.declared.client.ClientScript.{ClientScript}
 use Rattle.dl_rounds.specs.Greetings.{IsIntroduced, registered}
 use Rattle.dl_script_lines.specs.declared.scenario.ScenarioLine.{ScenarioLine}
 use Rattle.dl_settling.specs.Room.{together}
+use Rattle.dl_thread_rules.specs.Views.{times}
 use Rattle.dl_writer.specs.State.{BookState, IsWhole, numbers}
 use Rattle.dl_live.specs.declared.players.Players.{Players}
 use Rattle.dl_live.specs.Playing.{CanBePlayed}
@@ -89,3 +91,12 @@ module _ {L : Type 0} (p : Players L) (can : CanBePlayed p) where
         let rooms = rooms_fit lines opened is_opened in
         let all = can.2.calls in
         omega (arith, fit, rooms, all, same)
+
+    -- no book is missing
+    pub none_missing : (count : ℕ) → count ≡ length p.daemon.desk.owners → IsMissing books count → ⊥
+    none_missing count same missing =
+        let many = as_many (HasPlayed p.plan.contexts p.plan.lines) p.books books played in
+        let all = is_opened.books.all in
+        let there = subst (λ (ns : List ℕ). 1 ≤ times missing.number ns) (sym numbered) (one_within 1 (length books) missing.number missing.low (omega (arith, missing.high, same, all, many))) in
+        let none = missing.none in
+        omega (arith, there, none)

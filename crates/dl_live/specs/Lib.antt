@@ -10,3 +10,4 @@ pub mod Stage
 pub mod Playing
 pub mod Ends
 pub mod Program
+pub mod Performing

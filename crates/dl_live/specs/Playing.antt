@@ -72,3 +72,21 @@ pub record HasBeenPlayed {L : Type 0} (link_told : L → LinkTold) (p : Players 
   pub stops : Stops link_told rounded.daemon books account links rounded.folder folder_now
   pub failed_so : failed ≡ not (count == length p.scripts) || got.failed
   pub wanted_so : wanted ≡ false → got.wanted ≡ false
+
+-- ---- for inner functions
+
+-- The daemon's own applications told of themselves, and of the clients so many were launched.
+pub record HasSetOut {L : Type 0} (p now : Players L) (count : ℕ) (net net_now : NetTold L) (folder folder_now : FolderTold) : Type 0 where
+  pub moment : Moment
+  pub greets : Greets moment (hello_of p.apps) (scene p.daemon folder) (scene now.daemon folder_now)
+  pub later : IsLaterGreeted (scene p.daemon folder) (scene now.daemon folder_now)
+  pub launches : Launched p.scripts net net_now count
+  pub rest : now ≡ record p { daemon = now.daemon }
+
+-- these set out so, from somewhere
+pub record IsUnderWay {L : Type 0} (now : Players L) (count : ℕ) (net_now : NetTold L) (folder_now : FolderTold) : Type 0 where
+  pub first : Players L
+  pub net : NetTold L
+  pub folder : FolderTold
+  pub can : CanBePlayed first
+  pub out : HasSetOut first now count net net_now folder folder_now

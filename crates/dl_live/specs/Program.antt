@@ -8,9 +8,11 @@ use Rattle.dl_outside.specs.Told.{FolderTold, LinkTold, SinkTold}
 use Rattle.dl_outside.specs.Written.{Wrote, WroteNothing}
 use Rattle.dl_startup.specs.Configuration.{AreSetUp}
 use Rattle.dl_startup.specs.Scenario.{scenario_in}
+use Rattle.dl_startup.specs.Status.{number}
 use Rattle.dl_startup.specs.declared.status.Status.{Status}
 use Rattle.dl_startup.specs.declared.status.Status.TheVariants.{Ok, WordsRefused, OutOfMemory, NamesSpent}
 use Rattle.dl_words.specs.Run as words
+use Rattle.dl_live.specs.declared.program.Ended.{Ended}
 use Rattle.dl_live.specs.Account.{IsComeTo, Started, setting}
 use Rattle.dl_live.specs.Ends.{Ends, EndsEarly}
 use Rattle.dl_live.specs.Folder.{ChangesOwnFiles}
@@ -75,3 +77,9 @@ pub record IsRun {L : Type 0} (link_told : L → LinkTold) (said : List (List �
       → (status ≡ Ok) ⊎ (status ≡ NamesSpent) ⊎ (status ≡ OutOfMemory)
   -- the status's line is said, and nothing where all went well
   pub told : Says status err err_now
+
+-- what a run comes to that ended so: the status is the number of one, and it is as said above
+pub record HasRun {L : Type 0} (link_told : L → LinkTold) (said : List (List ℕ)) (old new : Told L) (err err_now : SinkTold) (ended : Ended L) : Type 0 where
+  pub status : Status
+  pub number_is : ended.status ≡ number status
+  pub run : IsRun link_told said old new err err_now status ended.account ended.links

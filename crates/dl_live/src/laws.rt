@@ -23,19 +23,20 @@ ghost use Rattle.dl_script_lines.specs.declared.scenario.ScenarioLine.{ScenarioL
 ghost use Rattle.dl_settling.specs.Room.{together};
 ghost use Rattle.dl_startup.specs.Failures.{unserved};
 ghost use Rattle.dl_startup.specs.Setup.{IsBegun};
+ghost use Rattle.dl_startup.specs.Unchanged.{IsQuiet};
 ghost use Rattle.dl_startup.specs.declared.status.Status.{Status};
 ghost use Rattle.dl_turns.specs.Injected.{HasPosted};
 ghost use Rattle.dl_writer.specs.State.{BookState, IsWhole, numbers};
 ghost use Rattle.dl_live.specs.declared.beginning.Begun.{Begun};
 ghost use Rattle.dl_live.specs.declared.players.Players.{Players};
-ghost use Rattle.dl_live.specs.Account.{IsPlayedOut, setting};
+ghost use Rattle.dl_live.specs.Account.{IsComeTo, setting};
 ghost use Rattle.dl_live.specs.Clients.{IsHeard};
 ghost use Rattle.dl_live.specs.Ends.{Ends, KnownOf, failed_so};
 ghost use Rattle.dl_live.specs.Injected.{IsInjected};
 ghost use Rattle.dl_live.specs.Played.{HasPlayedAll};
 ghost use Rattle.dl_live.specs.Playing.{ArePlayersOf, CanBePlayed, HasBeenPlayed};
 ghost use Rattle.dl_live.specs.Program.{ChangesNoOther, IsRun, Outcome, Says};
-ghost use Rattle.dl_live.specs.Told.{Told};
+ghost use Rattle.dl_live.specs.Told.{Told, told};
 
 use dl_crew::laws::played_books_stay;
 use dl_opening::laws::{opened_books_ask_for_all, opened_books_can_be_played};
@@ -86,13 +87,14 @@ pub fn what_was_assembled_can_be_played<L: Link>()
         → together books ≤ p.daemon.calls }
 {}
 
-/// A run that was played is played out: its journal is well-formed and its records account for it, it is of the scenario, its clients were served, and net
-/// and folder are what its events made of them.
+/// A run that was played is come to its account: its journal is well-formed and its records account for it, it is of the scenario, its clients were
+/// served, net and folder are what its events made of them, and its trace files are those of its events. The folder may have been looked at before, but
+/// it was left alone since the trace was begun over it.
 pub fn what_was_played_is_its_account<L: Link>()
-    ensures { (begun : Begun) (p : Players L) (wanted failed : Bool) (net heard net_now : NetTold L) (folder folder_now : FolderTold) (account : AccountState)
-        (links : Links L) → IsRunnable begun.scenario → ArePlayersOf begun p → IsBegun begun.conf folder.files begun.trace → IsHeard begun.port net heard
-        → HasBeenPlayed L.told p wanted failed heard net_now folder folder_now account links
-        → IsPlayedOut L.told begun net net_now folder folder_now account links }
+    ensures { (begun : Begun) (p : Players L) (wanted failed : Bool) (net heard net_now : NetTold L) (first folder folder_now : FolderTold) (out out_now : SinkTold)
+        (account : AccountState) (links : Links L) → IsRunnable begun.scenario → ArePlayersOf begun p → IsBegun begun.conf first.files begun.trace
+        → IsQuiet first folder → IsHeard begun.port net heard → HasBeenPlayed L.told p wanted failed heard net_now folder folder_now account links
+        → IsComeTo L.told begun (told first net out) (told folder_now net_now out_now) account links }
 {}
 
 /// The status that is found as a report is written says how the run ended.

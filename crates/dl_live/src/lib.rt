@@ -1,13 +1,18 @@
-//! The live daemon: what a run begins with, who plays it, and the wait for its clients.
+//! The live daemon: a scenario is played by threads, beside a daemon that goes round, and the report of its account is written.
 #![tactic(auto)]
 
 mod beginning;
 mod gathering;
 pub mod laws;
 mod players;
+mod program;
 mod staging;
+mod workers;
 
 pub use beginning::{Begun, begin};
+pub use dl_startup::Status;
 pub use gathering::{Gathered, gather};
 pub use players::{Players, assemble};
+pub use program::{Ended, run};
 pub use staging::{Stage, set_stage};
+pub use workers::beside;

@@ -26,3 +26,4 @@ pub mod StoppedDaemons
 pub mod OpenClients
 pub mod Parted
 pub mod ComingRounds
+pub mod SentDaemons
