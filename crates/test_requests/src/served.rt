@@ -4,12 +4,14 @@ ghost use Rattle.std.specs.Prelude.{◌≡◌, length};
 ghost use Rattle.dl_bytes.specs.Htyp.{len_of};
 
 use dl_bytes::{Bytes, Done, Htyp, Id, Level, Order, OwnLevel, Sequence, Severity, UserMsg};
-use dl_control::{Request, RequestFault, read_request};
+use dl_control::{Reply, Request, RequestFault, read_request};
 use dl_message::{Cut, Cutter, MESSAGE_LIMIT, read_message};
 use dl_registry::{Registry, Stored};
 use dl_services::{serve, wish_of};
 use std::alloc::Global;
-use std::test::Fail;
+
+/// What a reply says: service, status, bytes of the body.
+type Says = (u32, u8, usize);
 
 /// A request as it was sent, in hexadecimal, and what the reply says: service, status, bytes of the body.
 type Row = (&'static str, u32, u8, usize);
@@ -133,31 +135,63 @@ const ROWS: [Row; 19] = [
     ),
 ];
 
-/// The registry of a daemon at level 4, in which `LOG` of this process has the context `TEST`.
-fn registry(alloc: Global) -> Result<Registry, Fail> {
+/// A registry at level 4 without an application, nothing stored.
+fn empty(alloc: Global) -> Option<Registry> {
     let stored = Stored {
         level: None,
         own: Sequence::over(Vec::new(alloc)),
     };
-    let mut registry = Registry::make(alloc, Level::from(Severity::Info), stored, 0)?;
-    let apid = Id::from_bytes(*b"LOG\0");
-    let app = UserMsg::RegisterApp {
-        apid,
+    Registry::make(alloc, Level::from(Severity::Info), stored, 0).ok()
+}
+
+/// `LOG` of this process.
+fn app(alloc: Global) -> UserMsg {
+    UserMsg::RegisterApp {
+        apid: Id::from_bytes(*b"LOG\0"),
         pid: 1,
         text: Bytes::over(Vec::new(alloc)),
-    };
-    registry.apply(0, &app).ok().ok_or("an application")?;
-    let context = UserMsg::RegisterContext {
-        apid,
+    }
+}
+
+/// The context `TEST` of it at this level.
+fn context(alloc: Global, level: OwnLevel) -> UserMsg {
+    UserMsg::RegisterContext {
+        apid: Id::from_bytes(*b"LOG\0"),
         ctid: Id::from_bytes(*b"TEST"),
         position: 0,
-        level: OwnLevel::of(-1).ok_or("an own level")?,
+        level,
         trace: -1,
         pid: 1,
         text: Bytes::over(Vec::new(alloc)),
+    }
+}
+
+/// Whether a registry takes a message in.
+fn takes(registry: &mut Registry, msg: &UserMsg) -> bool {
+    registry.apply(0, msg).is_ok()
+}
+
+/// Whether a registry takes the application and its context in.
+fn is_filled(alloc: Global, registry: &mut Registry) -> bool {
+    let Some(level) = OwnLevel::of(-1) else {
+        return false;
     };
-    registry.apply(0, &context).ok().ok_or("a context")?;
-    Ok(registry)
+    takes(registry, &app(alloc)) && takes(registry, &context(alloc, level))
+}
+
+/// The registry of a daemon at level 4, in which `LOG` of this process has the context `TEST`.
+fn registry(alloc: Global) -> Option<Registry> {
+    let mut registry = empty(alloc)?;
+    if is_filled(alloc, &mut registry) {
+        Some(registry)
+    } else {
+        None
+    }
+}
+
+/// What a reply says.
+fn says(reply: &Reply) -> Says {
+    (reply.service, reply.status, reply.body.all().len())
 }
 
 /// What the reply to a request for these ids says.
@@ -167,9 +201,9 @@ fn served(
     request: &Result<Request, RequestFault>,
     apid: Id,
     ctid: Id,
-) -> Result<(u32, u8, usize), Fail> {
+) -> Option<Says> {
     let level = Level::from(Severity::Info);
-    let wish = wish_of(alloc, registry, request, (apid, ctid), true, level)?;
+    let wish = wish_of(alloc, registry, request, (apid, ctid), true, level).ok()?;
     let done = Done::Yes;
     let reply = serve(
         alloc,
@@ -180,48 +214,81 @@ fn served(
         level,
         wish,
         done,
-    )?;
-    Ok((reply.service, reply.status, reply.body.all().len()))
+    )
+    .ok()?;
+    Some(says(&reply))
 }
 
-/// What the reply to a message says, where all that it wants is done: service, status, bytes of the body.
-fn answer(alloc: Global, registry: &mut Registry, message: &[u8]) -> Result<(u32, u8, usize), Fail>
-    requires { length message.now ≡ len_of message.now }
-{
-    let parts = read_message(message)?;
-    let head = parts.extended.ok_or("no extended header")?;
-    let order = if Htyp(parts.standard.htyp).has_big_numbers() {
+/// The byte order of a message's numbers.
+fn order(htyp: u8) -> Order {
+    if Htyp(htyp).has_big_numbers() {
         Order::Big
     } else {
         Order::Little
-    };
-    let payload = message.get(parts.start..).ok_or("no payload")?;
-    let request = read_request(payload, order);
+    }
+}
+
+/// What the reply to a message says, where all that it wants is done.
+fn answer(alloc: Global, registry: &mut Registry, message: &[u8]) -> Option<Says>
+    requires { length message.now ≡ len_of message.now }
+{
+    let parts = read_message(message).ok()?;
+    let head = parts.extended?;
+    let payload = message.get(parts.start..)?;
+    let request = read_request(payload, order(parts.standard.htyp));
     served(alloc, registry, &request, head.apid, head.ctid)
 }
 
-/// The same of a stream that is one message.
-fn answered(
-    alloc: Global,
-    registry: &mut Registry,
-    stream: &[u8],
-) -> Result<(u32, u8, usize), Fail> {
-    let mut cutter = Cutter::make(alloc, MESSAGE_LIMIT)?;
-    let _fed = cutter.feed(stream);
+/// The same of the message that a cutter gives.
+fn answered(alloc: Global, registry: &mut Registry, cutter: &mut Cutter) -> Option<Says> {
     match cutter.next() {
         Cut::Message => answer(alloc, registry, cutter.message()),
-        Cut::NeedMore | Cut::Bad(_) => Err("no message".into()),
+        Cut::NeedMore | Cut::Bad(_) => None,
+    }
+}
+
+/// A cutter that was fed this stream.
+fn fed(alloc: Global, stream: &[u8]) -> Option<Cutter> {
+    let mut cutter = Cutter::make(alloc, MESSAGE_LIMIT).ok()?;
+    let _fed = cutter.feed(stream);
+    Some(cutter)
+}
+
+/// A cutter that was fed this stream, given in hexadecimal.
+fn cutter(alloc: Global, stream: &str) -> Option<Cutter> {
+    fed(alloc, &hex::decode(alloc, stream).ok()?)
+}
+
+/// Whether a request has this reply.
+fn is_answered(alloc: Global, registry: &mut Registry, row: &Row) -> bool {
+    let (stream, service, status, len) = row;
+    match cutter(alloc, stream) {
+        Some(mut cutter) => {
+            answered(alloc, registry, &mut cutter) == Some((*service, *status, *len))
+        }
+        None => false,
+    }
+}
+
+/// The place of the first of these requests, sent one after the other, that has another reply.
+fn other(alloc: Global, registry: &mut Registry, rows: &[Row]) -> Option<usize> {
+    for (place, row) in rows.iter().enumerate() {
+        if !is_answered(alloc, registry, row) {
+            return Some(place);
+        }
+    }
+    None
+}
+
+/// Whether all of the requests have their replies.
+fn are_answered(alloc: Global) -> bool {
+    match registry(alloc) {
+        Some(mut registry) => other(alloc, &mut registry, &ROWS).is_none(),
+        None => false,
     }
 }
 
 #[test]
-fn captured_requests(rt: HostRuntime) -> Result<(), Fail> {
-    let alloc = rt.alloc();
-    let mut registry = registry(alloc)?;
-    for (stream, service, status, len) in ROWS {
-        let stream = hex::decode(alloc, stream)?;
-        let reply = answered(alloc, &mut registry, &stream)?;
-        assert_eq!(rt; reply, (service, status, len));
-    }
-    Ok(())
+fn captured_requests(rt: HostRuntime) {
+    assert!(rt; are_answered(rt.alloc()));
 }
