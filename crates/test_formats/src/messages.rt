@@ -7,7 +7,6 @@ use dl_bytes::{Id, Item, Payload, Severity};
 use dl_headers::{HeaderFault, read_standard};
 use dl_message::{Cut, Cutter, MESSAGE_LIMIT, log_frame, overflow_frame, read_message};
 use std::alloc::Global;
-use std::test::Fail;
 
 /// Four requests that a client sent to COVESA dlt-daemon 2.18.8, one behind another; a serial header stands before
 /// the first.
@@ -18,7 +17,7 @@ const REQUESTS: &[u8] = b"\
     5\x00\x00\x1aTEST\x00\x00\x00\x00\x16\x01APP\x00CON\x00\x13\x00\x00\x00";
 
 /// What a client looks at in a message: LEN, MCNT, APID, CTID, and whether it is a request.
-#[derive(Clone, Copy, Debug, PartialEq, Eq)]
+#[derive(Clone, Copy, PartialEq, Eq)]
 struct Seen(u16, u8, [u8; 4], [u8; 4], bool);
 
 const IN_REQUESTS: [Seen; 4] = [
@@ -43,30 +42,51 @@ fn summary_of(message: &[u8]) -> Option<Seen>
     ))
 }
 
-/// The messages of a stream that is fed in pieces of this size, each as far as there is room.
-fn cut(alloc: Global, stream: &[u8], size: usize) -> Result<Vec<Seen>, Fail> {
-    let mut cutter = Cutter::make(alloc, MESSAGE_LIMIT)?;
-    let mut found = Vec::new(alloc);
+/// Feeds a cutter a piece of this size, and answers the bytes from the first one on that it didn't take.
+fn fed<'a>(cutter: &mut Cutter, stream: &'a [u8], size: usize) -> &'a [u8] {
+    let taken = cutter.feed(stream.get(..size).unwrap_or(stream));
+    stream.get(taken..).unwrap_or(&[])
+}
+
+/// Whether a message is there, and is what is wanted.
+fn is_seen(seen: Option<Seen>, wanted: Option<&Seen>) -> bool {
+    match (seen, wanted) {
+        (Some(seen), Some(wanted)) => seen == *wanted,
+        _ => false,
+    }
+}
+
+/// Whether a cutter gives these messages of a stream that is fed in pieces of this size, each as far as there is room.
+fn gives(cutter: &mut Cutter, stream: &[u8], size: usize, wanted: &[Seen]) -> bool {
     let mut rest = stream;
+    let mut wanted = wanted.iter();
     for _ in stream {
-        let taken = cutter.feed(&rest[..size.min(rest.len())]);
-        rest = &rest[taken..];
-        match cutter.next() {
-            Cut::Message => found.push(summary_of(cutter.message()).ok_or("no headers")?)?,
-            Cut::NeedMore => {}
-            Cut::Bad(_) => return Err("a bad header".into()),
+        rest = fed(cutter, rest, size);
+        let is_well = match cutter.next() {
+            Cut::Message => is_seen(summary_of(cutter.message()), wanted.next()),
+            Cut::NeedMore => true,
+            Cut::Bad(_) => false,
+        };
+        if !is_well {
+            return false;
         }
     }
-    Ok(found)
+    wanted.next().is_none()
+}
+
+/// Whether the requests are cut from their stream in pieces of this size.
+fn are_cut(alloc: Global, size: usize) -> bool {
+    match Cutter::make(alloc, MESSAGE_LIMIT) {
+        Ok(mut cutter) => gives(&mut cutter, REQUESTS, size, &IN_REQUESTS),
+        Err(_) => false,
+    }
 }
 
 #[test]
-fn requests_in_any_pieces(rt: HostRuntime) -> Result<(), Fail> {
-    for size in [REQUESTS.len(), 1, 7] {
-        let found = cut(rt.alloc(), REQUESTS, size)?;
-        assert!(rt; found.as_slice() == IN_REQUESTS.as_slice());
-    }
-    Ok(())
+fn requests_in_any_pieces(rt: HostRuntime) {
+    assert!(rt; are_cut(rt.alloc(), REQUESTS.len()));
+    assert!(rt; are_cut(rt.alloc(), 1));
+    assert!(rt; are_cut(rt.alloc(), 7));
 }
 
 /// Why the bytes begin with no standard header.
@@ -94,30 +114,43 @@ fn other_fault(rows: &[(&[u8], HeaderFault)]) -> Option<usize> {
 
 #[test]
 fn refusals(rt: HostRuntime) {
-    assert_eq!(rt; other_fault(&FAULTS), None);
+    assert!(rt; other_fault(&FAULTS).is_none());
 }
 
-/// What a cutter answers to these bytes.
-fn answered(cutter: &mut Cutter, bytes: &[u8]) -> (usize, Cut) {
-    (cutter.feed(bytes), cutter.next())
+/// Whether a cutter takes so many of these bytes, and then finds this fault.
+fn finds(cutter: &mut Cutter, bytes: &[u8], taken: usize, fault: HeaderFault) -> bool {
+    cutter.feed(bytes) == taken && cutter.next() == Cut::Bad(fault)
+}
+
+/// Whether a second serial header is a fault, behind which nothing is taken.
+fn ends_at_a_second(alloc: Global) -> bool {
+    let fault = HeaderFault::Version(2);
+    match Cutter::make(alloc, MESSAGE_LIMIT) {
+        Ok(mut cutter) => {
+            finds(&mut cutter, b"DLS\x01DLS\x01", 8, fault)
+                && finds(&mut cutter, REQUESTS, 0, fault)
+        }
+        Err(_) => false,
+    }
 }
 
 /// Behind a second serial header nothing is taken.
 #[test]
-fn two_serial_headers(rt: HostRuntime) -> Result<(), Fail> {
-    let mut cutter = Cutter::make(rt.alloc(), MESSAGE_LIMIT)?;
-    let bad = Cut::Bad(HeaderFault::Version(2));
-    assert!(rt; answered(&mut cutter, b"DLS\x01DLS\x01") == (8, bad));
-    assert!(rt; answered(&mut cutter, REQUESTS) == (0, bad));
-    Ok(())
+fn two_serial_headers(rt: HostRuntime) {
+    assert!(rt; ends_at_a_second(rt.alloc()));
+}
+
+/// Whether a message of 2049 bytes is a fault.
+fn ends_at_2049(alloc: Global) -> bool {
+    match Cutter::make(alloc, MESSAGE_LIMIT) {
+        Ok(mut cutter) => finds(&mut cutter, &[0x20, 0, 8, 1], 4, HeaderFault::Length(2049)),
+        Err(_) => false,
+    }
 }
 
 #[test]
-fn too_long_a_message(rt: HostRuntime) -> Result<(), Fail> {
-    let mut cutter = Cutter::make(rt.alloc(), MESSAGE_LIMIT)?;
-    let bad = Cut::Bad(HeaderFault::Length(2049));
-    assert!(rt; answered(&mut cutter, &[0x20, 0, 8, 1]) == (4, bad));
-    Ok(())
+fn too_long_a_message(rt: HostRuntime) {
+    assert!(rt; ends_at_2049(rt.alloc()));
 }
 
 /// A log call of the text `hi`.
@@ -145,11 +178,20 @@ const GREETING: &[u8] =
 const OVERFLOW: &[u8] =
     b"\x25\x00\x00\x1cECU1\x26\x01DA1\0DC1\0\x14\x00\x00\x00\x00\x01\x02\x00\x00\x00";
 
+/// Whether the call has its frame.
+fn is_framed() -> bool {
+    log_frame(Id::from_bytes(*b"ECU1"), &greeting()).bytes() == GREETING
+}
+
+/// Whether the record has its frame.
+fn is_recorded() -> bool {
+    let ecu = Id::from_bytes(*b"ECU1");
+    let (apid, ctid) = (Id::from_bytes(*b"DA1\0"), Id::from_bytes(*b"DC1\0"));
+    overflow_frame(ecu, apid, ctid, 2).bytes() == OVERFLOW
+}
+
 #[test]
 fn frames(rt: HostRuntime) {
-    let ecu = Id::from_bytes(*b"ECU1");
-    let apid = Id::from_bytes(*b"DA1\0");
-    let ctid = Id::from_bytes(*b"DC1\0");
-    assert_eq!(rt; log_frame(ecu, &greeting()).bytes(), GREETING);
-    assert_eq!(rt; overflow_frame(ecu, apid, ctid, 2).bytes(), OVERFLOW);
+    assert!(rt; is_framed());
+    assert!(rt; is_recorded());
 }

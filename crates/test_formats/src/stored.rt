@@ -1,9 +1,8 @@
-//! Stored configurations: what they say, lines at fault, and what is written.
+//! Stored configurations: what they say, and what is written. Lines at fault are rows of `tests/rows`.
 
-use dl_bytes::{Bytes, Id, Level, OutOfMemory, Sequence, Stored, StoredLevel};
-use dl_conf::{StoredError, StoredKind, read_stored, write_stored};
+use dl_bytes::{Bytes, Id, Level, Sequence, Stored, StoredLevel};
+use dl_conf::{read_stored, write_stored};
 use std::alloc::Global;
-use std::test::Fail;
 
 /// The ids of a context, and its level.
 type Own = ([u8; 4], [u8; 4], u8);
@@ -31,26 +30,6 @@ const STORED: [Row; 8] = [
         None,
         &[(*b"\xff\xfe\x01\x7f", *b" \0\0\0", 2)],
     ),
-];
-
-/// Lines that aren't of a form that is written.
-const NO_LINES: [&[u8]; 16] = [
-    b"A::4",
-    b":B:4",
-    b"::7",
-    b"::44",
-    b"::",
-    b":",
-    b"4",
-    b"A:B:C:4",
-    b"A:B:4 ",
-    b" ",
-    b"ABCDE:B:4",
-    b"A B:C:4",
-    b"A:%4:4",
-    b"A:%4G:4",
-    b"A:%:4",
-    b"A:B:4\r\r",
 ];
 
 /// Whether an own level is this one.
@@ -87,50 +66,20 @@ fn other(alloc: Global, rows: &[Row]) -> Option<usize> {
 
 #[test]
 fn stored_texts(rt: HostRuntime) {
-    assert_eq!(rt; other(rt.alloc(), &STORED), None);
+    assert!(rt; other(rt.alloc(), &STORED).is_none());
 }
 
-/// Whether the text is refused so.
-fn is_refused(alloc: Global, text: &[u8], line: u32, kind: StoredKind) -> bool {
-    match read_stored(alloc, text) {
-        Err(
-            StoredError::Fault {
-                line: at,
-                kind: found,
-            },
-        ) => at == line && found == kind,
-        _ => false,
-    }
-}
-
-/// Whether the line is refused behind another one.
-fn is_no_line(alloc: Global, line: &[u8]) -> Result<bool, OutOfMemory> {
-    let mut text = Vec::from_slice(alloc, b"::1\n")?;
-    text.extend_from_slice(line)?;
-    text.extend_from_slice(b"\n")?;
-    Ok(is_refused(alloc, &text, 2, StoredKind::Line))
-}
-
-/// The place of the first of these lines that isn't refused.
-fn taken(alloc: Global, lines: &[&[u8]]) -> Result<Option<usize>, OutOfMemory> {
-    for (place, line) in lines.iter().enumerate() {
-        if !is_no_line(alloc, line)? {
-            return Ok(Some(place));
-        }
-    }
-    Ok(None)
-}
-
-#[test]
-fn bad_stored_texts(rt: HostRuntime) -> Result<(), Fail> {
-    assert_eq!(rt; taken(rt.alloc(), &NO_LINES)?, None);
-    Ok(())
-}
-
-/// In a stored configuration a carriage return without a line feed is part of the last line.
-#[test]
-fn a_return_at_the_end(rt: HostRuntime) {
-    assert!(rt; is_refused(rt.alloc(), b"::6\r", 1, StoredKind::Line));
+/// Adds a line for the context of this number.
+fn push_entry(text: &mut Vec<u8>, number: u16) -> bool {
+    let digits = [
+        digit(number / 1000),
+        digit(number / 100),
+        digit(number / 10),
+        digit(number),
+    ];
+    text.extend_from_slice(b"A:").is_ok()
+        && text.extend_from_slice(&digits).is_ok()
+        && text.extend_from_slice(b":3\n").is_ok()
 }
 
 /// A digit of a number.
@@ -138,36 +87,34 @@ fn digit(number: u16) -> u8 {
     b'0' + (number % 10) as u8
 }
 
-/// A text of this many lines for different contexts.
-fn entries(alloc: Global, count: u16) -> Result<Vec<u8>, OutOfMemory> {
+/// A text of 1024 lines for different contexts.
+fn entries(alloc: Global) -> Option<Vec<u8>> {
     let mut text = Vec::new(alloc);
-    for n in 0..count {
-        let digits = [digit(n / 1000), digit(n / 100), digit(n / 10), digit(n)];
-        text.extend_from_slice(b"A:")?;
-        text.extend_from_slice(&digits)?;
-        text.extend_from_slice(b":3\n")?;
+    for number in 0..1024u16 {
+        if !push_entry(&mut text, number) {
+            return None;
+        }
     }
-    Ok(text)
+    Some(text)
 }
 
 /// How many own levels the text says.
 fn count(alloc: Global, text: &[u8]) -> Option<usize> {
-    Some(read_stored(alloc, text).ok()?.own.all().len())
+    match read_stored(alloc, text) {
+        Ok(stored) => Some(stored.own.all().len()),
+        Err(_) => None,
+    }
 }
 
-#[test]
-fn most_entries(rt: HostRuntime) -> Result<(), Fail> {
-    let alloc = rt.alloc();
-    assert_eq!(rt; count(alloc, &entries(alloc, 1024)?), Some(1024));
-    assert!(rt; is_refused(alloc, &entries(alloc, 1025)?, 1025, StoredKind::TooMany));
-    Ok(())
+/// How many own levels are read of that text.
+fn most(alloc: Global) -> Option<usize> {
+    count(alloc, &entries(alloc)?)
 }
 
+/// One line more is a row of `tests/rows`.
 #[test]
-fn too_long_a_text(rt: HostRuntime) -> Result<(), Fail> {
-    let text = Vec::from_elem(rt.alloc(), b'#', 16_777_217)?;
-    assert!(rt; is_refused(rt.alloc(), &text, 0, StoredKind::Size));
-    Ok(())
+fn most_entries(rt: HostRuntime) {
+    assert!(rt; most(rt.alloc()) == Some(1024));
 }
 
 /// An own level at verbose.
@@ -179,24 +126,37 @@ fn verbose(apid: [u8; 4], ctid: [u8; 4]) -> Option<StoredLevel> {
     })
 }
 
-/// What is written of two own levels and the default level 4.
+/// Two own levels.
+fn two(alloc: Global) -> Option<Sequence<StoredLevel>> {
+    let levels = [
+        verbose(*b"LOG1", *b"FULL")?,
+        verbose(*b"a:%\0", *b"\x80 \0!")?,
+    ];
+    Some(Sequence::over(Vec::from_array(alloc, levels).ok()?))
+}
+
+/// What is written of them and the default level 4.
 fn written(alloc: Global) -> Option<Bytes> {
-    let mut own = Vec::new(alloc);
-    own.push(verbose(*b"LOG1", *b"FULL")?).ok()?;
-    own.push(verbose(*b"a:%\0", *b"\x80 \0!")?).ok()?;
+    let level = Level::of(4)?;
     let stored = Stored {
         level: None,
-        own: Sequence::over(own),
+        own: two(alloc)?,
     };
-    write_stored(alloc, Level::of(4)?, &stored).ok()
+    write_stored(alloc, level, &stored).ok()
 }
 
 /// The text of them.
 const WRITTEN: &[u8] = b"::4\nLOG1:FULL:6\na%3A%25:%80%20%00!:6\n";
 
+/// Whether they are written so.
+fn is_written(alloc: Global) -> bool {
+    match written(alloc) {
+        Some(text) => text.all() == WRITTEN,
+        None => false,
+    }
+}
+
 #[test]
-fn what_is_written(rt: HostRuntime) -> Result<(), Fail> {
-    let text = written(rt.alloc()).ok_or("no text")?;
-    assert_eq!(rt; text.all(), WRITTEN);
-    Ok(())
+fn what_is_written(rt: HostRuntime) {
+    assert!(rt; is_written(rt.alloc()));
 }

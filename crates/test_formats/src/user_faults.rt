@@ -1,13 +1,10 @@
 //! Why bytes are no user message, and how long one may be.
 
-ghost use Rattle.std.specs.Prelude.{◌≤◌};
-
-use crate::users::is_cut;
-use dl_bytes::{Bytes, Id, OutOfMemory, UserMsg};
+use crate::users::{are_cut, written};
+use dl_bytes::{Bytes, Id, UserMsg};
 use dl_headers::HeaderFault;
-use dl_user::{UserCut, UserCutter, UserFault, write_user};
+use dl_user::{UserCut, UserCutter, UserFault};
 use std::alloc::Global;
-use std::test::Fail;
 
 /// Each fault with the fewest bytes that show it.
 const FAULTS: [(&[u8], UserFault); 15] = [
@@ -72,38 +69,54 @@ fn finds(cutter: &mut UserCutter, fault: UserFault) -> bool {
     matches!(cutter.next(), UserCut::Bad(found) if found == fault) && cutter.feed(b"DUH\x01") == 0
 }
 
-/// The place of the first of these that has another fault, or has it elsewhere. A fault stays.
-fn other(alloc: Global, rows: &[(&[u8], UserFault)]) -> Result<Option<usize>, OutOfMemory> {
+/// Whether a cutter wants more until it has all of these bytes, finds this fault then, and keeps to it.
+fn shows(cutter: &mut UserCutter, bytes: &[u8], fault: UserFault) -> bool {
+    takes_all(cutter, bytes) && finds(cutter, fault) && finds(cutter, fault)
+}
+
+/// Whether these bytes, and no fewer, have this fault. A fault stays.
+fn has_fault(alloc: Global, bytes: &[u8], fault: UserFault) -> bool {
+    match UserCutter::make(alloc) {
+        Ok(mut cutter) => shows(&mut cutter, bytes, fault),
+        Err(_) => false,
+    }
+}
+
+/// The place of the first of these that has another fault, or has it elsewhere.
+fn other(alloc: Global, rows: &[(&[u8], UserFault)]) -> Option<usize> {
     for (place, (bytes, fault)) in rows.iter().enumerate() {
-        let mut cutter = UserCutter::make(alloc)?;
-        let is_found = takes_all(&mut cutter, bytes) && finds(&mut cutter, *fault);
-        if !is_found || !finds(&mut cutter, *fault) {
-            return Ok(Some(place));
+        if !has_fault(alloc, bytes, *fault) {
+            return Some(place);
         }
     }
-    Ok(None)
+    None
 }
 
 #[test]
-fn faults(rt: HostRuntime) -> Result<(), Fail> {
-    assert_eq!(rt; other(rt.alloc(), &FAULTS)?, None);
-    Ok(())
+fn faults(rt: HostRuntime) {
+    assert!(rt; other(rt.alloc(), &FAULTS).is_none());
 }
 
-/// So many bytes, the first of which are a message's header.
-fn letters(alloc: Global, count: usize) -> Result<Bytes, OutOfMemory> {
-    let mut bytes = Vec::from_elem(alloc, 0, count)?;
-    if let [first, _, high, low, ..] = bytes.as_mut_slice() {
+/// Writes a message's header into the first of its bytes.
+fn head(bytes: &mut [u8]) {
+    let count = bytes.len();
+    if let [first, _, high, low, ..] = bytes {
         *first = 0x20;
         *high = (count >> 8 & 0xff) as u8;
         *low = (count & 0xff) as u8;
     }
-    Ok(Bytes::over(bytes))
+}
+
+/// So many bytes, the first of which are a message's header.
+fn letters(alloc: Global, count: usize) -> Option<Bytes> {
+    let mut bytes = Vec::from_elem(alloc, 0, count).ok()?;
+    head(&mut bytes);
+    Some(Bytes::over(bytes))
 }
 
 /// The message of an application with a text of so many bytes.
-fn app(alloc: Global, count: usize) -> Result<UserMsg, OutOfMemory> {
-    Ok(UserMsg::RegisterApp {
+fn app(alloc: Global, count: usize) -> Option<UserMsg> {
+    Some(UserMsg::RegisterApp {
         apid: Id::from_bytes(*b"SOCK"),
         pid: 1,
         text: letters(alloc, count)?,
@@ -111,49 +124,57 @@ fn app(alloc: Global, count: usize) -> Result<UserMsg, OutOfMemory> {
 }
 
 /// An injection of so many bytes.
-fn injection(alloc: Global, count: usize) -> Result<UserMsg, OutOfMemory> {
-    Ok(UserMsg::Injection {
+fn injection(alloc: Global, count: usize) -> Option<UserMsg> {
+    Some(UserMsg::Injection {
         position: 0,
         service: 0xfff,
         body: letters(alloc, count)?,
     })
 }
 
-/// The length of a message's bytes, where it fits and is cut from them.
-fn length(alloc: Global, msg: &UserMsg) -> Result<Option<usize>, OutOfMemory> {
-    if !msg.is_fit() {
-        return Ok(None);
+/// A log message of so many bytes.
+fn log(alloc: Global, count: usize) -> Option<UserMsg> {
+    Some(UserMsg::Log(letters(alloc, count)?))
+}
+
+/// Whether these bytes are so many, and are cut as they are.
+fn is_cut(alloc: Global, bytes: &[u8], length: usize) -> bool {
+    bytes.len() == length && are_cut(alloc, bytes, 1000, &[bytes])
+}
+
+/// Whether a message is written in so many bytes, and is cut from them.
+fn has_length(alloc: Global, msg: Option<UserMsg>, length: usize) -> bool {
+    match msg {
+        Some(msg) => match written(alloc, &msg) {
+            Some(bytes) => is_cut(alloc, bytes.all(), length),
+            None => false,
+        },
+        None => false,
     }
-    let spelling = write_user(alloc, msg)?;
-    let is_cut = is_cut(alloc, spelling.all(), 1000)?;
-    Ok(if is_cut {
-        Some(spelling.all().len())
-    } else {
-        None
-    })
+}
+
+/// Whether there is a message that is too long.
+fn is_unfit(msg: Option<UserMsg>) -> bool {
+    match msg {
+        Some(msg) => !msg.is_fit(),
+        None => false,
+    }
 }
 
 #[test]
-fn longest_text(rt: HostRuntime) -> Result<(), Fail> {
-    let alloc = rt.alloc();
-    assert_eq!(rt; length(alloc, &app(alloc, 255)?)?, Some(275));
-    assert!(rt; !app(alloc, 256)?.is_fit());
-    Ok(())
+fn longest_text(rt: HostRuntime) {
+    assert!(rt; has_length(rt.alloc(), app(rt.alloc(), 255), 275));
+    assert!(rt; is_unfit(app(rt.alloc(), 256)));
 }
 
 #[test]
-fn longest_injection(rt: HostRuntime) -> Result<(), Fail> {
-    let alloc = rt.alloc();
-    assert_eq!(rt; length(alloc, &injection(alloc, 1390)?)?, Some(1410));
-    assert!(rt; !injection(alloc, 1391)?.is_fit());
-    Ok(())
+fn longest_injection(rt: HostRuntime) {
+    assert!(rt; has_length(rt.alloc(), injection(rt.alloc(), 1390), 1410));
+    assert!(rt; is_unfit(injection(rt.alloc(), 1391)));
 }
 
 #[test]
-fn longest_message(rt: HostRuntime) -> Result<(), Fail> {
-    let alloc = rt.alloc();
-    let log = UserMsg::Log(letters(alloc, 1984)?);
-    assert_eq!(rt; length(alloc, &log)?, Some(1992));
-    assert!(rt; !UserMsg::Log(letters(alloc, 1985)?).is_fit());
-    Ok(())
+fn longest_message(rt: HostRuntime) {
+    assert!(rt; has_length(rt.alloc(), log(rt.alloc(), 1984), 1992));
+    assert!(rt; is_unfit(log(rt.alloc(), 1985)));
 }

@@ -2,59 +2,99 @@
 
 ghost use Rattle.std.specs.Prelude.{◌<◌};
 
-use dl_bytes::{Bytes, Id, Level, OutOfMemory, OwnLevel, UserMsg};
+use dl_bytes::{Bytes, Id, Level, OwnLevel, UserMsg};
 use dl_user::{UserCut, UserCutter, write_user};
 use std::alloc::Global;
-use std::test::Fail;
 
 /// An application and a context.
 fn ids() -> (Id, Id) {
     (Id::from_bytes(*b"SOCK"), Id::from_bytes(*b"TEST"))
 }
 
-/// A message of each kind with a text or bytes, by its fields, and the bytes of it.
-fn with_text(alloc: Global, kind: u8) -> Result<Option<UserMsg>, OutOfMemory> {
+/// A text or bytes.
+fn text(alloc: Global, bytes: &[u8]) -> Option<Bytes> {
+    Some(Bytes::over(Vec::from_slice(alloc, bytes).ok()?))
+}
+
+/// A log message of these bytes.
+fn log(bytes: Bytes) -> UserMsg {
+    UserMsg::Log(bytes)
+}
+
+/// The application registers with this description.
+fn app(text: Bytes) -> UserMsg {
+    let (apid, _) = ids();
+    UserMsg::RegisterApp { apid, pid: 1, text }
+}
+
+/// The context registers with this description and at this level.
+fn context(level: OwnLevel, text: Bytes) -> UserMsg {
     let (apid, ctid) = ids();
-    let Some(level) = OwnLevel::of(-1) else {
-        return Ok(None);
-    };
-    Ok(Some(match kind {
-        1 => UserMsg::Log(text(alloc, b"\x20\0\0\x05\xaa")?),
-        2 => UserMsg::RegisterApp {
-            apid,
-            pid: 1,
-            text: text(alloc, b"abc")?,
-        },
-        4 => UserMsg::RegisterContext {
-            apid,
-            ctid,
-            position: 2,
-            level,
-            trace: -1,
-            pid: 1,
-            text: text(alloc, b"hi")?,
-        },
-        7 => UserMsg::Injection {
-            position: 2,
-            service: 0x1000,
-            body: text(alloc, b"abc")?,
-        },
-        _ => return Ok(None),
-    }))
+    UserMsg::RegisterContext {
+        apid,
+        ctid,
+        position: 2,
+        level,
+        trace: -1,
+        pid: 1,
+        text,
+    }
+}
+
+/// These bytes are injected.
+fn injection(body: Bytes) -> UserMsg {
+    UserMsg::Injection {
+        position: 2,
+        service: 0x1000,
+        body,
+    }
+}
+
+/// A message of each kind with a text or bytes, by its fields, and the bytes of it.
+fn with_text(alloc: Global, kind: u8) -> Option<UserMsg> {
+    match kind {
+        1 => Some(log(text(alloc, b"\x20\0\0\x05\xaa")?)),
+        2 => Some(app(text(alloc, b"abc")?)),
+        4 => Some(context(OwnLevel::of(-1)?, text(alloc, b"hi")?)),
+        7 => Some(injection(text(alloc, b"abc")?)),
+        _ => None,
+    }
+}
+
+/// The context's level becomes this one.
+fn level(level: Level) -> UserMsg {
+    UserMsg::LogLevel {
+        level,
+        trace: -2,
+        position: 2,
+    }
+}
+
+/// The application is gone.
+fn app_gone() -> UserMsg {
+    let (apid, _) = ids();
+    UserMsg::UnregisterApp { apid, pid: 1 }
+}
+
+/// The context is gone.
+fn context_gone() -> UserMsg {
+    let (apid, ctid) = ids();
+    UserMsg::UnregisterContext { apid, ctid, pid: 1 }
+}
+
+/// Five calls of the application were lost.
+fn overflow() -> UserMsg {
+    let (apid, _) = ids();
+    UserMsg::Overflow { counter: 5, apid }
 }
 
 /// A message of each other kind.
 fn without_text(kind: u8) -> Option<UserMsg> {
-    let (apid, ctid) = ids();
     match kind {
-        3 => Some(UserMsg::UnregisterApp { apid, pid: 1 }),
-        5 => Some(UserMsg::UnregisterContext { apid, ctid, pid: 1 }),
-        6 => Some(UserMsg::LogLevel {
-            level: Level::of(6)?,
-            trace: -2,
-            position: 2,
-        }),
-        8 => Some(UserMsg::Overflow { counter: 5, apid }),
+        3 => Some(app_gone()),
+        5 => Some(context_gone()),
+        6 => Some(level(Level::of(6)?)),
+        8 => Some(overflow()),
         _ => None,
     }
 }
@@ -83,149 +123,192 @@ const SESSION: [&[u8]; 8] = [
     b"DUH\x01\x03\0\0\0LOG\0\xc9w\0\0",
 ];
 
-fn text(alloc: Global, bytes: &[u8]) -> Result<Bytes, OutOfMemory> {
-    Ok(Bytes::over(Vec::from_slice(alloc, bytes)?))
-}
-
-/// Keeps a message, written again.
-fn keep(alloc: Global, messages: &mut Vec<Bytes>, msg: &UserMsg) -> Result<(), OutOfMemory> {
-    if msg.is_fit() {
-        messages.push(write_user(alloc, msg)?)?;
-    }
-    Ok(())
-}
-
-/// Keeps the messages that a cutter gives, 16 at most, and says whether it wants more bytes then.
-fn keep_all(
-    alloc: Global,
-    cutter: &mut UserCutter,
-    messages: &mut Vec<Bytes>,
-) -> Result<bool, OutOfMemory> {
-    for _ in 0..16 {
-        match cutter.next() {
-            UserCut::Message(msg) => keep(alloc, messages, &msg)?,
-            UserCut::NeedMore => return Ok(true),
-            UserCut::Bad(_) | UserCut::OutOfMemory => return Ok(false),
-        }
-    }
-    Ok(false)
-}
-
-/// The messages that a cutter gives of these bytes in pieces of this size, written again, where it wants more bytes behind
-/// each piece.
-pub fn cut(alloc: Global, bytes: &[u8], size: usize) -> Result<Option<Vec<Bytes>>, OutOfMemory>
-    requires { 0 < size }
-{
-    let mut cutter = UserCutter::make(alloc)?;
-    let mut messages = Vec::new(alloc);
-    for piece in bytes.chunks(size) {
-        cutter.feed(piece);
-        if !keep_all(alloc, &mut cutter, &mut messages)? {
-            return Ok(None);
-        }
-    }
-    Ok(Some(messages))
-}
-
-/// Whether a cutter gives the message of these bytes alone, in pieces of this size.
-pub fn is_cut(alloc: Global, spelling: &[u8], size: usize) -> Result<bool, OutOfMemory>
-    requires { 0 < size }
-{
-    match cut(alloc, spelling, size)?.as_deref() {
-        Some([message]) => Ok(message.all() == spelling),
-        _ => Ok(false),
-    }
-}
-
-/// Whether the message is written so.
-pub fn is_written(alloc: Global, msg: &UserMsg, spelling: &[u8]) -> Result<bool, OutOfMemory> {
+/// The bytes of a message.
+pub fn written(alloc: Global, msg: &UserMsg) -> Option<Bytes> {
     if !msg.is_fit() {
-        return Ok(false);
+        return None;
     }
-    Ok(write_user(alloc, msg)?.all() == spelling)
+    write_user(alloc, msg).ok()
 }
 
 /// Whether the message of this kind is written so.
-fn spells(alloc: Global, kind: u8, spelling: &[u8]) -> Result<bool, OutOfMemory> {
-    let msg = match without_text(kind) {
-        Some(msg) => Some(msg),
-        None => with_text(alloc, kind)?,
-    };
-    match msg {
-        Some(msg) => is_written(alloc, &msg, spelling),
-        None => Ok(false),
+fn spells(alloc: Global, kind: u8, spelling: &[u8]) -> bool {
+    match without_text(kind) {
+        Some(msg) => is_again(alloc, &msg, spelling),
+        None => is_text_again(alloc, kind, spelling),
     }
 }
 
-#[test]
-fn each_kind_is_written(rt: HostRuntime) -> Result<(), Fail> {
-    for (place, spelling) in SPELLINGS.iter().enumerate() {
-        assert!(rt; spells(rt.alloc(), (place as u8).wrapping_add(1), spelling)?);
+/// The same of one with a text or bytes.
+fn is_text_again(alloc: Global, kind: u8, spelling: &[u8]) -> bool {
+    match with_text(alloc, kind) {
+        Some(msg) => is_again(alloc, &msg, spelling),
+        None => false,
     }
-    Ok(())
 }
 
-#[test]
-fn each_kind_is_read(rt: HostRuntime) -> Result<(), Fail> {
-    for spelling in &SPELLINGS {
-        assert!(rt; is_cut(rt.alloc(), spelling, 1)?);
-        assert!(rt; is_cut(rt.alloc(), spelling, 3)?);
-        assert!(rt; is_cut(rt.alloc(), spelling, 100)?);
-    }
-    Ok(())
-}
-
-/// Whether the message was written again. The level -2 of a context, 20 bytes behind its begin, is written as -1.
-fn is_again(again: &[u8], message: &[u8]) -> bool {
-    let is_context = message.get(4) == Some(&4);
-    for (place, (byte, old)) in again.iter().zip(message).enumerate() {
-        let wanted = if is_context && place == 20 {
-            0xff
-        } else {
-            *old
-        };
-        if *byte != wanted {
-            return false;
+/// The first kind that is written otherwise.
+fn other_kind(alloc: Global, spellings: &[&[u8]]) -> Option<u8> {
+    let mut kind = 1u8;
+    for spelling in spellings {
+        if !spells(alloc, kind, spelling) {
+            return Some(kind);
         }
+        kind = kind.wrapping_add(1);
     }
-    again.len() == message.len()
+    None
 }
 
-/// The place of the first of these messages that isn't there again.
-fn other(again: &[Bytes], messages: &[&[u8]]) -> Option<usize> {
-    for (place, message) in messages.iter().enumerate() {
-        match again.get(place) {
-            Some(found) if is_again(found.all(), message) => {}
-            _ => return Some(place),
+#[test]
+fn each_kind_is_written(rt: HostRuntime) {
+    assert!(rt; other_kind(rt.alloc(), &SPELLINGS).is_none());
+}
+
+/// Whether these bytes are a context's message that was written again. Its level, 20 bytes behind its begin, is -1, also where
+/// it was read as -2.
+fn is_context_again(again: &[u8], message: &[u8]) -> bool {
+    again.get(..20) == message.get(..20)
+        && again.get(20) == Some(&0xff)
+        && again.get(21..) == message.get(21..)
+}
+
+/// Whether these bytes are a message that was written again.
+fn are_again(again: &[u8], message: &[u8]) -> bool {
+    if message.get(4) == Some(&4) {
+        is_context_again(again, message)
+    } else {
+        again == message
+    }
+}
+
+/// Whether a message is written so.
+fn is_again(alloc: Global, msg: &UserMsg, message: &[u8]) -> bool {
+    match written(alloc, msg) {
+        Some(again) => are_again(again.all(), message),
+        None => false,
+    }
+}
+
+/// What a cutter gives: the message that is wanted, none before more bytes come, or something else.
+enum Given {
+    Wanted,
+    NeedMore,
+    Other,
+}
+
+/// Whether a message is wanted, and is written so.
+fn is_wanted(alloc: Global, msg: &UserMsg, wanted: Option<&&[u8]>) -> bool {
+    match wanted {
+        Some(message) => is_again(alloc, msg, message),
+        None => false,
+    }
+}
+
+/// What a cutter gives where this message is wanted.
+fn next(alloc: Global, cutter: &mut UserCutter, wanted: Option<&&[u8]>) -> Given {
+    match cutter.next() {
+        UserCut::Message(msg) => {
+            if is_wanted(alloc, &msg, wanted) {
+                Given::Wanted
+            } else {
+                Given::Other
+            }
+        }
+        UserCut::NeedMore => Given::NeedMore,
+        UserCut::Bad(_) | UserCut::OutOfMemory => Given::Other,
+    }
+}
+
+/// Where among these messages a cutter is that began at a place and gave what it had, 16 at most.
+fn place_after(
+    alloc: Global,
+    cutter: &mut UserCutter,
+    wanted: &[&[u8]],
+    place: usize,
+) -> Option<usize> {
+    let mut at = place;
+    for _ in 0..16 {
+        match next(alloc, cutter, wanted.get(at)) {
+            Given::Wanted => at = at.saturating_add(1),
+            Given::NeedMore => return Some(at),
+            Given::Other => return None,
         }
     }
     None
 }
 
-/// The bytes of the session.
-fn session(alloc: Global) -> Result<Vec<u8>, OutOfMemory> {
-    let mut session = Vec::new(alloc);
-    for message in &SESSION {
-        session.extend_from_slice(message)?;
-    }
-    Ok(session)
-}
-
-/// How many messages the session has in pieces of this size, and the first that is another.
-fn cut_session(alloc: Global, size: usize) -> Result<Option<(usize, Option<usize>)>, OutOfMemory>
+/// Whether a cutter gives these messages of these bytes in pieces of this size, and wants more bytes behind each piece.
+fn gives(
+    alloc: Global,
+    cutter: &mut UserCutter,
+    bytes: &[u8],
+    size: usize,
+    wanted: &[&[u8]],
+) -> bool
     requires { 0 < size }
 {
-    let session = session(alloc)?;
-    match cut(alloc, &session, size)? {
-        Some(again) => Ok(Some((again.len(), other(&again, &SESSION)))),
-        None => Ok(None),
+    let mut at = 0usize;
+    for piece in bytes.chunks(size) {
+        cutter.feed(piece);
+        match place_after(alloc, cutter, wanted, at) {
+            Some(place) => at = place,
+            None => return false,
+        }
+    }
+    at == wanted.len()
+}
+
+/// Whether a new cutter gives these messages of these bytes in pieces of this size, each written again.
+pub fn are_cut(alloc: Global, bytes: &[u8], size: usize, wanted: &[&[u8]]) -> bool
+    requires { 0 < size }
+{
+    match UserCutter::make(alloc) {
+        Ok(mut cutter) => gives(alloc, &mut cutter, bytes, size, wanted),
+        Err(_) => false,
+    }
+}
+
+/// The place of the first of these messages that isn't cut from its bytes in pieces of this size.
+fn other_cut(alloc: Global, spellings: &[&[u8]], size: usize) -> Option<usize>
+    requires { 0 < size }
+{
+    for (place, spelling) in spellings.iter().enumerate() {
+        if !are_cut(alloc, spelling, size, &[*spelling]) {
+            return Some(place);
+        }
+    }
+    None
+}
+
+#[test]
+fn each_kind_is_read(rt: HostRuntime) {
+    assert!(rt; other_cut(rt.alloc(), &SPELLINGS, 1).is_none());
+    assert!(rt; other_cut(rt.alloc(), &SPELLINGS, 3).is_none());
+    assert!(rt; other_cut(rt.alloc(), &SPELLINGS, 100).is_none());
+}
+
+/// The bytes of messages, one behind the other.
+fn joined(alloc: Global, messages: &[&[u8]]) -> Option<Vec<u8>> {
+    let mut bytes = Vec::new(alloc);
+    for message in messages {
+        bytes.extend_from_slice(message).ok()?;
+    }
+    Some(bytes)
+}
+
+/// Whether the session's messages are cut from its bytes in pieces of this size.
+fn is_session(alloc: Global, size: usize) -> bool
+    requires { 0 < size }
+{
+    match joined(alloc, &SESSION) {
+        Some(bytes) => are_cut(alloc, &bytes, size, &SESSION),
+        None => false,
     }
 }
 
 #[test]
-fn messages_of_libdlt(rt: HostRuntime) -> Result<(), Fail> {
-    assert_eq!(rt; cut_session(rt.alloc(), 368)?, Some((8, None)));
-    assert_eq!(rt; cut_session(rt.alloc(), 1)?, Some((8, None)));
-    assert_eq!(rt; cut_session(rt.alloc(), 7)?, Some((8, None)));
-    Ok(())
+fn messages_of_libdlt(rt: HostRuntime) {
+    assert!(rt; is_session(rt.alloc(), 368));
+    assert!(rt; is_session(rt.alloc(), 1));
+    assert!(rt; is_session(rt.alloc(), 7));
 }
