@@ -7,9 +7,8 @@ use dl_bytes::{OutOfMemory, Payload, Severity};
 use dl_lib::{Answer, Book, Ctx, Desk};
 use std::alloc::Global;
 use std::sync::Wait;
-use std::test::Fail;
 use std::thread;
-use std::thread::Threads;
+use std::thread::{JoinHandle, Scope, Threads};
 
 /// How many threads of a crowd log.
 const THREADS: u8 = 8;
@@ -85,6 +84,30 @@ fn log_all<R: Wait>(rt: &R, book: Book, ctx: Ctx) -> u64 {
     queued
 }
 
+/// Starts a thread for each book.
+fn start<'s, E: 's, R: Threads + Wait + Sync>(
+    scope: &'s Scope<'s, E>,
+    rt: &'s R,
+    alloc: Global,
+    books: Vec<Book>,
+    ctx: Ctx,
+) -> Result<Vec<JoinHandle<u64>>, OutOfMemory> {
+    let mut children = Vec::new(alloc);
+    for book in books {
+        children.push(scope.spawn(move || log_all(rt, book, ctx))?)?;
+    }
+    Ok(children)
+}
+
+/// Waits for all threads, and answers how many calls the ring took of them all.
+fn join_all<R: Threads>(rt: &R, children: Vec<JoinHandle<u64>>) -> u64 {
+    let mut queued = 0u64;
+    for child in children {
+        queued = queued.saturating_add(child.join(rt));
+    }
+    queued
+}
+
 /// All books at once, each in a thread of its own: how many calls the ring took of them all.
 fn crowd<R: Threads + Wait + Sync>(
     rt: &R,
@@ -96,15 +119,8 @@ fn crowd<R: Threads + Wait + Sync>(
         thread::scope_env(),
         rt,
         move |scope| -> Result<u64, OutOfMemory> {
-            let mut children = Vec::new(alloc);
-            for book in books {
-                children.push(scope.spawn(move || log_all(rt, book, ctx))?)?;
-            }
-            let mut queued = 0u64;
-            for child in children {
-                queued = queued.saturating_add(child.join(rt));
-            }
-            Ok(queued)
+            let children = start(scope, rt, alloc, books, ctx)?;
+            Ok(join_all(rt, children))
         },
     )
 }
@@ -131,33 +147,86 @@ fn takes_eight<R: Wait>(rt: &R, desk: &mut Desk) -> (bool, u64)
     (are_given && are_all, desk.losses(0))
 }
 
+/// Nine calls through each book, where the ring holds eight of each: whether it takes eight in turn, loses the ninth, and gives
+/// the eight alone, and how many calls were lost.
+fn nine_each<R: Wait>(
+    rt: &R,
+    desk: &mut Desk,
+    ctx: &Ctx,
+    books: &mut [Book],
+) -> (bool, bool, bool, u64)
+    requires { 0 < length desk.old.apps }
+{
+    let are_queued = queued_in_turn(rt, books, ctx, 8);
+    let are_lost = each_answers(rt, books, ctx, 8, Answer::Lost);
+    let (are_given, lost) = takes_eight(rt, desk);
+    (are_queued, are_lost, are_given, lost)
+}
+
+/// The same of two books on one ring that holds 16.
+fn two_books<R: Wait>(rt: &R, alloc: Global) -> Option<(bool, bool, bool, u64)> {
+    match one_app(alloc, 16, 2, 9) {
+        Ok(
+            Program {
+                mut desk,
+                ctx,
+                mut books,
+            },
+        ) => Some(nine_each(rt, &mut desk, &ctx, &mut books)),
+        Err(_) => None,
+    }
+}
+
 /// Two books on one ring that holds 16.
 #[test]
-fn ring_exact(rt: HostRuntime) -> Result<(), Fail> {
-    let Program {
-        mut desk,
-        ctx,
-        mut books,
-    } = one_app(rt.alloc(), 16, 2, 9)?;
-    assert!(rt; queued_in_turn(&rt, &mut books, &ctx, 8));
-    assert!(rt; each_answers(&rt, &mut books, &ctx, 8, Answer::Lost));
-    assert_eq!(rt; takes_eight(&rt, &mut desk), (true, 2));
-    Ok(())
+fn ring_exact(rt: HostRuntime) {
+    assert!(rt; two_books(&rt, rt.alloc()) == Some((true, true, true, 2)));
+}
+
+/// How many calls come, and how many were lost.
+fn drained<R: Wait>(rt: &R, desk: &mut Desk) -> (u64, u64)
+    requires { 0 < length desk.old.apps }
+{
+    (drain(rt, desk), desk.losses(0))
+}
+
+/// How many calls of a crowd the ring took, how many come then, and how many were lost.
+fn crowded<R: Threads + Wait + Sync>(
+    rt: &R,
+    alloc: Global,
+    desk: &mut Desk,
+    books: Vec<Book>,
+    ctx: Ctx,
+) -> Option<(u64, u64, u64)>
+    requires { 0 < length desk.old.apps }
+{
+    match crowd(rt, alloc, books, ctx) {
+        Ok(queued) => {
+            let (taken, lost) = drained(rt, desk);
+            Some((queued, taken, lost))
+        }
+        Err(_) => None,
+    }
+}
+
+/// The same of eight books on one ring that holds all that they log.
+fn eight_books<R: Threads + Wait + Sync>(rt: &R, alloc: Global) -> Option<(u64, u64, u64)> {
+    match one_app(alloc, 4096, THREADS, CALLS) {
+        Ok(
+            Program {
+                mut desk,
+                ctx,
+                books,
+            },
+        ) => crowded(rt, alloc, &mut desk, books, ctx),
+        Err(_) => None,
+    }
 }
 
 /// Eight threads on one ring that holds all that they log.
 #[test]
-fn ring_crowd(rt: HostRuntime) -> Result<(), Fail> {
-    let alloc = rt.alloc();
-    let Program {
-        mut desk,
-        ctx,
-        books,
-    } = one_app(alloc, 4096, THREADS, CALLS)?;
-    assert_eq!(rt; crowd(&rt, alloc, books, ctx)?, 4000);
-    assert_eq!(rt; drain(&rt, &mut desk), 4000);
-    assert_eq!(rt; desk.losses(0), 0);
-    Ok(())
+fn ring_crowd(rt: HostRuntime) {
+    assert!(rt; eight_books(&rt, rt.alloc()) == Some((4000, 4000, 0)));
 }
 
 /// Puts injections with the service ids from 0 on until one comes back, and answers which one that was.
@@ -200,13 +269,21 @@ fn wait_sixteen<R: Wait>(rt: &R, desk: &mut Desk, books: &mut [Book]) -> Option<
     ])
 }
 
+/// The same of one book.
+fn one_book<R: Wait>(rt: &R, alloc: Global) -> Option<[bool; 5]> {
+    match one_app(alloc, 1, 1, 0) {
+        Ok(
+            Program {
+                mut desk,
+                ctx: _,
+                mut books,
+            },
+        ) => wait_sixteen(rt, &mut desk, &mut books),
+        Err(_) => None,
+    }
+}
+
 #[test]
-fn sixteen_injections_wait(rt: HostRuntime) -> Result<(), Fail> {
-    let Program {
-        mut desk,
-        ctx: _,
-        mut books,
-    } = one_app(rt.alloc(), 1, 1, 0)?;
-    assert_eq!(rt; wait_sixteen(&rt, &mut desk, &mut books), Some([true; 5]));
-    Ok(())
+fn sixteen_injections_wait(rt: HostRuntime) {
+    assert!(rt; one_book(&rt, rt.alloc()) == Some([true; 5]));
 }

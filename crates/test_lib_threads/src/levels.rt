@@ -7,9 +7,8 @@ use dl_bytes::{Level, OutOfMemory, Payload, Severity};
 use dl_lib::{Book, Ctx, Desk, Record};
 use std::alloc::Global;
 use std::sync::Wait;
-use std::test::Fail;
 use std::thread;
-use std::thread::Threads;
+use std::thread::{JoinHandle, Scope, Threads};
 
 /// How many calls each thread makes.
 const CALLS: u32 = 2000;
@@ -55,6 +54,34 @@ fn set_often(desk: &mut Desk)
     }
 }
 
+/// Starts a thread for each book.
+fn start<'s, E: 's, R: Threads + Wait + Sync>(
+    scope: &'s Scope<'s, E>,
+    rt: &'s R,
+    alloc: Global,
+    books: Vec<Book>,
+    ctx: Ctx,
+) -> Result<Vec<JoinHandle<Book>>, OutOfMemory> {
+    let mut children = Vec::new(alloc);
+    for book in books {
+        children.push(scope.spawn(move || log_all(rt, book, ctx))?)?;
+    }
+    Ok(children)
+}
+
+/// Waits for all threads, and gives their books.
+fn join_all<R: Threads>(
+    rt: &R,
+    alloc: Global,
+    children: Vec<JoinHandle<Book>>,
+) -> Result<Vec<Book>, OutOfMemory> {
+    let mut books = Vec::new(alloc);
+    for child in children {
+        books.push(child.join(rt))?;
+    }
+    Ok(books)
+}
+
 /// Both books at once, each in a thread of its own, while the levels are set: the books.
 fn crowd<R: Threads + Wait + Sync>(
     rt: &R,
@@ -72,16 +99,9 @@ fn crowd<R: Threads + Wait + Sync>(
             requires { 0 < length desk.apps }
         {
             let mut desk = desk;
-            let mut children = Vec::new(alloc);
-            for book in books {
-                children.push(scope.spawn(move || log_all(rt, book, ctx))?)?;
-            }
+            let children = start(scope, rt, alloc, books, ctx)?;
             set_often(&mut desk);
-            let mut back = Vec::new(alloc);
-            for child in children {
-                back.push(child.join(rt))?;
-            }
-            Ok(back)
+            join_all(rt, alloc, children)
         },
     )
 }
@@ -110,11 +130,19 @@ fn held(books: &[Book]) -> Option<usize> {
     Some(count)
 }
 
+/// How many records two books have, where all are held.
+fn held_by_two<R: Threads + Wait + Sync>(rt: &R, alloc: Global) -> Option<usize> {
+    match one_app(alloc, 16, 2, CALLS) {
+        Ok(Program { desk, ctx, books }) => match crowd(rt, alloc, desk, books, ctx) {
+            Ok(books) => held(&books),
+            Err(_) => None,
+        },
+        Err(_) => None,
+    }
+}
+
 /// Whatever the schedule: each level that a call met is one that its context held, and no version falls.
 #[test]
-fn levels_are_held(rt: HostRuntime) -> Result<(), Fail> {
-    let Program { desk, ctx, books } = one_app(rt.alloc(), 16, 2, CALLS)?;
-    let books = crowd(&rt, rt.alloc(), desk, books, ctx)?;
-    assert_eq!(rt; held(&books), Some(2 * CALLS as usize));
-    Ok(())
+fn levels_are_held(rt: HostRuntime) {
+    assert!(rt; held_by_two(&rt, rt.alloc()) == Some(4000));
 }

@@ -13,7 +13,6 @@ use dl_lib::{Account, Answer, Book, BookList, Closing, Ctx, Desk, Kept};
 use std::alloc::Global;
 use std::snapshot::Snapshot;
 use std::sync::Wait;
-use std::test::Fail;
 use std::thread;
 use std::thread::{Promise, PromisedHandle, Scope, Threads};
 
@@ -160,22 +159,44 @@ fn answered(account: &Account, answer: Answer) -> u64 {
     count
 }
 
+/// Whether each call has a record, each queued one was taken, and each lost one told, before the threads were back or after.
+fn are_told(account: &Account, before: Heard, after: Heard) -> [bool; 3] {
+    let queued = answered(account, Answer::Queued);
+    let lost = answered(account, Answer::Lost);
+    [
+        queued.saturating_add(lost) == ALL,
+        before.taken.saturating_add(after.taken) == queued,
+        before.lost.saturating_add(after.lost) == lost,
+    ]
+}
+
+/// The same of what is heard before the threads are back, and of the daemon's side then. None where something is left.
+fn drained<R: Wait>(rt: &R, alloc: Global, before: Heard, closing: Closing) -> Option<[bool; 3]> {
+    let mut closing = closing;
+    if closing.apps().len() != 1 {
+        return None;
+    }
+    let after = hear_all(rt, &mut closing);
+    if !closing.is_drained() {
+        return None;
+    }
+    let account = closing.finish(Kept::make(alloc), no_ends(alloc));
+    Some(are_told(&account, before, after))
+}
+
+/// The same of eight books on one ring that holds one call.
+fn eight_books<R: Threads + Wait + Sync>(rt: &R, alloc: Global) -> Option<[bool; 3]> {
+    match one_app(alloc, 1, THREADS, CALLS) {
+        Ok(Program { desk, ctx, books }) => match crowd(rt, alloc, desk, books, ctx) {
+            Ok(Some((before, closing))) => drained(rt, alloc, before, closing),
+            Ok(None) | Err(_) => None,
+        },
+        Err(_) => None,
+    }
+}
+
 /// Whatever the schedule: each call has a record, each queued one is taken, and each lost one is told, once.
 #[test]
-fn each_loss_is_told_once(rt: HostRuntime) -> Result<(), Fail> {
-    let alloc = rt.alloc();
-    let Program { desk, ctx, books } = one_app(alloc, 1, THREADS, CALLS)?;
-    let Some((before, mut closing)) = crowd(&rt, alloc, desk, books, ctx)? else {
-        return Err("a book is missing")?;
-    };
-    assert_eq!(rt; closing.apps().len(), 1);
-    let after = hear_all(&rt, &mut closing);
-    assert!(rt; closing.is_drained());
-    let account = closing.finish(Kept::make(alloc), no_ends(alloc));
-    let queued = answered(&account, Answer::Queued);
-    let lost = answered(&account, Answer::Lost);
-    assert_eq!(rt; queued.saturating_add(lost), ALL);
-    assert_eq!(rt; before.taken.saturating_add(after.taken), queued);
-    assert_eq!(rt; before.lost.saturating_add(after.lost), lost);
-    Ok(())
+fn each_loss_is_told_once(rt: HostRuntime) {
+    assert!(rt; eight_books(&rt, rt.alloc()) == Some([true; 3]));
 }
