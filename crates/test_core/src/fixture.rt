@@ -4,7 +4,7 @@ ghost use Rattle.std.specs.Prelude.{◌≡◌, ◌≤◌, ◌<◌, IfSome, true,
 ghost use Rattle.std.specs.List.{list_all};
 ghost use Rattle.dl_bytes.specs.Conf.{is_printable};
 
-use crate::calls::{self, Served};
+use crate::calls;
 use dl_bytes::{
     Bytes, Conf, Id, Item, Level, Moment, OwnLevel, Sequence, Severity, Stored, UserMsg,
 };
@@ -81,9 +81,11 @@ fn nothing_stored(alloc: Global) -> Stored {
 
 /// An empty folder, of which these calls fail.
 pub fn folder(alloc: Global, fails: &[u64]) -> Option<Failing<MemoryFolder>> {
-    let inner = MemoryFolder::make(alloc, 8, 8000).ok()?;
     let chosen = Vec::from_slice(alloc, fails).ok()?;
-    Some(Failing::make(inner, chosen))
+    match MemoryFolder::make(alloc, 8, 8000) {
+        Ok(inner) => Some(Failing::make(inner, chosen)),
+        Err(_) => None,
+    }
 }
 
 /// A journal with room.
@@ -98,44 +100,54 @@ pub fn plain_core(alloc: Global, first: u64) -> Option<Core> {
     if first > LAST_VERSION {
         return None;
     }
-    Core::make(
-        alloc,
-        &plain_conf(alloc),
-        nothing_stored(alloc),
-        None,
-        first,
-    )
-    .ok()
+    let conf = plain_conf(alloc);
+    Core::make(alloc, &conf, nothing_stored(alloc), None, first).ok()
+}
+
+/// A core over a folder, with a journal of its own.
+fn over(alloc: Global, core: Core, folder: Failing<MemoryFolder>) -> Option<Fixture> {
+    match journal(alloc) {
+        Some(journal) => Some(Fixture {
+            alloc,
+            core,
+            folder,
+            journal,
+        }),
+        None => None,
+    }
 }
 
 /// A core without a trace, whose slots begin at this version, over a folder of which these calls fail.
 pub fn plain(alloc: Global, first: u64, fails: &[u64]) -> Option<Fixture> {
-    Some(Fixture {
-        alloc,
-        core: plain_core(alloc, first)?,
-        folder: folder(alloc, fails)?,
-        journal: journal(alloc)?,
-    })
+    let core = plain_core(alloc, first)?;
+    match folder(alloc, fails) {
+        Some(folder) => over(alloc, core, folder),
+        None => None,
+    }
 }
 
 /// A core with a trace in this folder.
 fn tracing(alloc: Global, folder: &mut Failing<MemoryFolder>) -> Option<Core> {
     let conf = traced_conf(alloc)?;
-    let trace = Trace::make(alloc, folder, &conf).ok()?;
-    Core::make(alloc, &conf, nothing_stored(alloc), Some(trace), 0).ok()
+    match Trace::make(alloc, folder, &conf) {
+        Ok(trace) => Core::make(alloc, &conf, nothing_stored(alloc), Some(trace), 0).ok(),
+        Err(_) => None,
+    }
+}
+
+/// A core with a trace in an empty folder.
+fn traced_alone(alloc: Global) -> Option<Fixture> {
+    let mut folder = folder(alloc, &[])?;
+    match tracing(alloc, &mut folder) {
+        Some(core) => over(alloc, core, folder),
+        None => None,
+    }
 }
 
 /// A core with a trace, and a client.
 pub fn traced(alloc: Global) -> Option<Fixture> {
-    let mut folder = folder(alloc, &[])?;
-    let mut fixture = Fixture {
-        alloc,
-        core: tracing(alloc, &mut folder)?,
-        folder,
-        journal: journal(alloc)?,
-    };
-    let client = fixture.connect();
-    if client.is_some() {
+    let mut fixture = traced_alone(alloc)?;
+    if fixture.connect().is_some() {
         Some(fixture)
     } else {
         None
@@ -243,37 +255,43 @@ impl Fixture {
         )
     }
 
-    /// Client 1 sends a request, given in hexadecimal, and the Level events that it owes are noted. `pushed` says whether the
-    /// application's queue takes an injection.
-    pub fn request(&mut self, request: &str, pushed: bool) -> Option<Served> {
-        let stream = hex::decode(self.alloc, request).ok()?;
-        let served = calls::request(
+    /// Client 1 sends a request. `pushed` says whether the application's queue takes an injection.
+    fn serve(&mut self, stream: &[u8], pushed: bool) -> bool {
+        calls::request(
             &mut self.core,
             self.alloc,
             1,
-            &stream,
+            stream,
             pushed,
             &mut self.folder,
             &mut self.journal,
-        );
-        if !calls::settle(&mut self.core, &mut self.journal) {
-            return None;
-        }
-        served
+        )
+        .is_some()
     }
 
-    /// The reply to such a request, in hexadecimal.
-    pub fn asked(&mut self, request: &str, pushed: bool) -> Option<String> {
-        let _served = self.request(request, pushed)?;
-        self.taken(1)
+    /// Client 1 sends a request, and the Level events that it owes are noted.
+    fn serve_and_settle(&mut self, stream: &[u8], pushed: bool) -> bool {
+        self.serve(stream, pushed) && calls::settle(&mut self.core, &mut self.journal)
+    }
+
+    /// The same of a request that is given in hexadecimal.
+    fn request(&mut self, request: &str, pushed: bool) -> bool {
+        match hex::decode(self.alloc, request) {
+            Ok(stream) => self.serve_and_settle(&stream, pushed),
+            Err(_) => false,
+        }
+    }
+
+    /// Whether such a request has this reply, in hexadecimal.
+    fn replies(&mut self, request: &str, reply: &str) -> bool {
+        self.request(request, true) && self.takes(1, reply)
     }
 
     /// Which of these requests has another reply, from 0.
     pub fn other_reply(&mut self, rows: &[Row]) -> Option<usize> {
         for (place, (request, reply)) in rows.iter().enumerate() {
-            match self.asked(request, true) {
-                Some(replied) if replied.as_str() == *reply => {}
-                _ => return Some(place),
+            if !self.replies(request, reply) {
+                return Some(place);
             }
         }
         None
@@ -289,34 +307,41 @@ impl Fixture {
 
     /// What a client was sent and has not taken, in hexadecimal. It takes all.
     pub fn taken(&mut self, client: u32) -> Option<String> {
-        let alloc = self.alloc;
-        let mut link = MemoryLink::make(
-            alloc,
-            Vec::new(alloc),
-            None,
-            200_000,
-            Manner::plain(alloc),
-        ).ok()?;
-        calls::pump(&mut self.core, client, &mut link)?;
-        hex::encode(alloc, link.taken()).ok()
+        match link(self.alloc) {
+            Some(mut link) => self.taken_through(client, &mut link),
+            None => None,
+        }
+    }
+
+    /// The same through this link.
+    fn taken_through(&mut self, client: u32, link: &mut MemoryLink) -> Option<String> {
+        let _pumped = calls::pump(&mut self.core, client, link)?;
+        hex::encode(self.alloc, link.taken()).ok()
     }
 
     /// Whether the Level events so far have these slots and levels.
     pub fn has_levels(&self, wanted: &[(u16, u8)]) -> bool {
-        match self.levels() {
-            Some(levels) => levels.as_slice() == wanted,
-            None => false,
-        }
-    }
-
-    /// The Level events so far: slots with their levels.
-    fn levels(&self) -> Option<Vec<(u16, u8)>> {
-        let mut levels = Vec::new(self.alloc);
+        let mut wanted = wanted.iter();
         for event in self.journal.events() {
-            if let Event::Level { slot, level } = event {
-                levels.push((*slot, level.number())).ok()?;
+            if let Some(level) = level_of(event) {
+                if wanted.next() != Some(&level) {
+                    return false;
+                }
             }
         }
-        Some(levels)
+        wanted.next().is_none()
     }
+}
+
+/// The slot and the level of a Level event.
+fn level_of(event: &Event) -> Option<(u16, u8)> {
+    match event {
+        Event::Level { slot, level } => Some((*slot, level.number())),
+        _ => None,
+    }
+}
+
+/// A link that takes all, through which nothing comes.
+fn link(alloc: Global) -> Option<MemoryLink> {
+    MemoryLink::make(alloc, Vec::new(alloc), None, 200_000, Manner::plain(alloc)).ok()
 }

@@ -4,7 +4,6 @@ use crate::calls;
 use crate::fixture::{Fixture, Row, filled, plain};
 use dl_registry::LAST_VERSION;
 use std::alloc::Global;
-use std::test::Fail;
 
 /// The default level becomes 2, and all contexts are told.
 const TOLD: [Row; 2] = [
@@ -30,26 +29,51 @@ const WORN: [Row; 2] = [
     ),
 ];
 
-#[test]
-fn the_default_level_changes(rt: HostRuntime) -> Result<(), Fail> {
-    let mut fixture = filled(rt.alloc(), &[]).ok_or("a core")?;
-    assert_eq!(rt; fixture.other_reply(&TOLD), None);
-    assert_eq!(rt; calls::sent(fixture.core.hub(), 1), Some((2, 70)));
-    assert!(rt; fixture.has_levels(&[(0, 4), (1, 6), (0, 2)]));
-    Ok(())
+/// Whether the requests have their replies, are two frames of 70 bytes, and leave these levels.
+fn default_changes(fixture: &mut Fixture) -> [bool; 3] {
+    [
+        fixture.other_reply(&TOLD).is_none(),
+        calls::sent(fixture.core.hub(), 1) == Some((2, 70)),
+        fixture.has_levels(&[(0, 4), (1, 6), (0, 2)]),
+    ]
 }
 
-/// A core whose slots have one version left, with the application, its context at level 4, and a client.
-fn worn(alloc: Global) -> Option<Fixture> {
-    let mut fixture = plain(alloc, LAST_VERSION - 1, &[])?;
-    let is_filled = fixture.app() && fixture.context(*b"TEST", 4) && fixture.connect().is_some();
-    if is_filled { Some(fixture) } else { None }
+/// The same of a core with the application and its contexts.
+fn filled_changes(alloc: Global) -> [bool; 3] {
+    match filled(alloc, &[]) {
+        Some(mut fixture) => default_changes(&mut fixture),
+        None => [false; 3],
+    }
 }
 
 #[test]
-fn no_version_is_left(rt: HostRuntime) -> Result<(), Fail> {
-    let mut fixture = worn(rt.alloc()).ok_or("a core")?;
-    assert_eq!(rt; fixture.other_reply(&WORN), None);
-    assert!(rt; fixture.has_levels(&[(0, 4)]));
-    Ok(())
+fn the_default_level_changes(rt: HostRuntime) {
+    assert!(rt; filled_changes(rt.alloc()) == [true; 3]);
+}
+
+/// Whether the application, its context at level 4, and a client come.
+fn fill_worn(fixture: &mut Fixture) -> bool {
+    fixture.app() && fixture.context(*b"TEST", 4) && fixture.connect().is_some()
+}
+
+/// Whether they come, the requests have their replies, and the level that the context came with is the only one.
+fn wears(fixture: &mut Fixture) -> [bool; 3] {
+    [
+        fill_worn(fixture),
+        fixture.other_reply(&WORN).is_none(),
+        fixture.has_levels(&[(0, 4)]),
+    ]
+}
+
+/// The same of a core whose slots have one version left.
+fn worn(alloc: Global) -> [bool; 3] {
+    match plain(alloc, LAST_VERSION - 1, &[]) {
+        Some(mut fixture) => wears(&mut fixture),
+        None => [false; 3],
+    }
+}
+
+#[test]
+fn no_version_is_left(rt: HostRuntime) {
+    assert!(rt; worn(rt.alloc()) == [true; 3]);
 }

@@ -2,7 +2,7 @@
 
 use crate::fixture::{Fixture, Row, filled};
 use dl_outside::Folder;
-use std::test::Fail;
+use std::alloc::Global;
 
 /// Store.
 const STORED: Row = (
@@ -32,13 +32,26 @@ fn holds_none(fixture: &mut Fixture) -> bool {
     }
 }
 
+/// Whether the levels are stored and reset, with their replies, the file, and the levels that follow.
+fn stores(fixture: &mut Fixture) -> [bool; 5] {
+    [
+        fixture.other_reply(&[STORED]).is_none(),
+        holds(fixture, b"::4\nLOG1:FULL:6\n"),
+        fixture.other_reply(&[RESET]).is_none(),
+        holds_none(fixture),
+        fixture.has_levels(&[(0, 4), (1, 6), (1, 4)]),
+    ]
+}
+
+/// The same of a core with the application and its contexts.
+fn stored(alloc: Global) -> [bool; 5] {
+    match filled(alloc, &[]) {
+        Some(mut fixture) => stores(&mut fixture),
+        None => [false; 5],
+    }
+}
+
 #[test]
-fn stored_and_reset(rt: HostRuntime) -> Result<(), Fail> {
-    let mut fixture = filled(rt.alloc(), &[]).ok_or("a core")?;
-    assert_eq!(rt; fixture.other_reply(&[STORED]), None);
-    assert!(rt; holds(&mut fixture, b"::4\nLOG1:FULL:6\n"));
-    assert_eq!(rt; fixture.other_reply(&[RESET]), None);
-    assert!(rt; holds_none(&mut fixture));
-    assert!(rt; fixture.has_levels(&[(0, 4), (1, 6), (1, 4)]));
-    Ok(())
+fn stored_and_reset(rt: HostRuntime) {
+    assert!(rt; stored(rt.alloc()) == [true; 5]);
 }
