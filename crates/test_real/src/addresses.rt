@@ -1,6 +1,7 @@
 //! The address to listen on, as the environment has it.
 
 use dl_real::{BIND_ADDRESS, BindFault, bind_address};
+use std::alloc::Global;
 use std::env::FillError;
 use std::net::{IpAddr, Ipv4Addr, Ipv6Addr};
 use std::rt::Env;
@@ -38,20 +39,36 @@ impl Env for Word<'_> {
 
 const LOOPBACK: IpAddr = IpAddr::V4(Ipv4Addr::LOCALHOST);
 
+/// A word of the environment, or none, and the address that it says.
+type Row = (Option<&'static str>, Result<IpAddr, BindFault>);
+
+const ROWS: [Row; 8] = [
+    (None, Ok(LOOPBACK)),
+    (Some("127.0.0.1"), Ok(LOOPBACK)),
+    (Some("0.0.0.0"), Ok(IpAddr::V4(Ipv4Addr::UNSPECIFIED))),
+    (Some("::1"), Ok(IpAddr::V6(Ipv6Addr::LOCALHOST))),
+    (Some("localhost"), Err(BindFault::NoAddress)),
+    (Some("127.0.0.1:3490"), Err(BindFault::NoAddress)),
+    (Some("127.0.0"), Err(BindFault::NoAddress)),
+    (Some(""), Err(BindFault::NoAddress)),
+];
+
+/// The address that a word says.
+fn address(alloc: Global, text: Option<&str>) -> Result<IpAddr, BindFault> {
+    bind_address(&(Word { text }, alloc))
+}
+
+/// The place of the first of these that says another one.
+fn other(alloc: Global, rows: &[Row]) -> Option<usize> {
+    for (place, (text, wanted)) in rows.iter().enumerate() {
+        if address(alloc, *text) != *wanted {
+            return Some(place);
+        }
+    }
+    None
+}
+
 #[test]
 fn addresses(rt: HostRuntime) {
-    let rows = [
-        (None, Ok(LOOPBACK)),
-        (Some("127.0.0.1"), Ok(LOOPBACK)),
-        (Some("0.0.0.0"), Ok(IpAddr::V4(Ipv4Addr::UNSPECIFIED))),
-        (Some("::1"), Ok(IpAddr::V6(Ipv6Addr::LOCALHOST))),
-        (Some("localhost"), Err(BindFault::NoAddress)),
-        (Some("127.0.0.1:3490"), Err(BindFault::NoAddress)),
-        (Some("127.0.0"), Err(BindFault::NoAddress)),
-        (Some(""), Err(BindFault::NoAddress)),
-    ];
-    for (text, wanted) in rows {
-        let word = Word { text };
-        assert!(rt; bind_address(&(word, rt.alloc())) == wanted);
-    }
+    assert!(rt; other(rt.alloc(), &ROWS).is_none());
 }

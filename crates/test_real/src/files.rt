@@ -3,8 +3,9 @@
 use dl_outside::{Folder, NameList};
 use dl_real::Directory;
 use std::alloc::Global;
+use std::fs::Files;
+use std::io;
 use std::os::unix::fs::symlink;
-use std::test::Fail;
 
 /// Whether the folder has these names with this prefix.
 fn has_names<F: Folder>(folder: &mut F, prefix: &str, wanted: &[&str]) -> bool {
@@ -51,92 +52,153 @@ fn is_refused<F: Folder>(folder: &mut F, name: &str) -> bool {
     all && folder.faults().saturating_sub(before) == 5
 }
 
-#[test]
-fn files(rt: HostRuntime) -> Result<(), Fail> {
-    let mut folder = Directory::over(rt);
-    assert!(rt; has_names(&mut folder, "trace/", &[]) && has_none(&mut folder, "trace/b.2"));
-    let added = folder.append("trace/b.2", b"one").is_ok()
+/// Whether five pieces are added to two files.
+fn adds<F: Folder>(folder: &mut F) -> bool {
+    folder.append("trace/b.2", b"one").is_ok()
         && folder.append("trace/b.2", b"two").is_ok()
         && folder.append("trace/b.1", b"other").is_ok()
         && folder.append("trace/b.2", b"").is_ok()
-        && folder.append("trace/b.2", b"three").is_ok();
-    assert!(rt; added && has_bytes(&mut folder, "trace/b.2", b"onetwothree"));
-    let put = folder.put("trace/b.1", b"newer").is_ok()
+        && folder.append("trace/b.2", b"three").is_ok()
+}
+
+/// Whether three files are put.
+fn puts<F: Folder>(folder: &mut F) -> bool {
+    folder.put("trace/b.1", b"newer").is_ok()
         && folder.put("trace/b.1", b"new!").is_ok()
-        && folder.put("trace/c", b"").is_ok();
-    assert!(rt; put && has_bytes(&mut folder, "trace/b.1", b"new!"));
-    assert!(rt; has_names(&mut folder, "trace/b.", &["trace/b.1", "trace/b.2"]));
-    let removed = folder.remove("trace/b.2").is_ok() && folder.remove("trace/b.2").is_ok();
-    assert!(rt; removed && has_none(&mut folder, "trace/b.2"));
-    assert!(rt; folder.append("trace/b.2", b"again").is_ok());
-    assert!(rt; has_bytes(&mut folder, "trace/b.2", b"again"));
-    assert_eq!(rt; folder.size("trace/b.2").ok(), Some(Some(5)));
-    assert_eq!(rt;
-        (folder.faults(), folder.changes(), folder.appends()),
-        (0, 11, 6)
-    );
-    Ok(())
+        && folder.put("trace/c", b"").is_ok()
+}
+
+/// Whether a file is removed, and again where it is gone.
+fn removes<F: Folder>(folder: &mut F) -> bool {
+    folder.remove("trace/b.2").is_ok() && folder.remove("trace/b.2").is_ok()
+}
+
+/// Whether an empty folder has what is added and put.
+fn fills<F: Folder>(folder: &mut F) -> [bool; 7] {
+    [
+        has_names(folder, "trace/", &[]),
+        has_none(folder, "trace/b.2"),
+        adds(folder),
+        has_bytes(folder, "trace/b.2", b"onetwothree"),
+        puts(folder),
+        has_bytes(folder, "trace/b.1", b"new!"),
+        has_names(folder, "trace/b.", &["trace/b.1", "trace/b.2"]),
+    ]
+}
+
+/// Whether a removed file is gone, and begins anew.
+fn begins_anew<F: Folder>(folder: &mut F) -> [bool; 5] {
+    [
+        removes(folder),
+        has_none(folder, "trace/b.2"),
+        folder.append("trace/b.2", b"again").is_ok(),
+        has_bytes(folder, "trace/b.2", b"again"),
+        folder.size("trace/b.2") == Ok(Some(5)),
+    ]
+}
+
+/// How often calls failed, were to change a file, and added to one.
+fn counts<F: Folder>(folder: &F) -> (u64, u64, u64) {
+    (folder.faults(), folder.changes(), folder.appends())
+}
+
+#[test]
+fn files(rt: HostRuntime) {
+    let mut folder = Directory::over(rt);
+    assert!(rt; fills(&mut folder) == [true; 7]);
+    assert!(rt; begins_anew(&mut folder) == [true; 5]);
+    assert!(rt; counts(&folder) == (0, 11, 6));
 }
 
 /// So many bytes, no two pieces of them alike.
-fn pattern(alloc: Global, len: u32) -> Result<Vec<u8>, Fail> {
-    let mut bytes = Vec::with_capacity(alloc, len as usize)?;
+fn pattern(alloc: Global, len: u32) -> Option<Vec<u8>> {
+    let mut bytes = Vec::with_capacity(alloc, len as usize).ok()?;
     for n in 0..len {
-        bytes.push((n % 251) as u8)?;
+        bytes.push((n % 251) as u8).ok()?;
     }
-    Ok(bytes)
+    Some(bytes)
+}
+
+/// Whether a file that is put is read whole.
+fn reads_whole<F: Folder>(alloc: Global, folder: &mut F) -> bool {
+    match pattern(alloc, 20000) {
+        Some(bytes) => { folder.put("large", &bytes).is_ok() && has_bytes(folder, "large", &bytes) }
+        None => false,
+    }
 }
 
 #[test]
-fn a_large_file_is_read_whole(rt: HostRuntime) -> Result<(), Fail> {
-    let bytes = pattern(rt.alloc(), 20000)?;
+fn a_large_file_is_read_whole(rt: HostRuntime) {
     let mut folder = Directory::over(rt);
-    assert!(rt; folder.put("large", &bytes).is_ok());
-    assert!(rt; has_bytes(&mut folder, "large", &bytes));
-    Ok(())
+    assert!(rt; reads_whole(rt.alloc(), &mut folder));
+}
+
+/// Names of what is no plain file below the folder.
+const REFUSED: [&str; 8] = [
+    "",
+    "/etc/hostname",
+    "../up",
+    "there/../../up",
+    "there",
+    "there/link",
+    "there/dangling",
+    "way",
+];
+
+/// The place of the first of these names that isn't refused.
+fn other<F: Folder>(folder: &mut F, names: &[&str]) -> Option<usize> {
+    for (place, name) in names.iter().enumerate() {
+        if !is_refused(folder, name) {
+            return Some(place);
+        }
+    }
+    None
+}
+
+/// Links to a plain file, to nothing, and to a directory.
+fn link_all<R: Files>(rt: &R) -> io::Result<()> {
+    symlink(rt, "plain", "there/link")?;
+    symlink(rt, "nowhere", "there/dangling")?;
+    symlink(rt, "there", "way")
+}
+
+/// Whether the plain file alone is there, is found by a directory that is a link, and is added to.
+fn stays<F: Folder>(folder: &mut F) -> [bool; 5] {
+    [
+        has_names(folder, "there/", &["there/plain"]),
+        has_bytes(folder, "there/plain", b"stays"),
+        // The directories on the way may be links.
+        has_bytes(folder, "way/plain", b"stays"),
+        folder.append("way/plain", b"!").is_ok(),
+        has_bytes(folder, "there/plain", b"stays!"),
+    ]
 }
 
 #[test]
-fn only_plain_files_are_touched(rt: HostRuntime) -> Result<(), Fail> {
+fn only_plain_files_are_touched(rt: HostRuntime) {
     let mut folder = Directory::over(rt);
     assert!(rt; folder.put("there/plain", b"stays").is_ok());
-    symlink(&rt, "plain", "there/link")?;
-    symlink(&rt, "nowhere", "there/dangling")?;
-    symlink(&rt, "there", "way")?;
-    for name in [
-        "",
-        "/etc/hostname",
-        "../up",
-        "there/../../up",
-        "there",
-        "there/link",
-        "there/dangling",
-        "way",
-    ] {
-        assert!(rt; is_refused(&mut folder, name), "at {name}");
-    }
-    assert!(rt; has_names(&mut folder, "there/", &["there/plain"]));
-    assert!(rt; has_bytes(&mut folder, "there/plain", b"stays"));
-    // The directories on the way may be links.
-    assert!(rt; has_bytes(&mut folder, "way/plain", b"stays"));
-    assert!(rt; folder.append("way/plain", b"!").is_ok());
-    assert!(rt; has_bytes(&mut folder, "there/plain", b"stays!"));
-    Ok(())
+    assert!(rt; link_all(&rt).is_ok());
+    assert!(rt; other(&mut folder, &REFUSED).is_none());
+    assert!(rt; stays(&mut folder) == [true; 5]);
+}
+
+/// Whether a plain file isn't removed, none is made, and one of which no byte can be read is refused.
+fn refuses<F: Folder>(folder: &mut F) -> [bool; 5] {
+    [
+        folder.remove("process/status").is_err(),
+        folder.put("process/none", b"x").is_err(),
+        folder.append("process/none", b"x").is_err(),
+        folder.read("process/mem").is_err(),
+        has_none(folder, "process/none"),
+    ]
 }
 
 #[test]
-fn what_the_system_refuses_is_a_fault(rt: HostRuntime) -> Result<(), Fail> {
+fn what_the_system_refuses_is_a_fault(rt: HostRuntime) {
     // Plain files that can't be removed or made, and one of which no byte can be read.
-    symlink(&rt, "/proc/self", "process")?;
+    assert!(rt; symlink(&rt, "/proc/self", "process").is_ok());
     let mut folder = Directory::over(rt);
-    let refused = folder.remove("process/status").is_err()
-        && folder.put("process/none", b"x").is_err()
-        && folder.append("process/none", b"x").is_err()
-        && folder.read("process/mem").is_err();
-    assert!(rt; refused && has_none(&mut folder, "process/none"));
-    assert_eq!(rt;
-        (folder.faults(), folder.changes(), folder.appends()),
-        (4, 3, 1)
-    );
-    Ok(())
+    assert!(rt; refuses(&mut folder) == [true; 5]);
+    assert!(rt; counts(&folder) == (4, 3, 1));
 }

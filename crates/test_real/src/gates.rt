@@ -31,14 +31,18 @@ fn two_workers_meet(rt: HostRuntime) -> Result<(), Fail> {
     Ok(())
 }
 
-#[test]
-fn one_after_the_other_they_do_not_meet(rt: HostRuntime) -> Result<(), Fail> {
-    let gate = MeetingGate::make(rt.alloc(), FIRST, SECOND, 10)?;
-    assert!(rt; !gate.has_met());
+/// Whether two workers meet before the one comes, and after the other came and went.
+fn meet_in_turn(alloc: Global) -> Option<[bool; 2]> {
+    let gate = MeetingGate::make(alloc, FIRST, SECOND, 10).ok()?;
+    let before = gate.has_met();
     work(&gate, 1);
     work(&gate, 2);
-    assert!(rt; !gate.has_met());
-    Ok(())
+    Some([before, gate.has_met()])
+}
+
+#[test]
+fn one_after_the_other_they_do_not_meet(rt: HostRuntime) {
+    assert!(rt; meet_in_turn(rt.alloc()) == Some([false; 2]));
 }
 
 #[test]
@@ -48,27 +52,44 @@ fn a_worker_waits_for_a_sign(rt: HostRuntime) -> Result<(), Fail> {
     let (held, given) = (&gate, &sign);
     thread::join(&rt, move || work(held, 1), move || given.give());
     assert!(rt; gate.was_met() && sign.is_given());
-    let never = SignGate::make(FIRST, Sign::make(rt.alloc())?, 10);
-    work(&never, 1);
-    assert!(rt; !never.was_met());
     Ok(())
+}
+
+/// Whether a worker meets a sign that nobody gives.
+fn meets_nobody(alloc: Global) -> Option<bool> {
+    let gate = SignGate::make(FIRST, Sign::make(alloc).ok()?, 10);
+    work(&gate, 1);
+    Some(gate.was_met())
+}
+
+#[test]
+fn a_worker_waits_no_longer_than_it_may(rt: HostRuntime) {
+    assert!(rt; meets_nobody(rt.alloc()) == Some(false));
 }
 
 const WANTED: Wanted = *b"the wanted bytes";
 
-/// Whether sending this piece gives the sign.
-fn gives_sign(alloc: Global, piece: &[u8]) -> Option<bool> {
-    let sign = Sign::make(alloc).ok()?;
+/// A net of one client, whose link gives a sign.
+fn watched(alloc: Global, sign: Sign) -> WatchedNet<MemoryNet> {
     let within = MemoryNet::make(alloc, 100, VecDeque::new(alloc));
-    let mut net = WatchedNet::make(within, WANTED, sign.share().ok()?);
+    WatchedNet::make(within, WANTED, sign)
+}
+
+/// Whether a client comes, whose link takes the whole piece.
+fn sends<N: Net>(alloc: Global, net: &mut N, piece: &[u8]) -> bool
+where
+    N::L: Drop,
+{
     let client = ClientScript {
         sends: Bytes::over(Vec::new(alloc)),
         leave: None,
     };
-    net.launch(&client).ok()?;
+    if net.launch(&client).is_err() {
+        return false;
+    }
     match net.accept() {
-        Accepted::Link(link) => takes(link, piece).then_some(sign.is_given()),
-        _ => None,
+        Accepted::Link(link) => takes(link, piece),
+        _ => false,
     }
 }
 
@@ -77,12 +98,20 @@ fn takes<L: Link + Drop>(mut link: L, piece: &[u8]) -> bool {
     !piece.is_empty() && link.send(piece) == Sends::Bytes(piece.len())
 }
 
+/// Whether sending this piece gives the sign.
+fn gives_sign(alloc: Global, piece: &[u8]) -> Option<bool> {
+    let sign = Sign::make(alloc).ok()?;
+    let mut net = watched(alloc, sign.share().ok()?);
+    if sends(alloc, &mut net, piece) {
+        Some(sign.is_given())
+    } else {
+        None
+    }
+}
+
 #[test]
 fn a_net_gives_a_sign(rt: HostRuntime) {
     let alloc = rt.alloc();
-    assert_eq!(rt;
-        gives_sign(alloc, b"here are the wanted bytes."),
-        Some(true)
-    );
-    assert_eq!(rt; gives_sign(alloc, b"here are the wanted byte"), Some(false));
+    assert!(rt; gives_sign(alloc, b"here are the wanted bytes.") == Some(true));
+    assert!(rt; gives_sign(alloc, b"here are the wanted byte") == Some(false));
 }
