@@ -1,15 +1,10 @@
 //! What is refused before a run begins, and faults of the outside, one call at a time.
 
-use crate::played::{Faults, Played, none, play, play_in};
-use dl_outside::Folder;
-use std::alloc::{AllocError, Global};
-use std::test::Fail;
+use crate::played::{Faults, NONE, Played, STEPS, is, play_in};
+use std::alloc::Global;
 
 const SCRIPT: &str =
     "app LOG1 16\ncontext LOG1 TEST info\nwriter LOG1\nconnect\nlog 1 TEST info 1 \"a\"\nlog 1 TEST info 2 \"b\"\n";
-
-/// The words of a run.
-const STEPS: [&str; 2] = ["dlt_replay", "steps"];
 
 const USAGE: &str = "dlt_replay: usage: dlt_replay steps or generate NUMBER CALLS\n";
 
@@ -18,135 +13,181 @@ const OUT_OF_RANGE: &str = "dlt_replay: conf line 4: outofrange\n";
 
 const ODD_DIGITS: &str = "dlt_replay: script line 2: hex\n";
 
-fn one(alloc: Global, call: u64) -> Result<Vec<u64>, AllocError> {
-    Vec::from_slice(alloc, &[call])
+/// Plays the script in an empty folder.
+fn play(alloc: Global, faults: Faults) -> Option<Played> {
+    play_in(alloc, &STEPS, SCRIPT.as_bytes(), &[], faults)
 }
 
 /// Plays the script with one call of the folder that fails. Frames are stored, and a file of another run stands.
-fn folder_fails(alloc: Global, script: &str, call: u64) -> Result<Played, AllocError> {
-    let mut faults = none(alloc);
-    faults.folder = one(alloc, call)?;
+fn folder_fails(alloc: Global, call: u64) -> Option<Played> {
     play_in(
         alloc,
         &STEPS,
-        script.as_bytes(),
+        SCRIPT.as_bytes(),
         &[
             ("dlt.conf", "OfflineTraceDirectory = trace\n"),
             ("trace/dlt_offlinetrace.000004.dlt", "old"),
         ],
-        faults,
+        Faults {
+            folder: call,
+            ..NONE
+        },
     )
+}
+
+/// Whether a command line that is none is told how the program is used, and nothing is read.
+fn is_usage(alloc: Global) -> [bool; 3] {
+    let list = ["dlt_replay", "generate", "7"];
+    match play_in(alloc, &list, SCRIPT.as_bytes(), &[], NONE) {
+        Some(played) => [
+            played.is(2, "", USAGE),
+            played.reads() == 0,
+            played.calls() == 0,
+        ],
+        None => [false; 3],
+    }
 }
 
 /// A command line that is none is told how the program is used, and nothing else is done.
 #[test]
-fn words(rt: HostRuntime) -> Result<(), Fail> {
-    let alloc = rt.alloc();
-    let list = ["dlt_replay", "generate", "7"];
-    let played = play(alloc, &list, SCRIPT.as_bytes(), none(alloc))?;
-    assert!(rt; played.is(2, "", USAGE));
-    assert_eq!(rt; (played.reads, played.folder.calls), (0, 0));
-    Ok(())
+fn words(rt: HostRuntime) {
+    assert!(rt; is_usage(rt.alloc()) == [true; 3]);
 }
 
 /// Plays a script in a folder with this configuration.
-fn with_conf(alloc: Global, conf: &str, script: &[u8]) -> Result<Played, AllocError> {
-    play_in(alloc, &STEPS, script, &[("dlt.conf", conf)], none(alloc))
+fn with_conf(alloc: Global, conf: &str, script: &[u8]) -> Option<Played> {
+    play_in(alloc, &STEPS, script, &[("dlt.conf", conf)], NONE)
+}
+
+/// Whether a configuration is refused, and no file was to change.
+fn is_refused(alloc: Global) -> [bool; 2] {
+    match with_conf(alloc, "# c\n\nFoo = 1\nRingbufferMaxSize = 9999\n", b"") {
+        Some(refused) => [refused.is(3, "", OUT_OF_RANGE), refused.changes() == 0],
+        None => [false; 2],
+    }
+}
+
+/// Whether another one is not.
+fn is_taken(alloc: Global) -> bool {
+    let conf = "# c\n\nFoo = 1\nRingbufferMaxSize = 10000\n";
+    is(with_conf(alloc, conf, b""), 0, "", "")
 }
 
 /// A configuration that is refused, and one that isn't.
 #[test]
-fn a_configuration(rt: HostRuntime) -> Result<(), Fail> {
-    let alloc = rt.alloc();
-    let refused = with_conf(alloc, "# c\n\nFoo = 1\nRingbufferMaxSize = 9999\n", b"")?;
-    assert!(rt; refused.is(3, "", OUT_OF_RANGE));
-    assert_eq!(rt; refused.folder.changes(), 0);
-    let taken = with_conf(alloc, "# c\n\nFoo = 1\nRingbufferMaxSize = 10000\n", b"")?;
-    assert!(rt; taken.is(0, "", ""));
-    Ok(())
+fn a_configuration(rt: HostRuntime) {
+    assert!(rt; is_refused(rt.alloc()) == [true; 2]);
+    assert!(rt; is_taken(rt.alloc()));
+}
+
+/// Whether a script with an odd digit is refused.
+fn is_odd(alloc: Global) -> bool {
+    is(
+        with_conf(alloc, "", b"connect\nuser 1 445\n"),
+        4,
+        "",
+        ODD_DIGITS,
+    )
 }
 
 /// A script that is refused.
 #[test]
-fn a_script(rt: HostRuntime) -> Result<(), Fail> {
-    let refused = with_conf(rt.alloc(), "", b"connect\nuser 1 445\n")?;
-    assert!(rt; refused.is(4, "", ODD_DIGITS));
-    Ok(())
+fn a_script(rt: HostRuntime) {
+    assert!(rt; is_odd(rt.alloc()));
 }
 
 /// Whether a run says so whose input fails at this call.
-fn read_fails(alloc: Global, call: u64) -> Result<bool, AllocError> {
-    let mut faults = none(alloc);
-    faults.input = one(alloc, call)?;
-    let played = play(alloc, &STEPS, SCRIPT.as_bytes(), faults)?;
-    Ok(played.is(11, "", "dlt_replay: read fault\n"))
-}
-
-#[test]
-fn reads(rt: HostRuntime) -> Result<(), Fail> {
-    for call in 1..3 {
-        assert!(rt; read_fails(rt.alloc(), call)?);
-    }
-    Ok(())
-}
-
-/// Whether a run whose output fails at this call printed so many bytes of the whole before, and says nothing.
-fn write_fails(
-    alloc: Global,
-    whole: &Played,
-    call: u64,
-    printed: usize,
-) -> Result<bool, AllocError> {
+fn read_fails(alloc: Global, call: u64) -> bool {
     let faults = Faults {
-        input: Vec::new(alloc),
-        folder: Vec::new(alloc),
-        out: one(alloc, call)?,
-        err: one(alloc, 1)?,
+        input: call,
+        ..NONE
     };
-    let played = play(alloc, &STEPS, SCRIPT.as_bytes(), faults)?;
-    Ok(
-        played.status == 6
-            && played.err.is_empty()
-            && played.out.len() == printed
-            && whole.out.as_slice().starts_with(&played.out),
-    )
+    is(play(alloc, faults), 11, "", "dlt_replay: read fault\n")
 }
 
-/// The writes, and how many bytes are printed before each.
-const WRITES: [(u64, usize); 3] = [(1, 0), (2, 100), (3, 200)];
+#[test]
+fn reads(rt: HostRuntime) {
+    assert!(rt; read_fails(rt.alloc(), 1));
+    assert!(rt; read_fails(rt.alloc(), 2));
+}
+
+/// Whether a run ended in a fault of its output, printed so many bytes of the whole before, and says nothing.
+fn is_cut(played: &Played, whole: &Played, printed: usize) -> bool {
+    played.status == 6
+        && played.err().is_empty()
+        && played.out().len() == printed
+        && whole.out().starts_with(played.out())
+}
+
+/// The same of a run whose output fails at this call, and standard error at its first.
+fn write_fails(alloc: Global, whole: &Played, call: u64, printed: usize) -> bool {
+    let faults = Faults {
+        out: call,
+        err: 1,
+        ..NONE
+    };
+    match play(alloc, faults) {
+        Some(played) => is_cut(&played, whole, printed),
+        None => false,
+    }
+}
+
+/// Whether the whole is written in three calls, and each of them fails in turn. Before them 0, 100 and 200 bytes are printed.
+fn each_write_fails(alloc: Global) -> [bool; 4] {
+    match play(alloc, NONE) {
+        Some(whole) => [
+            whole.status == 0 && whole.writes() == 3,
+            write_fails(alloc, &whole, 1, 0),
+            write_fails(alloc, &whole, 2, 100),
+            write_fails(alloc, &whole, 3, 200),
+        ],
+        None => [false; 4],
+    }
+}
 
 #[test]
-fn writes(rt: HostRuntime) -> Result<(), Fail> {
-    let whole = play(rt.alloc(), &STEPS, SCRIPT.as_bytes(), none(rt.alloc()))?;
-    assert_eq!(rt; (whole.status, whole.writes), (0, 3));
-    for (call, printed) in &WRITES {
-        assert!(rt; write_fails(rt.alloc(), &whole, *call, *printed)?);
-    }
-    Ok(())
+fn writes(rt: HostRuntime) {
+    assert!(rt; each_write_fails(rt.alloc()) == [true; 4]);
 }
 
 /// Whether a run says so whose folder fails at this call, and so many files were to change by then. It prints nothing where
 /// none was.
-fn says_so(alloc: Global, call: u64, changes: u64) -> Result<bool, AllocError> {
-    let played = folder_fails(alloc, SCRIPT, call)?;
-    Ok(
-        played.status == 7
-            && played.err.as_slice() == b"dlt_replay: folder fault\n".as_slice()
-            && played.out.is_empty() == (changes == 0)
-            && played.folder.changes() == changes,
-    )
+fn says_so(alloc: Global, call: u64, changes: u64) -> bool {
+    match folder_fails(alloc, call) {
+        Some(played) => {
+            played.status == 7
+                && played.says("dlt_replay: folder fault\n")
+                && played.out().is_empty() == (changes == 0)
+                && played.changes() == changes
+        }
+        None => false,
+    }
+}
+
+/// Whether the run is whole where no call fails, and calls its folder so often.
+fn is_whole(alloc: Global) -> bool {
+    match folder_fails(alloc, 100) {
+        Some(whole) => whole.status == 0 && whole.calls() == 6,
+        None => false,
+    }
 }
 
 /// The folder's calls, each with how many files were to change by then: three reads and sizes before the run, then two
 /// appends.
 const CALLS: [(u64, u64); 6] = [(1, 0), (2, 0), (3, 0), (4, 0), (5, 1), (6, 2)];
 
-#[test]
-fn each_call_of_the_folder_fails_in_turn(rt: HostRuntime) -> Result<(), Fail> {
-    let whole = folder_fails(rt.alloc(), SCRIPT, 100)?;
-    assert_eq!(rt; (whole.status, whole.folder.calls), (0, 6));
-    for (call, changes) in &CALLS {
-        assert!(rt; says_so(rt.alloc(), *call, *changes)?);
+/// The first of these calls where a run ends otherwise.
+fn other(alloc: Global, calls: &[(u64, u64)]) -> Option<u64> {
+    for (call, changes) in calls {
+        if !says_so(alloc, *call, *changes) {
+            return Some(*call);
+        }
     }
-    Ok(())
+    None
+}
+
+#[test]
+fn each_call_of_the_folder_fails_in_turn(rt: HostRuntime) {
+    assert!(rt; is_whole(rt.alloc()));
+    assert!(rt; other(rt.alloc(), &CALLS).is_none());
 }

@@ -1,9 +1,7 @@
 //! What a run reads of its folder and leaves there: the configuration, the stored one, and trace files.
 
-use crate::played::{Played, none, play_in};
-use dl_outside::Folder;
-use std::alloc::{AllocError, Global};
-use std::test::Fail;
+use crate::played::{Faults, NONE, Played, STEPS, is, play_in, prints};
+use std::alloc::Global;
 
 /// Trace files of at most 2000 bytes, and 4000 bytes in all.
 const SMALL_FILES: &str =
@@ -31,60 +29,76 @@ file trace/dlt_offlinetrace.000002.dlt 2000
 file trace/dlt_offlinetrace.000003.dlt 500
 ";
 
-/// A text of so many letters.
-fn letters(alloc: Global, count: u32) -> Result<String, AllocError> {
-    let mut text = String::new(alloc);
-    for _ in 0..count {
-        text.push_str("x")?;
+/// A text with a line so many times behind its begin.
+fn text(alloc: Global, begin: &str, line: &str, count: u32) -> Option<String> {
+    let mut text = String::from_str(alloc, begin).ok()?;
+    if push_often(&mut text, line, count) {
+        Some(text)
+    } else {
+        None
     }
-    Ok(text)
 }
 
-/// The declarations, and so many calls.
-fn calls(alloc: Global, count: u32) -> Result<String, AllocError> {
-    let mut script = String::from_str(alloc, DECLARED)?;
+/// Adds a line so many times.
+fn push_often(text: &mut String, line: &str, count: u32) -> bool {
     for _ in 0..count {
-        script.push_str(CALL)?;
+        if text.push_str(line).is_err() {
+            return false;
+        }
     }
-    Ok(script)
+    true
 }
 
 /// Plays a script in a folder with this configuration and one more file. This call of the folder fails.
 fn played(
     alloc: Global,
     conf: &str,
-    script: &str,
-    name: &str,
-    text: &str,
+    script: Option<String>,
+    file: (&str, &str),
     fails: u64,
-) -> Result<Played, AllocError> {
-    let mut faults = none(alloc);
-    faults.folder = Vec::from_slice(alloc, &[fails])?;
-    play_in(
+) -> Option<Played> {
+    let faults = Faults {
+        folder: fails,
+        ..NONE
+    };
+    match script {
+        Some(script) => play_in(
+            alloc,
+            &STEPS,
+            script.as_bytes(),
+            &[("dlt.conf", conf), file],
+            faults,
+        ),
+        None => None,
+    }
+}
+
+/// Plays nine calls with a trace of small files.
+fn rotated(alloc: Global) -> Option<Played> {
+    played(
         alloc,
-        &["dlt_replay", "steps"],
-        script.as_bytes(),
-        &[("dlt.conf", conf), (name, text)],
-        faults,
+        SMALL_FILES,
+        text(alloc, DECLARED, CALL, 9),
+        ("x", ""),
+        100,
     )
 }
 
 #[test]
-fn a_trace_rotates(rt: HostRuntime) -> Result<(), Fail> {
-    let script = calls(rt.alloc(), 9)?;
-    let rotated = played(rt.alloc(), SMALL_FILES, script.as_str(), "x", "", 100)?;
-    assert!(rt; rotated.is(0, ROTATED, ""));
-    Ok(())
+fn a_trace_rotates(rt: HostRuntime) {
+    assert!(rt; is(rotated(rt.alloc()), 0, ROTATED, ""));
 }
 
 /// Plays three calls with a trace in a folder with one more file. This call of the folder fails.
-fn three_calls(alloc: Global, name: &str, text: &str, fails: u64) -> Result<Played, AllocError> {
-    let mut script = String::from_str(alloc, DECLARED)?;
-    for _ in 0..3 {
-        script.push_str("log 1 TEST info 1 \"hi\"\n")?;
-    }
-    let conf = "OfflineTraceDirectory = trace\n";
-    played(alloc, conf, script.as_str(), name, text, fails)
+fn three_calls(alloc: Global, file: (&str, &str), fails: u64) -> Option<Played> {
+    let script = text(alloc, DECLARED, "log 1 TEST info 1 \"hi\"\n", 3);
+    played(
+        alloc,
+        "OfflineTraceDirectory = trace\n",
+        script,
+        file,
+        fails,
+    )
 }
 
 /// What is printed where the third append fails: the frames before it stand, and the report says why the trace ended.
@@ -95,25 +109,33 @@ trace ended failed
 ";
 
 #[test]
-fn a_trace_fails(rt: HostRuntime) -> Result<(), Fail> {
-    let failed = three_calls(rt.alloc(), "x", "", 6)?;
-    assert!(rt; failed.prints(7, FAILED));
-    Ok(())
+fn a_trace_fails(rt: HostRuntime) {
+    assert!(rt; prints(three_calls(rt.alloc(), ("x", ""), 6), 7, FAILED));
 }
 
 /// Plays three calls where the folder has no room for a frame.
-fn without_room(alloc: Global) -> Result<Played, AllocError> {
-    let full = letters(alloc, 99_900)?;
-    three_calls(alloc, "full", full.as_str(), 100)
+fn without_room(alloc: Global) -> Option<Played> {
+    match text(alloc, "", "x", 99_900) {
+        Some(full) => three_calls(alloc, ("full", full.as_str()), 100),
+        None => None,
+    }
+}
+
+/// Whether the report is whole, and the status that of memory.
+fn lacks_memory(alloc: Global) -> [bool; 2] {
+    match without_room(alloc) {
+        Some(short) => [
+            short.frames(9, "", "trace ended memory\n"),
+            short.says("dlt_replay: out of memory\n"),
+        ],
+        None => [false; 2],
+    }
 }
 
 /// Without room for a frame the report is whole, and the status is that of memory.
 #[test]
-fn a_trace_finds_no_room(rt: HostRuntime) -> Result<(), Fail> {
-    let short = without_room(rt.alloc())?;
-    assert!(rt; short.frames(9, "", "trace ended memory\n"));
-    assert!(rt; short.says("dlt_replay: out of memory\n"));
-    Ok(())
+fn a_trace_finds_no_room(rt: HostRuntime) {
+    assert!(rt; lacks_memory(rt.alloc()) == [true; 2]);
 }
 
 /// The stored levels, and none.
@@ -121,37 +143,31 @@ const LEVELS: &str = "::4\nLOG1:FULL:6\n";
 
 const NO_LEVELS: &str = "";
 
-/// How a run with these requests ends where this call of the folder fails: its status, and whether these levels are stored.
-fn stores(
-    alloc: Global,
-    requests: &[&str],
-    fails: u64,
-    levels: &str,
-) -> Result<(u8, bool), AllocError> {
-    let mut played = requested(alloc, requests, fails)?;
-    Ok((played.status, played.has("dlt_stored.cfg", levels)))
+/// Plays a script with a request to store the levels in an empty folder, and as many to reset them. This call of the folder fails.
+fn requested(alloc: Global, resets: u32, fails: u64) -> Option<Played> {
+    let mut script = text(alloc, TWO_CONTEXTS, STORE, 1)?;
+    if push_often(&mut script, RESET, resets) {
+        played(alloc, "", Some(script), ("x", ""), fails)
+    } else {
+        None
+    }
 }
 
-/// Plays these requests in an empty folder, of which this call fails.
-fn requested(alloc: Global, requests: &[&str], fails: u64) -> Result<Played, AllocError> {
-    let mut script = String::from_str(alloc, TWO_CONTEXTS)?;
-    for request in requests {
-        script.push_str(request)?;
+/// Whether such a run ends with this status, and these levels are stored.
+fn stores(alloc: Global, resets: u32, fails: u64, status: u8, levels: &str) -> bool {
+    match requested(alloc, resets, fails) {
+        Some(mut played) => played.status == status && played.has("dlt_stored.cfg", levels),
+        None => false,
     }
-    played(alloc, "", script.as_str(), "x", "", fails)
 }
 
 /// Levels are stored and reset; a fault of the folder is the request's answer, and the status.
 #[test]
-fn levels_are_stored(rt: HostRuntime) -> Result<(), Fail> {
-    assert_eq!(rt; stores(rt.alloc(), &[STORE], 100, LEVELS)?, (0, true));
-    assert_eq!(rt; stores(rt.alloc(), &[STORE], 3, NO_LEVELS)?, (7, true));
-    assert_eq!(rt; stores(rt.alloc(), &[STORE, RESET], 4, LEVELS)?, (7, true));
-    assert_eq!(rt;
-        stores(rt.alloc(), &[STORE, RESET], 100, NO_LEVELS)?,
-        (0, true)
-    );
-    Ok(())
+fn levels_are_stored(rt: HostRuntime) {
+    assert!(rt; stores(rt.alloc(), 0, 100, 0, LEVELS));
+    assert!(rt; stores(rt.alloc(), 0, 3, 7, NO_LEVELS));
+    assert!(rt; stores(rt.alloc(), 1, 4, 7, LEVELS));
+    assert!(rt; stores(rt.alloc(), 1, 100, 0, NO_LEVELS));
 }
 
 /// What is printed where levels can't be stored.
@@ -161,10 +177,8 @@ app LOG1 calls 0 queued 0 filtered 0 lost 0 reported 0
 ";
 
 #[test]
-fn levels_are_not_stored(rt: HostRuntime) -> Result<(), Fail> {
-    let failed = requested(rt.alloc(), &[STORE], 3)?;
-    assert!(rt; failed.prints(7, NOT_STORED));
-    Ok(())
+fn levels_are_not_stored(rt: HostRuntime) {
+    assert!(rt; prints(requested(rt.alloc(), 0, 3), 7, NOT_STORED));
 }
 
 /// What is printed where they are stored, and can't be reset.
@@ -175,27 +189,35 @@ app LOG1 calls 0 queued 0 filtered 0 lost 0 reported 0
 ";
 
 #[test]
-fn levels_are_not_reset(rt: HostRuntime) -> Result<(), Fail> {
-    let failed = requested(rt.alloc(), &[STORE, RESET], 4)?;
-    assert!(rt; failed.prints(7, NOT_RESET));
-    Ok(())
+fn levels_are_not_reset(rt: HostRuntime) {
+    assert!(rt; prints(requested(rt.alloc(), 1, 4), 7, NOT_RESET));
 }
 
 /// Plays the script that the number 7 makes with so many calls.
-fn seventh(alloc: Global, calls: &str) -> Result<Played, AllocError> {
+fn seventh(alloc: Global, calls: &str) -> Option<Played> {
     let words = ["dlt_replay", "generate", "7", calls];
-    play_in(alloc, &words, b"not read", &[], none(alloc))
+    play_in(alloc, &words, b"not read", &[], NONE)
+}
+
+/// Whether a run ended well, read no input, and printed the same as another one.
+fn is_like(first: &Played, second: &Played) -> [bool; 3] {
+    [
+        first.status == 0,
+        first.reads() == 0,
+        first.out() == second.out(),
+    ]
 }
 
 /// Whether a script that a number makes prints the same each time, and the input isn't read.
-fn is_repeated(alloc: Global) -> Result<bool, AllocError> {
+fn is_repeated(alloc: Global) -> Option<[bool; 3]> {
     let first = seventh(alloc, "3000")?;
-    let second = seventh(alloc, "3000")?;
-    Ok(first.status == 0 && first.reads == 0 && first.out.as_slice() == second.out.as_slice())
+    match seventh(alloc, "3000") {
+        Some(second) => Some(is_like(&first, &second)),
+        None => None,
+    }
 }
 
 #[test]
-fn generated(rt: HostRuntime) -> Result<(), Fail> {
-    assert!(rt; is_repeated(rt.alloc())?);
-    Ok(())
+fn generated(rt: HostRuntime) {
+    assert!(rt; is_repeated(rt.alloc()) == Some([true; 3]));
 }
