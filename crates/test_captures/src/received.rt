@@ -7,8 +7,7 @@ use dl_failing::Failing;
 use dl_memory::{MemoryDial, MemorySink, MemorySource};
 use dl_outside::{Dial, DialFault};
 use dl_receive::{Received, receive};
-use std::alloc::{AllocError, Global};
-use std::test::Fail;
+use std::alloc::Global;
 
 /// The port of the objects in memory.
 const PORT: u16 = 3490;
@@ -331,8 +330,8 @@ const KINDS: [Case; 11] = [
 #[derive(Drop)]
 struct Run {
     status: u8,
-    out: Vec<u8>,
-    err: Vec<u8>,
+    out: Failing<MemorySink>,
+    err: MemorySink,
     has_source: bool,
 }
 
@@ -345,74 +344,123 @@ impl Run {
     /// Whether it ended with this status, and wrote these texts.
     fn wrote(&self, status: u8, text: &str, said: &str) -> bool {
         self.status == status
-            && self.out.as_slice() == text.as_bytes()
-            && self.err.as_slice() == said.as_bytes()
+            && self.out.inner.bytes() == text.as_bytes()
+            && self.err.bytes() == said.as_bytes()
     }
+}
+
+/// Adds the words of a command line.
+fn push_words(alloc: Global, words: &mut Vec<String>, list: &[&str]) -> bool {
+    for word in list {
+        let Ok(word) = String::from_str(alloc, word) else {
+            return false;
+        };
+        if words.push(word).is_err() {
+            return false;
+        }
+    }
+    true
 }
 
 /// The words of a command line.
-fn words(alloc: Global, list: &[&str]) -> Result<Vec<String>, AllocError> {
+fn words(alloc: Global, list: &[&str]) -> Option<Vec<String>> {
     let mut words = Vec::new(alloc);
-    for word in list {
-        words.push(String::from_str(alloc, word)?)?;
+    if push_words(alloc, &mut words, list) {
+        Some(words)
+    } else {
+        None
     }
-    Ok(words)
 }
 
-/// Receives with these words, to a sink that takes 100 bytes at once and of whose calls these fail.
-fn receive_with<D: Dial>(
-    alloc: Global,
-    list: &[&str],
-    dial: &mut D,
-    failing: Vec<u64>,
-) -> Result<Run, AllocError>
+/// Receives with these words, to this sink.
+fn run<D: Dial>(alloc: Global, words: &[String], dial: &mut D, mut out: Failing<MemorySink>) -> Run
+where
+    D::S: Drop,
+{
+    let mut err = MemorySink::make(alloc, 100);
+    let Received { status, source } = receive(alloc, words, dial, &mut out, &mut err);
+    let has_source = source.is_some();
+    Run {
+        status,
+        out,
+        err,
+        has_source,
+    }
+}
+
+/// A sink that takes 100 bytes at once and of whose calls this one fails; none where it is the 0th.
+fn sink(alloc: Global, call: u64) -> Option<Failing<MemorySink>> {
+    match Vec::from_slice(alloc, &[call]) {
+        Ok(chosen) => Some(Failing::make(MemorySink::make(alloc, 100), chosen)),
+        Err(_) => None,
+    }
+}
+
+/// Receives with these words, to such a sink.
+fn receive_with<D: Dial>(alloc: Global, list: &[&str], dial: &mut D, call: u64) -> Option<Run>
 where
     D::S: Drop,
 {
     let words = words(alloc, list)?;
-    let mut out = Failing::make(MemorySink::make(alloc, 100), failing);
-    let mut err = MemorySink::make(alloc, 100);
-    let Received { status, source } = receive(alloc, &words, dial, &mut out, &mut err);
-    Ok(Run {
-        status,
-        out: Vec::from_slice(alloc, out.inner.bytes())?,
-        err: Vec::from_slice(alloc, err.bytes())?,
-        has_source: source.is_some(),
-    })
+    match sink(alloc, call) {
+        Some(out) => Some(run(alloc, &words, dial, out)),
+        None => None,
+    }
+}
+
+/// A dial that gives these bytes in pieces of at most this size.
+fn dial(alloc: Global, port: u16, stream: &[u8], size: usize) -> Option<MemoryDial> {
+    let bytes = Vec::from_slice(alloc, stream).ok()?;
+    Some(MemoryDial::make(alloc, port, bytes, size.max(1)))
 }
 
 /// Receives a stream that comes in pieces of at most this size.
-fn received(alloc: Global, stream: &[u8], size: usize) -> Result<Run, AllocError> {
-    let size = size.max(1);
-    let mut dial = MemoryDial::make(alloc, PORT, Vec::from_slice(alloc, stream)?, size);
-    receive_with(alloc, &["dlt_receive", "3490"], &mut dial, Vec::new(alloc))
+fn received(alloc: Global, stream: &[u8], size: usize) -> Option<Run> {
+    let mut dial = dial(alloc, PORT, stream, size)?;
+    receive_with(alloc, &["dlt_receive", "3490"], &mut dial, 0)
+}
+
+/// Whether there is a run, which had a source, ended with this status, and wrote these texts.
+fn is(run: Option<Run>, status: u8, text: &str, said: &str) -> bool {
+    match run {
+        Some(run) => run.is(status, text, said),
+        None => false,
+    }
 }
 
 /// Whether a stream is received so in pieces of this size.
-fn is_received(alloc: Global, stream: &[u8], size: usize, case: &Case) -> Result<bool, AllocError> {
-    Ok(received(alloc, stream, size)?.is(case.status, case.text, case.said))
-}
-
-/// Whether a stream, given in hexadecimal, is received so in pieces of several sizes.
-fn is_heard(alloc: Global, case: &Case) -> Result<bool, AllocError> {
-    let Ok(stream) = hex::decode(alloc, case.stream) else {
-        return Ok(false);
-    };
-    Ok(
-        is_received(alloc, &stream, stream.len(), case)?
-            && is_received(alloc, &stream, 1, case)?
-            && is_received(alloc, &stream, 7, case)?,
+fn is_received(alloc: Global, stream: &[u8], size: usize, case: &Case) -> bool {
+    is(
+        received(alloc, stream, size),
+        case.status,
+        case.text,
+        case.said,
     )
 }
 
+/// Whether a stream is received so in pieces of several sizes.
+fn is_received_in_any(alloc: Global, stream: &[u8], case: &Case) -> bool {
+    is_received(alloc, stream, stream.len(), case)
+        && is_received(alloc, stream, 1, case)
+        && is_received(alloc, stream, 7, case)
+}
+
+/// The same of a stream that is given in hexadecimal.
+fn is_heard(alloc: Global, case: &Case) -> bool {
+    match hex::decode(alloc, case.stream) {
+        Ok(stream) => is_received_in_any(alloc, &stream, case),
+        Err(_) => false,
+    }
+}
+
 /// The place of the first of these that is received otherwise.
-fn other(alloc: Global, cases: &[Case]) -> Result<Option<usize>, AllocError> {
+fn other(alloc: Global, cases: &[Case]) -> Option<usize> {
     for (place, case) in cases.iter().enumerate() {
-        if !is_heard(alloc, case)? {
-            return Ok(Some(place));
+        if !is_heard(alloc, case) {
+            return Some(place);
         }
     }
-    Ok(None)
+    None
 }
 
 /// A captured stream, and the text of it.
@@ -425,58 +473,64 @@ fn captured_case(place: usize) -> Option<Case> {
     })
 }
 
+/// Whether a captured stream is received as it should.
+fn is_captured(alloc: Global, place: usize) -> bool {
+    match captured_case(place) {
+        Some(case) => is_heard(alloc, &case),
+        None => false,
+    }
+}
+
 /// The place of the first captured stream that is received otherwise, or how many there are.
-fn other_capture(alloc: Global) -> Result<usize, AllocError> {
+fn other_capture(alloc: Global) -> usize {
     for place in 0..CAPTURES.len() {
-        match captured_case(place) {
-            Some(case) if is_heard(alloc, &case)? => {}
-            _ => return Ok(place),
+        if !is_captured(alloc, place) {
+            return place;
         }
     }
-    Ok(CAPTURES.len())
+    CAPTURES.len()
 }
 
 #[test]
-fn captured(rt: HostRuntime) -> Result<(), Fail> {
-    assert_eq!(rt; other_capture(rt.alloc())?, 8);
-    Ok(())
+fn captured(rt: HostRuntime) {
+    assert!(rt; other_capture(rt.alloc()) == 8);
 }
 
 #[test]
-fn ends(rt: HostRuntime) -> Result<(), Fail> {
-    assert_eq!(rt; other(rt.alloc(), &ENDS)?, None);
-    Ok(())
+fn ends(rt: HostRuntime) {
+    assert!(rt; other(rt.alloc(), &ENDS).is_none());
 }
 
 #[test]
-fn kinds(rt: HostRuntime) -> Result<(), Fail> {
-    assert_eq!(rt; other(rt.alloc(), &KINDS)?, None);
-    Ok(())
+fn kinds(rt: HostRuntime) {
+    assert!(rt; other(rt.alloc(), &KINDS).is_none());
 }
 
-/// A message of 65,535 bytes behind a serial header, less so many of its last bytes.
-fn long_stream(alloc: Global, less: usize) -> Result<Vec<u8>, AllocError> {
-    let mut stream = Vec::from_slice(alloc, b"DLS\x01\x20\x00\xff\xff")?;
-    for _ in less..65531 {
-        stream.push(0)?;
-    }
-    Ok(stream)
+/// A message behind a serial header, whose length is 65,535, with so many bytes behind its header.
+fn long_stream(alloc: Global, count: usize) -> Option<Vec<u8>> {
+    let mut stream = Vec::from_slice(alloc, b"DLS\x01\x20\x00\xff\xff").ok()?;
+    stream.resize(count.saturating_add(8), 0).ok()?;
+    Some(stream)
+}
+
+/// Receives it in pieces of this size.
+fn long(alloc: Global, count: usize, size: usize) -> Option<Run> {
+    let stream = long_stream(alloc, count)?;
+    received(alloc, &stream, size)
 }
 
 /// Whether the longest message is received in pieces of this size, and the same less its last byte isn't.
-fn is_longest(alloc: Global, size: usize) -> Result<bool, AllocError> {
-    let whole = received(alloc, &long_stream(alloc, 0)?, size)?;
-    let short = received(alloc, &long_stream(alloc, 1)?, size)?;
-    Ok(whole.is(0, "other 65535\n", "") && short.is(5, "", "dlt_receive: truncated\n"))
+fn is_longest(alloc: Global, size: usize) -> bool {
+    is(long(alloc, 65_531, size), 0, "other 65535\n", "")
+        && is(long(alloc, 65_530, size), 5, "", "dlt_receive: truncated\n")
 }
 
 /// In pieces that don't divide it.
 #[test]
-fn longest(rt: HostRuntime) -> Result<(), Fail> {
-    assert!(rt; is_longest(rt.alloc(), 65539)?);
-    assert!(rt; is_longest(rt.alloc(), 8192)?);
-    assert!(rt; is_longest(rt.alloc(), 4093)?);
-    Ok(())
+fn longest(rt: HostRuntime) {
+    assert!(rt; is_longest(rt.alloc(), 65539));
+    assert!(rt; is_longest(rt.alloc(), 8192));
+    assert!(rt; is_longest(rt.alloc(), 4093));
 }
 
 /// Command lines that are none.
@@ -498,44 +552,56 @@ const NO_WORDS: [&[&str]; 12] = [
 /// What is said of them.
 const USAGE: &str = "dlt_receive: usage: dlt_receive PORT\n";
 
+/// Whether a run told how the program is used, and had no source.
+fn tells_usage(run: Option<Run>) -> bool {
+    match run {
+        Some(run) => run.wrote(2, "", USAGE) && !run.has_source,
+        None => false,
+    }
+}
+
 /// Whether such a command line is told how the program is used, and nothing is dialled.
-fn is_told(alloc: Global, list: &[&str]) -> Result<bool, AllocError> {
+fn is_told(alloc: Global, list: &[&str]) -> bool {
     let memory = MemoryDial::make(alloc, PORT, Vec::new(alloc), 1);
     let mut dial = Failing::make(memory, Vec::new(alloc));
-    let run = receive_with(alloc, list, &mut dial, Vec::new(alloc))?;
-    Ok(run.wrote(2, "", USAGE) && !run.has_source && dial.calls == 0)
+    tells_usage(receive_with(alloc, list, &mut dial, 0)) && dial.calls == 0
 }
 
 /// The place of the first of these command lines that is taken.
-fn taken(alloc: Global, lists: &[&[&str]]) -> Result<Option<usize>, AllocError> {
+fn taken(alloc: Global, lists: &[&[&str]]) -> Option<usize> {
     for (place, list) in lists.iter().enumerate() {
-        if !is_told(alloc, list)? {
-            return Ok(Some(place));
+        if !is_told(alloc, list) {
+            return Some(place);
         }
     }
-    Ok(None)
+    None
 }
 
 #[test]
-fn refused_words(rt: HostRuntime) -> Result<(), Fail> {
-    assert_eq!(rt; taken(rt.alloc(), &NO_WORDS)?, None);
-    Ok(())
+fn refused_words(rt: HostRuntime) {
+    assert!(rt; taken(rt.alloc(), &NO_WORDS).is_none());
 }
 
 /// Whether the word names this port.
-fn is_dialled(alloc: Global, word: &str, port: u16) -> Result<bool, AllocError> {
-    let bytes = Vec::from_slice(alloc, b"\x20\x00\x00\x04")?;
-    let mut dial = MemoryDial::make(alloc, port, bytes, 1);
-    let run = receive_with(alloc, &["dlt_receive", word], &mut dial, Vec::new(alloc))?;
-    Ok(run.is(0, "other 4\n", ""))
+fn is_dialled(alloc: Global, word: &str, port: u16) -> bool {
+    match dial(alloc, port, b"\x20\x00\x00\x04", 1) {
+        Some(mut dial) => {
+            is(
+                receive_with(alloc, &["dlt_receive", word], &mut dial, 0),
+                0,
+                "other 4\n",
+                "",
+            )
+        }
+        None => false,
+    }
 }
 
 #[test]
-fn ports(rt: HostRuntime) -> Result<(), Fail> {
-    assert!(rt; is_dialled(rt.alloc(), "1", 1)?);
-    assert!(rt; is_dialled(rt.alloc(), "65535", 65535)?);
-    assert!(rt; is_dialled(rt.alloc(), "3490", 3490)?);
-    Ok(())
+fn ports(rt: HostRuntime) {
+    assert!(rt; is_dialled(rt.alloc(), "1", 1));
+    assert!(rt; is_dialled(rt.alloc(), "65535", 65535));
+    assert!(rt; is_dialled(rt.alloc(), "3490", 3490));
 }
 
 /// A dial whose connection breaks at one of its reads. It tells no content.
@@ -567,42 +633,51 @@ impl Dial for BreakingDial {
 }
 
 /// Whether a run says so whose connection breaks at this read, and wrote this text before.
-fn breaks_at(alloc: Global, read: u64, text: &str) -> Result<bool, AllocError> {
+fn breaks_at(alloc: Global, read: u64, text: &str) -> bool {
     let mut dial = BreakingDial { alloc, read };
-    let run = receive_with(alloc, &["dlt_receive", "3490"], &mut dial, Vec::new(alloc))?;
-    Ok(run.is(11, text, "dlt_receive: read fault\n"))
+    let run = receive_with(alloc, &["dlt_receive", "3490"], &mut dial, 0);
+    is(run, 11, text, "dlt_receive: read fault\n")
 }
 
 #[test]
-fn breaks(rt: HostRuntime) -> Result<(), Fail> {
-    assert!(rt; breaks_at(rt.alloc(), 1, "")?);
-    assert!(rt; breaks_at(rt.alloc(), 2, "")?);
-    assert!(rt; breaks_at(rt.alloc(), 3, "other 4\n")?);
-    assert!(rt; breaks_at(rt.alloc(), 4, "other 4\n")?);
-    Ok(())
+fn breaks(rt: HostRuntime) {
+    assert!(rt; breaks_at(rt.alloc(), 1, ""));
+    assert!(rt; breaks_at(rt.alloc(), 2, ""));
+    assert!(rt; breaks_at(rt.alloc(), 3, "other 4\n"));
+    assert!(rt; breaks_at(rt.alloc(), 4, "other 4\n"));
+}
+
+/// A dial that gives two messages, of which this call fails; none where it is the 0th.
+fn failing_dial(alloc: Global, call: u64) -> Option<Failing<MemoryDial>> {
+    let chosen = Vec::from_slice(alloc, &[call]).ok()?;
+    match dial(alloc, PORT, b"\x20\x00\x00\x04\x20\x00\x00\x04", 4) {
+        Some(inner) => Some(Failing::make(inner, chosen)),
+        None => None,
+    }
 }
 
 /// A run over a stream of two messages, where this dial and this write fail; none where the number is 0.
-fn failing(alloc: Global, dialled: u64, written: u64) -> Result<Run, AllocError> {
-    let bytes = Vec::from_slice(alloc, b"\x20\x00\x00\x04\x20\x00\x00\x04")?;
-    let chosen = Vec::from_slice(alloc, &[dialled])?;
-    let mut dial = Failing::make(MemoryDial::make(alloc, PORT, bytes, 4), chosen);
-    let chosen = Vec::from_slice(alloc, &[written])?;
-    receive_with(alloc, &["dlt_receive", "3490"], &mut dial, chosen)
+fn failing(alloc: Global, dialled: u64, written: u64) -> Option<Run> {
+    let mut dial = failing_dial(alloc, dialled)?;
+    receive_with(alloc, &["dlt_receive", "3490"], &mut dial, written)
+}
+
+/// Whether a run whose dial fails says so, and has no source.
+fn is_refused(alloc: Global) -> bool {
+    match failing(alloc, 1, 0) {
+        Some(run) => run.wrote(8, "", "dlt_receive: net fault\n") && !run.has_source,
+        None => false,
+    }
 }
 
 #[test]
-fn a_dial_fails(rt: HostRuntime) -> Result<(), Fail> {
-    let refused = failing(rt.alloc(), 1, 0)?;
-    assert!(rt; refused.wrote(8, "", "dlt_receive: net fault\n"));
-    assert!(rt; !refused.has_source);
-    Ok(())
+fn a_dial_fails(rt: HostRuntime) {
+    assert!(rt; is_refused(rt.alloc()));
 }
 
 #[test]
-fn a_write_fails(rt: HostRuntime) -> Result<(), Fail> {
+fn a_write_fails(rt: HostRuntime) {
     let said = "dlt_receive: write fault\n";
-    assert!(rt; failing(rt.alloc(), 0, 1)?.is(6, "", said));
-    assert!(rt; failing(rt.alloc(), 0, 2)?.is(6, "other 4\n", said));
-    Ok(())
+    assert!(rt; is(failing(rt.alloc(), 0, 1), 6, "", said));
+    assert!(rt; is(failing(rt.alloc(), 0, 2), 6, "other 4\n", said));
 }

@@ -14,24 +14,29 @@ use test_arguments::arguments;
 
 /// Whether a stream says so in pieces of this size.
 fn is_decoded(alloc: Global, stream: &[u8], size: usize, wanted: &str) -> Result<bool, Fail> {
-    Ok(decoded(alloc, stream, size)?.as_str() == wanted)
+    Ok(decoded(alloc, stream, size)?.is_whole(stream.len(), wanted))
 }
 
-/// Whether a captured stream says what was decoded of it, in pieces of several sizes.
-fn is_captured(alloc: Global, capture: &Capture) -> Result<bool, Fail> {
-    let stream = hex::decode(alloc, capture.stream)?;
+/// Whether a stream says so in pieces of several sizes.
+fn is_decoded_in_any(alloc: Global, stream: &[u8], wanted: &str) -> Result<bool, Fail> {
     Ok(
-        is_decoded(alloc, &stream, stream.len(), capture.decoded)?
-            && is_decoded(alloc, &stream, 1, capture.decoded)?
-            && is_decoded(alloc, &stream, 7, capture.decoded)?,
+        is_decoded(alloc, stream, stream.len(), wanted)?
+            && is_decoded(alloc, stream, 1, wanted)?
+            && is_decoded(alloc, stream, 7, wanted)?,
     )
 }
 
-/// The name of the first of these that says something else.
-fn other(alloc: Global, captures: &[Capture]) -> Result<Option<&'static str>, Fail> {
-    for capture in captures {
+/// Whether a captured stream says what was decoded of it.
+fn is_captured(alloc: Global, capture: &Capture) -> Result<bool, Fail> {
+    let stream = hex::decode(alloc, capture.stream)?;
+    is_decoded_in_any(alloc, &stream, capture.decoded)
+}
+
+/// The place of the first of these that says something else.
+fn other(alloc: Global, captures: &[Capture]) -> Result<Option<usize>, Fail> {
+    for (place, capture) in captures.iter().enumerate() {
         if !is_captured(alloc, capture)? {
-            return Ok(Some(capture.name));
+            return Ok(Some(place));
         }
     }
     Ok(None)
@@ -39,7 +44,7 @@ fn other(alloc: Global, captures: &[Capture]) -> Result<Option<&'static str>, Fa
 
 #[test]
 fn streams_in_any_pieces(rt: HostRuntime) -> Result<(), Fail> {
-    assert_eq!(rt; other(rt.alloc(), &CAPTURES)?, None);
+    assert!(rt; other(rt.alloc(), &CAPTURES)?.is_none());
     Ok(())
 }
 
@@ -52,17 +57,22 @@ struct Lines {
 }
 
 impl Lines {
+    /// Adds a line, and goes on behind a message of so many bytes.
+    fn push(&mut self, alloc: Global, line: &str, len: usize) -> Result<(), Fail> {
+        let (count, place) = (self.count, self.place);
+        let line = format!(in alloc; "{count} {place} {line}\n")?;
+        self.text.push_str(line.as_str())?;
+        self.count = count.wrapping_add(1);
+        self.place = len.checked_add(place).ok_or("too long")?;
+        Ok(())
+    }
+
     /// Adds the line of a message.
     fn add(&mut self, alloc: Global, message: &[u8]) -> Result<(), Fail>
         requires { length message.now ≡ len_of message.now }
     {
         let line = line(alloc, message)?;
-        let (count, place) = (self.count, self.place);
-        self.text
-            .push_str(format!(in alloc; "{count} {place} {line}\n")?.as_str())?;
-        self.count = count.wrapping_add(1);
-        self.place = message.len().checked_add(place).ok_or("too long")?;
-        Ok(())
+        self.push(alloc, line.as_str(), message.len())
     }
 
     /// Adds the line of the message that a cutter has, where it has one.
@@ -73,27 +83,67 @@ impl Lines {
             Cut::Bad(_) => Err("a bad header".into()),
         }
     }
+
+    /// Adds the lines of a stream that a cutter is fed in pieces of this size, each as far as there is room.
+    fn add_all(
+        &mut self,
+        alloc: Global,
+        cutter: &mut Cutter,
+        stream: &[u8],
+        size: usize,
+    ) -> Result<(), Fail> {
+        let mut rest = stream;
+        for _ in stream {
+            rest = fed(cutter, rest, size);
+            self.add_next(alloc, cutter)?;
+        }
+        Ok(())
+    }
+
+    /// Whether they are the lines of a stream of so many bytes, and these. The last line of those says that nothing is left.
+    fn is_whole(&self, len: usize, wanted: &str) -> bool {
+        self.place == len && wanted.strip_suffix("end\n") == Some(self.text.as_str())
+    }
 }
 
-/// The text of a stream that is fed in pieces of this size, each as far as there is room.
-fn decoded(alloc: Global, stream: &[u8], size: usize) -> Result<String, Fail> {
+/// Feeds a cutter a piece of this size, and answers the bytes from the first one on that it didn't take.
+fn fed<'a>(cutter: &mut Cutter, stream: &'a [u8], size: usize) -> &'a [u8] {
+    let taken = cutter.feed(stream.get(..size).unwrap_or(stream));
+    stream.get(taken..).unwrap_or(&[])
+}
+
+/// The lines of a stream that is fed in pieces of this size.
+fn decoded(alloc: Global, stream: &[u8], size: usize) -> Result<Lines, Fail> {
     let mut cutter = Cutter::make(alloc, MESSAGE_LIMIT)?;
     let mut lines = Lines {
         text: String::new(alloc),
         count: 0,
         place: 0,
     };
-    let mut rest = stream;
-    for _ in stream {
-        let taken = cutter.feed(&rest[..size.min(rest.len())]);
-        rest = &rest[taken..];
-        lines.add_next(alloc, &mut cutter)?;
-    }
-    if lines.place != stream.len() {
-        return Err("an open rest".into());
-    }
-    lines.text.push_str("end\n")?;
-    Ok(lines.text)
+    lines.add_all(alloc, &mut cutter, stream, size)?;
+    Ok(lines)
+}
+
+/// Adds the arguments of a verbose log message.
+fn push_arguments(
+    alloc: Global,
+    line: &mut String,
+    payload: &[u8],
+    htyp: u8,
+    noar: u8,
+) -> Result<(), Fail> {
+    let shown = arguments(alloc, payload, order_of(htyp), noar)?;
+    line.push_str(" | ")?;
+    line.push_str(shown.as_str())?;
+    Ok(())
+}
+
+/// The fields of a message's headers.
+fn headers_shown(alloc: Global, standard: &Standard, head: &Extended) -> Result<String, Fail> {
+    let mut line = standard_shown(alloc, standard)?;
+    let behind = extended_shown(alloc, head)?;
+    line.push_str(behind.as_str())?;
+    Ok(line)
 }
 
 /// What stands in the line of a message behind its number and its place.
@@ -102,13 +152,10 @@ fn line(alloc: Global, message: &[u8]) -> Result<String, Fail>
 {
     let parts = read_message(message)?;
     let head = parts.extended.ok_or("no extended header")?;
-    let mut line = standard_shown(alloc, &parts.standard)?;
-    line.push_str(extended_shown(alloc, &head)?.as_str())?;
+    let payload = message.get(parts.start..).ok_or("no payload")?;
+    let mut line = headers_shown(alloc, &parts.standard, &head)?;
     if is_verbose_log(head.msin) {
-        let payload = message.get(parts.start..).ok_or("no payload")?;
-        line.push_str(" | ")?;
-        let order = order_of(parts.standard.htyp);
-        line.push_str(arguments(alloc, payload, order, head.noar)?.as_str())?;
+        push_arguments(alloc, &mut line, payload, parts.standard.htyp, head.noar)?;
     }
     Ok(line)
 }
