@@ -149,7 +149,7 @@ pub totals_kept : (old new : Session → Option Totals) (es : List Entry) (e : E
 totals_kept old new es e now noted_so is keeps s =
     ap (λ (o : Option Totals). unwrap_or o no_totals) (noted_so s ∙ ap (λ (t : Totals). cond (same_session e.session s) (Some t) (old s)) is) ∙ totals-one s es e (old s) (keeps s)
 
-source_is : (a b : Source) → same_source a b ≡ true → a ≡ b
+pub source_is : (a b : Source) → same_source a b ≡ true → a ≡ b
 source_is a b e =
     let parts = both_so (bytes_eq a.ecu b.ecu) (bytes_eq a.apid b.apid) e in
     let p = bytes_same a.ecu b.ecu parts.0 in

@@ -1,5 +1,5 @@
 -- A stream that is read message by message.
-use Rattle.std.proofs.Common.{◌≡◌, ℕ, ◌<◌, ◌≤◌, Bool, true, false, cond, eqb, leb, ltb, List, [], ◌∷◌, ◌++◌, length, take, drop, Option, Some, None, refl, sym, subst, append_assoc, arith}
+use Rattle.std.proofs.Common.{◌≡◌, ℕ, ◌<◌, ◌≤◌, Bool, true, false, cond, eqb, leb, ltb, List, [], ◌∷◌, ◌++◌, length, take, drop, Option, Some, None, refl, sym, ap, subst, ◌∙◌, append_assoc, arith}
 use Rattle.std.specs.Prelude.{not, is_none, ◌&&◌}
 use Rattle.std.proofs.lemmas.Bool.{leb-true, ltb-false}
 use Rattle.std.proofs.lemmas.List.{length-take, length-drop}
@@ -10,34 +10,32 @@ use Rattle.dl_headers.specs.Reading.{front_fault}
 use Rattle.dl_message.specs.Cut.{IsWholeMessage}
 use Rattle.dl_message.proofs.Pieces.{whole_front}
 use Rattle.std.proofs.lemmas.List.{append-nil}
-use Rattle.dl_sessions.specs.declared.account.Account.{Account}
 use Rattle.dl_sessions.specs.declared.session.Told.{Told}
 use Rattle.dl_sessions.specs.declared.stream.Place.{Place}
-use Rattle.dl_sessions.specs.Account.{IsAfter}
 use Rattle.dl_sessions.specs.Reads.{IsReading, Reads}
 use Rattle.dl_sessions.specs.Stream.{Tells, before_len, first_place, rest_behind, stored_ecu, told_at}
 
-pub sets_out : (before : List Told) (bytes : List ℕ) (account : Account) → IsAfter before account → IsReading before bytes bytes account
-sets_out before bytes account after = record {
+pub sets_out : (bytes : List ℕ) (old : List Told) → IsReading bytes bytes old old
+sets_out bytes old = record {
   stream = [];
   goes_on = λ more rest tells. tells;
-  after = subst (λ (s : List Told). IsAfter s account) (sym (append-nil before)) after;
+  told = sym (append-nil old);
 }
 
-pub one_more : (before : List Told) (bytes now : List ℕ) (place : Place) (old new : Account) → IsReading before bytes now old → first_place now ≡ Some place →
-    ((stream : List Told) → IsAfter stream old → IsAfter (stream ++ told_at place now ∷ []) new) → IsReading before bytes (rest_behind place now) new
-one_more before bytes now place old new reading is after = record {
+pub one_more : (bytes now : List ℕ) (place : Place) (first old new : List Told) → IsReading bytes now first old → first_place now ≡ Some place →
+    new ≡ old ++ told_at place now ∷ [] → IsReading bytes (rest_behind place now) first new
+one_more bytes now place first old new reading is more_told = record {
   stream = reading.stream ++ told_at place now ∷ [];
   goes_on = λ more rest tells.
       subst (λ (s : List Told). Tells bytes s rest) (sym (append_assoc reading.stream (told_at place now ∷ []) more)) (reading.goes_on (told_at place now ∷ more) rest (place, is, refl, tells));
-  after = subst (λ (s : List Told). IsAfter s new) (append_assoc before reading.stream (told_at place now ∷ [])) (after (before ++ reading.stream) reading.after);
+  told = more_told ∙ ap (λ (s : List Told). s ++ told_at place now ∷ []) reading.told ∙ append_assoc first reading.stream (told_at place now ∷ []);
 }
 
-pub arrives : (before : List Told) (bytes now : List ℕ) (account : Account) → IsReading before bytes now account → first_place now ≡ None → Reads before bytes now account
-arrives before bytes now account reading none = record {
+pub arrives : (bytes now : List ℕ) (old new : List Told) → IsReading bytes now old new → first_place now ≡ None → Reads bytes now old new
+arrives bytes now old new reading none = record {
   stream = reading.stream;
   tells = subst (λ (s : List Told). Tells bytes s now) (append-nil reading.stream) (reading.goes_on [] now (refl, none));
-  after = reading.after;
+  told = reading.told;
 }
 
 -- ---- where a message stands

@@ -5,7 +5,7 @@ ghost use Rattle.std.specs.HashMap as hash;
 ghost use Rattle.std.specs.List.{flat_map};
 ghost use Rattle.dl_sessions.specs.Printing.{hole_by, session_by};
 ghost use Rattle.dl_sessions.specs.Text.{printed};
-ghost use Rattle.dl_sessions.specs.Account.{IsAfter, KeepsCounters, KeepsLost, KeepsTotals, NotedContext, NotedSession, gap, gap_in_context, hole_if, noted, no_totals, same_session, same_source};
+ghost use Rattle.dl_sessions.specs.Account.{IsAfter, KeepsCounters, KeepsLost, KeepsTotals, NotedContext, NotedSession, entries, gap, gap_in_context, hole_if, holes, noted, no_totals, same_session, same_source, sessions, totals_of};
 ghost use Rattle.dl_sessions.specs.declared.session.Entry.{Entry};
 ghost use Rattle.dl_sessions.specs.declared.session.Told.{Told};
 ghost use Rattle.dl_sessions.specs.declared.session.Told.TheVariants as told;
@@ -275,6 +275,27 @@ impl Account {
         }
     }
 
+    /// The sessions, in the order of their first messages.
+    pub fn sessions(&self) -> &[Session]
+        ensures { (stream : List Told) → IsAfter stream self.now → result.now ≡ sessions (entries stream) }
+    {
+        &self.sessions
+    }
+
+    /// The holes, in the order of the stream.
+    pub fn holes(&self) -> &[Hole]
+        ensures { (stream : List Told) → IsAfter stream self.now → result.now ≡ holes stream }
+    {
+        &self.holes
+    }
+
+    /// What is counted of a session.
+    pub fn totals(&self, session: &Session) -> Totals
+        ensures { (stream : List Told) → IsAfter stream self.now → result ≡ totals_of session.now (entries stream) }
+    {
+        totals_so_far(&self.totals, session)
+    }
+
     /// Adds the text of the account.
     pub fn print(&self, text: &mut Vec<u8>) -> Result<(), OutOfMemory>
         ensures { (stream : List Told) → IsAfter stream self.now → OnOk result (text.new.items ≡ text.old.items ++ printed stream) }
@@ -282,4 +303,15 @@ impl Account {
         push_holes(text, &self.totals, &self.holes)?;
         push_sessions(text, &self.totals, &self.lost, &self.sessions)
     }
+}
+
+/// The account of a stream.
+pub fn account_of(alloc: Global, stream: &[Told]) -> Result<Account, OutOfMemory>
+    ensures { IfOk result (IsAfter stream.now) }
+{
+    let mut account = Account::new(alloc);
+    for told in stream {
+        account.add(told)?;
+    }
+    Ok(account)
 }

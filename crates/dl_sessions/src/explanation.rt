@@ -3,8 +3,8 @@
 ghost use Rattle.std.specs.Prelude.{◌≡◌, ◌++◌, IfOk, OnOk};
 ghost use Rattle.dl_sessions.specs.Explaining.{Explains, end_words, is_within, within_words};
 
-use crate::account::Account;
-use crate::stream::{End, add_all, end_of};
+use crate::account::account_of;
+use crate::stream::{End, end_of, tell_all};
 use crate::text::push_number;
 use dl_bytes::OutOfMemory;
 use std::alloc::Global;
@@ -54,8 +54,9 @@ fn push_end(text: &mut Vec<u8>, end: End, left: u64) -> Result<(), OutOfMemory>
 pub fn explain(alloc: Global, bytes: &[u8]) -> Result<Explained, OutOfMemory>
     ensures { IfOk result (λ explained. Explains bytes.now explained) }
 {
-    let mut account = Account::new(alloc);
-    let rest = add_all(&mut account, bytes)?;
+    let mut stream = Vec::new(alloc);
+    let rest = tell_all(&mut stream, bytes)?;
+    let account = account_of(alloc, &stream)?;
     let mut text = Vec::new(alloc);
     account.print(&mut text)?;
     let end = end_of(rest);

@@ -10,10 +10,11 @@ mod stream;
 mod text;
 mod told;
 
-pub use account::Account;
+pub use account::{Account, account_of};
 pub use explanation::{Explained, explain};
 pub use program::why;
 pub use session::{Context, Entry, Hole, Lost, Session, Source, Told, Totals};
 pub use status::Status;
-pub use stream::{End, Place, add_all, end_of};
+pub use stream::{End, Place, end_of, tell_all};
+pub use text::{missing, missing_here, push_missing, push_number, push_time};
 pub use told::told_of;

@@ -1,13 +1,11 @@
 //! A stream of messages as a file holds it, cut into messages.
 
-ghost use Rattle.std.specs.Prelude.{◌≡◌, ◌++◌, ◌∷◌, [], drop, nat_eq, List, IfOk, OnOk, Some};
+ghost use Rattle.std.specs.Prelude.{◌≡◌, ◌++◌, ◌∷◌, [], drop, nat_eq, IfOk, OnOk, Some};
 ghost use Rattle.std.specs.List.{starts_with};
-ghost use Rattle.dl_sessions.specs.Account.{IsAfter};
 ghost use Rattle.dl_sessions.specs.Reads.{Reads};
 ghost use Rattle.dl_sessions.specs.Stream.{before_len, end_of, first_place, rest_behind, storage_pattern, stored_ecu, told_at};
-ghost use Rattle.dl_sessions.specs.declared.session.Told.{Told};
 
-use crate::account::Account;
+use crate::session::Told;
 use crate::told::told_of;
 use dl_bytes::{Id, OutOfMemory};
 use dl_headers::{HeaderFault, read_front};
@@ -116,29 +114,29 @@ pub fn end_of(rest: &[u8]) -> End
     }
 }
 
-/// Adds the message that stands at the front of these bytes to the account. Answers what stands behind it.
-fn add_first<'a>(
-    account: &mut Account,
+/// Adds what the message tells that stands at the front of these bytes. Answers what stands behind it.
+fn tell_first<'a>(
+    stream: &mut Vec<Told>,
     bytes: &'a [u8],
     place: &Place,
 ) -> Result<&'a [u8], OutOfMemory>
     requires { first_place bytes.now ≡ Some place.now }
     ensures rest { IfOk result (λ rest. rest.now ≡ rest_behind place.now bytes.now) }
-    ensures after { (stream : List Told) → IsAfter stream account.old → OnOk result (IsAfter (stream ++ told_at place.now bytes.now ∷ []) account.new) }
+    ensures told { OnOk result (stream.new.items ≡ stream.old.items ++ told_at place.now bytes.now ∷ []) }
 {
     let message = behind(bytes, place.before);
     let len = place.len as usize;
-    account.add(&told_of(place.ecu, &message[..len]))?;
+    stream.push(told_of(place.ecu, &message[..len]))?;
     Ok(behind(message, len))
 }
 
-/// Adds the messages of a stream to the account, one behind the other. Answers the rest behind them.
-pub fn add_all<'a>(account: &mut Account, bytes: &'a [u8]) -> Result<&'a [u8], OutOfMemory>
-    ensures { (before : List Told) → IsAfter before account.old → IfOk result (λ rest. Reads before bytes.now rest.now account.new) }
+/// Adds what the messages of a file tell, one behind the other. Answers the rest behind them.
+pub fn tell_all<'a>(stream: &mut Vec<Told>, bytes: &'a [u8]) -> Result<&'a [u8], OutOfMemory>
+    ensures { IfOk result (λ rest. Reads bytes.now rest.now stream.old.items stream.new.items) }
 {
     let mut rest = bytes;
     while let Some(place) = first_place(rest) {
-        rest = add_first(account, rest, &place)?;
+        rest = tell_first(stream, rest, &place)?;
     }
     Ok(rest)
 }

@@ -22,14 +22,14 @@ pub fn push_number<I: Integer>(
 }
 
 /// The last decimal digit of a number.
-fn digit(number: u32) -> u8
+fn digit(number: u128) -> u8
     ensures { result ≡ digit number }
 {
     b'0' + (number % 10) as u8
 }
 
-/// Adds a timestamp in seconds.
-fn push_time(text: &mut Vec<u8>, ticks: u32) -> Result<(), OutOfMemory>
+/// Adds a time in seconds. It is given in units of 0.1 ms.
+pub fn push_time(text: &mut Vec<u8>, ticks: u128) -> Result<(), OutOfMemory>
     ensures { OnOk result (text.new.items ≡ text.old.items ++ time_text ticks) }
 {
     push_number(text, b"", ticks / 10000)?;
@@ -62,7 +62,7 @@ fn counts_by_context(totals: &Totals) -> bool
 }
 
 /// How many messages of a session are missing.
-fn missing(totals: &Totals) -> u64
+pub fn missing(totals: &Totals) -> u64
     ensures { result ≡ missing totals.now }
 {
     if counts_by_context(totals) {
@@ -73,7 +73,7 @@ fn missing(totals: &Totals) -> u64
 }
 
 /// How many are missing at a hole, by the counting that its session follows.
-fn missing_here(totals: &Totals, hole: &Hole) -> u8
+pub fn missing_here(totals: &Totals, hole: &Hole) -> u8
     ensures { result ≡ missing_here totals.now hole.now }
 {
     if counts_by_context(totals) {
@@ -92,7 +92,7 @@ fn push_hole_text(text: &mut Vec<u8>, hole: &Hole, count: u8) -> Result<(), OutO
     }
     push_number(text, b"hole ", hole.place)?;
     text.extend_from_slice(b" ")?;
-    push_time(text, hole.entry.ticks)?;
+    push_time(text, hole.entry.ticks as u128)?;
     push_session(text, &hole.entry.session)?;
     push_number(text, b" ", count)?;
     text.extend_from_slice(b"\n")
@@ -106,7 +106,7 @@ pub fn push_hole(text: &mut Vec<u8>, totals: &Totals, hole: &Hole) -> Result<(),
 }
 
 /// Adds how many are missing.
-fn push_missing(text: &mut Vec<u8>, count: u64) -> Result<(), OutOfMemory>
+pub fn push_missing(text: &mut Vec<u8>, count: u64) -> Result<(), OutOfMemory>
     ensures { OnOk result (text.new.items ≡ text.old.items ++ missing_words count) }
 {
     if count == 0 {
@@ -208,8 +208,8 @@ pub fn push_totals(
     push_session(text, session)?;
     push_number(text, b" ", totals.messages)?;
     text.extend_from_slice(b" ")?;
-    push_time(text, totals.first.unwrap_or(0))?;
+    push_time(text, totals.first.unwrap_or(0) as u128)?;
     text.extend_from_slice(b" ")?;
-    push_time(text, totals.last.unwrap_or(0))?;
+    push_time(text, totals.last.unwrap_or(0) as u128)?;
     text.extend_from_slice(counting_words(totals))
 }
