@@ -1,0 +1,15 @@
+pub mod SomeDesk
+pub mod ReadyListeners
+pub mod KeptHubs
+pub mod VisitedScenes
+pub mod LaterChannels
+pub mod HeldStates
+pub mod HeldAccepts
+pub mod HeldRounds
+pub mod Servers
+pub mod MadeServers
+pub mod ServedClients
+pub mod VisitedServers
+pub mod PumpedServers
+pub mod ClosedServers
+pub mod RoomyServers

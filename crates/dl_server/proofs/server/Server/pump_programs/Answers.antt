@@ -1,0 +1,39 @@
+use Rattle.std.proofs.Common.{◌≡◌, length, refl, ap, subst, ◌∙◌, arith}
+use Rattle.dl_model.specs.Registry.{IsInOrder}
+use Rattle.dl_registry.specs.Kept.{Kept}
+use Rattle.dl_loop.proofs.SeenDaemons.{slice_back}
+use Rattle.dl_server.proofs.ReadyListeners.{listen_still}
+use Rattle.dl_server.proofs.VisitedScenes.{all_sent}
+use Rattle.dl_server.proofs.VisitedServers.{pumped_so, links_still}
+use Rattle.dl_server.proofs.server.Server.pump_programs.Goals as goal
+
+pub pump_channels-requires-clause-enough : goal.pump_channels-requires-clause-enough
+pump_channels-requires-clause-enough g c = let so = c.requires.server in omega (arith, so.given, so.enough, ap (λ (es : _). length es) c.deref_mut.ensures.value)
+
+pub returns-clause-pumps : goal.returns-clause-pumps
+returns-clause-pumps g c =
+    let made = c.pump_channels.ensures in
+    let long : length c.pump_channels.new.ends ≡ c.args.self.now.ends.len = made.ends ∙ c.deref_mut.ensures.len in
+    pumped_so c.args.moment _ _ c.deref_mut.result.now c.pump_channels.new.ends c.deref_mut.ensures.value (slice_back _ _ c.pump_channels.new.ends long) made.pumps refl
+
+pub returns-clause-server : goal.returns-clause-server
+returns-clause-server g c =
+    let made = c.pump_channels.ensures in
+    let n = c.pump_channels.new in
+    let so = c.requires.server in
+    let stays = all_sent c.args.moment _ _ made.pumps in
+    let order = subst (λ (k : Kept). IsInOrder k.registry) c.registry-registry.ensures c.slots_are_apart.ensures.order in
+    let long : length n.ends ≡ c.args.self.now.ends.len = made.ends ∙ c.deref_mut.ensures.len in
+    record {
+      linked = links_still _ _ n.core stays.clients made.settled so.linked;
+      heard = listen_still _ _ n.core order stays.clients so.heard;
+      programs = made.linked;
+      given = omega (arith, so.given, stays.opened, stays.in_all);
+      enough = omega (arith, so.enough, stays.in_all, made.ends, ap (λ (es : _). length es) c.deref_mut.ensures.value, ap (λ (es : _). length es) (slice_back c.args.self.now.ends.len c.args.self.now.ends.items n.ends long));
+      few = made.few;
+    }
+
+pub returns-clause-limits : goal.returns-clause-limits
+returns-clause-limits g c =
+    let stays = all_sent c.args.moment _ _ c.pump_channels.ensures.pumps in
+    record { clients = stays.clients.1.same.limit; channels = stays.in_all }

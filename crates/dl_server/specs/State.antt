@@ -1,0 +1,60 @@
+-- What is seen of a server between two steps.
+use Rattle.std.specs.Prelude.{ℕ, Bool, true, List, map, Option}
+use Rattle.dl_admission.specs.Part.{part}
+use Rattle.dl_channel.specs.declared.outcome.ChannelEnd.{ChannelEnd}
+use Rattle.dl_core.specs.State.{Core}
+use Rattle.dl_desk.specs.Told.{PostTold}
+use Rattle.dl_events.specs.declared.event.Event.{Event}
+use Rattle.dl_outside.specs.Told.{FolderTold, LinkTold}
+use Rattle.dl_rounds.specs.Clients.{Clients}
+use Rattle.dl_rounds.specs.declared.listener.Listener.{Listener}
+use Rattle.dl_serving.specs.Rounds.{Scene}
+use Rattle.dl_socket.specs.Channels.{Channels}
+use Rattle.dl_turns.specs.State.{side}
+use Rattle.dl_server.specs.declared.server.Server.{Server}
+
+-- The core, the events where the journal keeps them, and what the folder tells; what the clients' links tell, by number, and their listeners; the
+-- channels, what their links tell, and why each has ended, by number; how many links were dropped; whether an accept of a client, and one of a
+-- program, has failed; and whether memory was wanted.
+pub record State : Type 0 where
+  pub core : Core
+  pub events : Option (List Event)
+  pub folder : FolderTold
+  pub clients : List LinkTold
+  pub listeners : List Listener
+  pub channels : Channels
+  pub programs : List LinkTold
+  pub ends : List (Option ChannelEnd)
+  pub dropped : ℕ
+  pub no_clients : Bool
+  pub no_programs : Bool
+  pub wanted : Bool
+
+-- what is seen of a server beside what the folder tells, where these are the words for what links and the journal tell
+abbrev pub seen : {J L : Type 0} → (L → LinkTold) → (J → Option (List Event)) → FolderTold → Server J L → State
+seen told events folder s = record {
+  core = s.core;
+  events = events s.journal;
+  folder = folder;
+  clients = map told s.clients.links;
+  listeners = s.listeners.items;
+  channels = s.channels;
+  programs = map told s.programs.links;
+  ends = s.ends.items;
+  dropped = s.dropped;
+  no_clients = s.no_clients;
+  no_programs = s.no_programs;
+  wanted = s.wanted;
+}
+
+-- what visits to its clients see, beside what sets levels
+abbrev pub clients_of : State → PostTold → Clients
+clients_of s desk = record { links = s.clients; listeners = s.listeners; side = side s.core desk s.events s.folder }
+
+-- what visits to its channels see
+abbrev pub scene_of : State → Scene
+scene_of s = record { links = s.programs; ends = s.ends; channels = s.channels; part = part s.core s.events s.folder }
+
+-- memory was wanted, and nothing else has changed
+abbrev pub with_want : State → State
+with_want s = record s { wanted = true }

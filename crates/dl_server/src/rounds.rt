@@ -1,0 +1,88 @@
+//! One round.
+
+ghost use Rattle.std.specs.Prelude.{◌≡◌};
+ghost use Rattle.dl_outside.specs.Told.{FolderTold};
+ghost use Rattle.dl_server.specs.Round.{AcceptsAll, Hears, IsRound, Pumps};
+ghost use Rattle.dl_server.specs.Server.{IsServer, SameLimits};
+ghost use Rattle.dl_server.specs.State.{seen};
+
+use crate::server::Server;
+use dl_events::Journal;
+use dl_outside::{Clock, Folder, Link, Net};
+use std::sync::Wait;
+
+/// Rests where nothing moved.
+fn rest_if_idle<N: Net>(net: &mut N, moved: bool)
+    ensures { N.told net.new ≡ N.told net.old }
+{
+    if !moved {
+        net.rest();
+    }
+}
+
+impl<J: Journal, L: Link> Server<J, L> {
+    /// One accept on each net that has not failed. Answers whether a link came.
+    fn accept_all<N: Net<L = L>>(&mut self, net: &mut N, users: &mut N) -> bool
+    where
+        L: Drop,
+        requires server { IsServer self.old }
+        ensures accepts { (folder : FolderTold) → AcceptsAll L.told (N.told net.old) (N.told net.new) (N.told users.old) (N.told users.new)
+            (seen L.told J.events folder self.old) (seen L.told J.events folder self.new) }
+        ensures server { IsServer self.new }
+        ensures limits { SameLimits self.old self.new }
+    {
+        let client = self.accept_client(net);
+        let program = self.accept_program(users);
+        client || program
+    }
+
+    /// Each open client is listened to, and each channel. Answers whether anything moved.
+    fn hear<R: Wait, C: Clock, F: Folder>(&mut self, rt: &R, clock: &C, folder: &mut F) -> bool
+        requires server { IsServer self.old }
+        ensures hears { let s = seen L.told J.events in Hears (s (F.told folder.old) self.old) (s (F.told folder.new) self.new) }
+        ensures server { IsServer self.new }
+        ensures limits { SameLimits self.old self.new }
+    {
+        let asked = self.hear_clients(rt, folder);
+        let heard = self.hear_programs(clock.now(), folder);
+        asked || heard
+    }
+
+    /// Each open client is sent what waits for it, and each channel; the links of clients that are gone are shut. Answers whether anything moved.
+    fn pump<C: Clock, F: Folder>(&mut self, clock: &C, folder: &mut F) -> bool
+        requires server { IsServer self.old }
+        ensures pumps { let s = seen L.told J.events in Pumps (s (F.told folder.old) self.old) (s (F.told folder.new) self.new) }
+        ensures server { IsServer self.new }
+        ensures limits { SameLimits self.old self.new }
+    {
+        let sent = self.pump_clients();
+        self.pump_programs(clock.now(), folder);
+        self.part_clients();
+        sent
+    }
+
+    /// One round: one accept on each net that has not failed; each open client is listened to, and each channel; each open client is sent what waits
+    /// for it, and each channel. Where memory is wanting for the Closes of clients, these are left to the next round. The net of the clients rests
+    /// where nothing came, was said or went.
+    pub fn round<R: Wait, N: Net<L = L>, C: Clock, F: Folder>(
+        &mut self,
+        rt: &R,
+        net: &mut N,
+        users: &mut N,
+        clock: &C,
+        folder: &mut F,
+    )
+    where
+        L: Drop,
+        requires server { IsServer self.old }
+        ensures round { let s = seen L.told J.events in IsRound L.told (N.told net.old) (N.told net.new) (N.told users.old) (N.told users.new)
+            (s (F.told folder.old) self.old) (s (F.told folder.new) self.new) }
+        ensures server { IsServer self.new }
+        ensures limits { SameLimits self.old self.new }
+    {
+        let came = self.accept_all(net, users);
+        let heard = self.hear(rt, clock, folder);
+        let sent = self.pump(clock, folder);
+        rest_if_idle(net, came || heard || sent);
+    }
+}
