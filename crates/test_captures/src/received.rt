@@ -373,7 +373,12 @@ fn words(alloc: Global, list: &[&str]) -> Option<Vec<String>> {
 }
 
 /// Receives with these words, to this sink.
-fn run<D: Dial>(alloc: Global, words: &[String], dial: &mut D, mut out: Failing<MemorySink>) -> Run
+fn receive_to<D: Dial>(
+    alloc: Global,
+    words: &[String],
+    dial: &mut D,
+    mut out: Failing<MemorySink>,
+) -> Run
 where
     D::S: Drop,
 {
@@ -403,7 +408,7 @@ where
 {
     let words = words(alloc, list)?;
     match sink(alloc, call) {
-        Some(out) => Some(run(alloc, &words, dial, out)),
+        Some(out) => Some(receive_to(alloc, &words, dial, out)),
         None => None,
     }
 }
