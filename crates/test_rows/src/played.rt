@@ -101,7 +101,7 @@ fn sink(alloc: Global, call: u64) -> Option<Failing<MemorySink>> {
 }
 
 /// A script and a folder with these files, and where a run prints.
-fn objects(
+fn prepared(
     alloc: Global,
     script: &[u8],
     files: &[(&str, &str)],
@@ -140,7 +140,7 @@ pub fn play_in(
     faults: Faults,
 ) -> Option<Played> {
     let words = words(alloc, list)?;
-    let mut objects = objects(alloc, script, files, faults)?;
+    let mut objects = prepared(alloc, script, files, faults)?;
     let status = run(alloc, &words, &mut objects);
     Some(Played { status, objects })
 }
