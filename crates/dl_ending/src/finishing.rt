@@ -1,17 +1,20 @@
-//! The report of an account is written, and the status of its run found.
+//! The report of an account is written, with the lines on its log storage, and the status of its run found.
 
 ghost use Rattle.std.specs.Prelude.{◌≡◌, IfOk};
 ghost use Rattle.dl_model.specs.Setting.{Setting};
-ghost use Rattle.dl_ending.specs.Ending.{CanReport, Finishes, IsTextOf, IsSettingOf, failures_with, text_of};
+ghost use Rattle.dl_ending.specs.Ending.{CanReport, Finishes, IsTextOf, IsSettingOf, failures_with};
+ghost use Rattle.dl_ending.specs.Storage.{report_text, with_storage};
 
-use crate::failing::failures_with;
+use crate::failing::{failures_with, with_storage};
 use dl_bytes::{Bytes, Conf, OutOfMemory};
 use dl_left::laws::{clients_come_and_go, records_account_for_a_journal};
 use dl_left::left_of;
 use dl_lib::Account;
-use dl_outside::{Sink, write_text};
+use dl_outside::Sink;
 use dl_report::report;
-use dl_startup::{Failures, Status};
+use dl_startup::{Failures, Status, write_pieces};
+use dl_storage::{StoreEnds, storage_lines};
+use dl_storage_text::FilterList;
 use std::alloc::Global;
 
 /// The report of an account, of a run with this configuration.
@@ -28,23 +31,30 @@ fn report_of(alloc: Global, account: &Account, conf: &Conf) -> Result<Bytes, Out
     report(alloc, records, events, apps, account.ends(), backlog, None)
 }
 
-/// Writes the report of an account, of a run with this configuration, and finds the status of the run: that of the gravest failure,
-/// of these and of those that the account tells. Where there is no memory for the report, nothing is written.
+/// Writes the report of an account, of a run with this configuration, and behind it what its filters stored, and finds the status
+/// of the run: that of the gravest failure, of these and of those that the account and the filters' ends tell. Where there is no
+/// memory for the report or for those lines, nothing is written.
 pub fn finish<O: Sink>(
     alloc: Global,
     account: &Account,
     conf: &Conf,
+    filters: &FilterList,
+    ends: &StoreEnds,
     failures: Failures,
     out: &mut O,
 ) -> Status
     requires { CanReport account.now }
     ensures { (setting : Setting) → IsSettingOf conf.now setting →
-        Finishes (text_of setting account.now) (failures_with account.now failures) (O.told out.old) (O.told out.new) result }
+        Finishes (report_text setting account.now filters.now ends.now.filters) (with_storage ends.now.filters (failures_with account.now failures))
+        (O.told out.old) (O.told out.new) result }
 {
     let Ok(text) = report_of(alloc, account, conf) else {
         return Status::OutOfMemory;
     };
-    let output = write_text(out, text.all()).is_err();
-    let failures = failures_with(account, failures);
+    let Ok(lines) = storage_lines(alloc, filters, ends) else {
+        return Status::OutOfMemory;
+    };
+    let output = write_pieces(out, &[text.all(), lines.all()]).is_err();
+    let failures = with_storage(ends, failures_with(account, failures));
     Failures { output, ..failures }.status()
 }

@@ -1,13 +1,14 @@
 -- What is known of a run that was played when its report is written.
-use Rattle.std.proofs.Common.{◌≡◌, inl, inr, Bool, true, false, ℕ, ◌+◌, ◌-◌, ◌^◌, ◌<◌, ◌≤◌, min, List, [], ◌++◌, length, Option, Some, None, refl, sym, ap, subst, ◌∙◌, arith}
-use Rattle.std.specs.Prelude.{IfSome, ◌||◌, ◌==◌, not}
+use Rattle.std.proofs.Common.{◌≡◌, inl, inr, Bool, true, false, ◌+◌, ◌-◌, ◌^◌, ◌≤◌, ◌⊎◌, min, List, [], ◌++◌, length, Option, Some, None, refl, sym, ap, subst, ◌∙◌, arith}
+use Rattle.std.specs.Prelude.{IfSome, ◌||◌, not}
 use Rattle.std.specs.List.{range_with_len}
 use Rattle.std.proofs.lemmas.Bool.Decides.{eqb_tells}
 use Rattle.std.proofs.lemmas.List.{length-append, length-map}
 use Rattle.std.proofs.lemmas.List.FromFn.{length-range_with_len}
 use Rattle.dl_bytes.specs.declared.outcome.TraceEnd.{TraceEnd}
 use Rattle.dl_bytes.specs.declared.outcome.TraceEnd.TheVariants as end
-use Rattle.dl_ending.specs.Ending.{unheard}
+use Rattle.dl_ending.specs.Ending.{Finishes, failures_with, unheard}
+use Rattle.dl_ending.specs.Storage.{has_failed, has_no_memory, is_spent, some_end, with_storage}
 use Rattle.dl_folders.specs.Later.{failed_in, trace_failures}
 use Rattle.dl_launch.specs.Launching.{Launched}
 use Rattle.dl_lib.specs.State.{AccountState}
@@ -20,18 +21,38 @@ use Rattle.dl_outside.specs.Told.{FolderTold, LinkTold, NetTold, SinkTold}
 use Rattle.dl_outside.specs.declared.client.ClientScript.{ClientScript}
 use Rattle.dl_script.specs.Playable.{IsRunnable}
 use Rattle.dl_script_lines.specs.declared.scenario.ScenarioLine.{ScenarioLine}
-use Rattle.dl_startup.specs.Failures.{unserved}
+use Rattle.dl_startup.specs.Failures.{unserved, with_trace}
 use Rattle.dl_startup.specs.Setup.{IsBegun}
 use Rattle.dl_startup.specs.Unchanged.{IsQuiet}
+use Rattle.dl_startup.specs.declared.failures.Failures.{Failures}
+use Rattle.dl_startup.specs.declared.status.Status.{Status}
+use Rattle.dl_storage.specs.declared.ends.StoreEnd.{StoreEnd}
 use Rattle.dl_live.specs.declared.beginning.Begun.{Begun}
 use Rattle.dl_live.specs.declared.players.Players.{Players}
 use Rattle.dl_live.specs.Account.{came, setting}
 use Rattle.dl_live.specs.Clients.{IsHeard}
-use Rattle.dl_live.specs.Ends.{KnownOf}
+use Rattle.dl_live.specs.Ends.{EndsStored, HasNames, IsOutOfNames, KnownOf, failed_so, report}
 use Rattle.dl_live.specs.Playing.{ArePlayersOf, HasBeenPlayed}
 use Rattle.dl_live.specs.Told.{told}
 use Rattle.dl_live.proofs.LaunchedNets.{all_launched, known_before, not_launched}
+use Rattle.dl_live.proofs.EndedRuns.{ended as ended_so}
 use Rattle.dl_live.proofs.Performed as performed
+use Rattle.dl_live.proofs.StoredRuns.{rises_on, risen_since}
+
+either : (a b : Bool) → (a || b) ≡ true → (a ≡ true) ⊎ (b ≡ true)
+either true b is = inl refl
+either false b is = inr is
+
+no_more : {b : Bool} → b ≡ true → b ≡ false → ⊥
+no_more found lacks = let both : true ≡ false = sym found ∙ lacks in cc both
+
+-- what the end of a trace adds
+by_cause : (cause : Option TraceEnd) (f : Failures) → with_trace cause f
+    ≡ record f { folder = has_failed cause || f.folder; names_spent = is_spent cause || f.names_spent; memory = has_no_memory cause || f.memory }
+by_cause None f = refl
+by_cause (Some end.Failed) f = refl
+by_cause (Some end.Spent) f = refl
+by_cause (Some end.NoMemory) f = refl
 
 neither : (a b : Bool) → (a || b) ≡ false → (a ≡ false) × (b ≡ false)
 neither true b is = absurd (cc is)
@@ -119,6 +140,9 @@ module _ {L : Type 0} (link_told : L → LinkTold) (begun : Begun) (p : Players 
 
   -- ---- the folder
 
+  never_fell : first.faults ≤ folder_now.faults
+  never_fell = (performed.folder_since link_told begun p wanted failed net net_now folder folder_now account links runnable are first begins been quiet).never_falls
+
   trace_rose : account.outcome.trace.end ≡ Some end.Failed → HasRisen first.faults folder_now.faults
   trace_rose is =
       let since = performed.folder_since link_told begun p wanted failed net net_now folder folder_now account links runnable are first begins been quiet in
@@ -129,21 +153,104 @@ module _ {L : Type 0} (link_told : L → LinkTold) (begun : Begun) (p : Players 
 
   -- ---- all of it
 
-  pub known : (out out_now : SinkTold) (net_failed folder_failed : Bool) (net_so : net_failed ≡ true → HasRisen before.faults net_now.faults) (net_well : net_failed ≡ false → net_now.faults ≡ before.faults)
-      (folder_so : folder_failed ≡ true → HasRisen first.faults folder_now.faults) (folder_well : folder_failed ≡ false → folder_now.faults ≡ first.faults)
-      (cause : Option TraceEnd) → account.outcome.trace.end ≡ cause
-      → KnownOf begun account (told first before out) (told folder_now net_now out_now) (failed || net_failed) folder_failed cause (wanted || (unserved account.events || unheard account.events))
-  known out out_now net_failed folder_failed net_so net_well folder_so folder_well cause is = record {
-    net_failed = λ some. by failed refl some;
-    net_well = λ none. net_well (neither failed net_failed none).1;
-    folder_failed = folder_so;
-    folder_well = folder_well;
-    cause_is = is;
-    trace_failed = λ ended. trace_rose (is ∙ ended);
-    served = λ none. neither (unserved account.events) (unheard account.events) (neither wanted (unserved account.events || unheard account.events) none).1;
-    launched = λ none. launched_all (neither failed net_failed none).0;
-    all_came = λ none memory. all_came (neither failed net_failed none).0 (neither wanted (unserved account.events || unheard account.events) memory).0;
-  } where
-    by : (f : Bool) → failed ≡ f → (f || net_failed) ≡ true → HasRisen before.faults net_now.faults
-    by true some either = net_rose some
-    by false none either = net_so either
+  -- What went wrong in the run, as its filters ended so and left the folder so.
+  module _ (ends : List StoreEnd) (last : FolderTold) (since : folder_now.faults ≤ last.faults) (filter_so : some_end has_failed ends ≡ true → HasRisen folder_now.faults last.faults)
+      (filter_well : some_end has_failed ends ≡ false → last.faults ≡ folder_now.faults)
+      (out out_now : SinkTold) (net_failed folder_failed : Bool) (net_so : net_failed ≡ true → HasRisen before.faults net_now.faults) (net_well : net_failed ≡ false → net_now.faults ≡ before.faults)
+      (folder_so : folder_failed ≡ true → HasRisen first.faults folder_now.faults) (folder_well : folder_failed ≡ false → folder_now.faults ≡ first.faults) where
+    abbrev ended : Option TraceEnd
+    ended = account.outcome.trace.end
+
+    abbrev pub any_net : Bool
+    any_net = failed || net_failed
+
+    abbrev pub any_folder : Bool
+    any_folder = (has_failed ended || folder_failed) || some_end has_failed ends
+
+    abbrev pub any_spent : Bool
+    any_spent = (is_spent ended || false) || some_end is_spent ends
+
+    abbrev pub any_memory : Bool
+    any_memory = (has_no_memory ended || (wanted || (unserved account.events || unheard account.events))) || some_end has_no_memory ends
+
+    net_by : any_net ≡ true → HasRisen before.faults net_now.faults
+    net_by some = elim (either failed net_failed some) [ inl is ↦ net_rose is | inr is ↦ net_so is ]
+
+    has_failed_so : has_failed ended ≡ true → ended ≡ Some end.Failed
+    has_failed_so is = by ended is where
+      by : (e : Option TraceEnd) → has_failed e ≡ true → e ≡ Some end.Failed
+      by None bad = absurd (cc bad)
+      by (Some end.Failed) bad = refl
+      by (Some end.Spent) bad = absurd (cc bad)
+      by (Some end.NoMemory) bad = absurd (cc bad)
+
+    is_spent_so : is_spent ended ≡ true → ended ≡ Some end.Spent
+    is_spent_so is = by ended is where
+      by : (e : Option TraceEnd) → is_spent e ≡ true → e ≡ Some end.Spent
+      by None bad = absurd (cc bad)
+      by (Some end.Failed) bad = absurd (cc bad)
+      by (Some end.Spent) bad = refl
+      by (Some end.NoMemory) bad = absurd (cc bad)
+
+    folder_by : any_folder ≡ true → HasRisen first.faults last.faults
+    folder_by some = elim (either (has_failed ended || folder_failed) (some_end has_failed ends) some) [
+      | inl run ↦ elim (either (has_failed ended) folder_failed run) [
+        | inl trace ↦ rises_on first.faults folder_now.faults last.faults (trace_rose (has_failed_so trace)) since
+        | inr other ↦ rises_on first.faults folder_now.faults last.faults (folder_so other) since
+      ]
+      | inr filter ↦ risen_since first.faults folder_now.faults last.faults never_fell (filter_so filter)
+    ]
+
+    folder_none : any_folder ≡ false → last.faults ≡ first.faults
+    folder_none none =
+        let parts = neither (has_failed ended || folder_failed) (some_end has_failed ends) none in
+        filter_well parts.1 ∙ folder_well (neither (has_failed ended) folder_failed parts.0).1
+
+    spent_by : any_spent ≡ true → IsOutOfNames account ends
+    spent_by some = elim (either (is_spent ended || false) (some_end is_spent ends) some) [
+      | inl run ↦ elim (either (is_spent ended) false run) [ inl trace ↦ inl (is_spent_so trace) | inr none ↦ absurd (cc none) ]
+      | inr filter ↦ inr filter
+    ]
+
+    spent_none : any_spent ≡ false → HasNames account ends
+    spent_none none =
+        let parts = neither (is_spent ended || false) (some_end is_spent ends) none in
+        (λ is. no_more (ap is_spent is) (neither (is_spent ended) false parts.0).0, parts.1)
+
+    memory_none : any_memory ≡ false → (has_no_memory ended ≡ false) × (some_end has_no_memory ends ≡ false) × (wanted ≡ false) × (unserved account.events ≡ false) × (unheard account.events ≡ false)
+    memory_none none =
+        let parts = neither (has_no_memory ended || (wanted || (unserved account.events || unheard account.events))) (some_end has_no_memory ends) none in
+        let run = neither (has_no_memory ended) (wanted || (unserved account.events || unheard account.events)) parts.0 in
+        let calls = neither wanted (unserved account.events || unheard account.events) run.1 in
+        let requests = neither (unserved account.events) (unheard account.events) calls.1 in
+        (run.0, parts.1, calls.0, requests.0, requests.1)
+
+    pub known : KnownOf begun account ends (told first before out) (told last net_now out_now) any_net any_folder any_spent any_memory
+    known = record {
+      net_failed = net_by;
+      net_well = λ none. net_well (neither failed net_failed none).1;
+      folder_failed = folder_by;
+      folder_well = folder_none;
+      trace_failed = λ none is. no_more (ap has_failed is) (neither (has_failed ended) folder_failed (neither (has_failed ended || folder_failed) (some_end has_failed ends) none).0).0;
+      filter_failed = λ none. (neither (has_failed ended || folder_failed) (some_end has_failed ends) none).1;
+      are_spent = spent_by;
+      has_names = spent_none;
+      trace_wanted = λ none is. no_more (ap has_no_memory is) (memory_none none).0;
+      filter_wanted = λ none. (memory_none none).1;
+      served = λ none. ((memory_none none).3, (memory_none none).4);
+      launched = λ none. launched_all (neither failed net_failed none).0;
+      all_came = λ none memory. all_came (neither failed net_failed none).0 (memory_none memory).2;
+    }
+
+    -- these are all failures
+    same_failures : with_storage ends (failures_with account (failed_so any_net folder_failed wanted))
+        ≡ record { net = any_net; folder = any_folder; names_spent = any_spent; journal_full = false; output = false; memory = any_memory }
+    same_failures = ap (with_storage ends) (by_cause ended (failed_so any_net folder_failed (wanted || (unserved account.events || unheard account.events))))
+
+    -- so it ends as the status says that is found as its report is written
+    pub ends_so : (status : Status) → Finishes (report begun account ends) (with_storage ends (failures_with account (failed_so any_net folder_failed wanted))) out out_now status
+        → EndsStored begun account ends (told first before out) (told last net_now out_now) status
+    ends_so status finishes =
+        ended_so begun account ends (told first before out) (told last net_now out_now)
+        (record { net = any_net; folder = any_folder; names_spent = any_spent; journal_full = false; output = false; memory = any_memory }) status refl known
+        (subst (λ (f : Failures). Finishes (report begun account ends) f out out_now status) same_failures finishes)

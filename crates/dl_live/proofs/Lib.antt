@@ -14,6 +14,9 @@ pub mod Performed
 pub mod EndedRuns
 pub mod SentClosures
 pub mod KnownRuns
+pub mod StoredRuns
+pub mod FiltersText
 pub mod BegunRuns
 pub mod PerformedRuns
 pub mod PlayedSteps
+pub mod CutOff

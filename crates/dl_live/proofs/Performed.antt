@@ -229,18 +229,18 @@ module _ {L : Type 0} (link_told : L → LinkTold) (begun : Begun) (p : Players 
         some_of been.stops.stopped.last_core.trace (λ (t : Trace). t.state.end ≡ None → HoldsFiles run (stored_by run account.events) folder_now.files) last_kept.0 last_kept.1
         (last_holds files is) (ap (λ (s : TraceState). s.end) last_state ∙ goes_on)
 
-    pub is_traced : IsTraced run account.events account.outcome.trace first folder_now
+    pub is_traced : IsTraced begun.filters run account.events account.outcome.trace first folder_now
     is_traced = record {
       kept = last_kept.0;
       state = last_state;
       after = some_of been.stops.stopped.last_core.trace (IsTraceAfter run (stored_by run account.events)) last_kept.0 last_kept.1 stops.after.trace;
       stood = stood_so;
-      holds = holds_now first.files refl;
+      holds = λ goes_on are. holds_now first.files refl goes_on;
     }
 
-  traced : IsQuiet first folder → 0 < length begun.conf.directory → IsTraced run account.events account.outcome.trace first folder_now
+  traced : IsQuiet first folder → 0 < length begun.conf.directory → IsTraced begun.filters run account.events account.outcome.trace first folder_now
   traced quiet named = by begun.trace refl begins where
-    by : (kept : Option Trace) → begun.trace ≡ kept → IsBegun begun.conf first.files kept → IsTraced run account.events account.outcome.trace first folder_now
+    by : (kept : Option Trace) → begun.trace ≡ kept → IsBegun begun.conf first.files kept → IsTraced begun.filters run account.events account.outcome.trace first folder_now
     by None is so = absurd (no_name begun.conf.directory so named)
     by (Some kept) is so = is_traced quiet kept is
 

@@ -1,8 +1,7 @@
 -- A daemon from its making to its stop, step by step.
-use Rattle.std.proofs.Common.{◌≡◌, Bool, true, false, ℕ, ◌+◌, ◌≤◌, List, ◌++◌, length, refl, sym, ap, subst, ◌∙◌}
+use Rattle.std.proofs.Common.{◌≡◌, Bool, true, false, ℕ, ◌≤◌, List, ◌++◌, length, refl, sym, ap, subst, ◌∙◌}
 use Rattle.std.specs.Prelude.{All, ◌==◌, ◌||◌, not}
 use Rattle.dl_crew.specs.Plays.{ArePairs, CanPlay, HasPlayed}
-use Rattle.dl_events.specs.declared.event.Event.{Event}
 use Rattle.dl_lib.specs.Making.{AreMadeWith, IsMissing}
 use Rattle.dl_lib.specs.State.{AccountState}
 use Rattle.dl_loop.specs.Later.{GoesRound, IsLaterBy}

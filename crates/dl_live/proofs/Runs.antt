@@ -14,12 +14,15 @@ use Rattle.dl_startup.specs.Configuration.{AreSetUp}
 use Rattle.dl_startup.specs.Scenario.{scenario_in}
 use Rattle.dl_startup.specs.Setup.{conf_in, stored_in}
 use Rattle.dl_startup.specs.declared.status.Status.{Status}
+use Rattle.dl_startup.specs.declared.storage_kind.StorageKind.{StorageKind}
+use Rattle.dl_storage.specs.declared.ends.StoreEnd.{StoreEnd}
+use Rattle.dl_storage.specs.declared.ends.StoreEnds.{StoreEnds}
 use Rattle.dl_startup.specs.declared.status.Status.TheVariants as status
 use Rattle.dl_words.specs.Run as words
-use Rattle.dl_ending.specs.Ending.{text_of}
 use Rattle.dl_live.specs.declared.beginning.Begun.{Begun}
-use Rattle.dl_live.specs.Account.{Started, setting}
-use Rattle.dl_live.specs.Ends.{Ends, EndsEarly}
+use Rattle.dl_live.specs.Account.{Started}
+use Rattle.dl_live.specs.Ends.{Ends, EndsEarly, EndsStored, report}
+use Rattle.dl_live.specs.Filters.{filters_in}
 use Rattle.dl_live.specs.Program.{ChangesNoOther, IsLawful, IsRun, Outcome, Says}
 use Rattle.dl_live.specs.Told.{Told}
 
@@ -45,10 +48,10 @@ module _ {L : Type 0} (link_told : L → LinkTold) (said : List (List ℕ)) (old
   not_both : (asked : words.Run) → words.run_of said ≡ None → words.run_of said ≡ Some asked → ⊥
   not_both asked none some = let both : None ≡ Some asked = sym none ∙ some in cc
 
-  words_decide : (s : Status) (account : Option AccountState) (links : Links L) → Outcome link_told said old new s account links
+  words_decide : (s : Status) (account : Option AccountState) (stored : Option StoreEnds) (links : Links L) → Outcome link_told said old new s account stored links
       → words.run_of said ≡ None → (s ≡ status.WordsRefused) ⊎ (s ≡ status.OutOfMemory)
-  words_decide s (Some account) links h none = absurd (not_both h.0.it.asked none h.0.it.is_asked)
-  words_decide s None links h none = elim (asked_so s h.0) [
+  words_decide s (Some account) stored links h none = absurd (not_both h.0.it.asked none h.0.it.is_asked)
+  words_decide s None stored links h none = elim (asked_so s h.0) [
     | inl refused ↦ inl refused
     | inr w ↦ elim w [
       | inl memory ↦ inr memory
@@ -56,34 +59,45 @@ module _ {L : Type 0} (link_told : L → LinkTold) (said : List (List ℕ)) (old
     ]
   ]
 
-  words_refused : (s : Status) (account : Option AccountState) (links : Links L) → Outcome link_told said old new s account links
+  no_refusal : (begun : Begun) (account : AccountState) (stored : Option StoreEnds) → Ends begun account stored old new status.WordsRefused → ⊥
+  no_refusal begun account None h = let both : status.WordsRefused ≡ status.OutOfMemory = h.0 in cc both
+  no_refusal begun account (Some ends) h = h
+
+  words_refused : (s : Status) (account : Option AccountState) (stored : Option StoreEnds) (links : Links L) → Outcome link_told said old new s account stored links
       → s ≡ status.WordsRefused → words.run_of said ≡ None
-  words_refused s (Some account) links h refused = absurd (subst (λ (t : Status). Ends h.0.it.begun account old new t) refused h.1)
-  words_refused s None links h refused =
+  words_refused s (Some account) stored links h refused =
+      absurd (no_refusal h.0.it.begun account stored (subst (λ (t : Status). Ends h.0.it.begun account stored old new t) refused h.1))
+  words_refused s None stored links h refused =
       let early : EndsEarly said old new status.WordsRefused = subst (λ (t : Status). EndsEarly said old new t) refused h.0 in early.0.0
 
   -- ---- what is written
 
-  reported : (begun : Begun) (account : AccountState) (s : Status) → Ends begun account old new s → WroteNothing old.out new.out ⊎ Wrote old.out new.out (text_of (setting begun) account)
-  reported begun account status.Ok h = inr (inl h.0)
-  reported begun account status.NetFault h = inr h.0
-  reported begun account status.FolderFault h = inr h.0
-  reported begun account status.NamesSpent h = inr h.0
-  reported begun account status.WriteFault h = inr (inr h.0)
-  reported begun account status.OutOfMemory h = elim h [ inl nothing ↦ inl nothing | inr w ↦ inr (inl w.0) ]
-  reported begun account status.WordsRefused h = absurd h
-  reported begun account (status.ConfRefused line kind) h = absurd h
-  reported begun account (status.StoredRefused line kind) h = absurd h
-  reported begun account (status.ScriptRefused line kind) h = absurd h
-  reported begun account (status.StorageRefused line kind) h = absurd h
-  reported begun account status.ReadFault h = absurd h
-  reported begun account status.JournalFull h = absurd h
+  reported : (begun : Begun) (account : AccountState) (ends : List StoreEnd) (s : Status) → EndsStored begun account ends old new s
+      → WroteNothing old.out new.out ⊎ Wrote old.out new.out (report begun account ends)
+  reported begun account ends status.Ok h = inr (inl h.0)
+  reported begun account ends status.NetFault h = inr h.0
+  reported begun account ends status.FolderFault h = inr h.0
+  reported begun account ends status.NamesSpent h = inr h.0
+  reported begun account ends status.WriteFault h = inr (inr h.0)
+  reported begun account ends status.OutOfMemory h = elim h [ inl nothing ↦ inl nothing | inr w ↦ inr (inl w.0) ]
+  reported begun account ends status.WordsRefused h = absurd h
+  reported begun account ends (status.ConfRefused line kind) h = absurd h
+  reported begun account ends (status.StoredRefused line kind) h = absurd h
+  reported begun account ends (status.ScriptRefused line kind) h = absurd h
+  reported begun account ends (status.StorageRefused line kind) h = absurd h
+  reported begun account ends status.ReadFault h = absurd h
+  reported begun account ends status.JournalFull h = absurd h
 
-  written : (s : Status) (account : Option AccountState) (links : Links L) → Outcome link_told said old new s account links
+  written : (s : Status) (account : Option AccountState) (stored : Option StoreEnds) (links : Links L) → Outcome link_told said old new s account stored links
       → WroteNothing old.out new.out
-      ⊎ ((told : AccountState) × (account ≡ Some told) × (it : Started said old.folder) × Wrote old.out new.out (text_of (setting it.begun) told))
-  written s None links h = inl h.1
-  written s (Some account) links h = elim (reported h.0.it.begun account s h.1) [ inl nothing ↦ inl nothing | inr wrote ↦ inr (account, refl, h.0.it, wrote) ]
+      ⊎ ((told : AccountState) × (account ≡ Some told) × (ends : StoreEnds) × (stored ≡ Some ends)
+      × (it : Started said old.folder) × Wrote old.out new.out (report it.begun told ends.filters))
+  written s None stored links h = inl h.1
+  written s (Some account) None links h = inl h.1.1
+  written s (Some account) (Some ends) links h = elim (reported h.0.it.begun account ends.filters s h.1) [
+    | inl nothing ↦ inl nothing
+    | inr wrote ↦ inr (account, refl, ends, refl, h.0.it, wrote)
+  ]
 
   -- ---- completeness
 
@@ -98,10 +112,15 @@ module _ {L : Type 0} (link_told : L → LinkTold) (said : List (List ℕ)) (old
   stored_is_good name None fault good bad = good
   stored_is_good name (Some files) fault good bad = not_ok (stored_in files) fault bad.1 good.stored
 
+  filters_are_good : (name : List ℕ) (files : Option Files) (fault : ℕ × StorageKind) → IsSomeAnd files (λ all. IsOk (filters_in all))
+      → IfSome files (λ all. AreSetUp name all × (filters_in all ≡ Err fault)) → ⊥
+  filters_are_good name None fault good bad = good
+  filters_are_good name (Some files) fault good bad = not_ok (filters_in files) fault bad.1 good
+
   scenario_is_good : (asked : words.Run) (files : Option Files) (fault : ScriptError) → IsSomeAnd files (λ all. IsOk (scenario_in asked.scenario all))
-      → IfSome files (λ all. AreSetUp asked.conf all × (scenario_in asked.scenario all ≡ Err fault)) → ⊥
+      → IfSome files (λ all. AreSetUp asked.conf all × IsOk (filters_in all) × (scenario_in asked.scenario all ≡ Err fault)) → ⊥
   scenario_is_good asked None fault good bad = good
-  scenario_is_good asked (Some files) fault good bad = not_ok (scenario_in asked.scenario files) fault bad.1 good
+  scenario_is_good asked (Some files) fault good bad = not_ok (scenario_in asked.scenario files) fault bad.2 good
 
   module _ (asked : words.Run) (is_asked : words.run_of said ≡ Some asked) (lawful : IsLawful asked old new) where
     same : (other : words.Run) → words.run_of said ≡ Some other → other ≡ asked
@@ -118,44 +137,48 @@ module _ {L : Type 0} (link_told : L → LinkTold) (said : List (List ℕ)) (old
         (subst (λ (a : words.Run). IfSome old.folder.files (λ all. IsOk (conf_in a.conf all) × (stored_in all ≡ Err (line, kind)))) (same h.0.0 h.0.1) h.0.2.0))
     ends_early_well (status.ScriptRefused line kind) h =
         absurd (scenario_is_good asked old.folder.files (bad.Fault line kind) lawful.scenario
-        (subst (λ (a : words.Run). IfSome old.folder.files (λ all. AreSetUp a.conf all × (scenario_in a.scenario all ≡ Err (bad.Fault line kind)))) (same h.0.0 h.0.1) h.0.2.0))
+        (subst (λ (a : words.Run). IfSome old.folder.files (λ all. AreSetUp a.conf all × IsOk (filters_in all) × (scenario_in a.scenario all ≡ Err (bad.Fault line kind)))) (same h.0.0 h.0.1) h.0.2.0))
     ends_early_well status.FolderFault h = absurd (lawful.keeps h.0.2.0)
     ends_early_well status.Ok h = absurd h.0.2
-    ends_early_well (status.StorageRefused line kind) h = absurd h.0.2
+    ends_early_well (status.StorageRefused line kind) h =
+        absurd (filters_are_good asked.conf old.folder.files (line, kind) lawful.filters
+        (subst (λ (a : words.Run). IfSome old.folder.files (λ all. AreSetUp a.conf all × (filters_in all ≡ Err (line, kind)))) (same h.0.0 h.0.1) h.0.2.0))
     ends_early_well status.WriteFault h = absurd h.0.2
     ends_early_well status.NamesSpent h = absurd h.0.2
     ends_early_well status.ReadFault h = absurd h.0.2
     ends_early_well status.JournalFull h = absurd h.0.2
 
-    ends_well : (begun : Begun) (account : AccountState) (s : Status) → Ends begun account old new s → (s ≡ status.Ok) ⊎ (s ≡ status.NamesSpent) ⊎ (s ≡ status.OutOfMemory)
-    ends_well begun account status.Ok h = inl refl
-    ends_well begun account status.NamesSpent h = inr (inl refl)
-    ends_well begun account status.OutOfMemory h = inr (inr refl)
-    ends_well begun account status.NetFault h = absurd (lawful.dials h.1)
-    ends_well begun account status.FolderFault h = absurd (lawful.keeps h.2)
-    ends_well begun account status.WriteFault h = absurd (lawful.writes h.0.failed)
-    ends_well begun account status.WordsRefused h = absurd h
-    ends_well begun account (status.ConfRefused line kind) h = absurd h
-    ends_well begun account (status.StoredRefused line kind) h = absurd h
-    ends_well begun account (status.ScriptRefused line kind) h = absurd h
-    ends_well begun account (status.StorageRefused line kind) h = absurd h
-    ends_well begun account status.ReadFault h = absurd h
-    ends_well begun account status.JournalFull h = absurd h
+    ends_well : (begun : Begun) (account : AccountState) (ends : List StoreEnd) (s : Status) → EndsStored begun account ends old new s → (s ≡ status.Ok) ⊎ (s ≡ status.NamesSpent) ⊎ (s ≡ status.OutOfMemory)
+    ends_well begun account ends status.Ok h = inl refl
+    ends_well begun account ends status.NamesSpent h = inr (inl refl)
+    ends_well begun account ends status.OutOfMemory h = inr (inr refl)
+    ends_well begun account ends status.NetFault h = absurd (lawful.dials h.1)
+    ends_well begun account ends status.FolderFault h = absurd (lawful.keeps h.2)
+    ends_well begun account ends status.WriteFault h = absurd (lawful.writes h.0.failed)
+    ends_well begun account ends status.WordsRefused h = absurd h
+    ends_well begun account ends (status.ConfRefused line kind) h = absurd h
+    ends_well begun account ends (status.StoredRefused line kind) h = absurd h
+    ends_well begun account ends (status.ScriptRefused line kind) h = absurd h
+    ends_well begun account ends (status.StorageRefused line kind) h = absurd h
+    ends_well begun account ends status.ReadFault h = absurd h
+    ends_well begun account ends status.JournalFull h = absurd h
 
-    complete : (s : Status) (account : Option AccountState) (links : Links L) → Outcome link_told said old new s account links → (s ≡ status.Ok) ⊎ (s ≡ status.NamesSpent) ⊎ (s ≡ status.OutOfMemory)
-    complete s None links h = ends_early_well s h.0
-    complete s (Some account) links h = ends_well h.0.it.begun account s h.1
+    complete : (s : Status) (account : Option AccountState) (stored : Option StoreEnds) (links : Links L) → Outcome link_told said old new s account stored links
+        → (s ≡ status.Ok) ⊎ (s ≡ status.NamesSpent) ⊎ (s ≡ status.OutOfMemory)
+    complete s None stored links h = ends_early_well s h.0
+    complete s (Some account) None links h = inr (inr h.1.0)
+    complete s (Some account) (Some ends) links h = ends_well h.0.it.begun account ends.filters s h.1
 
   -- ---- the whole
 
-  pub a_run : (err err_now : SinkTold) (s : Status) (account : Option AccountState) (links : Links L) → Outcome link_told said old new s account links
-      → ChangesNoOther said old.folder new.folder → Says s err err_now → IsRun link_told said old new err err_now s account links
-  a_run err err_now s account links outcome others told = record {
-    words_refused = words_refused s account links outcome;
-    words_decide = words_decide s account links outcome;
+  pub a_run : (err err_now : SinkTold) (s : Status) (account : Option AccountState) (stored : Option StoreEnds) (links : Links L) → Outcome link_told said old new s account stored links
+      → ChangesNoOther said old.folder new.folder → Says s err err_now → IsRun link_told said old new err err_now s account stored links
+  a_run err err_now s account stored links outcome others told = record {
+    words_refused = words_refused s account stored links outcome;
+    words_decide = words_decide s account stored links outcome;
     outcome = outcome;
-    written = written s account links outcome;
+    written = written s account stored links outcome;
     others = others;
-    complete = λ asked is_asked lawful. complete asked is_asked lawful s account links outcome;
+    complete = λ asked is_asked lawful. complete asked is_asked lawful s account stored links outcome;
     told = told;
   }

@@ -1,5 +1,5 @@
 -- What goes round beside the workers may be handed to another thread where all that it goes round with may.
-use mathlib.Core.List.{List, [], ◌∷◌}
+use mathlib.Core.List.{[], ◌∷◌}
 use Prim.Native.Nat.{ℕ}
 use mir.Syntax.{Sym, Ty}
 use denote.Exit.{Kept}

@@ -64,8 +64,8 @@ pub record IsPlayedOut {L : Type 0} (link_told : L → LinkTold) (begun : Begun)
   pub untraced : begun.conf.directory ≡ [] → account.outcome.trace ≡ no_trace
   pub folder_after : IsFolderAfter (setting begun) account.events account.outcome.trace.end folder folder_now
 
--- the same of a run, with the trace files that it leaves
+-- the same of a run, with the trace files that it leaves, beside those of its filters
 pub record IsComeTo {L : Type 0} (link_told : L → LinkTold) (begun : Begun) (old new : Told L) (account : AccountState) (links : Links L) : Type 0 where
   pub played_out : IsPlayedOut link_told begun old.net new.net old.folder new.folder account links
   pub traced : 0 < length begun.conf.directory
-      → IsTraced (run_of begun played_out.stood account) account.events account.outcome.trace old.folder new.folder
+      → IsTraced begun.filters (run_of begun played_out.stood account) account.events account.outcome.trace old.folder new.folder

@@ -1,3 +1,4 @@
+pub mod Filters
 pub mod Begin
 pub mod Told
 pub mod Status
@@ -8,6 +9,7 @@ pub mod Injected
 pub mod Account
 pub mod Stage
 pub mod Playing
+pub mod Stored
 pub mod Ends
 pub mod Program
 pub mod Performing

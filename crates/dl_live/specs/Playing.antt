@@ -27,6 +27,7 @@ use Rattle.dl_live.specs.Account.{setting}
 -- The daemon is just made, of the core and of the desk of what the scenario declares; it may note as many calls as the scenario asks for.
 pub record ArePlayersOf {L : Type 0} (begun : Begun) (p : Players L) : Type 0 where
   pub conf : p.conf ≡ begun.conf
+  pub filters : p.filters ≡ begun.filters
   pub port : p.port ≡ begun.port
   pub made : IsMade p.daemon
   pub core : p.daemon.core ≡ settings.begun begun.conf begun.stored 0 begun.trace

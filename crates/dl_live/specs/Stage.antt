@@ -12,6 +12,7 @@ use Rattle.dl_live.specs.Account.{setting}
 -- stands for no event.
 pub record IsSetFor (begun : Begun) (stage : Stage) : Type 0 where
   pub conf : stage.conf ≡ begun.conf
+  pub filters : stage.filters ≡ begun.filters
   pub port : stage.port ≡ begun.port
   pub calls : stage.calls ≡ all_calls begun.scenario
   pub opened : IsOpened begun.scenario stage.opened

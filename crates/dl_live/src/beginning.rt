@@ -1,14 +1,16 @@
-//! What a run begins with: its words, the configurations, the scenario and the trace, read in this order.
+//! What a run begins with: its words, the configurations, the filters of its log storage, the scenario and the trace, read in this order.
 
 ghost use Rattle.std.specs.Prelude.{IfOk, map, string_bytes};
 ghost use Rattle.dl_script.specs.Playable.{IsRunnable};
 ghost use Rattle.dl_words.specs.Run.{run_said};
 ghost use Rattle.dl_live.specs.Begin.{Asks, Begins, BeginsAs, MakesTrace, ReadsScenario};
 
+use crate::filtering::read_filters;
 use dl_bytes::{Conf, Stored};
 use dl_outside::Folder;
 use dl_script_lines::Scenario;
 use dl_startup::{SetupError, Status, scenario_in, set_up, trace_over};
+use dl_storage_text::FilterList;
 use dl_trace::{Trace, TraceFault};
 use dl_words::{RunWords, WordsFault, run_words};
 use std::alloc::Global;
@@ -20,6 +22,8 @@ pub struct Begun {
     pub conf: Conf,
     /// The stored configuration.
     pub stored: Stored,
+    /// The filters of the log storage.
+    pub filters: FilterList,
     /// The scenario that is played.
     pub scenario: Scenario,
     /// The trace, where a directory is named.
@@ -76,6 +80,10 @@ fn begin_as<F: Folder>(alloc: Global, asked: RunWords, folder: &mut F) -> Result
         Ok(setup) => setup,
         Err(status) => return Err(status),
     };
+    let filters = match read_filters(alloc, folder) {
+        Ok(filters) => filters,
+        Err(status) => return Err(status),
+    };
     let scenario = match read_scenario(alloc, folder, asked.scenario) {
         Ok(scenario) => scenario,
         Err(status) => return Err(status),
@@ -84,6 +92,7 @@ fn begin_as<F: Folder>(alloc: Global, asked: RunWords, folder: &mut F) -> Result
         Ok(trace) => Ok(Begun {
             conf: setup.conf,
             stored: setup.stored,
+            filters,
             scenario,
             trace,
             port: asked.port,

@@ -1,16 +1,19 @@
 //! Laws on what a run comes to.
 
-ghost use Rattle.std.specs.Prelude.{◌≡◌, ℕ, ◌+◌, ◌^◌, ◌<◌, ◌≤◌, ◌||◌, All, Bool, List, [], Option, length};
+ghost use Rattle.std.specs.Prelude.{◌≡◌, ℕ, ◌+◌, ◌^◌, ◌<◌, ◌≤◌, ◌++◌, All, Bool, false, List, [], Option, length};
 ghost use Rattle.std.specs.List.{AllByRecursion, range_with_len};
-ghost use Rattle.dl_bytes.specs.declared.outcome.TraceEnd.{TraceEnd};
 ghost use Rattle.dl_crew.specs.Plays.{ArePairs, CanPlay, HasPlayed};
 ghost use Rattle.dl_desk.specs.Made.{IsLater};
 ghost use Rattle.dl_desk.specs.State.{DeskState};
 ghost use Rattle.dl_desk.specs.Told.{PostTold, told_by};
-ghost use Rattle.dl_ending.specs.Ending.{Finishes, failures_with, text_of, unheard};
+ghost use Rattle.dl_ending.specs.Ending.{Finishes};
+ghost use Rattle.dl_events.specs.declared.event.Event.{Event};
 ghost use Rattle.dl_lib.specs.Making.{AreMadeWith};
 ghost use Rattle.dl_lib.specs.Settled.{IsSettled};
 ghost use Rattle.dl_lib.specs.State.{AccountState};
+ghost use Rattle.dl_message.specs.Requests.{requests};
+ghost use Rattle.dl_model.specs.ClientEnds.{HasGone, LinkDid, asked_by};
+ghost use Rattle.dl_model.specs.Frames.{FrameSource};
 ghost use Rattle.dl_model.specs.Setting.{Setting};
 ghost use Rattle.dl_opening.specs.Opening.{IsOpened};
 ghost use Rattle.dl_opening.specs.Scenario.{writers};
@@ -21,17 +24,19 @@ ghost use Rattle.dl_rounds.specs.Greetings.{IsIntroduced, registered};
 ghost use Rattle.dl_script.specs.Playable.{IsRunnable};
 ghost use Rattle.dl_script_lines.specs.declared.scenario.ScenarioLine.{ScenarioLine};
 ghost use Rattle.dl_settling.specs.Room.{together};
-ghost use Rattle.dl_startup.specs.Failures.{unserved};
 ghost use Rattle.dl_startup.specs.Setup.{IsBegun};
 ghost use Rattle.dl_startup.specs.Unchanged.{IsQuiet};
+ghost use Rattle.dl_startup.specs.declared.failures.Failures.{Failures};
 ghost use Rattle.dl_startup.specs.declared.status.Status.{Status};
+ghost use Rattle.dl_storage.specs.declared.ends.StoreEnd.{StoreEnd};
+ghost use Rattle.dl_storage.specs.declared.ends.StoreEnds.{StoreEnds};
 ghost use Rattle.dl_turns.specs.Injected.{HasPosted};
 ghost use Rattle.dl_writer.specs.State.{BookState, IsWhole, numbers};
 ghost use Rattle.dl_live.specs.declared.beginning.Begun.{Begun};
 ghost use Rattle.dl_live.specs.declared.players.Players.{Players};
-ghost use Rattle.dl_live.specs.Account.{IsComeTo, setting};
+ghost use Rattle.dl_live.specs.Account.{IsComeTo};
 ghost use Rattle.dl_live.specs.Clients.{IsHeard};
-ghost use Rattle.dl_live.specs.Ends.{Ends, KnownOf, failed_so};
+ghost use Rattle.dl_live.specs.Ends.{EndsStored, KnownOf, report};
 ghost use Rattle.dl_live.specs.Injected.{IsInjected};
 ghost use Rattle.dl_live.specs.Played.{HasPlayedAll};
 ghost use Rattle.dl_live.specs.Playing.{ArePlayersOf, CanBePlayed, HasBeenPlayed};
@@ -63,12 +68,12 @@ pub fn an_account_tells_of_injections()
         → HasPosted setting [] account.events app first (told_by (length account.apps) account.handles) → IsInjected setting account app }
 {}
 
-/// What a status says of a run is what is promised of the whole: the words decide first, what is written is the report of the account or
-/// its front, and where all is of the form and nothing fails, the report was written whole, or a frame had no name, or memory was wanted.
+/// What a status says of a run is what is promised of the whole: the words decide first, what is written is the report of the account and of what
+/// the filters stored, or its front, and where all is of the form and nothing fails, the report was written whole, or a frame had no name, or memory was wanted.
 pub fn an_outcome_is_a_run<L: Link>()
     ensures { (said : List (List ℕ)) (old new : Told L) (err err_now : SinkTold) (status : Status) (account : Option AccountState) (links : Links L)
-        → Outcome L.told said old new status account links → ChangesNoOther said old.folder new.folder → Says status err err_now
-        → IsRun L.told said old new err err_now status account links }
+        → (stored : Option StoreEnds) → Outcome L.told said old new status account stored links → ChangesNoOther said old.folder new.folder
+        → Says status err err_now → IsRun L.told said old new err err_now status account stored links }
 {}
 
 /// What the calls of a run ask of what was assembled for it: its applications introduce themselves and have a place at the desk, its clients and its
@@ -99,9 +104,15 @@ pub fn what_was_played_is_its_account<L: Link>()
 
 /// The status that is found as a report is written says how the run ended.
 pub fn a_status_says_how_a_run_ended<L: Link>()
-    ensures { (begun : Begun) (account : AccountState) (old new : Told L) (net folder memory : Bool) (status : Status)
-        → ((cause : Option TraceEnd) → account.outcome.trace.end ≡ cause
-        → KnownOf begun account old new net folder cause (memory || (unserved account.events || unheard account.events)))
-        → Finishes (text_of (setting begun) account) (failures_with account (failed_so net folder memory)) old.out new.out status
-        → Ends begun account old new status }
+    ensures { (begun : Begun) (account : AccountState) (ends : List StoreEnd) (old new : Told L) (failures : Failures) (status : Status)
+        → failures.journal_full ≡ false → KnownOf begun account ends old new failures.net failures.folder failures.names_spent failures.memory
+        → Finishes (report begun account ends) failures old.out new.out status → EndsStored begun account ends old new status }
+{}
+
+/// Where a client was cut off, at whatever byte of what it had to send, it asked a prefix of what all of that asks: what it was owed are the replies to
+/// those requests, in their order.
+pub fn who_was_cut_off_was_owed_a_prefix()
+    ensures { (setting : Setting) (source : FrameSource) (events : List Event) (client : ℕ) (did : LinkDid) (unsent : List ℕ)
+        → (gone : HasGone setting source events client did)
+        → (more : List (List ℕ)) × (requests (did.given ++ unsent) ≡ asked_by client gone.before ++ more) }
 {}

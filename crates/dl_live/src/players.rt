@@ -14,6 +14,7 @@ use dl_events::Kept;
 use dl_loop::Daemon;
 use dl_opening::Opened;
 use dl_outside::{ClientScript, Link};
+use dl_storage_text::FilterList;
 use dl_writer::BookList;
 use std::alloc::Global;
 
@@ -22,6 +23,8 @@ use std::alloc::Global;
 pub struct Players<L: Link> {
     /// The configuration.
     pub conf: Conf,
+    /// The filters of the log storage.
+    pub filters: FilterList,
     /// The daemon, which was just made.
     pub daemon: Daemon<L>,
     /// The applications with their contexts.
@@ -46,6 +49,7 @@ where
 {
     let Stage {
         conf,
+        filters,
         core,
         opened,
         calls,
@@ -61,6 +65,7 @@ where
     let daemon = Daemon::make(alloc, core, desk, Kept::make(alloc), calls)?;
     Ok(Players {
         conf,
+        filters,
         daemon,
         apps,
         plan,

@@ -1,11 +1,10 @@
 //! The program: what the words ask for is begun and played by threads, the report is written, and the status answered.
 
 ghost use Rattle.std.specs.Prelude.{◌≡◌, ◌||◌, IfOk, None, map, string_bytes};
-ghost use Rattle.dl_folders.specs.Files as folders;
 ghost use Rattle.dl_folders.specs.Files.{Leaves};
 ghost use Rattle.dl_script.specs.Playable.{IsRunnable};
 ghost use Rattle.dl_live.specs.Ends.{failed_so};
-ghost use Rattle.dl_live.specs.Performing.{HasBegun, LeavesSome, PerformsFrom, PlaysOn, status_of};
+ghost use Rattle.dl_live.specs.Performing.{HasBegun, LeavesOthers, LeavesSome, PerformsFrom, PlaysOn, status_of};
 ghost use Rattle.dl_live.specs.Playing.{CanBePlayed, HasBeenPlayed, HasSetOut, IsUnderWay};
 ghost use Rattle.dl_live.specs.Program.{ChangesNoOther, HasRun, Outcome, no_links};
 ghost use Rattle.dl_live.specs.Told.{told};
@@ -16,11 +15,13 @@ use crate::laws::an_outcome_is_a_run;
 use crate::players::{Players, assemble};
 use crate::workers::beside;
 use dl_bytes::{Conf, Moment, OutOfMemory};
-use dl_ending::finish;
+use dl_ending::{Concluded, conclude};
 use dl_launch::launch_all;
 use dl_lib::Account;
 use dl_outside::{Clock, Folder, Gate, Link, LinkList, Net, NetFault, Sink};
 use dl_startup::{Failures, Status};
+use dl_storage::StoreEnds;
+use dl_storage_text::FilterList;
 use std::alloc::Global;
 use std::sync::Wait;
 use std::thread::Threads;
@@ -38,6 +39,8 @@ pub struct Ended<L> {
     pub status: u8,
     /// The account, where the run came to one.
     pub account: Option<Account>,
+    /// What the filters of the log storage stored; none where the run came to no account, or there was no memory to store anything.
+    pub storage: Option<StoreEnds>,
     /// The links of the clients, by their numbers.
     pub links: LinkList<L>,
 }
@@ -47,6 +50,7 @@ pub struct Ended<L> {
 struct Came<L> {
     status: Status,
     account: Option<Account>,
+    storage: Option<StoreEnds>,
     links: LinkList<L>,
 }
 
@@ -54,6 +58,7 @@ struct Came<L> {
 #[derive(Drop)]
 struct Played<L> {
     conf: Conf,
+    filters: FilterList,
     account: Account,
     links: LinkList<L>,
     /// A client could not be launched, or an accept failed while clients were waited for.
@@ -62,8 +67,9 @@ struct Played<L> {
     wanted: bool,
 }
 
-/// The applications tell of themselves, and the clients are launched. Tells how many were.
-fn set_out<F: Folder, N: Net>(
+/// The applications tell of themselves, and the clients are launched. Tells how many were. What comes before it is that the net listens; what
+/// comes after it are the daemon's rounds. Where memory is wanted, a part of the clients may have been launched, and the run is over.
+pub fn set_out<F: Folder, N: Net>(
     players: &mut Players<N::L>,
     moment: Moment,
     folder: &mut F,
@@ -99,12 +105,13 @@ fn play_on<
 where
     N::L: Drop + Send,
     requires under_way { IsUnderWay players launched (N.told net.old) (F.told folder.old) }
-    ensures conf { result.conf ≡ players.conf }
+    ensures conf { (result.conf ≡ players.conf) × (result.filters ≡ players.filters) }
     ensures played { PlaysOn N.L.told players launched (N.told net.old) (N.told net.new) (F.told folder.old) (F.told folder.new) result }
     ensures leaves { LeavesSome players.daemon.core (F.told folder.old) (F.told folder.new) }
 {
     let Players {
         conf,
+        filters,
         mut daemon,
         plan,
         mut books,
@@ -119,6 +126,7 @@ where
     match daemon.stop(rt, books, net, clock, folder) {
         Ok((account, links)) => Played {
             conf,
+            filters,
             account,
             links,
             failed,
@@ -140,7 +148,7 @@ fn play<R: Threads + Wait + Sync, F: Folder + Send, N: Net + Send, C: Clock + Sy
 where
     N::L: Drop + Send,
     requires can { CanBePlayed players }
-    ensures conf { IfOk result (λ played. played.conf ≡ players.conf) }
+    ensures conf { IfOk result (λ played. (played.conf ≡ players.conf) × (played.filters ≡ players.filters)) }
     ensures played { IfOk result (λ played. HasBeenPlayed N.L.told players played.wanted played.failed (N.told net.old) (N.told net.new)
         (F.told folder.old) (F.told folder.new) played.account played.links) }
     ensures leaves { LeavesSome players.daemon.core (F.told folder.old) (F.told folder.new) }
@@ -190,16 +198,18 @@ fn went_wrong(net: bool, folder: bool, memory: bool) -> Failures
 fn to_nothing<L>(alloc: Global, status: Status) -> Came<L>
     ensures status { result.status ≡ status }
     ensures account { result.account ≡ None }
+    ensures storage { result.storage ≡ None }
     ensures links { result.links ≡ no_links }
 {
     Came {
         status,
         account: None,
+        storage: None,
         links: LinkList::none(alloc),
     }
 }
 
-/// Plays a run that began, and writes its report.
+/// Plays a run that began, stores what passes its filters, and writes its report.
 fn perform<
     R: Threads + Wait + Sync,
     F: Folder + Send,
@@ -222,8 +232,8 @@ where
     requires runnable { IsRunnable begun.scenario }
     requires begun { HasBegun begun }
     ensures performs { PerformsFrom N.L.told begun (told (F.told folder.old) (N.told net.old) (O.told out.old))
-        (told (F.told folder.new) (N.told net.new) (O.told out.new)) result.status result.account result.links }
-    ensures others { folders.ChangesOwnFiles begun.trace (F.told folder.old).files (F.told folder.new).files }
+        (told (F.told folder.new) (N.told net.new) (O.told out.new)) result.status result.account result.storage result.links }
+    ensures others { LeavesOthers begun (F.told folder.old).files (F.told folder.new).files }
 {
     let net_before = net.faults();
     let folder_before = folder.faults();
@@ -244,6 +254,7 @@ where
     };
     let Played {
         conf,
+        filters,
         account,
         links,
         failed,
@@ -256,9 +267,13 @@ where
         folder_after > folder_before,
         wanted,
     );
+    let Concluded { status, storage } = conclude(
+        alloc, &account, &conf, &filters, failures, folder, out,
+    );
     Came {
-        status: finish(alloc, &account, &conf, failures, out),
+        status,
         account: Some(account),
+        storage,
         links,
     }
 }
@@ -284,7 +299,7 @@ fn ask<
 where
     N::L: Drop + Send,
     ensures outcome { Outcome N.L.told (map string_bytes words.now) (told (F.told folder.old) (N.told net.old) (O.told out.old))
-        (told (F.told folder.new) (N.told net.new) (O.told out.new)) result.status result.account result.links }
+        (told (F.told folder.new) (N.told net.new) (O.told out.new)) result.status result.account result.storage result.links }
     ensures others { ChangesNoOther (map string_bytes words.now) (F.told folder.old) (F.told folder.new) }
 {
     match begin(alloc, words, folder) {
@@ -293,10 +308,10 @@ where
     }
 }
 
-/// Plays a scenario with threads: the words are those of the command line, the program's name first. Configuration, stored configuration, scenario
-/// and trace files are those of the folder. The daemon listens on the net, and launches the scenario's clients there; each writer has a
-/// worker of its own, which makes its calls beside the daemon's rounds. When all workers have ended the daemon stops, and the report of its account is
-/// written to `out`. Each status but `Ok` is said on `err` in one line, and a fault of `err` changes nothing.
+/// Plays a scenario with threads: the words are those of the command line, the program's name first. Configuration, stored configuration, filters,
+/// scenario and trace files are those of the folder. The daemon listens on the net, and launches the scenario's clients there; each writer has a
+/// worker of its own, which makes its calls beside the daemon's rounds. When all workers have ended the daemon stops, the messages that pass the
+/// filters are stored below `storage` in the folder, and the report of the account is written to `out`. Each status but `Ok` is said on `err` in one line, and a fault of `err` changes nothing.
 pub fn run<
     R: Threads + Wait + Sync,
     F: Folder + Send,
@@ -327,6 +342,7 @@ where
     Ended {
         status: came.status.number(),
         account: came.account,
+        storage: came.storage,
         links: came.links,
     }
 }

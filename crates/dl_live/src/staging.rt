@@ -10,6 +10,7 @@ use dl_bytes::{Conf, OutOfMemory};
 use dl_core::Core;
 use dl_opening::laws::opened_books_have_few_calls;
 use dl_opening::{Opened, all_calls, open};
+use dl_storage_text::FilterList;
 use std::alloc::Global;
 
 /// What a run plays.
@@ -17,6 +18,8 @@ use std::alloc::Global;
 pub struct Stage {
     /// The configuration.
     pub conf: Conf,
+    /// The filters of the log storage.
+    pub filters: FilterList,
     /// The daemon's core, before its first event.
     pub core: Core,
     /// What the scenario declares.
@@ -37,6 +40,7 @@ pub fn set_stage(alloc: Global, begun: Begun) -> Result<Stage, OutOfMemory>
     let Begun {
         conf,
         stored,
+        filters,
         scenario,
         trace,
         port,
@@ -46,6 +50,7 @@ pub fn set_stage(alloc: Global, begun: Begun) -> Result<Stage, OutOfMemory>
     let core = Core::make(alloc, &conf, stored, trace, 0)?;
     Ok(Stage {
         conf,
+        filters,
         core,
         opened,
         calls,

@@ -6,7 +6,7 @@ use dl_live::begin;
 use dl_memory::MemoryFolder;
 use dl_outside::Folder;
 use dl_script_fields::ScriptKind;
-use dl_startup::Status;
+use dl_startup::{Status, StorageKind};
 use std::alloc::{AllocError, Global};
 use std::test::Fail;
 
@@ -77,7 +77,22 @@ fn first_refusals(rt: HostRuntime) -> Result<(), Fail> {
         assert_eq!(rt; refused(rt.alloc(), &mut folder, line)?, *wanted);
     }
     assert_eq!(rt; folder.changes(), changes);
-    // A stored configuration is read before the scenario.
+    // The filters of the log storage are read before the scenario, and behind both configurations.
+    let _ = folder.put("dlt_storage.cfg", b"# all\nall * * verbose 2000 3999\n");
+    let storage = Status::StorageRefused {
+        line: 2,
+        kind: StorageKind::Sizes,
+    };
+    assert_eq!(rt; refused(rt.alloc(), &mut folder, "none")?, Some(storage));
+    assert_eq!(rt; refused(rt.alloc(), &mut folder, "one")?, Some(storage));
+    let conf = Status::ConfRefused {
+        line: 1,
+        kind: ConfKind::NotNumber,
+    };
+    assert_eq!(rt;
+        refused(rt.alloc(), &mut folder, "--conf bad one")?,
+        Some(conf)
+    );
     let _ = folder.put("dlt_stored.cfg", b"::4\nLOG1:TEST:7\n");
     let stored = Status::StoredRefused {
         line: 2,
@@ -90,10 +105,16 @@ fn first_refusals(rt: HostRuntime) -> Result<(), Fail> {
 #[test]
 fn begun(rt: HostRuntime) -> Result<(), Fail> {
     let mut folder = folder_of(rt.alloc(), &FILES)?;
+    let _ = folder.put(
+        "dlt_storage.cfg",
+        b"warns LOG2 * warn 1000000 4000000\nall * * verbose 2000 4000",
+    );
     let line = words(rt.alloc(), "--conf traced --port 7 one")?;
     let begun = begin(rt.alloc(), &line, &mut folder)?;
     assert_eq!(rt; begun.port, 7);
     assert_eq!(rt; begun.scenario.all().len(), 2);
+    assert_eq!(rt; begun.filters.len(), 2);
+    assert_eq!(rt; begun.filters.of(1).max, 4000);
     assert!(rt; begun.trace.is_some());
     Ok(())
 }

@@ -15,7 +15,7 @@ returns-in-Ok-clause-outcome g c =
     let between : FolderTold = g.F.Folder.told c.begin.new.folder in
     let begins = c.in-Ok.ensures.begins in
     outcome_of g.N.L.Link.told (map string_bytes c.args.words.now) begins.0 c.in-Ok.begun (told first (g.N.Net.told c.args.net.now) (g.O.Sink.told c.args.out.now))
-    (told (g.F.Folder.told c.perform.new.folder) (g.N.Net.told c.perform.new.net) (g.O.Sink.told c.perform.new.out)) between begins.1 begins.2 c.perform.result.status c.perform.result.account c.perform.result.links
+    (told (g.F.Folder.told c.perform.new.folder) (g.N.Net.told c.perform.new.net) (g.O.Sink.told c.perform.new.out)) between begins.1 begins.2 c.perform.result.status c.perform.result.account c.perform.result.storage c.perform.result.links
     (c.perform.ensures.performs first begins.2.trace begins.2.quiet)
 
 pub returns-in-Ok-clause-others : goal.returns-in-Ok-clause-others
@@ -29,8 +29,8 @@ returns-in-Err-clause-outcome g c =
     let said = map string_bytes c.args.words.now in
     let old = told (g.F.Folder.told c.args.folder.now) (g.N.Net.told c.args.net.now) (g.O.Sink.told c.args.out.now) in
     let new = told (g.F.Folder.told c.begin.new.folder) (g.N.Net.told c.args.net.now) (g.O.Sink.told c.args.out.now) in
-    outcome_of_none g.N.L.Link.told said old new c.to_nothing.result.status c.in-Err.status c.to_nothing.result.account c.to_nothing.result.links c.to_nothing.ensures.status c.to_nothing.ensures.account
-    c.to_nothing.ensures.links (refused said old new c.in-Err.status refl c.in-Err.ensures.begins) refl
+    outcome_of_none g.N.L.Link.told said old new c.to_nothing.result.status c.in-Err.status c.to_nothing.result.account
+    c.to_nothing.result.storage c.to_nothing.result.links c.to_nothing.ensures.status c.to_nothing.ensures.account c.to_nothing.ensures.storage c.to_nothing.ensures.links (refused said old new c.in-Err.status refl c.in-Err.ensures.begins) refl
 
 pub returns-in-Err-clause-others : goal.returns-in-Err-clause-others
 returns-in-Err-clause-others g c =

@@ -8,7 +8,10 @@ play_on-requires-clause-under_way g c κs within =
     record { first = c.args.players; net = g.N.Net.told c.args.net.now; folder = g.F.Folder.told c.args.folder.now; can = c.requires.can; out = c.in-Ok.ensures.out }
 
 pub returns-in-Ok-clause-conf : goal.returns-in-Ok-clause-conf
-returns-in-Ok-clause-conf g c = c.play_on.ensures.conf ∙ ap (λ (p : Players g.row.N-L.Denot). p.conf) c.in-Ok.ensures.out.rest
+returns-in-Ok-clause-conf g c = (
+  c.play_on.ensures.conf.0 ∙ ap (λ (p : Players g.row.N-L.Denot). p.conf) c.in-Ok.ensures.out.rest,
+  c.play_on.ensures.conf.1 ∙ ap (λ (p : Players g.row.N-L.Denot). p.filters) c.in-Ok.ensures.out.rest,
+)
 
 pub returns-in-Ok-clause-played : goal.returns-in-Ok-clause-played
 returns-in-Ok-clause-played g c = c.play_on.ensures.played c.args.players (g.N.Net.told c.args.net.now) (g.F.Folder.told c.args.folder.now) c.requires.can c.in-Ok.ensures.out

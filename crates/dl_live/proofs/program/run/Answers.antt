@@ -10,5 +10,5 @@ returns g c =
       status = c.ask-came.result.status;
       number_is = c.number.ensures;
       run = c.an_outcome_is_a_run.ensures (map string_bytes c.args.words.now) old new (g.E.Sink.told c.args.err.now) (g.E.Sink.told c.say.new.err) c.ask-came.result.status c.ask-came.result.account
-          c.ask-came.result.links c.ask-came.ensures.outcome c.ask-came.ensures.others (c.say.ensures.silent, c.say.ensures.told);
+          c.ask-came.result.links c.ask-came.result.storage c.ask-came.ensures.outcome c.ask-came.ensures.others (c.say.ensures.silent, c.say.ensures.told);
     }

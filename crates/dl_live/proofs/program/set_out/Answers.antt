@@ -1,4 +1,4 @@
-use Rattle.std.proofs.Common.{◌≡◌, ℕ, ◌^◌, ◌<◌, List, length, refl, sym, subst}
+use Rattle.std.proofs.Common.{◌^◌, ◌<◌, List, length, refl, sym, subst}
 use Rattle.dl_launch.specs.Launching.{Launched}
 use Rattle.dl_outside.specs.declared.client.ClientScript.{ClientScript}
 use Rattle.dl_live.proofs.Starting.{few_scripts, introduced, nobody, place}
