@@ -1,6 +1,7 @@
 //! Clients over TCP. No call on a socket waits.
 
-ghost use Rattle.std.specs.Prelude.{◌≡◌, None};
+ghost use Rattle.std.specs.Prelude.{◌≡◌, ◌<◌, None, length};
+ghost use Rattle.dl_outside.specs.Link.{Receives, Sent};
 ghost use Rattle.dl_outside.specs.Outside.{HasRisen};
 
 use crate::answers::{came, is_memory};
@@ -20,12 +21,53 @@ use std::{io, thread};
 /// How many milliseconds clients may take to end.
 const CLIENT_PATIENCE: u64 = 60_000;
 
+/// How many pieces of a connection's input are passed over at its end.
+const LAST_PIECES: u32 = 64;
+
+/// What a connection gives, where it is still there.
+fn given(stream: &mut Option<TcpStream>, into: &mut [u8]) -> Gave
+    requires { 0 < length into.old }
+    ensures { Receives None None result into.new }
+{
+    match stream {
+        Some(stream) => receive(stream, into),
+        None => Gave::NotYet,
+    }
+}
+
+/// What a connection takes, where it is still there.
+fn taken(stream: &mut Option<TcpStream>, piece: &[u8]) -> Sends
+    requires { 0 < length piece.now }
+    ensures { Sent None None result piece.now }
+{
+    match stream {
+        Some(stream) => pass_on(stream, piece),
+        None => Sends::Busy,
+    }
+}
+
+/// Ends a connection, and gives its descriptor back. What has come and was not read is passed over first: else the system would tell the peer
+/// of an error, and drop what it has not sent yet.
+fn hang_up(stream: TcpStream) {
+    let mut stream = stream;
+    // A peer that is gone needs no end.
+    let _ = stream.shutdown(Shutdown::Write);
+    let mut into = [0; 1024];
+    for _piece in 0..LAST_PIECES {
+        match receive(&mut stream, &mut into) {
+            Gave::Bytes(_) => {}
+            Gave::NotYet | Gave::End | Gave::Failed => break,
+        }
+    }
+}
+
 /// A client's connection over TCP. It tells no content. No call waits but `rest`, which sleeps about a millisecond, and
 /// up to five once nothing has gone through the link for a hundred rests.
 #[derive(Drop)]
 pub struct TcpLink<R> {
     rt: R,
-    stream: TcpStream,
+    // none once it was shut
+    stream: Option<TcpStream>,
     resting: Resting,
     faults: u64,
     idles: u64,
@@ -50,7 +92,7 @@ impl<R: Clock> Link for TcpLink<R> {
             self.idles = self.idles.saturating_add(1);
             return Gave::NotYet;
         }
-        let gave = receive(&mut self.stream, into);
+        let gave = given(&mut self.stream, into);
         match gave {
             Gave::Bytes(_) => self.resting.end(),
             Gave::NotYet => self.idles = self.idles.saturating_add(1),
@@ -65,7 +107,7 @@ impl<R: Clock> Link for TcpLink<R> {
             self.waits = self.waits.saturating_add(1);
             return Sends::Busy;
         }
-        let sent = pass_on(&mut self.stream, piece);
+        let sent = taken(&mut self.stream, piece);
         match sent {
             Sends::Bytes(_) => self.resting.end(),
             Sends::Busy => self.waits = self.waits.saturating_add(1),
@@ -75,12 +117,10 @@ impl<R: Clock> Link for TcpLink<R> {
     }
 
     fn shut(&mut self) {
-        if self.is_shut {
-            return;
-        }
-        // A peer that is gone needs no end.
-        let _ = self.stream.shutdown(Shutdown::Both);
         self.is_shut = true;
+        if let Some(stream) = self.stream.take() {
+            hang_up(stream);
+        }
     }
 
     fn rest(&mut self) {
@@ -290,7 +330,7 @@ where
                 self.resting.end();
                 Accepted::Link(TcpLink {
                     rt: self.rt,
-                    stream,
+                    stream: Some(stream),
                     resting: Resting::none(),
                     faults: 0,
                     idles: 0,
