@@ -1,10 +1,13 @@
 //! `dlt_run SCENARIO` plays a scenario: its writers log in threads of their own beside the daemon, its clients dial in, and what came of it
-//! is printed. The configuration and the trace files are those of the current folder. The daemon listens on loopback, or on the address that
-//! `DLT_BIND_ADDRESS` of the environment gives.
+//! is printed. `dlt_run --serve` serves programs outside instead, which log over a second port, and the clients that dial in, for a number of rounds.
+//! The configuration and the trace files are those of the current folder. The daemon listens on loopback, or on the address that `DLT_BIND_ADDRESS`
+//! of the environment gives.
 #![tactic(auto)]
 
 use dl_live::{Status, run};
 use dl_real::{BindFault, Directory, OpenGate, SystemClock, TcpNet, Writing, bind_address};
+use dl_serve::serve;
+use dl_words::asks_to_serve;
 use std::env;
 use std::io::ErrorKind;
 use std::process::ExitCode;
@@ -41,6 +44,21 @@ fn main(rt: HostRuntime) -> ExitCode {
     let clock = SystemClock::make(rt);
     let mut out = Writing::over(rt.stdout());
     let mut err = Writing::over(rt.stderr());
+    if asks_to_serve(&words) {
+        let mut users = TcpNet::make(rt, address);
+        let served = serve(
+            &rt,
+            rt.alloc(),
+            &words,
+            &mut folder,
+            &mut net,
+            &mut users,
+            &clock,
+            &mut out,
+            &mut err,
+        );
+        return ExitCode::from(served.status);
+    }
     let ended = run(
         &rt,
         rt.alloc(),

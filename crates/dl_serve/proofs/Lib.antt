@@ -1,0 +1,16 @@
+pub mod EndedServings
+pub mod Servings
+pub mod OpenedServers
+pub mod KnownServings
+pub mod SentPrograms
+pub mod CameTo
+pub mod ServedJournals
+pub mod MoreRounds
+pub mod OtherEntries
+pub mod NotedMessages
+pub mod HeardChannels
+pub mod KnownChannels
+pub mod AdmittedRuns
+pub mod ShownEnds
+pub mod HeardNets
+pub mod Steps

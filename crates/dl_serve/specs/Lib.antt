@@ -1,0 +1,12 @@
+pub mod Told
+pub mod Status
+pub mod Begin
+pub mod Open
+pub mod Rounds
+pub mod Faults
+pub mod Closed
+pub mod Ends
+pub mod Admitted
+pub mod Shown
+pub mod Comes
+pub mod Program

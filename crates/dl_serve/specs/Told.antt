@@ -1,0 +1,13 @@
+-- What the outside tells before and after serving.
+use Rattle.dl_outside.specs.Told.{FolderTold, NetTold, SinkTold}
+
+-- all that serving reads and writes, but standard error: the folder, the net of the clients and that of the programs, and the output
+pub record Told (L : Type 0) : Type 0 where
+  pub folder : FolderTold
+  pub net : NetTold L
+  pub users : NetTold L
+  pub out : SinkTold
+
+-- it, by its parts
+abbrev pub told : {L : Type 0} → FolderTold → NetTold L → NetTold L → SinkTold → Told L
+told folder net users out = record { folder = folder; net = net; users = users; out = out }

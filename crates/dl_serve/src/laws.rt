@@ -1,0 +1,51 @@
+//! Laws of serving: what it comes to, and what a status says of it.
+
+ghost use Rattle.std.specs.Prelude.{Bool, List, Option, map, ℕ};
+ghost use Rattle.dl_outside.specs.Told.{FolderTold, SinkTold};
+ghost use Rattle.dl_startup.specs.Setup.{IsBegun};
+ghost use Rattle.dl_startup.specs.Unchanged.{IsQuiet};
+ghost use Rattle.dl_startup.specs.declared.status.Status.{Status};
+ghost use Rattle.dl_serve.specs.declared.beginning.Begun.{Begun};
+ghost use Rattle.dl_serve.specs.declared.closed.Closed.{Closed};
+ghost use Rattle.dl_serve.specs.Admitted.{AllAdmitted, TellGiven};
+ghost use Rattle.dl_serve.specs.Comes.{IsComeTo};
+ghost use Rattle.dl_serve.specs.Open.{setting};
+ghost use Rattle.dl_serve.specs.Program.{Ended, HasOpened, IsServing, Says};
+ghost use Rattle.dl_serve.specs.Shown.{AllShowEnds, TellLeft};
+ghost use Rattle.dl_serve.specs.Told.{Told};
+
+use dl_outside::Link;
+
+/// What was served is what its journal says: this is well-formed, each client has its link and is closed, each link took the front of its client's
+/// stream, and the trace files are those of the events. The folder may have been looked at before, but it was left alone since the trace was begun
+/// over it.
+pub fn what_was_served_is_its_journal<L: Link>()
+    ensures { (begun : Begun) (old new : Told L) (full : Bool) (closed : Closed L) (first : FolderTold) → IsBegun begun.conf first.files begun.trace
+        → IsQuiet first old.folder → HasOpened L.told begun full old new closed → IsComeTo L.told (setting begun) begun first new.folder closed }
+{
+    dl_server::laws::a_round_is_its_events::<L>();
+    dl_server::laws::a_closing_is_its_events::<L>();
+    dl_well_formed::clients::who_has_an_outbox();
+}
+
+/// The User events of each program outside are all messages of what its link gave, in their order, each once, however the bytes came; and behind them
+/// those of its applications that were there at its end. Where memory was wanting for it they are the first of the messages.
+pub fn what_programs_sent_is_admitted<L: Link>()
+    ensures { (begun : Begun) (old new : Told L) (full : Bool) (closed : Closed L) → HasOpened L.told begun full old new closed → TellGiven L.told
+        → AllAdmitted closed.events.events (map L.told closed.users.links) closed.ends }
+{
+    dl_rounds::laws::a_round_is_its_events::<L>();
+}
+
+/// The links of programs that ended show why: nothing is left to read of one that left, where links tell that, and a broken one has counted a fault.
+pub fn how_programs_ended<L: Link>()
+    ensures { (begun : Begun) (old new : Told L) (full : Bool) (closed : Closed L) → HasOpened L.told begun full old new closed
+        → AllShowEnds (TellLeft L.told) (map L.told closed.users.links) closed.ends }
+{}
+
+/// What a status says of serving is what is promised of the whole: the words decide first, and where all is of the form and nothing fails, the report was
+/// written whole, or the journal was full, a frame had no name for its file, or memory was wanted.
+pub fn an_end_is_a_serving<L: Link>()
+    ensures { (said : List (List ℕ)) (old new : Told L) (err err_now : SinkTold) (status : Status) (closed : Option (Closed L))
+        → Ended L.told said old new status closed → Says status err err_now → IsServing L.told said old new err err_now status closed }
+{}
