@@ -1,0 +1,11 @@
+pub mod Counts
+pub mod AskedWords
+pub mod OpenedDaemons
+pub mod AskedAgain
+pub mod MoreRounds
+pub mod KeptJournals
+pub mod SentMessages
+pub mod HeardToTheEnd
+pub mod Steps
+pub mod LeftServers
+pub mod Keepings

@@ -1,0 +1,10 @@
+pub mod Limits
+pub mod Outside
+pub mod Status
+pub mod Begin
+pub mod Open
+pub mod Rounds
+pub mod Left
+pub mod Program
+pub mod Figures
+pub mod Line

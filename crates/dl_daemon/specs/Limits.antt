@@ -1,0 +1,6 @@
+-- What bounds a daemon that does not end.
+use Rattle.dl_daemon.specs.declared.limits.Limits.{Limits}
+
+-- So many clients may come in all; so many channels may be open at once, and so many come in all.
+unfoldable pub limits : Limits
+limits = record { clients = 4096; open_channels = 16; channels = 65535 }

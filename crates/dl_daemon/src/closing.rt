@@ -1,0 +1,60 @@
+//! The closing of a daemon, and what is left of it.
+
+ghost use Rattle.std.specs.Prelude.{IfOk};
+ghost use Rattle.dl_server.specs.Server.{IsServer};
+ghost use Rattle.dl_server.specs.State.{seen};
+ghost use Rattle.dl_daemon.specs.Left.{ClosesTo, IsOf, closed_of};
+ghost use Rattle.dl_daemon.specs.Rounds.{noted};
+
+use crate::left::Left;
+use dl_bytes::{Moment, OutOfMemory, Sequence};
+use dl_outside::{Folder, Link};
+use dl_serve::trace_told;
+use dl_server::Server;
+use dl_unkept::Unkept;
+use std::alloc::Global;
+use std::sync::Wait;
+
+/// What is left of a server that has closed.
+fn leave<L: Link>(alloc: Global, server: Server<Unkept, L>) -> Left<L>
+where
+    L: Drop,
+    ensures { IsOf (closed_of server) result }
+{
+    let Server {
+        core,
+        journal,
+        clients,
+        programs,
+        mut ends,
+        ..
+    } = server;
+    ends.truncate(programs.len() as usize);
+    Left {
+        journal,
+        trace: trace_told(alloc, core),
+        clients,
+        users: programs,
+        ends: Sequence::over(ends),
+    }
+}
+
+/// The closing of a daemon, and what is left of it; where memory was wanting for it, nothing.
+pub fn close<R: Wait, L: Link, F: Folder>(
+    rt: &R,
+    alloc: Global,
+    server: Server<Unkept, L>,
+    moment: Moment,
+    folder: &mut F,
+) -> Result<Left<L>, OutOfMemory>
+where
+    L: Drop,
+    requires server { IsServer server }
+    ensures { IfOk result (ClosesTo L.told moment (seen L.told noted (F.told folder.old) server) (F.told folder.new)) }
+{
+    let mut server = server;
+    match server.close(rt, moment, folder) {
+        Ok(()) => Ok(leave(alloc, server)),
+        Err(error) => Err(error),
+    }
+}

@@ -1,0 +1,100 @@
+//! What a daemon counts, read off what it is.
+
+ghost use Rattle.std.specs.Prelude.{◌≡◌, length};
+ghost use Rattle.dl_daemon.specs.Figures.{figures_of, files_of, has_ended, open_among, open_at, sum_of};
+
+use crate::figures::{Figures, NetFaults};
+use dl_bytes::{TraceFile, TraceState};
+use dl_core::Core;
+use dl_hub::Hub;
+use dl_outside::Link;
+use dl_server::Server;
+use dl_socket::Channels;
+use dl_unkept::Unkept;
+
+/// One where a client is open.
+fn open_at(hub: &Hub, client: u32) -> u32
+    ensures { result ≡ open_at hub.now client }
+{
+    if hub.is_open(client) { 1 } else { 0 }
+}
+
+/// How many clients are open of so many that came.
+fn open_among(hub: &Hub, came: u32) -> u32
+    ensures { result ≡ open_among hub.now came }
+{
+    let mut count = 0;
+    for client in 0..came {
+        count += open_at(hub, client + 1);
+    }
+    count
+}
+
+/// How many channels are open.
+fn open_channels(channels: &Channels) -> usize
+    ensures { result ≡ length channels.now.inboxes }
+{
+    channels.are_apart();
+    let mut count = 0;
+    while let Some(_channel) = channels.at(count) {
+        count += 1;
+    }
+    count
+}
+
+/// How many bytes trace files have together, at most 2^64 - 1.
+#[tactic(auto, using(crate::proofs::Counts::sum_more))]
+fn sum_of(files: &[TraceFile]) -> u64
+    ensures { result ≡ sum_of files.now }
+{
+    let mut bytes: u64 = 0;
+    for file in files {
+        bytes = bytes.saturating_add(file.bytes);
+    }
+    bytes
+}
+
+/// The trace files that stand.
+fn files_of(core: &Core) -> &[TraceFile]
+    ensures { result.now ≡ files_of core.now.trace }
+{
+    match core.trace_state() {
+        Some(state) => state.files.all(),
+        None => &[],
+    }
+}
+
+/// Whether nothing more is stored.
+fn has_ended(core: &Core) -> bool
+    ensures { result ≡ has_ended core.now.trace }
+{
+    match core.trace_state() {
+        Some(state) => state.end.is_some(),
+        None => false,
+    }
+}
+
+/// What a daemon counts, and what its nets do.
+pub fn figures_of<L: Link>(server: &Server<Unkept, L>, faults: NetFaults) -> Figures
+    ensures { result ≡ figures_of server.now faults }
+{
+    let hub = server.core.hub();
+    let backlog = hub.backlog();
+    let files = files_of(&server.core);
+    let clients = server.clients.len();
+    Figures {
+        clients,
+        open_clients: open_among(hub, clients),
+        channels: server.programs.len(),
+        open_channels: open_channels(&server.channels) as u64,
+        frames: hub.admitted(),
+        waiting: backlog.bytes,
+        refused: backlog.refused,
+        dropped: server.dropped,
+        client_faults: faults.clients,
+        program_faults: faults.programs,
+        files: files.len() as u64,
+        bytes: sum_of(files),
+        ended: has_ended(&server.core),
+    }
+}

@@ -1,0 +1,41 @@
+//! What a daemon counts.
+
+/// How often each net has failed.
+#[derive(Clone, Copy, Debug, PartialEq, Eq)]
+pub struct NetFaults {
+    /// The net of the clients.
+    pub clients: u64,
+    /// The net of the programs.
+    pub programs: u64,
+}
+
+/// What a daemon counts, at one moment.
+#[derive(Clone, Copy, Debug, PartialEq, Eq)]
+pub struct Figures {
+    /// Clients that came.
+    pub clients: u32,
+    /// Clients that are open.
+    pub open_clients: u32,
+    /// Programs that came.
+    pub channels: u32,
+    /// Programs whose channel is open.
+    pub open_channels: u64,
+    /// Frames that were admitted.
+    pub frames: u64,
+    /// Bytes that wait for the next client.
+    pub waiting: u64,
+    /// Frames that found no place among them.
+    pub refused: u64,
+    /// Links that were dropped, since no more may come, or be open at once.
+    pub dropped: u32,
+    /// Faults of the net of the clients.
+    pub client_faults: u64,
+    /// Faults of the net of the programs.
+    pub program_faults: u64,
+    /// Trace files that stand.
+    pub files: u64,
+    /// Bytes in them, at most 2^64 - 1.
+    pub bytes: u64,
+    /// Whether nothing more is stored in trace files.
+    pub ended: bool,
+}

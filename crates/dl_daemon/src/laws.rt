@@ -1,0 +1,55 @@
+//! Laws of the daemon: what it comes to, and what a status says of it.
+
+ghost use Rattle.std.specs.Prelude.{List, Option, map, ℕ};
+ghost use Rattle.dl_outside.specs.Told.{FolderTold, SinkTold};
+ghost use Rattle.dl_serve.specs.Admitted.{AllAdmitted, TellGiven};
+ghost use Rattle.dl_serve.specs.Comes.{IsComeTo};
+ghost use Rattle.dl_serve.specs.Shown.{AllShowEnds, TellLeft};
+ghost use Rattle.dl_serve.specs.declared.beginning.Begun.{Begun};
+ghost use Rattle.dl_serve.specs.declared.closed.Closed.{Closed};
+ghost use Rattle.dl_startup.specs.Setup.{IsBegun};
+ghost use Rattle.dl_startup.specs.Unchanged.{IsQuiet};
+ghost use Rattle.dl_startup.specs.declared.status.Status.{Status};
+ghost use Rattle.dl_daemon.specs.declared.left.Left.{Left};
+ghost use Rattle.dl_daemon.specs.declared.limits.Limits.{Limits};
+ghost use Rattle.dl_daemon.specs.declared.rounds.Stop.{Stop};
+ghost use Rattle.dl_daemon.specs.Open.{setting};
+ghost use Rattle.dl_daemon.specs.Outside.{Outside};
+ghost use Rattle.dl_daemon.specs.Program.{Ended, HasOpened, IsKeeping, Says};
+
+use dl_outside::Link;
+
+/// What the daemon did is what its journal says: this is well-formed, each client has its link and is closed, each link took the front of its client's
+/// stream, and the trace files are those of the events. The folder may have been looked at before, but it was left alone since the trace was begun
+/// over it.
+pub fn what_was_kept_is_its_journal<L: Link>()
+    ensures { (most : Limits) (begun : Begun) (old new : Outside L) (why : Stop) (closed : Closed L) (first : FolderTold)
+        → IsBegun begun.conf first.files begun.trace → IsQuiet first old.folder → HasOpened L.told most begun why old new closed
+        → IsComeTo L.told (setting most begun) begun first new.folder closed }
+{
+    dl_server::laws::a_round_is_its_events::<L>();
+    dl_server::laws::a_closing_is_its_events::<L>();
+    dl_well_formed::clients::who_has_an_outbox();
+}
+
+/// The User events of each program outside are all messages of what its link gave, in their order, each once, however the bytes came; and behind them
+/// those of its applications that were there at its end. Where memory was wanting for it they are the first of the messages.
+pub fn what_programs_sent_is_admitted<L: Link>()
+    ensures { (most : Limits) (begun : Begun) (old new : Outside L) (why : Stop) (closed : Closed L) → HasOpened L.told most begun why old new closed
+        → TellGiven L.told → AllAdmitted closed.events.events (map L.told closed.users.links) closed.ends }
+{
+    dl_rounds::laws::a_round_is_its_events::<L>();
+}
+
+/// The links of programs that ended show why: nothing is left to read of one that left, where links tell that, and a broken one has counted a fault.
+pub fn how_programs_ended<L: Link>()
+    ensures { (most : Limits) (begun : Begun) (old new : Outside L) (why : Stop) (closed : Closed L) → HasOpened L.told most begun why old new closed
+        → AllShowEnds (TellLeft L.told) (map L.told closed.users.links) closed.ends }
+{}
+
+/// What a status says of the daemon is what is promised of the whole: the words decide first, and where all is of the form and nothing fails, the watch
+/// ended it, no more frames may be admitted, or memory was wanting.
+pub fn an_end_is_a_keeping<L: Link>()
+    ensures { (said : List (List ℕ)) (old new : Outside L) (err err_now : SinkTold) (status : Status) (left : Option (Left L))
+        → Ended L.told said old new status left → Says status err err_now → IsKeeping L.told said old new err err_now status left }
+{}

@@ -1,0 +1,15 @@
+//! A daemon before its nets listen.
+
+use dl_server::Server;
+use dl_unkept::Unkept;
+
+/// A daemon before its nets listen.
+#[derive(Drop)]
+pub struct Opened<L> {
+    /// The server, to which nobody came.
+    pub server: Server<Unkept, L>,
+    /// The port on which clients are waited for.
+    pub port: u16,
+    /// The port on which programs are waited for that log.
+    pub users: u16,
+}

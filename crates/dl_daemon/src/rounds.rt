@@ -1,0 +1,89 @@
+//! The rounds.
+
+ghost use Rattle.std.specs.Prelude.{◌≡◌, IfSome, None};
+ghost use Rattle.dl_server.specs.Server.{IsServer};
+ghost use Rattle.dl_server.specs.State.{seen};
+ghost use Rattle.dl_daemon.specs.Rounds.{HasGoneRound, HasRoom, StopsFor, noted, opened_again};
+
+use crate::figures::NetFaults;
+use crate::watch::Watch;
+use dl_bytes::Moment;
+use dl_outside::{Clock, Folder, Link, Net};
+use dl_server::Server;
+use dl_unkept::Unkept;
+use std::sync::Wait;
+
+/// Why the rounds of a daemon end.
+#[derive(Clone, Copy, Debug, PartialEq, Eq)]
+pub enum Stop {
+    /// The watch said so.
+    Asked,
+    /// The turn of a channel might admit more frames than 2^40 in all.
+    Spent,
+}
+
+/// The most frames that the turn of a channel admits.
+const TURN_FRAMES: u64 = 4096;
+
+/// Whether, and why, no round is to begin.
+fn stops<L: Link, W: Watch>(
+    server: &Server<Unkept, L>,
+    faults: NetFaults,
+    moment: Moment,
+    watch: &mut W,
+) -> Option<Stop>
+    ensures stops { IfSome result (λ why. StopsFor why server.now.core) }
+    ensures room { result ≡ None → HasRoom server.now.core }
+{
+    if !server.core.may_admit(TURN_FRAMES) {
+        return Some(Stop::Spent);
+    }
+    if !watch.goes_on(server, faults, moment) {
+        return Some(Stop::Asked);
+    }
+    None
+}
+
+/// Nets that failed are asked again: a failed accept ends nothing, and the net counts it.
+fn ask_again<L>(server: &mut Server<Unkept, L>)
+    ensures { server.new ≡ opened_again server.old }
+{
+    server.no_clients = false;
+    server.no_programs = false;
+}
+
+/// How often both nets have failed.
+fn faults_of<N: Net>(net: &N, users: &N) -> NetFaults {
+    NetFaults {
+        clients: net.faults(),
+        programs: users.faults(),
+    }
+}
+
+/// Goes round until the watch ends it, or more frames might be admitted than may be. Answers why it stopped. It may wait.
+pub fn go_round<R: Wait, N: Net, C: Clock, F: Folder, W: Watch>(
+    rt: &R,
+    server: &mut Server<Unkept, N::L>,
+    net: &mut N,
+    users: &mut N,
+    clock: &C,
+    folder: &mut F,
+    watch: &mut W,
+) -> Stop
+where
+    N::L: Drop,
+    requires server { IsServer server.old }
+    ensures rounds { let s = seen N.L.told noted in HasGoneRound N.L.told result (N.told net.old) (N.told net.new) (N.told users.old) (N.told users.new)
+        (s (F.told folder.old) server.old) (s (F.told folder.new) server.new) }
+    ensures server { IsServer server.new }
+{
+    for _round in rt.forever() {
+        match stops(server, faults_of(net, users), clock.now(), watch) {
+            Some(why) => return why,
+            None => {}
+        }
+        ask_again(server);
+        server.round(rt, net, users, clock, folder);
+    }
+    unreachable!()
+}

@@ -1,0 +1,90 @@
+//! The watch of the program: it says a status line each so many seconds, and never ends the daemon.
+
+ghost use Rattle.std.specs.Prelude.{◌≡◌, ◌⊎◌, false, true};
+ghost use Rattle.dl_outside.specs.Written.{Wrote, WroteNothing};
+ghost use Rattle.dl_daemon.specs.Figures.{figures_of};
+ghost use Rattle.dl_daemon.specs.Line.{is_due, status_line};
+
+use crate::counting::figures_of;
+use crate::figures::{Figures, NetFaults};
+use crate::line::status_line;
+use crate::watch::Watch;
+use dl_bytes::Moment;
+use dl_outside::{Link, Sink, write_text};
+use dl_server::Server;
+use dl_unkept::Unkept;
+use std::alloc::Global;
+
+/// Says a status line each so many seconds, where that is asked for.
+#[derive(Drop)]
+pub struct Teller<O> {
+    alloc: Global,
+    /// Where the lines go.
+    pub out: O,
+    /// After how many seconds the next line is due, where lines are asked for.
+    pub every: Option<u32>,
+    /// When the last line was said, in seconds since the beginning of 1970; at first when the teller was made.
+    pub last: u32,
+}
+
+impl<O: Sink> Teller<O> {
+    /// One that says nothing yet; its first line is due so many seconds behind this moment.
+    pub fn make(alloc: Global, out: O, begins: Moment) -> Teller<O> {
+        Teller {
+            alloc,
+            out,
+            every: None,
+            last: begins.secs,
+        }
+    }
+
+    /// Whether a line is due.
+    fn is_due(&self, now: u32) -> bool
+        ensures { result ≡ is_due self.now.every self.now.last now }
+    {
+        match self.every {
+            Some(every) => now.wrapping_sub(self.last) >= every,
+            None => false,
+        }
+    }
+
+    /// Says the line of these figures. Where there is no memory for it, nothing is said; where the output fails, its front.
+    fn say(&mut self, figures: &Figures)
+        ensures { WroteNothing (O.told self.old.out) (O.told self.new.out) ⊎ Wrote (O.told self.old.out) (O.told self.new.out) (status_line figures.now) }
+    {
+        match status_line(self.alloc, figures) {
+            Ok(text) => {
+                let _ = write_text(&mut self.out, text.all());
+            }
+            Err(_) => {}
+        }
+    }
+}
+
+impl<O: Sink> Watch for Teller<O> {
+    fn begin(&mut self, every: Option<u32>)
+        ensures every { self.new.every ≡ every }
+        ensures out { self.new.out ≡ self.old.out }
+    {
+        self.every = every;
+    }
+
+    fn goes_on<L: Link>(
+        &mut self,
+        server: &Server<Unkept, L>,
+        faults: NetFaults,
+        moment: Moment,
+    ) -> bool
+        ensures goes_on { result ≡ true }
+        ensures silent { is_due self.old.every self.old.last moment.secs ≡ false → WroteNothing (O.told self.old.out) (O.told self.new.out) }
+        // Where there is no memory for the line, nothing is said.
+        ensures said { WroteNothing (O.told self.old.out) (O.told self.new.out)
+            ⊎ Wrote (O.told self.old.out) (O.told self.new.out) (status_line (figures_of server.now faults)) }
+    {
+        if self.is_due(moment.secs) {
+            self.last = moment.secs;
+            self.say(&figures_of(server, faults));
+        }
+        true
+    }
+}
