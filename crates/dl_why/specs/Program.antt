@@ -1,13 +1,12 @@
--- What `dlt_why steps` promises.
-use Rattle.std.specs.Prelude.{◌≡◌, ℕ, Bool, true, false, List, [], ◌∷◌, codes, map, IfSome, IsOk, Result, Ok, Err, String, string_bytes}
-use Rattle.std.specs.Str.{bytes_eq}
+-- What `dlt_why` promises.
+use Rattle.std.specs.Prelude.{◌≡◌, ℕ, List, [], ◌∷◌, codes, map, IfSome, IsOk, Option, Result, Ok, Err, String, string_bytes}
 use Rattle.dl_core.specs.Settings.{setting_of}
+use Rattle.dl_outside.specs.Folder.{Files}
 use Rattle.dl_outside.specs.Outside.{HasRisen}
 use Rattle.dl_outside.specs.Told.{FolderTold, SinkTold, SourceTold}
 use Rattle.dl_outside.specs.Written.{Wrote, WroteAll, WroteFront, WroteNothing}
 use Rattle.dl_script.specs.Script.{steps_of}
 use Rattle.dl_script.specs.declared.error.ScriptError.TheVariants as bad
-use Rattle.dl_sessions.specs.Program as trace
 use Rattle.dl_startup.specs.Configuration.{SayConfs}
 use Rattle.dl_startup.specs.Setup.{conf_in, conf_name, stored_in}
 use Rattle.dl_startup.specs.Status as startup
@@ -15,6 +14,13 @@ use Rattle.dl_startup.specs.Unchanged.{IsUnchanged}
 use Rattle.dl_startup.specs.declared.configuration.Setup.{Setup}
 use Rattle.dl_startup.specs.declared.status.Status.{Status}
 use Rattle.dl_startup.specs.declared.status.Status.TheVariants as end
+use Rattle.dl_trace_files.specs.Files.{files_asked}
+use Rattle.dl_trace_why.specs.Account as trace
+use Rattle.dl_why_words.specs.Words as given_words
+use Rattle.dl_why_words.specs.Words.{Asked, AsksSteps, AsksTrace, AsksStream, said}
+use Rattle.dl_why_words.specs.declared.parse.WhyFault.{WhyFault}
+use Rattle.dl_why_words.specs.declared.parse.WhyFault.TheVariants as fault
+use Rattle.dl_why_words.specs.declared.words.WhyWords.{WhyWords}
 use Rattle.dl_why.specs.Explained.{explained}
 use Rattle.dl_why.specs.declared.program.Start.{Start}
 use Rattle.dl_why.specs.declared.script.Script.{Script}
@@ -94,16 +100,11 @@ Writes start old new _ = ⊥
 
 -- ---- the program
 
--- the words ask for the steps of the input
-abbrev pub asks_for_steps : List (List ℕ) → Bool
-asks_for_steps (program ∷ word ∷ []) = bytes_eq word (codes "steps")
-asks_for_steps _ = false
-
 abbrev pub program : List ℕ
 program = codes "dlt_why"
 
 abbrev pub usage : List ℕ
-usage = codes "dlt_why trace FILE or steps"
+usage = codes "dlt_why steps, trace [--picture FILE] [FOLDER|FILE].. or stream [--picture FILE] FILE"
 
 abbrev pub line_of : Status → List ℕ
 line_of status = startup.line_of program usage status
@@ -120,11 +121,53 @@ pub record RunsSteps (old new : Told) (err err_now : SinkTold) (answer : ℕ) : 
   pub ends : Ends old new status
   pub said : Says status err err_now
 
--- What a run of the program comes to: that of the steps, or else what `trace` comes to, which leaves the input alone.
-abbrev pub Runs : List (List ℕ) → Told → Told → SinkTold → SinkTold → ℕ → Type 0
-Runs words old new err err_now answer =
-    (asks_for_steps words ≡ true → RunsSteps old new err err_now answer)
-    × (asks_for_steps words ≡ false → (new.input ≡ old.input) × trace.Runs words (trace.sides old.folder old.out) (trace.sides new.folder new.out) err err_now answer)
+-- what `trace` and `stream` come to: the input is left alone
+abbrev pub RunsAccount : (Files → List (List ℕ)) → Option (List ℕ) → Told → Told → SinkTold → SinkTold → ℕ → Type 0
+RunsAccount names picture old new err err_now answer =
+    (new.input ≡ old.input) × trace.Runs names picture (trace.sides old.folder old.out) (trace.sides new.folder new.out) err err_now answer
+
+-- what a run comes to by what is asked for
+abbrev pub RunsAsked : Asked → Told → Told → SinkTold → SinkTold → ℕ → Type 0
+RunsAsked AsksSteps old new err err_now answer = RunsSteps old new err err_now answer
+RunsAsked (AsksTrace names picture) old new err err_now answer = RunsAccount (λ files. files_asked files names) picture old new err err_now answer
+RunsAsked (AsksStream name picture) old new err err_now answer = RunsAccount (λ files. name ∷ []) picture old new err err_now answer
+
+-- ---- words that ask for nothing
+
+-- what the program says of itself
+unfoldable pub help : List ℕ
+help = codes "Says why messages are missing.\n\nUsage: dlt_why steps < SCRIPT\n       dlt_why trace [--picture FILE] [FOLDER|FILE]..\n       dlt_why stream [--picture FILE] FILE\n\nTasks:\n  steps   what became of each log call of a step script\n  trace   what is missing of traces; without a name of those in this folder\n  stream  what is missing of a stream as a client recorded it\n\nOptions:\n      --picture <FILE>  draws the sessions into this file, as SVG\n  -h, --help            Print help\n"
+
+-- it was written, or its front
+abbrev pub Helps : SinkTold → SinkTold → Status → Type 0
+Helps old new end.Ok = WroteAll old new help
+Helps old new end.WriteFault = WroteFront old new help
+Helps old new _ = ⊥
+
+-- what the status says where words ask for nothing
+abbrev pub AnswersFault : WhyFault → SinkTold → SinkTold → Status → Type 0
+AnswersFault fault.Help old new status = Helps old new status
+AnswersFault fault.Refused old new status = (status ≡ end.WordsRefused) × WroteNothing old new
+AnswersFault fault.OutOfMemory old new status = (status ≡ end.OutOfMemory) × WroteNothing old new
+
+pub record RunsNot (cause : WhyFault) (out out_now err err_now : SinkTold) (answer : ℕ) : Type 0 where
+  pub status : Status
+  pub number_is : answer ≡ startup.number status
+  pub ends : AnswersFault cause out out_now status
+  pub said : Says status err err_now
+
+-- ---- the program
+
+-- what a run comes to by what was read of the words; input and folder are left alone where they ask for nothing
+abbrev pub RunsFor : Result WhyWords WhyFault → Told → Told → SinkTold → SinkTold → ℕ → Type 0
+RunsFor (Ok read) old new err err_now answer = RunsAsked (said read) old new err err_now answer
+RunsFor (Err cause) old new err err_now answer = (new.input ≡ old.input) × (new.folder ≡ old.folder) × RunsNot cause old.out new.out err err_now answer
+
+-- What a run of the program comes to.
+pub record Runs (given : List (List ℕ)) (old new : Told) (err err_now : SinkTold) (answer : ℕ) : Type 0 where
+  pub read : Result WhyWords WhyFault
+  pub says : given_words.Says given read
+  pub runs : RunsFor read old new err err_now answer
 
 -- What the program comes to: its words, what input, folder, output and standard error told before and after, and the exit status.
 abbrev pub TellsWhy : {Z : Type 0} → List (String Z) → (input input_now : SourceTold) → (folder folder_now : FolderTold) → (out out_now err err_now : SinkTold) → ℕ → Type 0

@@ -1,32 +1,50 @@
-//! The program: `steps` explains the script of the input, `trace FILE` is the account of a trace.
+//! The program: `steps` explains the script of the input, `trace` and `stream` are accounts of what was recorded.
 
-ghost use Rattle.std.specs.Prelude.{◌≡◌, IfOk, OnOk, map, string_bytes};
+ghost use Rattle.std.specs.Prelude.{◌≡◌, ◌∷◌, [], IfOk, map, option_map, string_bytes};
 ghost use Rattle.dl_outside.specs.Told.{FolderTold, SinkTold};
 ghost use Rattle.dl_script.specs.Playable.{IsPlayable};
 ghost use Rattle.dl_startup.specs.Configuration.{SetsUp};
 ghost use Rattle.dl_startup.specs.Setup.{conf_name};
-ghost use Rattle.dl_why.specs.Program.{Begins, Ends, RunsSteps, TellsWhy, Writes, asks_for_steps, told};
+ghost use Rattle.dl_trace_files.specs.Files.{files_asked};
+ghost use Rattle.dl_trace_why.specs.Account.{Runs, sides};
+ghost use Rattle.dl_why_words.specs.Words.{said};
+ghost use Rattle.dl_why.specs.Program.{AnswersFault, Begins, Ends, Helps, RunsAsked, RunsNot, RunsSteps, TellsWhy, Writes, help, told};
 
 use crate::explanation::explain;
 use crate::script::{Script, read_script};
 use dl_outside::{Folder, Sink, Source, write_text};
 use dl_startup::{CONF_NAME, Setup, Status, set_up};
+use dl_trace_why::{Wanted, Which, account};
+use dl_why_words::{WhyFault, WhyWords, why_words};
 use std::alloc::Global;
 
 /// The program's name, with which each line on standard error begins.
 const PROGRAM: &[u8] = b"dlt_why";
 
 /// The words that it takes, as the line says it that refuses others.
-const USAGE: &[u8] = b"dlt_why trace FILE or steps";
+const USAGE: &[u8] =
+    b"dlt_why steps, trace [--picture FILE] [FOLDER|FILE].. or stream [--picture FILE] FILE";
 
-/// Whether the words ask for the steps of the input.
-fn asks_for_steps(words: &[String]) -> bool
-    ensures { result ≡ asks_for_steps (map string_bytes words.now) }
+/// What it says of itself.
+#[tactic(auto, unfolding(crate::specs::Program::help))]
+fn help() -> &'static [u8]
+    ensures { result.now ≡ help }
 {
-    match words {
-        [_, word] => word.as_str() == "steps",
-        _ => false,
-    }
+    b"Says why messages are missing.
+
+Usage: dlt_why steps < SCRIPT
+       dlt_why trace [--picture FILE] [FOLDER|FILE]..
+       dlt_why stream [--picture FILE] FILE
+
+Tasks:
+  steps   what became of each log call of a step script
+  trace   what is missing of traces; without a name of those in this folder
+  stream  what is missing of a stream as a client recorded it
+
+Options:
+      --picture <FILE>  draws the sessions into this file, as SVG
+  -h, --help            Print help
+"
 }
 
 /// What a run begins with.
@@ -102,9 +120,93 @@ fn run_steps<F: Folder, I: Source, O: Sink, E: Sink>(
     status.number()
 }
 
-/// Tells why messages aren't there: with the word `steps` what became of each log call of the script of the input, with `trace FILE`
-/// what is missing of a trace. The words are those of the command line, the program's name first. No file of the folder is changed. The
-/// answer is the exit status. Each but the good one is said on `err` in one line, and a fault of `err` changes nothing.
+/// Writes the account of traces, and says how that ended.
+fn run_traces<F: Folder, O: Sink, E: Sink>(
+    alloc: Global,
+    names: &[&str],
+    picture: Option<&str>,
+    folder: &mut F,
+    out: &mut O,
+    err: &mut E,
+) -> u8
+    ensures { Runs (λ files. files_asked files (map (λ name. name.now) names.now)) (option_map (λ name. name.now) picture.entry)
+        (sides (F.told folder.old) (O.told out.old)) (sides (F.told folder.new) (O.told out.new)) (E.told err.old) (E.told err.new) result }
+{
+    let files = Which::Traces(names);
+    account(alloc, Wanted { files, picture }, folder, out, err)
+}
+
+/// Writes the account of a stream, and says how that ended.
+fn run_stream<F: Folder, O: Sink, E: Sink>(
+    alloc: Global,
+    name: &str,
+    picture: Option<&str>,
+    folder: &mut F,
+    out: &mut O,
+    err: &mut E,
+) -> u8
+    ensures { Runs (λ files. name.now ∷ []) (option_map (λ name. name.now) picture.entry)
+        (sides (F.told folder.old) (O.told out.old)) (sides (F.told folder.new) (O.told out.new)) (E.told err.old) (E.told err.new) result }
+{
+    let files = Which::Stream(name);
+    account(alloc, Wanted { files, picture }, folder, out, err)
+}
+
+/// Writes what the program says of itself.
+fn write_help<O: Sink>(out: &mut O) -> Status
+    ensures { Helps (O.told out.old) (O.told out.new) result }
+{
+    match write_text(out, help()) {
+        Ok(()) => Status::Ok,
+        Err(_) => Status::WriteFault,
+    }
+}
+
+/// How words end that ask for no account.
+fn fault_status<O: Sink>(fault: WhyFault, out: &mut O) -> Status
+    ensures { AnswersFault fault (O.told out.old) (O.told out.new) result }
+{
+    match fault {
+        WhyFault::Help => write_help(out),
+        WhyFault::Refused => Status::WordsRefused,
+        WhyFault::OutOfMemory => Status::OutOfMemory,
+    }
+}
+
+/// Answers words that ask for no account, and says how that ended.
+fn answer_fault<O: Sink, E: Sink>(fault: WhyFault, out: &mut O, err: &mut E) -> u8
+    ensures { RunsNot fault (O.told out.old) (O.told out.new) (E.told err.old) (E.told err.new) result }
+{
+    let status = fault_status(fault, out);
+    status.say(PROGRAM, USAGE, err);
+    status.number()
+}
+
+/// Does what the words ask for, and says how that ended.
+fn run_asked<F: Folder, I: Source, O: Sink, E: Sink>(
+    alloc: Global,
+    asked: WhyWords<'_>,
+    input: &mut I,
+    folder: &mut F,
+    out: &mut O,
+    err: &mut E,
+) -> u8
+    ensures { RunsAsked (said asked.entry) (told (I.told input.old) (F.told folder.old) (O.told out.old))
+        (told (I.told input.new) (F.told folder.new) (O.told out.new)) (E.told err.old) (E.told err.new) result }
+{
+    match asked {
+        WhyWords::Steps => run_steps(alloc, input, folder, out, err),
+        WhyWords::Trace { names, picture } => {
+            run_traces(alloc, &names, picture, folder, out, err)
+        }
+        WhyWords::Stream { name, picture } => { run_stream(alloc, name, picture, folder, out, err) }
+    }
+}
+
+/// Tells why messages aren't there: with the word `steps` what became of each log call of the script of the input, with `trace` and `stream`
+/// what is missing of what was recorded, with `--help` what the program is for. The words are those of the command line, the program's name
+/// first. No file of the folder is changed but that of a picture. The answer is the exit status. Each but the good one is said on `err` in
+/// one line, and a fault of `err` changes nothing.
 pub fn tell_why<F: Folder, I: Source, O: Sink, E: Sink>(
     alloc: Global,
     words: &[String],
@@ -116,9 +218,8 @@ pub fn tell_why<F: Folder, I: Source, O: Sink, E: Sink>(
     ensures { TellsWhy words.now (I.told input.old) (I.told input.new) (F.told folder.old) (F.told folder.new)
         (O.told out.old) (O.told out.new) (E.told err.old) (E.told err.new) result }
 {
-    if asks_for_steps(words) {
-        run_steps(alloc, input, folder, out, err)
-    } else {
-        dl_sessions::why(alloc, words, folder, out, err)
+    match why_words(alloc, words) {
+        Ok(asked) => run_asked(alloc, asked, input, folder, out, err),
+        Err(fault) => answer_fault(fault, out, err),
     }
 }

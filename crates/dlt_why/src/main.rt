@@ -1,6 +1,6 @@
-//! `dlt_why steps` plays the script of standard input, and prints what became of each of its log calls. `dlt_why trace FILE` reads a
-//! trace file, or a stream as a client recorded it, and prints which messages are missing of each session, where, and what the stream
-//! tells of the cause. No file is changed.
+//! `dlt_why steps` plays the script of standard input, and prints what became of each of its log calls. `dlt_why trace [FOLDER|FILE]..` reads
+//! trace files, and `dlt_why stream FILE` a stream as a client recorded it, and prints which messages are missing of each session, where, and
+//! what the traces tell of the cause. No file is changed but that of a picture.
 #![tactic(auto)]
 
 use dl_real::{Directory, Reading, Writing};

@@ -1,0 +1,15 @@
+use Rattle.std.proofs.Common.{map, string_bytes}
+use Rattle.clap.specs.Simple.{app_of}
+use Rattle.dl_why_words.specs.Command.{stream_command}
+use Rattle.dl_why_words.specs.Words.{AsksStream, said, stream_in}
+use Rattle.dl_why_words.specs.declared.words.WhyWords.TheVariants as words
+use Rattle.dl_why_words.proofs.Said.{refused, taken}
+use Rattle.dl_why_words.proofs.words.stream_words.Goals as goal
+
+pub returns-in-Err : goal.returns-in-Err
+returns-in-Err c = refused (app_of c.in-Ok.command) stream_command (map string_bytes c.args.words.now) c.in-Err.fault c.in-Ok.ensures c.in-Err.ensures
+
+pub returns : goal.returns
+returns c =
+    taken (app_of c.in-Ok.command) stream_command stream_in (map string_bytes c.args.words.now) c.in-Ok-parse.matches (said (words.Stream c.required.result c.given.result)) c.in-Ok.ensures c.in-Ok-parse.ensures
+    (λ i. AsksStream (c.required.ensures i) (c.given.ensures i))

@@ -1,0 +1,4 @@
+pub mod Command
+pub mod Task
+pub mod Parse
+pub mod Words

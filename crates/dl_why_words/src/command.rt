@@ -1,0 +1,58 @@
+//! The commands of `dlt_why`.
+
+ghost use Rattle.std.specs.Prelude.{◌≡◌, IfOk, codes, false};
+ghost use Rattle.clap.specs.Words.{app_of, rule_of};
+ghost use Rattle.dl_words.specs.Command.{option};
+ghost use Rattle.dl_why_words.specs.Command.{file, files, steps_command, stream_command, trace_command};
+
+use clap::{Arg, ArgAction, Command};
+use std::alloc::{AllocError, Global};
+
+/// The option `--picture FILE`.
+fn picture<'a>(alloc: Global) -> Arg<'a>
+    ensures rule { rule_of result ≡ option (codes "picture") }
+    ensures own { result.global ≡ false }
+{
+    Arg::new(alloc, "picture").long("picture")
+}
+
+/// The names of files, any number of them.
+fn files<'a>(alloc: Global) -> Arg<'a>
+    ensures rule { rule_of result ≡ files }
+    ensures own { result.global ≡ false }
+{
+    Arg::new(alloc, "FILE").action(ArgAction::Append)
+}
+
+/// The name of a file.
+fn file<'a>(alloc: Global) -> Arg<'a>
+    ensures rule { rule_of result ≡ file }
+    ensures own { result.global ≡ false }
+{
+    Arg::new(alloc, "FILE").required(true)
+}
+
+/// The command `steps`.
+pub fn steps_command<'a>(alloc: Global) -> Command<'a>
+    ensures { app_of result ≡ steps_command }
+{
+    Command::new(alloc, "steps")
+}
+
+/// The command `trace`.
+pub fn trace_command<'a>(alloc: Global) -> Result<Command<'a>, AllocError>
+    ensures { IfOk result (λ command. app_of command ≡ trace_command) }
+{
+    Command::new(alloc, "trace")
+        .arg(picture(alloc))?
+        .arg(files(alloc))
+}
+
+/// The command `stream`.
+pub fn stream_command<'a>(alloc: Global) -> Result<Command<'a>, AllocError>
+    ensures { IfOk result (λ command. app_of command ≡ stream_command) }
+{
+    Command::new(alloc, "stream")
+        .arg(picture(alloc))?
+        .arg(file(alloc))
+}
