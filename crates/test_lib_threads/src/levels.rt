@@ -25,12 +25,17 @@ fn level_of(version: u64) -> Option<Level> {
     }
 }
 
+/// Logs a call.
+fn log<R: Wait>(rt: &R, book: &mut Book, ctx: &Ctx, at: u32) {
+    let text = Payload::new();
+    let _answer = book.log(rt, ctx, Severity::Warn, at, &text);
+}
+
 /// Makes a thread's calls, and gives its book back.
 fn log_all<R: Wait>(rt: &R, book: Book, ctx: Ctx) -> Book {
     let mut book = book;
-    let text = Payload::new();
     for at in 0..CALLS {
-        let _answer = book.log(rt, &ctx, Severity::Warn, at, &text);
+        log(rt, &mut book, &ctx, at);
     }
     book
 }

@@ -3,7 +3,7 @@
 ghost use Rattle.dl_desk.specs.Made.{IsAppOf};
 
 use crate::programs::{book, context, spec};
-use dl_bytes::{Ctx, Id, OutOfMemory, OwnLevel, Payload, Severity};
+use dl_bytes::{Ctx, Id, OwnLevel, Payload, Severity};
 use dl_lib::{Answer, App, AppFault, Book, BookFault, Desk, WriterFault};
 use std::alloc::Global;
 use std::sync::Wait;
@@ -56,31 +56,42 @@ struct Met {
     writers: (u8, Option<WriterFault>),
 }
 
+/// Goes past the limits of a book with room for two records, and of an application's contexts.
+fn pass_contexts<R: Wait>(
+    rt: &R,
+    app: &mut App,
+    book: &mut Book,
+    writers: (u8, Option<WriterFault>),
+) -> Option<Met> {
+    match context(app) {
+        Ok(own) => Some(Met {
+            calls: answers(rt, book, &own),
+            contexts: fill(app),
+            writers,
+        }),
+        Err(_) => None,
+    }
+}
+
 /// Goes past the limits of an application: a book with room for two records, the 33rd writer and the 65th context.
 #[tactic(auto, using(dl_lib::proofs::OpenBooks::same_app))]
-fn pass_limits<R: Wait>(
-    rt: &R,
-    alloc: Global,
-    app: &mut App,
-    desk: &mut Desk,
-) -> Result<Met, OutOfMemory>
+fn pass_limits<R: Wait>(rt: &R, alloc: Global, app: &mut App, desk: &mut Desk) -> Option<Met>
     requires { IsAppOf desk.old app.old }
 {
-    let mut book = book(alloc, app, desk, 2)?;
-    let writers = make_writers(app, desk);
-    let own = context(app)?;
-    Ok(Met {
-        calls: answers(rt, &mut book, &own),
-        contexts: fill(app),
-        writers,
-    })
+    match book(alloc, app, desk, 2) {
+        Ok(mut book) => {
+            let writers = make_writers(app, desk);
+            pass_contexts(rt, app, &mut book, writers)
+        }
+        Err(_) => None,
+    }
 }
 
 /// Goes past the limits of one application.
 fn meet<R: Wait>(rt: &R, alloc: Global) -> Option<Met> {
     let specs = [spec(alloc, *b"LOG1", 16)];
     match Desk::make(alloc, &specs) {
-        Ok((mut desk, mut apps)) => pass_limits(rt, alloc, apps.of_mut(0), &mut desk).ok(),
+        Ok((mut desk, mut apps)) => pass_limits(rt, alloc, apps.of_mut(0), &mut desk),
         Err(_) => None,
     }
 }

@@ -1,0 +1,13 @@
+//! Scenarios that threads play over objects in memory. It is compiled for its tests alone.
+#![tactic(auto)]
+
+#[cfg(test)]
+mod beside;
+#[cfg(test)]
+mod ends;
+#[cfg(test)]
+mod links;
+#[cfg(test)]
+mod playing;
+#[cfg(test)]
+mod rings;
