@@ -1,0 +1,209 @@
+/* What bench/live starts beside the daemons: programs that log, and clients that read.
+ *
+ *     live channel PORT COUNT SIZE     logs over a channel of this project's daemon, as fast as it takes
+ *     live libdlt COUNT SIZE THREADS   logs by COVESA's libdlt, and waits where its buffer is full (built with -DLIBDLT -ldlt)
+ *     live read PORT COUNT             reads messages of application LIVE until so many came, or none for three seconds
+ *     live latency PORT USERS COUNT    logs single messages over a channel, each when the one before has come to a client
+ *     live slow PORT SECONDS           reads 10,000 bytes a second
+ *
+ * Each prints one line of numbers. Sizes are of the message's payload, in bytes. */
+#include <arpa/inet.h>
+#include <netinet/tcp.h>
+#include <pthread.h>
+#include <stdio.h>
+#include <stdlib.h>
+#include <string.h>
+#include <sys/socket.h>
+#include <time.h>
+#include <unistd.h>
+#ifdef LIBDLT
+#include <dlt/dlt.h>
+#endif
+
+static double now(void) {
+    struct timespec at;
+    clock_gettime(CLOCK_MONOTONIC, &at);
+    return at.tv_sec + at.tv_nsec / 1e9;
+}
+
+static void fail(const char *what) { perror(what), exit(1); }
+
+static int dial(const char *port) {
+    struct sockaddr_in to = {.sin_family = AF_INET, .sin_addr.s_addr = htonl(INADDR_LOOPBACK), .sin_port = htons(atoi(port))};
+    struct timeval patience = {3, 0};
+    int link = socket(AF_INET, SOCK_STREAM, 0), yes = 1;
+    if (connect(link, (struct sockaddr *)&to, sizeof to))
+        fail("connect");
+    setsockopt(link, IPPROTO_TCP, TCP_NODELAY, &yes, sizeof yes);
+    setsockopt(link, SOL_SOCKET, SO_RCVTIMEO, &patience, sizeof patience);
+    return link;
+}
+
+static void put_all(int link, const unsigned char *bytes, size_t count) {
+    while (count) {
+        ssize_t put = write(link, bytes, count);
+        if (put < 0)
+            fail("write");
+        bytes += put, count -= put;
+    }
+}
+
+/* A Log message of the user protocol: standard and extended header, and the payload. Answers its length. */
+static size_t logged(unsigned char *to, unsigned counter, size_t size) {
+    static const unsigned char front[] = "DUH\1\1\0\0\0\x3D\0\0\0ECU1\0\0\0\1\0\0\0\1\x41\1LIVETEST";
+    memcpy(to, front, 34);
+    to[9] = counter, to[10] = (26 + size) >> 8, to[11] = 26 + size;
+    memset(to + 34, 'x', size);
+    return 34 + size;
+}
+
+static void registers(int link) {
+    static const unsigned char app[] = "DUH\1\2\0\0\0LIVE\1\0\0\0\0\0\0", context[] = "DUH\1\4\0\0\0LIVETEST\0\0\0\0\xFF\xFF\1\0\0\0\0\0\0";
+    put_all(link, app, sizeof app), put_all(link, context, sizeof context);
+}
+
+static void log_over_channel(char **words) {
+    static unsigned char out[65536];
+    int link = dial(words[0]), count = atoi(words[1]), number;
+    size_t size = atoi(words[2]);
+    double began;
+    registers(link);
+    began = now();
+    for (number = 0; number < count; number++)
+        put_all(link, out, logged(out, number, size));
+    /* who closes while levels wait unread makes the system drop what the daemon has not read yet */
+    shutdown(link, SHUT_WR);
+    while (read(link, out, sizeof out) > 0)
+        continue;
+    printf("%d %.4f\n", number, now() - began);
+}
+
+/* Messages of application LIVE of a stream: how many there are in what came, and what of it is no whole message yet. */
+static unsigned char heard[1 << 20];
+static size_t held;
+static long bytes_of_live;
+
+static int came(int link) {
+    size_t at = 0;
+    int found = 0;
+    ssize_t more = read(link, heard + held, sizeof heard - held);
+    if (more <= 0)
+        return -1;
+    held += more;
+    while (held - at >= 4) {
+        size_t length = heard[at + 2] << 8 | heard[at + 3], fields = 4;
+        if (held - at < length)
+            break;
+        fields += 4 * (!!(heard[at] & 4) + !!(heard[at] & 8) + !!(heard[at] & 16));
+        if (heard[at] & 1 && !memcmp(heard + at + fields + 2, "LIVE", 4))
+            found++, bytes_of_live += length;
+        at += length;
+    }
+    memmove(heard, heard + at, held - at);
+    held -= at;
+    return found;
+}
+
+static void read_messages(char **words) {
+    int link = dial(words[0]), count = atoi(words[1]), found = 0, more;
+    double first = 0, last = 0;
+    puts("listens"), fflush(stdout);
+    while (found < count && (more = came(link)) >= 0) {
+        if (more && !found)
+            first = now();
+        if (more)
+            last = now();
+        found += more;
+    }
+    printf("%d %ld %.4f\n", found, bytes_of_live, last - first);
+}
+
+static int compare(const void *one, const void *other) { return (*(double *)one > *(double *)other) - (*(double *)one < *(double *)other); }
+
+static void measure_latency(char **words) {
+    unsigned char out[256];
+    int client = dial(words[0]), program = dial(words[1]), count = atoi(words[2]), number;
+    double *took = calloc(count, sizeof *took);
+    registers(program);
+    for (number = 0; number < count; number++) {
+        double began;
+        usleep(2000);
+        began = now();
+        put_all(program, out, logged(out, number, 20));
+        for (;;) {
+            int more = came(client);
+            if (more < 0)
+                fail("latency");
+            if (more)
+                break;
+        }
+        took[number] = now() - began;
+    }
+    qsort(took, count, sizeof *took, compare);
+    printf("%d %.6f %.6f\n", count, took[count / 2], took[count - 1 - count / 100]);
+}
+
+static void read_slowly(char **words) {
+    static unsigned char piece[1000];
+    int link = dial(words[0]);
+    double until = now() + atof(words[1]);
+    while (now() < until && read(link, piece, sizeof piece) > 0)
+        usleep(100000);
+}
+
+#ifdef LIBDLT
+static int each, sizes;
+
+static void *log_by_libdlt(void *place) {
+    DLT_DECLARE_CONTEXT(context)
+    char id[5], payload[2048];
+    int number, total, used;
+    snprintf(id, sizeof id, "TS%02ld", (long)place);
+    DLT_REGISTER_CONTEXT_LL_TS(context, id, "live", DLT_LOG_INFO, DLT_TRACE_STATUS_OFF);
+    memset(payload, 'x', sizeof payload), payload[sizes] = 0;
+    for (number = 0; number < each; number++) {
+        DLT_LOG(context, DLT_LOG_INFO, DLT_CSTRING(payload));
+        if (number % 64 == 0)
+            while (dlt_user_check_buffer(&total, &used) == 0 && used > total / 2)
+                dlt_user_log_resend_buffer();
+    }
+    DLT_UNREGISTER_CONTEXT(context);
+    return 0;
+}
+
+static void log_with_libdlt(char **words) {
+    pthread_t threads[64];
+    int many = atoi(words[2]);
+    long place;
+    double began;
+    each = atoi(words[0]) / many, sizes = atoi(words[1]) - 7 > 0 ? atoi(words[1]) - 7 : 0;
+    DLT_REGISTER_APP("LIVE", "live");
+    usleep(500000);
+    began = now();
+    for (place = 0; place < many; place++)
+        pthread_create(threads + place, 0, log_by_libdlt, (void *)place);
+    for (place = 0; place < many; place++)
+        pthread_join(threads[place], 0);
+    printf("%d %.4f\n", each * many, now() - began), fflush(stdout);
+    sleep(2);
+    DLT_UNREGISTER_APP_FLUSH_BUFFERED_LOGS();
+}
+#endif
+
+int main(int count, char **words) {
+    if (count == 5 && !strcmp(words[1], "channel"))
+        log_over_channel(words + 2);
+    else if (count == 4 && !strcmp(words[1], "read"))
+        read_messages(words + 2);
+    else if (count == 5 && !strcmp(words[1], "latency"))
+        measure_latency(words + 2);
+    else if (count == 4 && !strcmp(words[1], "slow"))
+        read_slowly(words + 2);
+#ifdef LIBDLT
+    else if (count == 5 && !strcmp(words[1], "libdlt"))
+        log_with_libdlt(words + 2);
+#endif
+    else
+        return fputs("usage: see the first lines of live.c\n", stderr), 2;
+    return 0;
+}
