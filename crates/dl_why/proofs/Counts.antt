@@ -5,7 +5,7 @@ use Rattle.std.proofs.lemmas.Bool.{eqb-true}
 use Rattle.dl_laws.proofs.Lists.{count_by-append}
 use Rattle.dl_why.specs.Rows.{is_by}
 use Rattle.dl_why.specs.Written.{same_writer}
-use Rattle.dl_why.specs.declared.calls.CallAt.{CallAt}
+use Rattle.dl_call_lines.specs.declared.call.CallAt.{CallAt}
 use Rattle.dl_why.specs.declared.rows.WriterName.{WriterName}
 
 one_more : (writer : ℕ) (before : List CallAt) (at : CallAt) → count_by (is_by writer) (before ++ at ∷ []) ≡ count_by (is_by writer) before + cond {A = ℕ} (eqb at.writer writer) 1 0

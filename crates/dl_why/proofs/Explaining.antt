@@ -4,6 +4,7 @@ use Rattle.std.specs.Prelude.{◌^◌, count_by}
 use Rattle.dl_bytes.specs.declared.conf.AppSpec.{AppSpec}
 use Rattle.dl_bytes.specs.declared.outcome.Backlog.{Backlog}
 use Rattle.dl_bytes.specs.declared.outcome.Ends.{Ends}
+use Rattle.dl_call_lines.specs.Calls.{calls_in}
 use Rattle.dl_events.specs.declared.event.Event.{Event}
 use Rattle.dl_events.specs.declared.record.Record.{Record}
 use Rattle.dl_script_lines.specs.declared.step.Step.{Step}
@@ -18,7 +19,6 @@ use Rattle.dl_startup.specs.Failures.{unserved}
 use Rattle.dl_world.specs.Played.{IsPlayed, failures, is_failed}
 use Rattle.dl_world.specs.declared.played.Played.{Played}
 use Rattle.dl_replay.proofs.Answering.{said_yes}
-use Rattle.dl_why.specs.Calls.{calls_in}
 use Rattle.dl_why.specs.Explained.{explained, explained_of, no_trace}
 use Rattle.dl_why.specs.Rows.{rows_of}
 

@@ -12,7 +12,7 @@ use Rattle.dl_promises.specs.Fates.{Fate, by_answer, what_became_of}
 use Rattle.dl_why.specs.Found.{name_of}
 use Rattle.dl_why.specs.Rows.{clients_in, fate_words, heard_words, name_words, nobody, place_words, record_at, row_of, rows_of}
 use Rattle.dl_why.specs.Written.{TellWhole, fate_in, heard_by, row_by, rows_by}
-use Rattle.dl_why.specs.declared.calls.CallAt.{CallAt}
+use Rattle.dl_call_lines.specs.declared.call.CallAt.{CallAt}
 use Rattle.dl_why.specs.declared.fates.Fates.{Fates}
 
 pub range_more : (first n : ℕ) → range_with_len first (suc n) ≡ range_with_len first n ++ (first + n) ∷ []
@@ -34,13 +34,13 @@ module _ (source : FrameSource) (buffer : ℕ) (events : List Event) where
 
   module _ (specs : List AppSpec) (absent : Fates) (clients : List Fates) (is_absent : absent.client ≡ nobody) (tells : TellWhole source buffer events absent)
       (all : AllByRecursion (TellWhole source buffer events) clients) (came : map (λ (fates : Fates). fates.client) clients ≡ clients_in events) where
-    row_is : (line : ℕ) (r : Record) → row_by specs absent clients line r ≡ row_of source buffer events specs line r
-    row_is line r =
+    row_is : (at : CallAt) (r : Record) → row_by specs absent clients at r ≡ row_of source buffer events specs at r
+    row_is at r =
         let own : fate_in absent r ≡ what_became_of source buffer nobody events r = fate_is absent r tells ∙ ap (λ (client : ℕ). what_became_of source buffer client events r) is_absent in
         let heard : heard_by clients r ≡ flat_map (λ (client : ℕ). heard_words client (what_became_of source buffer client events r)) (clients_in events) =
         heard_is clients r all ∙ ap (flat_map (λ (client : ℕ). heard_words client (what_became_of source buffer client events r))) came in
-        ap (λ (fate : Fate). place_words line r ++ name_words r ++ fate_words specs r fate (heard_by clients r) ++ codes "\n") own
-        ∙ ap (λ (text : List ℕ). place_words line r ++ name_words r ++ fate_words specs r (what_became_of source buffer nobody events r) text ++ codes "\n") heard
+        ap (λ (fate : Fate). place_words at.line r ++ name_words r ++ fate_words specs at.told r fate (heard_by clients r) ++ codes "\n") own
+        ∙ ap (λ (text : List ℕ). place_words at.line r ++ name_words r ++ fate_words specs at.told r (what_became_of source buffer nobody events r) text ++ codes "\n") heard
 
     pub rows_are : (records : List (List Record)) (calls : List CallAt) → rows_by records specs absent clients calls ≡ rows_of source buffer records events specs calls
-    rows_are records calls = ap (λ (row : ℕ → Record → List ℕ). along (λ (before : List CallAt) (at : CallAt). option_map_or (row at.line) (record_at records before at) []) calls) (λ i line r. row_is line r i)
+    rows_are records calls = ap (λ (row : CallAt → Record → List ℕ). along (λ (before : List CallAt) (at : CallAt). option_map_or (row at) (record_at records before at) []) calls) (λ i at r. row_is at r i)

@@ -1,6 +1,5 @@
 pub mod Following
 pub mod Finding
-pub mod CallLines
 pub mod Counts
 pub mod RowLines
 pub mod Lawful

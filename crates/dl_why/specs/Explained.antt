@@ -2,12 +2,12 @@
 use Rattle.std.specs.Prelude.{ℕ, false, List, [], ◌++◌, None}
 use Rattle.dl_bytes.specs.declared.outcome.TraceState.{TraceState}
 use Rattle.dl_script_lines.specs.declared.step.Step.{Step}
+use Rattle.dl_call_lines.specs.Calls.{calls_in}
 use Rattle.dl_model.specs.Marks.{Mark, journal, records}
 use Rattle.dl_model.specs.Replay.{report_of, specs_of}
 use Rattle.dl_model.specs.Setting.{Setting}
 use Rattle.dl_model.specs.Steps.{run}
 use Rattle.dl_model.specs.WholeAccounts.{source_of_records}
-use Rattle.dl_why.specs.Calls.{calls_in}
 use Rattle.dl_why.specs.Rows.{rows_of}
 
 -- nothing is stored, so nothing is told of a trace

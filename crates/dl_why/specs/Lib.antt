@@ -1,4 +1,3 @@
-pub mod Calls
 pub mod Rows
 pub mod Followed
 pub mod Found

@@ -13,7 +13,7 @@ use Rattle.dl_model.specs.Frames.{FrameSource}
 use Rattle.dl_model.specs.Journal.{is_connect}
 use Rattle.dl_model.specs.WholeAccounts.{record_named}
 use Rattle.dl_promises.specs.Fates.{Fate, Filtered, RingFull, InRing, InStream, InBacklog, BufferFull, ForOthers, what_became_of}
-use Rattle.dl_why.specs.declared.calls.CallAt.{CallAt}
+use Rattle.dl_call_lines.specs.declared.call.CallAt.{CallAt}
 
 -- ---- words
 
@@ -51,6 +51,14 @@ level_words r = level_word r.held ++ codes ", version " ++ decimal r.version
 abbrev pub ring_words : List AppSpec → Record → List ℕ
 ring_words specs r = id_text r.item.apid ++ codes " held " ++ decimal (capacity_in specs r.item.app) ++ codes " of " ++ decimal (capacity_in specs r.item.app)
 
+-- the line in which the daemon was told of a lost call, or the end of the run
+abbrev pub line_words : Option ℕ → List ℕ
+line_words (Some line) = codes "; told in line " ++ decimal line
+line_words None = codes "; told at the end"
+
+abbrev pub lost_words : List AppSpec → Option ℕ → Record → List ℕ
+lost_words specs told r = ring_words specs r ++ line_words told
+
 -- the client that was told, if one was
 abbrev pub told_words : Option ℕ → List ℕ
 told_words None = []
@@ -62,17 +70,17 @@ heard_words client (InStream place) = codes "; client " ++ decimal client ++ cod
 heard_words client _ = []
 
 -- the numbers that show it, and where the clients have it that do
-abbrev pub shown_words : List AppSpec → Record → Fate → List ℕ → List ℕ
-shown_words specs r Filtered heard = level_words r
-shown_words specs r RingFull heard = ring_words specs r
-shown_words specs r InRing heard = id_text r.item.apid
-shown_words specs r (InStream place) heard = heard
-shown_words specs r (InBacklog place) heard = decimal (place + 1)
-shown_words specs r (BufferFull next) heard = told_words next
-shown_words specs r ForOthers heard = heard
+abbrev pub shown_words : List AppSpec → Option ℕ → Record → Fate → List ℕ → List ℕ
+shown_words specs told r Filtered heard = level_words r
+shown_words specs told r RingFull heard = lost_words specs told r
+shown_words specs told r InRing heard = id_text r.item.apid
+shown_words specs told r (InStream place) heard = heard
+shown_words specs told r (InBacklog place) heard = decimal (place + 1)
+shown_words specs told r (BufferFull next) heard = told_words next
+shown_words specs told r ForOthers heard = heard
 
-abbrev pub fate_words : List AppSpec → Record → Fate → List ℕ → List ℕ
-fate_words specs r fate heard = lead_words fate ++ shown_words specs r fate heard
+abbrev pub fate_words : List AppSpec → Option ℕ → Record → Fate → List ℕ → List ℕ
+fate_words specs told r fate heard = lead_words fate ++ shown_words specs told r fate heard
 
 -- ---- rows
 
@@ -92,11 +100,11 @@ nobody = 0
 abbrev pub clients_in : List Event → List ℕ
 clients_in events = range_with_len 1 (count_by is_connect events)
 
--- The row of a call. What became of it is said by the law of causes, for each client.
-abbrev pub row_of : FrameSource → (buffer : ℕ) → List Event → List AppSpec → ℕ → Record → List ℕ
-row_of source buffer events specs line r =
-    place_words line r ++ name_words r
-    ++ fate_words specs r (what_became_of source buffer nobody events r) (flat_map (λ client. heard_words client (what_became_of source buffer client events r)) (clients_in events))
+-- The row of a call. What became of it is said by the law of causes, for each client; the line that tells of a lost one is the call's own (`told`).
+abbrev pub row_of : FrameSource → (buffer : ℕ) → List Event → List AppSpec → CallAt → Record → List ℕ
+row_of source buffer events specs at r =
+    place_words at.line r ++ name_words r
+    ++ fate_words specs at.told r (what_became_of source buffer nobody events r) (flat_map (λ client. heard_words client (what_became_of source buffer client events r)) (clients_in events))
     ++ codes "\n"
 
 -- the call of the same writer
@@ -110,4 +118,4 @@ record_at records before at = record_named records at.writer (1 + count_by (is_b
 -- the rows of the calls of a script, in the order of its lines
 abbrev pub rows_of : FrameSource → (buffer : ℕ) → List (List Record) → List Event → List AppSpec → List CallAt → List ℕ
 rows_of source buffer records events specs calls =
-    along (λ before at. option_map_or (row_of source buffer events specs at.line) (record_at records before at) []) calls
+    along (λ before at. option_map_or (row_of source buffer events specs at) (record_at records before at) []) calls

@@ -11,7 +11,7 @@ use Rattle.dl_events.specs.declared.event.Event.{Event}
 use Rattle.dl_model.specs.Frames.{FrameSource}
 use Rattle.dl_why.specs.Found.{TellsWhole, name_of, or_later, same_call}
 use Rattle.dl_why.specs.Rows.{fate_words, heard_words, is_by, name_words, place_words, record_at}
-use Rattle.dl_why.specs.declared.calls.CallAt.{CallAt}
+use Rattle.dl_call_lines.specs.declared.call.CallAt.{CallAt}
 use Rattle.dl_why.specs.declared.fates.Fates.{Fates}
 use Rattle.dl_why.specs.declared.rows.WriterName.{WriterName}
 
@@ -23,12 +23,12 @@ fate_in fates r = by_answer r.answer (or_later (hash.get same_call fates.calls (
 abbrev pub heard_by : List Fates → Record → List ℕ
 heard_by clients r = flat_map (λ (fates : Fates). heard_words fates.client (fate_in fates r)) clients
 
-abbrev pub row_by : List AppSpec → Fates → List Fates → ℕ → Record → List ℕ
-row_by specs nobody clients line r = place_words line r ++ name_words r ++ fate_words specs r (fate_in nobody r) (heard_by clients r) ++ codes "\n"
+abbrev pub row_by : List AppSpec → Fates → List Fates → CallAt → Record → List ℕ
+row_by specs nobody clients at r = place_words at.line r ++ name_words r ++ fate_words specs at.told r (fate_in nobody r) (heard_by clients r) ++ codes "\n"
 
 abbrev pub rows_by : List (List Record) → List AppSpec → Fates → List Fates → List CallAt → List ℕ
 rows_by records specs nobody clients calls =
-    along (λ before at. option_map_or (row_by specs nobody clients at.line) (record_at records before at) []) calls
+    along (λ before at. option_map_or (row_by specs nobody clients at) (record_at records before at) []) calls
 
 abbrev pub same_writer : WriterName → WriterName → Bool
 same_writer a b = a.number == b.number

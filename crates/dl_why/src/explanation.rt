@@ -7,14 +7,14 @@ ghost use Rattle.dl_model.specs.Setting.{Setting};
 ghost use Rattle.dl_model.specs.WholeAccounts.{records_by, source_of_records};
 ghost use Rattle.dl_left.specs.Clients.{ComeAndGo};
 ghost use Rattle.dl_script.specs.Playable.{IsPlayable};
-ghost use Rattle.dl_why.specs.Calls.{calls_in};
+ghost use Rattle.dl_call_lines.specs.Calls.{calls_in};
 ghost use Rattle.dl_why.specs.Program.{text_of};
 ghost use Rattle.dl_why.specs.Rows.{rows_of};
 
-use crate::calls::calls_in;
 use crate::findings::push_findings;
 use crate::script::Script;
 use dl_bytes::{Id, OutOfMemory};
+use dl_call_lines::calls_in;
 use dl_left::Sources;
 use dl_left::laws::{clients_come_and_go, records_account_for_a_journal};
 use dl_memory::MemoryFolder;

@@ -11,10 +11,10 @@ ghost use Rattle.dl_left.specs.Losses.{told};
 ghost use Rattle.dl_why.specs.Rows.{rows_of};
 ghost use Rattle.dl_why.specs.Written.{TellWhole};
 
-use crate::calls::CallAt;
 use crate::fates::{Fates, find_fates};
 use crate::rows::{Findings, push_rows};
 use dl_bytes::{AppSpec, Id, OutOfMemory};
+use dl_call_lines::CallAt;
 use dl_events::{Event, RecordList};
 use dl_left::Sources;
 use std::alloc::Global;

@@ -1,7 +1,6 @@
 //! Why a message isn't there: what became of each log call of a step script, client by client, and what is printed of it.
 #![tactic(auto)]
 
-mod calls;
 mod explanation;
 mod fate;
 mod fates;
@@ -11,7 +10,6 @@ mod program;
 mod rows;
 mod script;
 
-pub use calls::{CallAt, calls_in};
 pub use dl_startup::Status;
 pub use explanation::explain;
 pub use fate::{CallName, Fate};

@@ -9,14 +9,14 @@ ghost use Rattle.dl_model.specs.Accounts.{AreNumbered};
 ghost use Rattle.dl_model.specs.WholeAccounts.{records_by};
 ghost use Rattle.dl_promises.specs.Fates.{InRing};
 ghost use Rattle.dl_why.specs.Found.{or_later, said, same_call};
-ghost use Rattle.dl_why.specs.Rows.{capacity_in, fate_words, heard_words, is_by, lead_words, level_word, level_words, name_words, place_words, ring_words, shown_words, told_words};
+ghost use Rattle.dl_why.specs.Rows.{capacity_in, fate_words, heard_words, is_by, lead_words, level_word, level_words, line_words, lost_words, name_words, place_words, ring_words, shown_words, told_words};
 ghost use Rattle.dl_why.specs.Written.{KeepsCounts, fate_in, heard_by, row_by, rows_by, same_writer};
-ghost use Rattle.dl_why.specs.declared.calls.CallAt.{CallAt};
+ghost use Rattle.dl_call_lines.specs.declared.call.CallAt.{CallAt};
 
-use crate::calls::CallAt;
 use crate::fate::{CallName, Fate};
 use crate::fates::Fates;
 use dl_bytes::{AppSpec, Id, Level, OutOfMemory, Severity};
+use dl_call_lines::CallAt;
 use dl_events::{Answer, Record, RecordList};
 use dl_left::record_of;
 use dl_text::push_id;
@@ -186,6 +186,29 @@ fn push_ring(text: &mut Vec<u8>, specs: &[AppSpec], call: &Record) -> Result<(),
     push_number(text, b" of ", capacity_in(specs, call.item.app))
 }
 
+/// Adds the line in which the daemon was told of a lost call.
+fn push_line(text: &mut Vec<u8>, line: Option<u64>) -> Result<(), OutOfMemory>
+    ensures { OnOk result (text.new.items ≡ text.old.items ++ line_words line) }
+{
+    match line {
+        Some(line) => push_number(text, b"; told in line ", line),
+        None => text.extend_from_slice(b"; told at the end"),
+    }
+}
+
+/// Adds the ring that was full, and the line in which the daemon was told.
+fn push_lost(
+    text: &mut Vec<u8>,
+    specs: &[AppSpec],
+    told: Option<u64>,
+    call: &Record,
+) -> Result<(), OutOfMemory>
+    ensures { OnOk result (text.new.items ≡ text.old.items ++ lost_words specs.now told call.now) }
+{
+    push_ring(text, specs, call)?;
+    push_line(text, told)
+}
+
 /// Adds the client that was told, if one was.
 fn push_told(text: &mut Vec<u8>, next: Option<u32>) -> Result<(), OutOfMemory>
     ensures { OnOk result (text.new.items ≡ text.old.items ++ told_words next) }
@@ -204,14 +227,15 @@ fn push_shown(
     text: &mut Vec<u8>,
     specs: &[AppSpec],
     clients: &[Fates],
+    told: Option<u64>,
     call: &Record,
     fate: Fate,
 ) -> Result<(), OutOfMemory>
-    ensures { OnOk result (text.new.items ≡ text.old.items ++ shown_words specs.now call.now (said fate) (heard_by clients.now call.now)) }
+    ensures { OnOk result (text.new.items ≡ text.old.items ++ shown_words specs.now told call.now (said fate) (heard_by clients.now call.now)) }
 {
     match fate {
         Fate::Filtered => push_level(text, call),
-        Fate::RingFull => push_ring(text, specs, call),
+        Fate::RingFull => push_lost(text, specs, told, call),
         Fate::InRing => push_id(text, &call.item.apid),
         Fate::InBacklog { place } => push_decimal(text, place as u128 + 1),
         Fate::BufferFull { next } => push_told(text, next),
@@ -250,29 +274,34 @@ pub struct Findings<'s> {
 }
 
 /// Adds what became of a call.
-fn push_fate(text: &mut Vec<u8>, findings: &Findings<'_>, call: &Record) -> Result<(), OutOfMemory>
-    ensures { OnOk result (text.new.items ≡ text.old.items ++ fate_words findings.now.specs.now call.now (fate_in findings.now.nobody call.now) (heard_by findings.now.clients.items call.now)) }
+fn push_fate(
+    text: &mut Vec<u8>,
+    findings: &Findings<'_>,
+    told: Option<u64>,
+    call: &Record,
+) -> Result<(), OutOfMemory>
+    ensures { OnOk result (text.new.items ≡ text.old.items ++ fate_words findings.now.specs.now told call.now (fate_in findings.now.nobody call.now) (heard_by findings.now.clients.items call.now)) }
 {
     let fate = fate_in(&findings.nobody, call);
     text.extend_from_slice(lead_words(fate))?;
-    push_shown(text, findings.specs, &findings.clients, call, fate)
+    push_shown(text, findings.specs, &findings.clients, told, call, fate)
 }
 
 /// Adds the row of a call, where it has a record.
 fn push_row(
     text: &mut Vec<u8>,
     findings: &Findings<'_>,
-    line: u64,
+    at: &CallAt,
     call: Option<&Record>,
 ) -> Result<(), OutOfMemory>
-    ensures { OnOk result (text.new.items ≡ text.old.items ++ option_map_or (λ r. row_by findings.now.specs.now findings.now.nobody findings.now.clients.items line r.now) call.entry []) }
+    ensures { OnOk result (text.new.items ≡ text.old.items ++ option_map_or (λ r. row_by findings.now.specs.now findings.now.nobody findings.now.clients.items at.now r.now) call.entry []) }
 {
     let Some(call) = call else {
         return Ok(());
     };
-    push_place(text, line, call)?;
+    push_place(text, at.line, call)?;
     push_names(text, call)?;
-    push_fate(text, findings, call)?;
+    push_fate(text, findings, at.told, call)?;
     text.extend_from_slice(b"\n")
 }
 
@@ -313,12 +342,7 @@ pub fn push_rows(
     let mut counts = HashMap::new(alloc);
     for at in calls {
         let number = count_call(&mut counts, at)?;
-        push_row(
-            text,
-            findings,
-            at.line,
-            record_of(records, at.writer, number),
-        )?;
+        push_row(text, findings, at, record_of(records, at.writer, number))?;
     }
     Ok(())
 }

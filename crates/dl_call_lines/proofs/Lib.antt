@@ -1,0 +1,5 @@
+pub mod Places
+pub mod Walks
+pub mod Silent
+pub mod Telling
+pub mod Counting

@@ -1,0 +1,5 @@
+pub mod Lines
+pub mod Told
+pub mod Calls
+pub mod Noted
+pub mod Ahead

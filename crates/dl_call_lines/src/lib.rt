@@ -1,0 +1,10 @@
+//! The log calls of a step script: the line in which each begins, and the line in which the daemon is told of it where it is lost.
+#![tactic(auto)]
+
+mod ahead;
+mod call;
+pub mod laws;
+mod lines;
+mod owners;
+
+pub use call::{CallAt, calls_in};
