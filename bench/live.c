@@ -1,10 +1,15 @@
 /* What bench/live starts beside the daemons: programs that log, and clients that read.
  *
- *     live channel PORT COUNT SIZE     logs over a channel of this project's daemon, as fast as it takes
- *     live libdlt COUNT SIZE THREADS   logs by COVESA's libdlt, and waits where its buffer is full (built with -DLIBDLT -ldlt)
- *     live read PORT COUNT             reads messages of application LIVE until so many came, or none for three seconds
- *     live latency PORT USERS COUNT    logs single messages over a channel, each when the one before has come to a client
- *     live slow PORT SECONDS           reads 10,000 bytes a second
+ *     live channel PORT COUNT SIZE            logs over a channel of this project's daemon, as fast as it takes
+ *     live read PORT COUNT                    reads until so many messages of application LIVE came or were told as lost, or none for ten seconds
+ *     live latency PORT USERS COUNT REST      logs single messages over a channel, each REST milliseconds after the one before has come to a client
+ *     live slow PORT SECONDS                  reads 10,000 bytes a second
+ *
+ * and, built with -DLIBDLT -ldlt, by COVESA's libdlt:
+ *
+ *     live libdlt COUNT SIZE THREADS          logs, and waits where the library's buffer is full
+ *     live liblatency PORT COUNT REST         as latency
+ *     live calls filtered|delivered COUNT     calls one_call so often, whose instructions callgrind counts
  *
  * Each prints one line of numbers. Sizes are of the message's payload, in bytes. */
 #include <arpa/inet.h>
@@ -30,7 +35,7 @@ static void fail(const char *what) { perror(what), exit(1); }
 
 static int dial(const char *port) {
     struct sockaddr_in to = {.sin_family = AF_INET, .sin_addr.s_addr = htonl(INADDR_LOOPBACK), .sin_port = htons(atoi(port))};
-    struct timeval patience = {3, 0};
+    struct timeval patience = {10, 0};
     int link = socket(AF_INET, SOCK_STREAM, 0), yes = 1;
     if (connect(link, (struct sockaddr *)&to, sizeof to))
         fail("connect");
@@ -78,10 +83,10 @@ static void log_over_channel(char **words) {
     printf("%d %.4f\n", number, now() - began);
 }
 
-/* Messages of application LIVE of a stream: how many there are in what came, and what of it is no whole message yet. */
+/* Messages of application LIVE of a stream: how many there are in what came, how many calls were told as lost, and what is no whole message yet. */
 static unsigned char heard[1 << 20];
 static size_t held;
-static long bytes_of_live;
+static long bytes_of_live, told_lost;
 
 static int came(int link) {
     size_t at = 0;
@@ -95,8 +100,13 @@ static int came(int link) {
         if (held - at < length)
             break;
         fields += 4 * (!!(heard[at] & 4) + !!(heard[at] & 8) + !!(heard[at] & 16));
-        if (heard[at] & 1 && !memcmp(heard + at + fields + 2, "LIVE", 4))
-            found++, bytes_of_live += length;
+        if (heard[at] & 1 && !memcmp(heard + at + fields + 2, "LIVE", 4)) {
+            const unsigned char *lost = heard + at + fields + 16;
+            if (!(heard[at + fields] & 0x0E))
+                found++, bytes_of_live += length;
+            else if (heard[at + fields] == 0x26 && heard[at + fields + 10] == 0x14)
+                told_lost += lost[0] | lost[1] << 8 | lost[2] << 16 | (long)lost[3] << 24;
+        }
         at += length;
     }
     memmove(heard, heard + at, held - at);
@@ -108,39 +118,49 @@ static void read_messages(char **words) {
     int link = dial(words[0]), count = atoi(words[1]), found = 0, more;
     double first = 0, last = 0;
     puts("listens"), fflush(stdout);
-    while (found < count && (more = came(link)) >= 0) {
+    while (found + told_lost < count && (more = came(link)) >= 0) {
         if (more && !found)
             first = now();
         if (more)
             last = now();
         found += more;
     }
-    printf("%d %ld %.4f\n", found, bytes_of_live, last - first);
+    printf("%d %ld %.4f\n", found, told_lost, last - first);
 }
 
 static int compare(const void *one, const void *other) { return (*(double *)one > *(double *)other) - (*(double *)one < *(double *)other); }
 
-static void measure_latency(char **words) {
-    unsigned char out[256];
-    int client = dial(words[0]), program = dial(words[1]), count = atoi(words[2]), number;
+/* What sends one message, and how long it takes until a client has it. */
+static void measure_latency(int client, int count, int rest, void (*sends)(int number)) {
     double *took = calloc(count, sizeof *took);
-    registers(program);
+    int number, more;
     for (number = 0; number < count; number++) {
         double began;
-        usleep(2000);
+        usleep(rest * 1000);
         began = now();
-        put_all(program, out, logged(out, number, 20));
-        for (;;) {
-            int more = came(client);
-            if (more < 0)
-                fail("latency");
-            if (more)
-                break;
-        }
+        sends(number);
+        while ((more = came(client)) == 0)
+            continue;
+        if (more < 0)
+            fail("latency");
         took[number] = now() - began;
     }
     qsort(took, count, sizeof *took, compare);
     printf("%d %.6f %.6f\n", count, took[count / 2], took[count - 1 - count / 100]);
+}
+
+static int channel;
+
+static void sends_over_channel(int number) {
+    unsigned char out[256];
+    put_all(channel, out, logged(out, number, 20));
+}
+
+static void measure_channel(char **words) {
+    int client = dial(words[0]);
+    channel = dial(words[1]);
+    registers(channel);
+    measure_latency(client, atoi(words[2]), atoi(words[3]), sends_over_channel);
 }
 
 static void read_slowly(char **words) {
@@ -188,22 +208,67 @@ static void log_with_libdlt(char **words) {
     sleep(2);
     DLT_UNREGISTER_APP_FLUSH_BUFFERED_LOGS();
 }
+
+DLT_DECLARE_CONTEXT(only)
+
+static void begins_only(void) {
+    DLT_REGISTER_APP("LIVE", "live");
+    DLT_REGISTER_CONTEXT_LL_TS(only, "TEST", "live", DLT_LOG_INFO, DLT_TRACE_STATUS_OFF);
+    usleep(500000);
+}
+
+/* Its payload has twenty bytes, as those of dlt_bench. */
+static __attribute__((noinline)) void one_call(DltLogLevelType level) {
+    DLT_LOG_STRING(only, level, "thirteen text");
+}
+
+static void sends_by_libdlt(int number) {
+    (void)number;
+    one_call(DLT_LOG_INFO);
+}
+
+static void measure_libdlt(char **words) {
+    int client = dial(words[0]);
+    begins_only();
+    measure_latency(client, atoi(words[1]), atoi(words[2]), sends_by_libdlt);
+}
+
+static void make_calls(char **words) {
+    DltLogLevelType level = strcmp(words[0], "filtered") ? DLT_LOG_INFO : DLT_LOG_DEBUG;
+    int count = atoi(words[1]), number, total, used = 0;
+    begins_only();
+    for (number = 0; number < count; number++) {
+        one_call(level);
+        do
+            dlt_user_check_buffer(&total, &used);
+        while (used && !usleep(1000));
+    }
+    DLT_UNREGISTER_APP_FLUSH_BUFFERED_LOGS();
+}
 #endif
 
-int main(int count, char **words) {
-    if (count == 5 && !strcmp(words[1], "channel"))
-        log_over_channel(words + 2);
-    else if (count == 4 && !strcmp(words[1], "read"))
-        read_messages(words + 2);
-    else if (count == 5 && !strcmp(words[1], "latency"))
-        measure_latency(words + 2);
-    else if (count == 4 && !strcmp(words[1], "slow"))
-        read_slowly(words + 2);
+struct job {
+    const char *word;
+    int words;
+    void (*does)(char **words);
+};
+
+static const struct job jobs[] = {
+    {"channel", 3, log_over_channel},
+    {"read", 2, read_messages},
+    {"latency", 4, measure_channel},
+    {"slow", 2, read_slowly},
 #ifdef LIBDLT
-    else if (count == 5 && !strcmp(words[1], "libdlt"))
-        log_with_libdlt(words + 2);
+    {"libdlt", 3, log_with_libdlt},
+    {"liblatency", 3, measure_libdlt},
+    {"calls", 2, make_calls},
 #endif
-    else
-        return fputs("usage: see the first lines of live.c\n", stderr), 2;
-    return 0;
+};
+
+int main(int count, char **words) {
+    size_t at;
+    for (at = 0; at < sizeof jobs / sizeof *jobs; at++)
+        if (count > 1 && count == jobs[at].words + 2 && !strcmp(words[1], jobs[at].word))
+            return jobs[at].does(words + 2), 0;
+    return fputs("usage: see the first lines of live.c\n", stderr), 2;
 }

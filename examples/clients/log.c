@@ -1,6 +1,6 @@
 /* Logs from outside: registers an application with a context, obeys the level that the daemon sends back, and logs.
  *
- *     cc -o log log.c && ./log [PORT [COUNT]]    3491 and 10 where they are not given */
+ *     cc -o log log.c && ./log [PORT [COUNT [REST]]]    3491, 10 and 0 where they are not given; it rests so many milliseconds behind each message */
 #include <arpa/inet.h>
 #include <stdio.h>
 #include <stdlib.h>
@@ -29,7 +29,7 @@ static void log_text(int severity, const char *text) {
     clock_gettime(CLOCK_MONOTONIC, &now);
     begin(1), out[used++] = 0x3D, out[used++] = counter++, high_first(26 + 6 + size, 2);
     put("ECU1", 4), high_first(getpid(), 4), high_first(now.tv_sec * 10000 + now.tv_nsec / 100000, 4);
-    out[used++] = severity << 4 | 1, out[used++] = 1, put("OUT1TEST", 8);
+    out[used++] = severity << 4 | 1, out[used++] = 1, put("OUT2TEST", 8);
     low_first(0x8200, 4), low_first(size, 2), put(text, size), end();
 }
 
@@ -43,20 +43,22 @@ static void obey(void) {
 
 int main(int count, char **words) {
     struct sockaddr_in to = {.sin_family = AF_INET, .sin_addr.s_addr = htonl(INADDR_LOOPBACK)};
-    int number, calls = count > 2 ? atoi(words[2]) : 10;
+    int number, calls = count > 2 ? atoi(words[2]) : 10, rest = count > 3 ? atoi(words[3]) : 0;
     char text[64];
     to.sin_port = htons(count > 1 ? atoi(words[1]) : 3491);
     link_to_daemon = socket(AF_INET, SOCK_STREAM, 0);
     if (connect(link_to_daemon, (struct sockaddr *)&to, sizeof to))
         return perror("log"), 1;
-    begin(2), put("OUT1", 4), low_first(getpid(), 4), low_first(7, 4), put("outside", 7), end();
-    begin(4), put("OUT1TEST", 8), low_first(0, 4), low_first(0xFEFE, 2), low_first(getpid(), 4), low_first(4, 4), put("test", 4), end();
+    begin(2), put("OUT2", 4), low_first(getpid(), 4), low_first(7, 4), put("outside", 7), end();
+    begin(4), put("OUT2TEST", 8), low_first(0, 4), low_first(0xFEFE, 2), low_first(getpid(), 4), low_first(4, 4), put("test", 4), end();
     for (number = 0; number < calls; number++) {
         obey();
         snprintf(text, sizeof text, "message %d", number), log_text(INFO, text);
         snprintf(text, sizeof text, "more on message %d", number), log_text(DEBUG, text);
+        if (rest)
+            usleep(rest * 1000);
     }
-    begin(3), put("OUT1", 4), low_first(getpid(), 4), end();
+    begin(3), put("OUT2", 4), low_first(getpid(), 4), end();
     /* Who closes while levels wait unread makes the system drop what the daemon has not read yet: so all is read first, until the daemon closes. */
     shutdown(link_to_daemon, SHUT_WR);
     while (read(link_to_daemon, out, sizeof out) > 0)

@@ -1,7 +1,7 @@
 #!/usr/bin/env python3
 """Logs from outside: registers an application with a context, obeys the level that the daemon sends back, and logs.
 
-    log.py [PORT [COUNT]]    3491 and 10 where they are not given
+    log.py [PORT [COUNT [REST]]]    3491, 10 and 0 where they are not given; it rests so many milliseconds behind each message
 """
 import os
 import socket
@@ -10,8 +10,7 @@ import sys
 import time
 
 FATAL, ERROR, WARN, INFO, DEBUG, VERBOSE = range(1, 7)
-PORT, COUNT = (int(word) for word in (sys.argv[1:] + ["3491", "10"][len(sys.argv) - 1:])[:2])
-BEGAN = time.monotonic()
+PORT, COUNT, REST = (int(word) for word in (sys.argv[1:] + ["3491", "10", "0"][len(sys.argv) - 1:])[:3])
 level, heard, counter = INFO, b"", 0
 link = socket.create_connection(("127.0.0.1", PORT))
 
@@ -27,7 +26,7 @@ def log(severity, text):
     if severity > level:
         return
     argument = struct.pack("<IH", 0x8200, len(text.encode()) + 1) + text.encode() + b"\0"
-    ticks = int((time.monotonic() - BEGAN) * 10000)
+    ticks = int(time.monotonic() * 10000) % 2**32
     front = b"ECU1" + struct.pack(">II", os.getpid(), ticks) + bytes([severity << 4 | 1, 1]) + b"OUT1TEST"
     tell(1, struct.pack(">BBH", 0x3D, counter, 4 + len(front + argument)) + front + argument)
     counter = (counter + 1) % 256
@@ -50,6 +49,8 @@ for number in range(COUNT):
     obey()
     log(INFO, f"message {number}")
     log(DEBUG, f"more on message {number}")
+    if REST:
+        time.sleep(REST / 1000)
 tell(3, b"OUT1" + struct.pack("<i", os.getpid()))
 # Who closes while levels wait unread makes the system drop what the daemon has not read yet: so all is read first, until the daemon closes.
 link.shutdown(socket.SHUT_WR)
