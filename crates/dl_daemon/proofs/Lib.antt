@@ -5,6 +5,7 @@ pub mod AskedAgain
 pub mod MoreRounds
 pub mod KeptJournals
 pub mod SentMessages
+pub mod WentClients
 pub mod HeardToTheEnd
 pub mod Steps
 pub mod LeftServers

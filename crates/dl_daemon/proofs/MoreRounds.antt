@@ -1,6 +1,7 @@
 -- Rounds of a daemon, one after the other.
 use Rattle.std.proofs.Common.{◌≡◌, ℕ, suc, refl, subst}
 use Rattle.dl_outside.specs.Told.{FolderTold, LinkTold, NetTold}
+use Rattle.dl_serve.specs.Rounds.{IsSeen}
 use Rattle.dl_server.specs.Round.{IsRound}
 use Rattle.dl_server.specs.State.{State, seen}
 use Rattle.dl_server.specs.declared.server.Server.{Server}
@@ -16,9 +17,9 @@ module _ {L : Type 0} (told : L → LinkTold) where
   no_round net users s = (0, (refl, refl, refl))
 
   pub one_round_more : (net net_then net_now users users_then users_now : NetTold L) (old between new : State) → SomeRounds told net net_then users users_then old between → HasRoom between.core
-      → IsRound told net_then net_now users_then users_now (asked_again between) new → SomeRounds told net net_now users users_now old new
-  one_round_more net net_then net_now users users_then users_now old between new some room round =
-      (suc some.0, (net_then, users_then, between, some.1, room, round))
+      → IsRound told net_then net_now users_then users_now (asked_again between) new → IsSeen told noted between → SomeRounds told net net_now users users_now old new
+  one_round_more net net_then net_now users users_then users_now old between new some room round seen_so =
+      (suc some.0, (net_then, users_then, between, some.1, room, round, seen_so))
 
   -- a round of a daemon whose nets were asked again
   pub again_seen : (net net_now users users_now : NetTold L) (folder : FolderTold) (old between : Server Told L) (new : State) → between ≡ opened_again old

@@ -19,6 +19,7 @@ use Rattle.dl_serve.specs.Begin.{IsStart}
 use Rattle.dl_serve.specs.Comes.{IsComeTo}
 use Rattle.dl_serve.specs.Open.{IsHeard, Listen}
 use Rattle.dl_serve.specs.Shown.{AllShowEnds, TellLeft}
+use Rattle.dl_serve.specs.Went.{AllWent}
 use Rattle.dl_serve.proofs.HeardNets.{still_listens}
 use Rattle.dl_daemon.specs.declared.left.Left.{Left}
 use Rattle.dl_daemon.specs.declared.limits.Limits.{Limits}
@@ -183,10 +184,11 @@ module _ {L : Type 0} (link_told : L → LinkTold) where
       → ((why : Stop) (closed : Closed L) → HasOpened link_told most begun why (record old { folder = between }) new closed → TellGiven link_told
       → AllAdmitted closed.events.events (map link_told closed.users.links) closed.ends)
       → ((why : Stop) (closed : Closed L) → HasOpened link_told most begun why (record old { folder = between }) new closed → AllShowEnds (TellLeft link_told) (map link_told closed.users.links) closed.ends)
+      → ((why : Stop) (closed : Closed L) → HasOpened link_told most begun why (record old { folder = between }) new closed → AllWent link_told (setting most begun) closed)
       → daemon_of said ≡ Some asked → IsStart (serving asked) old.folder between begun → EndsBegun link_told most begun (record old { folder = between }) new s left → Ended link_told said old new s left
-  began said asked begun old between new s None most is_most comes admits shows is start ends =
+  began said asked begun old between new s None most is_most comes admits shows went is start ends =
       left_early said old new (record { asked = asked; is_asked = is; begun = begun; between = between; start = start }) s ends
-  began said asked begun old between new s (Some left) most is_most comes admits shows is start ends =
+  began said asked begun old between new s (Some left) most is_most comes admits shows went is start ends =
       let opens = ends.4 in (
         ends.0,
         ends.1,
@@ -198,5 +200,6 @@ module _ {L : Type 0} (link_told : L → LinkTold) where
           comes = subst (λ (m : Limits). IsComeTo link_told (setting m begun) begun old.folder new.folder ends.2) is_most (comes ends.0 ends.2 opens);
           admits = admits ends.0 ends.2 opens;
           shows = shows ends.0 ends.2 opens;
+          went = subst (λ (m : Limits). AllWent link_told (setting m begun) ends.2) is_most (went ends.0 ends.2 opens);
         },
       )

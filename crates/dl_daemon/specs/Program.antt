@@ -9,6 +9,7 @@ use Rattle.dl_serve.specs.Closed.{HasClosedTo}
 use Rattle.dl_serve.specs.Comes.{IsComeTo}
 use Rattle.dl_serve.specs.Open.{HasNotListened, IsHeard, Listens}
 use Rattle.dl_serve.specs.Shown.{AllShowEnds, TellLeft}
+use Rattle.dl_serve.specs.Went.{AllWent}
 use Rattle.dl_serve.specs.declared.beginning.Begun.{Begun}
 use Rattle.dl_serve.specs.declared.closed.Closed.{Closed}
 use Rattle.dl_server.specs.State.{State, seen}
@@ -54,7 +55,7 @@ pub record HasOpened {L : Type 0} (link_told : L → LinkTold) (most : Limits) (
 
 -- The daemon was begun, went round until there was a cause to end it, and closed; this is left. Were its events kept, `closed` would be what is left:
 -- what its rounds come to is what that journal says, in a setting of so many clients; of each program's messages there are the events, in their order,
--- each once, where links tell what they gave; and the links of programs show why these ended.
+-- each once, where links tell what they gave; the links of programs show why these ended, and so do those of clients, with the Closes among the events.
 pub record HasClosed {L : Type 0} (link_told : L → LinkTold) (said : List (List ℕ)) (why : Stop) (old new : Outside L) (left : Left L) : Type 0 where
   pub it : Started said old.folder
   pub closed : Closed L
@@ -63,6 +64,7 @@ pub record HasClosed {L : Type 0} (link_told : L → LinkTold) (said : List (Lis
   pub comes : IsComeTo link_told (setting limits it.begun) it.begun old.folder new.folder closed
   pub admits : TellGiven link_told → AllAdmitted closed.events.events (map link_told closed.users.links) closed.ends
   pub shows : AllShowEnds (TellLeft link_told) (map link_told closed.users.links) closed.ends
+  pub went : AllWent link_told (setting limits it.begun) closed
 
 -- ---- how it ends
 

@@ -4,6 +4,7 @@ use Rattle.dl_bytes.specs.Limits.{admitted_limit}
 use Rattle.dl_core.specs.State.{Core}
 use Rattle.dl_events.specs.declared.event.Event.{Event}
 use Rattle.dl_outside.specs.Told.{LinkTold, NetTold}
+use Rattle.dl_serve.specs.Rounds.{IsSeen}
 use Rattle.dl_server.specs.Round.{IsRound}
 use Rattle.dl_server.specs.State.{State}
 use Rattle.dl_server.specs.declared.server.Server.{Server}
@@ -27,12 +28,12 @@ HasRoom core = core.hub.admitted + turn_frames ≤ admitted_limit
 abbrev pub asked_again : State → State
 asked_again s = record s { no_clients = false; no_programs = false }
 
--- so many rounds, each of which began with room, and with both nets asked again
+-- so many rounds of a server, each of which began with room, and with both nets asked again
 abbrev pub AreRounds : {L : Type 0} → (L → LinkTold) → ℕ → NetTold L → NetTold L → NetTold L → NetTold L → State → State → Type 0
 AreRounds told zero net net_now users users_now old new = (net_now ≡ net) × (users_now ≡ users) × (new ≡ old)
 AreRounds {L} told (suc many) net net_now users users_now old new =
     (net_then : NetTold L) × (users_then : NetTold L) × (between : State) × AreRounds told many net net_then users users_then old between
-    × HasRoom between.core × IsRound told net_then net_now users_then users_now (asked_again between) new
+    × HasRoom between.core × IsRound told net_then net_now users_then users_now (asked_again between) new × IsSeen told noted between
 
 -- why the rounds end: a channel's turn might admit more frames than may be; or the watch ended them, and none might
 abbrev pub StopsFor : Stop → Core → Type 0

@@ -5,6 +5,7 @@ ghost use Rattle.dl_outside.specs.Told.{FolderTold, SinkTold};
 ghost use Rattle.dl_serve.specs.Admitted.{AllAdmitted, TellGiven};
 ghost use Rattle.dl_serve.specs.Comes.{IsComeTo};
 ghost use Rattle.dl_serve.specs.Shown.{AllShowEnds, TellLeft};
+ghost use Rattle.dl_serve.specs.Went.{AllWent};
 ghost use Rattle.dl_serve.specs.declared.beginning.Begun.{Begun};
 ghost use Rattle.dl_serve.specs.declared.closed.Closed.{Closed};
 ghost use Rattle.dl_startup.specs.Setup.{IsBegun};
@@ -46,6 +47,16 @@ pub fn how_programs_ended<L: Link>()
     ensures { (most : Limits) (begun : Begun) (old new : Outside L) (why : Stop) (closed : Closed L) → HasOpened L.told most begun why old new closed
         → AllShowEnds (TellLeft L.told) (map L.told closed.users.links) closed.ends }
 {}
+
+/// Each client has its Close, for a cause that its link and the end of its link show; and where links tell what they gave and took, its Request events
+/// are those of what its link gave, as the cause says.
+pub fn how_clients_went<L: Link>()
+    ensures { (most : Limits) (begun : Begun) (old new : Outside L) (why : Stop) (closed : Closed L) (first : FolderTold)
+        → IsBegun begun.conf first.files begun.trace → HasOpened L.told most begun why old new closed → AllWent L.told (setting most begun) closed }
+{
+    dl_rounds::laws::clients_are_as_noted::<L>();
+    dl_rounds::laws::gone_clients_show_why::<L>();
+}
 
 /// What a status says of the daemon is what is promised of the whole: the words decide first, and where all is of the form and nothing fails, the watch
 /// ended it, no more frames may be admitted, or memory was wanting.

@@ -10,7 +10,7 @@ ghost use Rattle.dl_daemon.specs.Status.{status_of};
 use crate::beginning::{ask, begin};
 use crate::closing::close;
 use crate::laws::{
-    an_end_is_a_keeping, how_programs_ended, what_programs_sent_is_admitted,
+    an_end_is_a_keeping, how_clients_went, how_programs_ended, what_programs_sent_is_admitted,
     what_was_kept_is_its_journal,
 };
 use crate::limits::Limits;
@@ -123,6 +123,7 @@ where
     what_was_kept_is_its_journal::<N::L>();
     what_programs_sent_is_admitted::<N::L>();
     how_programs_ended::<N::L>();
+    how_clients_went::<N::L>();
     let asked = match ask(alloc, words) {
         Ok(asked) => asked,
         Err(status) => return left_early(status),

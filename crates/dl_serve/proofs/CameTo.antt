@@ -41,11 +41,11 @@ use Rattle.dl_serve.specs.Comes.{IsComeTo, TookStream, TookStreams, run_in}
 -- ---- the trace files that stood before
 
 pub record HaveStood (conf : Conf) (files : Option Files) (kept : Option Trace) : Type 0 where
-  stood : List StoredFile
-  after : IfSome kept (trace.IsAfter stood [])
-  told : IfSome kept (λ _. IfSome files (λ all. HasFiles conf.directory all stood))
+  pub stood : List StoredFile
+  pub after : IfSome kept (trace.IsAfter stood [])
+  pub told : IfSome kept (λ _. IfSome files (λ all. HasFiles conf.directory all stood))
 
-what_stood : (conf : Conf) (files : Option Files) (kept : Option Trace) → IsBegun conf files kept → HaveStood conf files kept
+pub what_stood : (conf : Conf) (files : Option Files) (kept : Option Trace) → IsBegun conf files kept → HaveStood conf files kept
 what_stood conf files None begun = record { stood = []; after = tt; told = tt }
 what_stood conf files (Some kept) begun = record { stood = begun.2.0; after = begun.2.1; told = begun.2.2 }
 

@@ -13,4 +13,8 @@ pub mod KnownChannels
 pub mod AdmittedRuns
 pub mod ShownEnds
 pub mod HeardNets
+pub mod PassedEvents
+pub mod StandingClients
+pub mod GoneServers
+pub mod WentServers
 pub mod Steps

@@ -27,6 +27,7 @@ use Rattle.dl_serve.specs.Program.{Ended, EndsBegun, EndsWith, HasOpened, Leaves
 use Rattle.dl_serve.specs.Rounds.{HasMadeRounds, kept}
 use Rattle.dl_serve.specs.Shown.{AllShowEnds, TellLeft}
 use Rattle.dl_serve.specs.Told.{Told, told}
+use Rattle.dl_serve.specs.Went.{AllWent}
 use Rattle.dl_serve.proofs.EndedServings.{ended}
 use Rattle.dl_serve.proofs.HeardNets.{rounds_listen, still_listens}
 use Rattle.dl_serve.proofs.KnownServings.{counts_same, ends_from}
@@ -155,10 +156,11 @@ module _ {L : Type 0} (link_told : L → LinkTold) where
       → ((full : Bool) (left : Closed L) → HasOpened link_told begun full (record old { folder = between }) new left → TellGiven link_told
       → AllAdmitted left.events.events (map link_told left.users.links) left.ends)
       → ((full : Bool) (left : Closed L) → HasOpened link_told begun full (record old { folder = between }) new left → AllShowEnds (TellLeft link_told) (map link_told left.users.links) left.ends)
+      → ((full : Bool) (left : Closed L) → HasOpened link_told begun full (record old { folder = between }) new left → AllWent link_told (setting begun) left)
       → serve_of said ≡ Some asked → IsStart asked old.folder between begun → EndsBegun link_told begun (record old { folder = between }) new s closed → Ended link_told said old new s closed
-  began said asked begun old between new s None comes admits shows is start ends =
+  began said asked begun old between new s None comes admits shows went is start ends =
       (left_early said old new (record { asked = asked; is_asked = is; begun = begun; between = between; start = start }) s ends.0, ends.1)
-  began said asked begun old between new s (Some closed) comes admits shows is start ends = (
+  began said asked begun old between new s (Some closed) comes admits shows went is start ends = (
     ends.0,
     record {
       it = record { asked = asked; is_asked = is; begun = begun; between = between; start = start };
@@ -166,6 +168,7 @@ module _ {L : Type 0} (link_told : L → LinkTold) where
       comes = comes ends.0 closed ends.1;
       admits = admits ends.0 closed ends.1;
       shows = shows ends.0 closed ends.1;
+      went = went ends.0 closed ends.1;
     },
     ends_from closed ends.0 (counts old) (counts (record old { folder = between })) (counts new) old.out new.out s
         (counts_same old.folder between old.net old.net old.users old.users start.quiet.well refl refl) ends.2,

@@ -9,4 +9,5 @@ pub mod Ends
 pub mod Admitted
 pub mod Shown
 pub mod Comes
+pub mod Went
 pub mod Program

@@ -28,6 +28,7 @@ use Rattle.dl_serve.specs.Rounds.{HasMadeRounds, kept}
 use Rattle.dl_serve.specs.Shown.{AllShowEnds, TellLeft}
 use Rattle.dl_serve.specs.Status.{line_of}
 use Rattle.dl_serve.specs.Told.{Told, told}
+use Rattle.dl_serve.specs.Went.{AllWent}
 
 -- ---- what was served
 
@@ -52,13 +53,14 @@ pub record HasOpened {L : Type 0} (link_told : L → LinkTold) (begun : Begun) (
   pub users_listen : Listens begun.users old.users new.users
 
 -- Serving began, and what was begun was served. What that comes to is what its journal says; of each program's messages there are the events, in their
--- order, each once, where links tell what they gave; and the links of programs show why these ended.
+-- order, each once, where links tell what they gave; the links of programs show why these ended, and so do those of clients, with the Closes among the events.
 pub record HasClosed {L : Type 0} (link_told : L → LinkTold) (said : List (List ℕ)) (full : Bool) (old new : Told L) (closed : Closed L) : Type 0 where
   pub it : Started said old.folder
   pub opens : HasOpened link_told it.begun full (record old { folder = it.between }) new closed
   pub comes : IsComeTo link_told (setting it.begun) it.begun old.folder new.folder closed
   pub admits : TellGiven link_told → AllAdmitted closed.events.events (map link_told closed.users.links) closed.ends
   pub shows : AllShowEnds (TellLeft link_told) (map link_told closed.users.links) closed.ends
+  pub went : AllWent link_told (setting it.begun) closed
 
 -- what folder and nets count
 abbrev pub counts : {L : Type 0} → Told L → Faults

@@ -2,9 +2,11 @@
 use Rattle.std.specs.Prelude.{◌≡◌, ◌<◌, ◌≤◌, ℕ, zero, suc, Bool, true, false, List, length, Option, Some, IsSomeAnd}
 use Rattle.dl_events.specs.Journal.{Journaled}
 use Rattle.dl_events.specs.declared.event.Event.{Event}
-use Rattle.dl_outside.specs.Told.{LinkTold, NetTold}
+use Rattle.dl_outside.specs.Told.{FolderTold, LinkTold, NetTold}
 use Rattle.dl_server.specs.Round.{IsRound}
-use Rattle.dl_server.specs.State.{State}
+use Rattle.dl_server.specs.Server.{IsServer}
+use Rattle.dl_server.specs.State.{State, seen}
+use Rattle.dl_server.specs.declared.server.Server.{Server}
 
 -- a journal that keeps its events
 abbrev pub kept : Journaled → Option (List Event)
@@ -21,12 +23,19 @@ HasRoom events = IsSomeAnd events (λ all. length all < event_limit)
 abbrev pub IsFull : Option (List Event) → Type 0
 IsFull events = IsSomeAnd events (λ all. event_limit ≤ length all)
 
--- so many rounds, none of which began with a full journal
+-- it is what is seen of a server, where these are the words for what links and the journal tell
+pub record IsSeen {J L : Type 0} (told : L → LinkTold) (events : J → Option (List Event)) (s : State) : Type 0 where
+  pub server : Server J L
+  pub folder : FolderTold
+  pub is_server : IsServer server
+  pub is : s ≡ seen told events folder server
+
+-- so many rounds of a server, none of which began with a full journal
 abbrev pub AreRounds : {L : Type 0} → (L → LinkTold) → ℕ → NetTold L → NetTold L → NetTold L → NetTold L → State → State → Type 0
 AreRounds told zero net net_now users users_now old new = (net_now ≡ net) × (users_now ≡ users) × (new ≡ old)
 AreRounds {L} told (suc many) net net_now users users_now old new =
     (net_then : NetTold L) × (users_then : NetTold L) × (between : State) × AreRounds told many net net_then users users_then old between
-    × HasRoom between.events × IsRound told net_then net_now users_then users_now between new
+    × HasRoom between.events × IsRound told net_then net_now users_then users_now between new × IsSeen told kept between
 
 -- Of so many rounds that were asked for all were made; or the journal was full at the begin of the next one.
 pub record HasMadeRounds {L : Type 0} (told : L → LinkTold) (asked : ℕ) (full : Bool) (net net_now users users_now : NetTold L) (old new : State) : Type 0 where

@@ -13,6 +13,7 @@ ghost use Rattle.dl_serve.specs.Open.{setting};
 ghost use Rattle.dl_serve.specs.Program.{Ended, HasOpened, IsServing, Says};
 ghost use Rattle.dl_serve.specs.Shown.{AllShowEnds, TellLeft};
 ghost use Rattle.dl_serve.specs.Told.{Told};
+ghost use Rattle.dl_serve.specs.Went.{AllWent};
 
 use dl_outside::Link;
 
@@ -42,6 +43,16 @@ pub fn how_programs_ended<L: Link>()
     ensures { (begun : Begun) (old new : Told L) (full : Bool) (closed : Closed L) → HasOpened L.told begun full old new closed
         → AllShowEnds (TellLeft L.told) (map L.told closed.users.links) closed.ends }
 {}
+
+/// Each client has its Close, for a cause that its link and the end of its link show; and where links tell what they gave and took, its Request events
+/// are those of what its link gave, as the cause says.
+pub fn how_clients_went<L: Link>()
+    ensures { (begun : Begun) (old new : Told L) (full : Bool) (closed : Closed L) (first : FolderTold) → IsBegun begun.conf first.files begun.trace
+        → HasOpened L.told begun full old new closed → AllWent L.told (setting begun) closed }
+{
+    dl_rounds::laws::clients_are_as_noted::<L>();
+    dl_rounds::laws::gone_clients_show_why::<L>();
+}
 
 /// What a status says of serving is what is promised of the whole: the words decide first, and where all is of the form and nothing fails, the report was
 /// written whole, or the journal was full, a frame had no name for its file, or memory was wanted.

@@ -13,7 +13,7 @@ use crate::closing::close;
 use crate::faults::count;
 use crate::finishing::{failures_of, finish};
 use crate::laws::{
-    an_end_is_a_serving, how_programs_ended, what_programs_sent_is_admitted,
+    an_end_is_a_serving, how_clients_went, how_programs_ended, what_programs_sent_is_admitted,
     what_was_served_is_its_journal,
 };
 use crate::opened::Opened;
@@ -127,6 +127,7 @@ where
     what_was_served_is_its_journal::<N::L>();
     what_programs_sent_is_admitted::<N::L>();
     how_programs_ended::<N::L>();
+    how_clients_went::<N::L>();
     match begin(alloc, words, folder) {
         Ok(begun) => serve_begun(rt, alloc, begun, folder, net, users, clock, out),
         Err(status) => left_early(status),

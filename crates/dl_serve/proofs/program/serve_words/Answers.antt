@@ -22,6 +22,7 @@ returns-in-Ok g c =
     (λ full left has. c.what_was_served_is_its_journal.ensures c.in-Ok.begun (told between net users out) new full left first begins.2.trace begins.2.quiet has)
     (λ full left has. c.what_programs_sent_is_admitted.ensures c.in-Ok.begun (told between net users out) new full left has)
     (λ full left has. c.how_programs_ended.ensures c.in-Ok.begun (told between net users out) new full left has)
+    (λ full left has. c.how_clients_went.ensures c.in-Ok.begun (told between net users out) new full left first begins.2.trace has)
     begins.1 begins.2 c.serve_begun.ensures
 
 pub returns-in-Err : goal.returns-in-Err
