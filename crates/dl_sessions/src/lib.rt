@@ -2,19 +2,13 @@
 #![tactic(auto)]
 
 mod account;
-mod explanation;
-mod program;
 mod session;
-mod status;
 mod stream;
 mod text;
 mod told;
 
 pub use account::{Account, account_of};
-pub use explanation::{Explained, explain};
-pub use program::why;
 pub use session::{Context, Entry, Hole, Lost, Session, Source, Told, Totals};
-pub use status::Status;
 pub use stream::{End, Place, end_of, tell_all};
 pub use text::{missing, missing_here, push_missing, push_number, push_time};
 pub use told::told_of;
