@@ -1,99 +1,76 @@
 //! What is refused before a run begins, and faults of the outside, one call at a time.
 
-use crate::played::{Faults, NONE, Played, STEPS, is, play_in};
+use crate::played::{Ended, Faults, NONE, Run, end_of, is, steps, wanted};
 use std::alloc::Global;
 
-const SCRIPT: &str =
+/// A script with two calls.
+const TWO_CALLS: &str =
     "app LOG1 16\ncontext LOG1 TEST info\nwriter LOG1\nconnect\nlog 1 TEST info 1 \"a\"\nlog 1 TEST info 2 \"b\"\n";
+
+/// What it prints.
+const PRINTED: &str = "client 1 stopped 2 68 complete
+3D 00 00 22 45 43 55 31 00 00 00 01 00 00 00 01 41 01 4C 4F 47 31 54 45 53 54 00 82 00 00 02 00 61 00
+3D 01 00 22 45 43 55 31 00 00 00 01 00 00 00 02 41 01 4C 4F 47 31 54 45 53 54 00 82 00 00 02 00 62 00
+app LOG1 calls 2 queued 2 filtered 0 lost 0 reported 0
+";
+
+/// The script in an empty folder, with calls that fail.
+fn two_calls(faults: Faults) -> Run<'static> {
+    steps(TWO_CALLS, &[], faults)
+}
+
+/// A command line that is none.
+fn too_few() -> Run<'static> {
+    Run {
+        words: &["dlt_replay", "generate", "7"],
+        ..two_calls(NONE)
+    }
+}
 
 const USAGE: &str = "dlt_replay: usage: dlt_replay steps or generate NUMBER CALLS\n";
 
-/// What a run says of a configuration and of a script that are refused.
-const OUT_OF_RANGE: &str = "dlt_replay: conf line 4: outofrange\n";
-
-const ODD_DIGITS: &str = "dlt_replay: script line 2: hex\n";
-
-/// Plays the script in an empty folder.
-fn play(alloc: Global, faults: Faults) -> Option<Played> {
-    play_in(alloc, &STEPS, SCRIPT.as_bytes(), &[], faults)
-}
-
-/// Plays the script with one call of the folder that fails. Frames are stored, and a file of another run stands.
-fn folder_fails(alloc: Global, call: u64) -> Option<Played> {
-    play_in(
-        alloc,
-        &STEPS,
-        SCRIPT.as_bytes(),
-        &[
-            ("dlt.conf", "OfflineTraceDirectory = trace\n"),
-            ("trace/dlt_offlinetrace.000004.dlt", "old"),
-        ],
-        Faults {
-            folder: call,
-            ..NONE
-        },
-    )
-}
-
-/// Whether a command line that is none is told how the program is used, and nothing is read.
-fn is_usage(alloc: Global) -> [bool; 3] {
-    let list = ["dlt_replay", "generate", "7"];
-    match play_in(alloc, &list, SCRIPT.as_bytes(), &[], NONE) {
-        Some(played) => [
-            played.is(2, "", USAGE),
-            played.reads() == 0,
-            played.calls() == 0,
-        ],
-        None => [false; 3],
+/// Whether a run is told how the program is used, and nothing is read.
+fn is_usage(ended: Option<Ended>) -> bool {
+    match ended {
+        Some(ended) => ended.is(2) && ended.reads == 0 && ended.calls == 0,
+        None => false,
     }
 }
 
 /// A command line that is none is told how the program is used, and nothing else is done.
 #[test]
 fn words(rt: HostRuntime) {
-    assert!(rt; is_usage(rt.alloc()) == [true; 3]);
+    assert!(rt; is_usage(end_of(rt.alloc(), &too_few(), &wanted("", USAGE))));
 }
 
-/// Plays a script in a folder with this configuration.
-fn with_conf(alloc: Global, conf: &str, script: &[u8]) -> Option<Played> {
-    play_in(alloc, &STEPS, script, &[("dlt.conf", conf)], NONE)
-}
+/// An empty script with a configuration that is out of range, and with one that isn't.
+const OUT_OF_RANGE: &str = "# c\n\nFoo = 1\nRingbufferMaxSize = 9999\n";
 
-/// Whether a configuration is refused, and no file was to change.
-fn is_refused(alloc: Global) -> [bool; 2] {
-    match with_conf(alloc, "# c\n\nFoo = 1\nRingbufferMaxSize = 9999\n", b"") {
-        Some(refused) => [refused.is(3, "", OUT_OF_RANGE), refused.changes() == 0],
-        None => [false; 2],
+const WITHIN: &str = "# c\n\nFoo = 1\nRingbufferMaxSize = 10000\n";
+
+/// Whether a run is refused for its configuration, and no file was to change.
+fn is_refused(ended: Option<Ended>) -> bool {
+    match ended {
+        Some(ended) => ended.is(3) && ended.changes == 0,
+        None => false,
     }
-}
-
-/// Whether another one is not.
-fn is_taken(alloc: Global) -> bool {
-    let conf = "# c\n\nFoo = 1\nRingbufferMaxSize = 10000\n";
-    is(with_conf(alloc, conf, b""), 0, "", "")
 }
 
 /// A configuration that is refused, and one that isn't.
 #[test]
 fn a_configuration(rt: HostRuntime) {
-    assert!(rt; is_refused(rt.alloc()) == [true; 2]);
-    assert!(rt; is_taken(rt.alloc()));
+    let said = "dlt_replay: conf line 4: outofrange\n";
+    let refused = [("dlt.conf", OUT_OF_RANGE)];
+    assert!(rt; is_refused(end_of(rt.alloc(), &steps("", &refused, NONE), &wanted("", said))));
+    let taken = [("dlt.conf", WITHIN)];
+    assert!(rt; is(rt.alloc(), &steps("", &taken, NONE), 0, "", ""));
 }
 
-/// Whether a script with an odd digit is refused.
-fn is_odd(alloc: Global) -> bool {
-    is(
-        with_conf(alloc, "", b"connect\nuser 1 445\n"),
-        4,
-        "",
-        ODD_DIGITS,
-    )
-}
-
-/// A script that is refused.
+/// A script with an odd digit is refused.
 #[test]
 fn a_script(rt: HostRuntime) {
-    assert!(rt; is_odd(rt.alloc()));
+    let odd = steps("connect\nuser 1 445\n", &[], NONE);
+    assert!(rt; is(rt.alloc(), &odd, 4, "", "dlt_replay: script line 2: hex\n"));
 }
 
 /// Whether a run says so whose input fails at this call.
@@ -102,7 +79,13 @@ fn read_fails(alloc: Global, call: u64) -> bool {
         input: call,
         ..NONE
     };
-    is(play(alloc, faults), 11, "", "dlt_replay: read fault\n")
+    is(
+        alloc,
+        &two_calls(faults),
+        11,
+        "",
+        "dlt_replay: read fault\n",
+    )
 }
 
 #[test]
@@ -112,53 +95,73 @@ fn reads(rt: HostRuntime) {
 }
 
 /// Whether a run ended in a fault of its output, printed so many bytes of the whole before, and says nothing.
-fn is_cut(played: &Played, whole: &Played, printed: usize) -> bool {
-    played.status == 6
-        && played.err().is_empty()
-        && played.out().len() == printed
-        && whole.out().starts_with(played.out())
+fn is_cut(ended: Option<Ended>, printed: usize) -> bool {
+    match ended {
+        Some(ended) => {
+            ended.status == 6 && ended.is_begin && ended.printed == printed && ended.is_said
+        }
+        None => false,
+    }
 }
 
 /// The same of a run whose output fails at this call, and standard error at its first.
-fn write_fails(alloc: Global, whole: &Played, call: u64, printed: usize) -> bool {
+fn write_fails(alloc: Global, call: u64, printed: usize) -> bool {
     let faults = Faults {
         out: call,
         err: 1,
         ..NONE
     };
-    match play(alloc, faults) {
-        Some(played) => is_cut(&played, whole, printed),
+    is_cut(
+        end_of(alloc, &two_calls(faults), &wanted(PRINTED, "")),
+        printed,
+    )
+}
+
+/// Whether a run writes all in three calls.
+fn is_written(ended: Option<Ended>) -> bool {
+    match ended {
+        Some(ended) => ended.is(0) && ended.writes == 3,
         None => false,
     }
 }
 
-/// Whether the whole is written in three calls, and each of them fails in turn. Before them 0, 100 and 200 bytes are printed.
-fn each_write_fails(alloc: Global) -> [bool; 4] {
-    match play(alloc, NONE) {
-        Some(whole) => [
-            whole.status == 0 && whole.writes() == 3,
-            write_fails(alloc, &whole, 1, 0),
-            write_fails(alloc, &whole, 2, 100),
-            write_fails(alloc, &whole, 3, 200),
-        ],
-        None => [false; 4],
-    }
-}
-
+/// Three calls write the whole, and each of them fails in turn. Before them 0, 100 and 200 bytes are printed.
 #[test]
 fn writes(rt: HostRuntime) {
-    assert!(rt; each_write_fails(rt.alloc()) == [true; 4]);
+    assert!(rt; is_written(end_of(rt.alloc(), &two_calls(NONE), &wanted(PRINTED, ""))));
+    assert!(rt; write_fails(rt.alloc(), 1, 0));
+    assert!(rt; write_fails(rt.alloc(), 2, 100));
+    assert!(rt; write_fails(rt.alloc(), 3, 200));
+}
+
+/// A folder in which frames are stored, and a file of another run stands.
+const TRACED: &[(&str, &str)] = &[
+    ("dlt.conf", "OfflineTraceDirectory = trace\n"),
+    ("trace/dlt_offlinetrace.000004.dlt", "old"),
+];
+
+/// The script in that folder, of which one call fails.
+fn traced(call: u64) -> Run<'static> {
+    let faults = Faults {
+        folder: call,
+        ..NONE
+    };
+    steps(TWO_CALLS, TRACED, faults)
 }
 
 /// Whether a run says so whose folder fails at this call, and so many files were to change by then. It prints nothing where
 /// none was.
 fn says_so(alloc: Global, call: u64, changes: u64) -> bool {
-    match folder_fails(alloc, call) {
-        Some(played) => {
-            played.status == 7
-                && played.says("dlt_replay: folder fault\n")
-                && played.out().is_empty() == (changes == 0)
-                && played.changes() == changes
+    match end_of(
+        alloc,
+        &traced(call),
+        &wanted("", "dlt_replay: folder fault\n"),
+    ) {
+        Some(ended) => {
+            ended.status == 7
+                && ended.is_said
+                && (ended.printed == 0) == (changes == 0)
+                && ended.changes == changes
         }
         None => false,
     }
@@ -166,8 +169,8 @@ fn says_so(alloc: Global, call: u64, changes: u64) -> bool {
 
 /// Whether the run is whole where no call fails, and calls its folder so often.
 fn is_whole(alloc: Global) -> bool {
-    match folder_fails(alloc, 100) {
-        Some(whole) => whole.status == 0 && whole.calls() == 6,
+    match end_of(alloc, &traced(100), &wanted("", "")) {
+        Some(whole) => whole.status == 0 && whole.calls == 6,
         None => false,
     }
 }

@@ -1,4 +1,4 @@
-//! Worked examples as tables: whole scripts through the replay, with objects in memory on all sides.
+//! Whole scripts through the replay, with objects in memory on all sides.
 #![tactic(auto)]
 
 #[cfg(test)]

@@ -1,4 +1,4 @@
-//! One run of the replay over objects in memory.
+//! One run of the replay over objects in memory, and what is looked at of it.
 
 use dl_failing::Failing;
 use dl_memory::{MemoryFolder, MemorySink, MemorySource};
@@ -8,18 +8,11 @@ use std::alloc::Global;
 
 /// What a run reads and writes.
 #[derive(Drop)]
-pub struct Objects {
+struct Objects {
     input: Failing<MemorySource>,
     folder: Failing<MemoryFolder>,
     out: Failing<MemorySink>,
     err: Failing<MemorySink>,
-}
-
-/// What a run left.
-#[derive(Drop)]
-pub struct Played {
-    pub status: u8,
-    objects: Objects,
 }
 
 /// Which call of each object is to fail, from 1. No call is the 0th.
@@ -40,13 +33,75 @@ pub const NONE: Faults = Faults {
 };
 
 /// The words of a command line that plays a script.
-pub const STEPS: [&str; 2] = ["dlt_replay", "steps"];
+const STEPS: &[&str] = &["dlt_replay", "steps"];
 
-/// An object of which this call fails.
-fn failing<T: Drop>(alloc: Global, inner: T, call: u64) -> Option<Failing<T>> {
-    match Vec::from_slice(alloc, &[call]) {
-        Ok(chosen) => Some(Failing::make(inner, chosen)),
-        Err(_) => None,
+/// How many bytes a folder has room for, where nothing else is said.
+const ROOM: u32 = 100_000;
+
+/// A run.
+#[derive(Clone, Copy)]
+pub struct Run<'a> {
+    pub words: &'a [&'a str],
+    pub script: &'a [u8],
+    /// The files of its folder. One without a text isn't there.
+    pub files: &'a [(&'a str, &'a str)],
+    /// How many bytes the folder has room for.
+    pub room: u32,
+    /// The file that is looked at when it has ended.
+    pub looks_at: &'a str,
+    pub faults: Faults,
+}
+
+/// A run that plays a script. The stored configuration is looked at.
+pub fn steps<'a>(script: &'a str, files: &'a [(&'a str, &'a str)], faults: Faults) -> Run<'a> {
+    Run {
+        words: STEPS,
+        script: script.as_bytes(),
+        files,
+        room: ROOM,
+        looks_at: "dlt_stored.cfg",
+        faults,
+    }
+}
+
+/// The levels that are stored by the runs that store some.
+pub const LEVELS: &str = "::4\nLOG1:FULL:6\n";
+
+/// What is looked at of a run that ended.
+#[derive(Clone, Copy)]
+pub struct Ended {
+    pub status: u8,
+    /// How many bytes it printed.
+    pub printed: usize,
+    /// Whether it printed both texts that were wanted, one behind the other.
+    pub is_whole: bool,
+    /// Whether the first of them begins with what it printed.
+    pub is_begin: bool,
+    /// Whether what it printed ends with the second.
+    pub is_end: bool,
+    /// Whether it wrote to standard error what was wanted.
+    pub is_said: bool,
+    /// How often its input was read.
+    pub reads: u64,
+    /// How often its output was written.
+    pub writes: u64,
+    /// How often its folder was called.
+    pub calls: u64,
+    /// How many files of its folder were to change.
+    pub changes: u64,
+    /// How many bytes the file has that was looked at, and whether they are the levels above. None where it isn't there.
+    pub found: Option<(usize, bool)>,
+}
+
+impl Ended {
+    /// Whether it ended with this status, and printed what was wanted.
+    pub fn prints(&self, status: u8) -> bool {
+        self.status == status && self.is_whole
+    }
+
+    /// The same, and whether it said what was wanted.
+    pub fn is(&self, status: u8) -> bool {
+        self.prints(status) && self.is_said
     }
 }
 
@@ -73,7 +128,7 @@ fn words(alloc: Global, list: &[&str]) -> Option<Vec<String>> {
     }
 }
 
-/// Puts these files. One without a text isn't there.
+/// Puts these files.
 fn put_files(folder: &mut MemoryFolder, files: &[(&str, &str)]) {
     for (name, text) in files {
         if !text.is_empty() {
@@ -82,45 +137,99 @@ fn put_files(folder: &mut MemoryFolder, files: &[(&str, &str)]) {
     }
 }
 
-/// A folder with these files, of which this call fails.
-fn folder_of(alloc: Global, files: &[(&str, &str)], call: u64) -> Option<Failing<MemoryFolder>> {
-    let mut folder = MemoryFolder::make(alloc, 16, 100_000).ok()?;
-    put_files(&mut folder, files);
-    failing(alloc, folder, call)
+/// A folder with the files of a run.
+fn folder_of(alloc: Global, run: &Run) -> Option<MemoryFolder> {
+    let mut folder = MemoryFolder::make(alloc, 16, run.room as usize).ok()?;
+    put_files(&mut folder, run.files);
+    Some(folder)
 }
 
-/// A script that comes in pieces of 1000 bytes.
-fn input_of(alloc: Global, script: &[u8], call: u64) -> Option<Failing<MemorySource>> {
-    let text = Vec::from_slice(alloc, script).ok()?;
-    failing(alloc, MemorySource::make(text, 1000), call)
+/// The numbers of the calls of an object that fail.
+fn chosen(alloc: Global, call: u64) -> Option<Vec<u64>> {
+    Vec::from_slice(alloc, &[call]).ok()
 }
 
-/// A sink that takes 100 bytes at once.
-fn sink(alloc: Global, call: u64) -> Option<Failing<MemorySink>> {
-    failing(alloc, MemorySink::make(alloc, 100), call)
-}
-
-/// A script and a folder with these files, and where a run prints.
-fn prepared(
+/// Sinks that take 100 bytes at once, beside an input and a folder.
+fn with_sinks(
     alloc: Global,
-    script: &[u8],
-    files: &[(&str, &str)],
-    faults: Faults,
+    faults: &Faults,
+    input: Failing<MemorySource>,
+    folder: Failing<MemoryFolder>,
 ) -> Option<Objects> {
-    let input = input_of(alloc, script, faults.input)?;
-    let folder = folder_of(alloc, files, faults.folder)?;
-    let out = sink(alloc, faults.out)?;
-    let err = sink(alloc, faults.err)?;
-    Some(Objects {
-        input,
-        folder,
-        out,
-        err,
-    })
+    match (chosen(alloc, faults.out), chosen(alloc, faults.err)) {
+        (Some(out), Some(err)) => Some(Objects {
+            input,
+            folder,
+            out: Failing::make(MemorySink::make(alloc, 100), out),
+            err: Failing::make(MemorySink::make(alloc, 100), err),
+        }),
+        _ => None,
+    }
+}
+
+/// The objects of a run, whose folder is this one. The script comes in pieces of 1000 bytes.
+fn with_folder(alloc: Global, run: &Run, folder: Failing<MemoryFolder>) -> Option<Objects> {
+    let fails = chosen(alloc, run.faults.input)?;
+    match Vec::from_slice(alloc, run.script) {
+        Ok(script) => {
+            let input = Failing::make(MemorySource::make(script, 1000), fails);
+            with_sinks(alloc, &run.faults, input, folder)
+        }
+        Err(_) => None,
+    }
+}
+
+/// The objects of a run.
+fn prepared(alloc: Global, run: &Run) -> Option<Objects> {
+    let fails = chosen(alloc, run.faults.folder)?;
+    match folder_of(alloc, run) {
+        Some(folder) => with_folder(alloc, run, Failing::make(folder, fails)),
+        None => None,
+    }
+}
+
+/// How many bytes a file has, and whether they are the levels above. None where it can't be read.
+fn found(folder: &mut MemoryFolder, name: &str) -> Option<(usize, bool)> {
+    match folder.read(name) {
+        Ok(Some(bytes)) => Some((bytes.all().len(), bytes.all() == LEVELS.as_bytes())),
+        Ok(None) | Err(_) => None,
+    }
+}
+
+/// Whether these bytes are two texts, one behind the other.
+fn are_both(bytes: &[u8], first: &[u8], second: &[u8]) -> bool {
+    bytes.strip_prefix(first) == Some(second)
+}
+
+/// The texts that are wanted: on standard output one behind the other, and on standard error.
+#[derive(Clone, Copy)]
+pub struct Texts<'a> {
+    pub first: &'a str,
+    pub second: &'a str,
+    pub said: &'a str,
+}
+
+/// What is looked at of objects over which a run ended with this status.
+fn looked(objects: &mut Objects, status: u8, looks_at: &str, texts: &Texts) -> Ended {
+    let printed = objects.out.inner.bytes();
+    let (first, second) = (texts.first.as_bytes(), texts.second.as_bytes());
+    Ended {
+        status,
+        printed: printed.len(),
+        is_whole: are_both(printed, first, second),
+        is_begin: first.starts_with(printed),
+        is_end: printed.ends_with(second),
+        is_said: objects.err.inner.bytes() == texts.said.as_bytes(),
+        reads: objects.input.calls,
+        writes: objects.out.calls,
+        calls: objects.folder.calls,
+        changes: objects.folder.changes(),
+        found: found(&mut objects.folder.inner, looks_at),
+    }
 }
 
 /// Plays over these objects, and answers the status.
-fn run(alloc: Global, words: &[String], objects: &mut Objects) -> u8 {
+fn played(alloc: Global, words: &[String], objects: &mut Objects) -> u8 {
     replay(
         alloc,
         words,
@@ -131,103 +240,31 @@ fn run(alloc: Global, words: &[String], objects: &mut Objects) -> u8 {
     )
 }
 
-/// Plays a script in a folder with these files.
-pub fn play_in(
-    alloc: Global,
-    list: &[&str],
-    script: &[u8],
-    files: &[(&str, &str)],
-    faults: Faults,
-) -> Option<Played> {
-    let words = words(alloc, list)?;
-    let mut objects = prepared(alloc, script, files, faults)?;
-    let status = run(alloc, &words, &mut objects);
-    Some(Played { status, objects })
-}
-
-impl Played {
-    /// What it printed.
-    pub fn out(&self) -> &[u8] {
-        self.objects.out.inner.bytes()
-    }
-
-    /// What it wrote to standard error.
-    pub fn err(&self) -> &[u8] {
-        self.objects.err.inner.bytes()
-    }
-
-    /// How often its input was read.
-    pub fn reads(&self) -> u64 {
-        self.objects.input.calls
-    }
-
-    /// How often its output was written.
-    pub fn writes(&self) -> u64 {
-        self.objects.out.calls
-    }
-
-    /// How often its folder was called.
-    pub fn calls(&self) -> u64 {
-        self.objects.folder.calls
-    }
-
-    /// How many files of its folder were to change.
-    pub fn changes(&self) -> u64 {
-        self.objects.folder.changes()
-    }
-
-    /// Whether it ended with this status, and with these texts on standard output and standard error.
-    pub fn is(&self, status: u8, out: &str, err: &str) -> bool {
-        self.prints(status, out) && self.says(err)
-    }
-
-    /// Whether it ended with this status, and what it printed begins and ends with these texts.
-    pub fn frames(&self, status: u8, first: &str, last: &str) -> bool {
-        self.status == status
-            && self.out().starts_with(first.as_bytes())
-            && self.out().ends_with(last.as_bytes())
-    }
-
-    /// Whether it ended with this status, and printed this text.
-    pub fn prints(&self, status: u8, out: &str) -> bool {
-        self.status == status && self.out() == out.as_bytes()
-    }
-
-    /// Whether it wrote this text to standard error.
-    pub fn says(&self, err: &str) -> bool {
-        self.err() == err.as_bytes()
-    }
-
-    /// Whether a file has this text at the end; an empty text says that it isn't there.
-    pub fn has(&mut self, name: &str, text: &str) -> bool {
-        match self.objects.folder.inner.read(name) {
-            Ok(Some(bytes)) => bytes.all() == text.as_bytes(),
-            Ok(None) => text.is_empty(),
-            Err(_) => false,
+/// Plays a run, and tells what is looked at, where these texts are wanted.
+pub fn end_of(alloc: Global, run: &Run, texts: &Texts) -> Option<Ended> {
+    let words = words(alloc, run.words)?;
+    match prepared(alloc, run) {
+        Some(mut objects) => {
+            let status = played(alloc, &words, &mut objects);
+            Some(looked(&mut objects, status, run.looks_at, texts))
         }
+        None => None,
     }
 }
 
-/// Whether there is a run, which ended with this status and these texts.
-pub fn is(played: Option<Played>, status: u8, out: &str, err: &str) -> bool {
-    match played {
-        Some(played) => played.is(status, out, err),
-        None => false,
+/// A text on standard output, and one on standard error.
+pub fn wanted<'a>(out: &'a str, said: &'a str) -> Texts<'a> {
+    Texts {
+        first: out,
+        second: "",
+        said,
     }
 }
 
-/// Whether there is a run, which ended with this status and printed this text.
-pub fn prints(played: Option<Played>, status: u8, out: &str) -> bool {
-    match played {
-        Some(played) => played.prints(status, out),
-        None => false,
-    }
-}
-
-/// Whether there is a run, which ended with this status, and what it printed begins and ends with these texts.
-pub fn frames(played: Option<Played>, status: u8, first: &str, last: &str) -> bool {
-    match played {
-        Some(played) => played.frames(status, first, last),
+/// Whether a run ends with this status and these texts.
+pub fn is(alloc: Global, run: &Run, status: u8, out: &str, said: &str) -> bool {
+    match end_of(alloc, run, &wanted(out, said)) {
+        Some(ended) => ended.is(status),
         None => false,
     }
 }
