@@ -1,10 +1,10 @@
 //! Log calls that come together do what they do one by one, but that the folder is asked to add to a file less often.
 
 use crate::calls;
-use crate::fixture::{APP, Fixture, NOW, filled, folder, plain_core, traced};
-use dl_bytes::{Id, Item, Moment, Payload, Severity};
-use dl_core::Core;
+use crate::fixture::{APP, Begin, Fixture, NOW, Trial, are_all, is_so, left};
+use dl_bytes::{Id, Item, Payload, Severity};
 use dl_events::{Counted, Event, Journal, Kept};
+use dl_memory::MemoryFolder;
 use dl_outside::{Folder, NameList};
 use std::alloc::Global;
 
@@ -93,46 +93,35 @@ fn log_each(fixture: &mut Fixture, items: &[Item]) -> bool {
     true
 }
 
-/// What a Log event says: the application's, the writer's and the call's numbers, and the moment.
-type Logged = (u8, u8, u64, Moment);
-
-/// What an event says, where it is a Log event.
-fn logged(event: &Event) -> Option<Logged> {
+/// How many log calls are noted with this event, where so many were before it: one more where it is the next call. None where
+/// it is another one.
+fn noted_with(event: &Event, before: u64) -> Option<u64> {
+    let next = before.saturating_add(1);
     match event {
         Event::Log {
             app,
             writer,
             call,
             moment,
-        } => Some((*app, *writer, *call, *moment)),
-        _ => None,
+        } => ((*app, *writer, *call, *moment) == (0, 1, next, NOW)).then_some(next),
+        _ => Some(before),
     }
 }
 
-/// Adds what the Log events of a journal say.
-fn push_logs(logs: &mut Vec<Logged>, journal: &Kept) -> bool {
+/// How many log calls a journal notes, where they are the calls from 1 on in order.
+fn noted(journal: &Kept) -> Option<u64> {
+    let mut count = 0;
     for event in journal.events() {
-        if let Some(log) = logged(event) {
-            if logs.push(log).is_err() {
-                return false;
-            }
+        match noted_with(event, count) {
+            Some(more) => count = more,
+            None => return None,
         }
     }
-    true
-}
-
-/// What the Log events of a journal say.
-fn logs(alloc: Global, journal: &Kept) -> Option<Vec<Logged>> {
-    let mut logs = Vec::new(alloc);
-    if push_logs(&mut logs, journal) {
-        Some(logs)
-    } else {
-        None
-    }
+    Some(count)
 }
 
 /// Adds the bytes of a file, where it is there.
-fn push_file<F: Folder>(all: &mut Vec<u8>, folder: &mut F, name: &str) -> bool {
+fn push_file(all: &mut Vec<u8>, folder: &mut MemoryFolder, name: &str) -> bool {
     match folder.read(name) {
         Ok(Some(file)) => all.extend_from_slice(file.all()).is_ok(),
         Ok(None) | Err(_) => false,
@@ -140,7 +129,7 @@ fn push_file<F: Folder>(all: &mut Vec<u8>, folder: &mut F, name: &str) -> bool {
 }
 
 /// Adds these files, one behind the other, each behind its name.
-fn push_each<F: Folder>(all: &mut Vec<u8>, folder: &mut F, names: &NameList) -> bool {
+fn push_each(all: &mut Vec<u8>, folder: &mut MemoryFolder, names: &NameList) -> bool {
     for name in names.all() {
         let is_named = all.extend_from_slice(name.as_str().as_bytes()).is_ok();
         if !is_named || !push_file(all, folder, name.as_str()) {
@@ -151,20 +140,10 @@ fn push_each<F: Folder>(all: &mut Vec<u8>, folder: &mut F, names: &NameList) -> 
 }
 
 /// Adds all files of a folder.
-fn push_files<F: Folder>(all: &mut Vec<u8>, folder: &mut F) -> bool {
+fn push_files(all: &mut Vec<u8>, folder: &mut MemoryFolder) -> bool {
     match folder.names("") {
         Ok(names) => push_each(all, folder, &names),
         Err(_) => false,
-    }
-}
-
-/// All files of a core's folder in hexadecimal, one behind the other, each behind its name.
-fn files(alloc: Global, fixture: &mut Fixture) -> Option<String> {
-    let mut all = Vec::new(alloc);
-    if push_files(&mut all, &mut fixture.folder) {
-        hex::encode(alloc, all.as_slice()).ok()
-    } else {
-        None
     }
 }
 
@@ -182,176 +161,156 @@ fn told(fixture: &Fixture) -> [(u8, u64); 3] {
     files
 }
 
-/// A core with a trace to which these log calls came one by one.
-fn singly(alloc: Global, items: &[Item]) -> Option<Fixture> {
-    let mut fixture = traced(alloc)?;
-    if log_each(&mut fixture, items) {
-        Some(fixture)
+/// What log calls leave.
+#[derive(Drop)]
+pub struct Left {
+    /// How many are noted.
+    noted: Option<u64>,
+    /// How often the folder was asked to add to a file.
+    appends: u64,
+    /// The trace files that are told of.
+    told: [(u8, u64); 3],
+    /// What the client was sent.
+    sent: Vec<u8>,
+    /// All files, one behind the other, each behind its name.
+    files: Vec<u8>,
+}
+
+/// What is left of a core, in these bytes and its own.
+fn leaves(fixture: &mut Fixture, sent: Vec<u8>, files: Vec<u8>) -> Option<Left> {
+    let (mut sent, mut files) = (sent, files);
+    if fixture.push_taken(1, &mut sent) && push_files(&mut files, &mut fixture.folder) {
+        Some(Left {
+            noted: noted(&fixture.journal),
+            appends: fixture.folder.appends(),
+            told: told(fixture),
+            sent,
+            files,
+        })
     } else {
         None
     }
 }
 
-/// A core with a trace to which they came together.
-fn together(alloc: Global, items: &[Item]) -> Option<Fixture> {
-    let mut fixture = traced(alloc)?;
-    if fixture.log_batch(items) {
-        Some(fixture)
+/// Whether these log calls come to a client, together or one by one.
+fn log_all(fixture: &mut Fixture, items: &[Item], is_together: bool) -> bool {
+    if fixture.connect().is_none() {
+        return false;
+    }
+    if is_together {
+        fixture.log_batch(items)
+    } else {
+        log_each(fixture, items)
+    }
+}
+
+/// What 64 log calls leave, together or one by one.
+pub fn left_of(fixture: &mut Fixture, is_together: bool) -> Option<Left> {
+    let alloc = fixture.alloc;
+    let items = growing(alloc)?;
+    if log_all(fixture, &items, is_together) {
+        leaves(fixture, Vec::new(alloc), Vec::new(alloc))
     } else {
         None
     }
 }
 
-/// Whether both are there and the same.
-fn are_same(one: Option<String>, other: Option<String>) -> bool {
-    match (one, other) {
-        (Some(one), Some(other)) => one.as_str() == other.as_str(),
-        _ => false,
+/// Whether both note the same 64 log calls, and the stream and the files of both are the same.
+fn are_alike(one: &Left, other: &Left) -> bool {
+    are_all(&[
+        one.noted == Some(64),
+        other.noted == Some(64),
+        one.sent.as_slice() == other.sent.as_slice(),
+        one.files.as_slice() == other.files.as_slice(),
+    ])
+}
+
+/// Whether one by one each goes into a file by itself, and together in three pieces, each of which goes into one file. The first
+/// file has no room beside the others.
+fn are_cut(single: &Left, batch: &Left) -> bool {
+    are_all(&[
+        single.appends == 64,
+        batch.appends == 3,
+        batch.told == [(b'2', 1903), (b'3', 918), (0, 0)],
+    ])
+}
+
+/// Whether 64 log calls together are like these one by one, and are cut into pieces.
+fn compared_with(alloc: Global, single: &Left) -> (bool, bool) {
+    match left(alloc, true) {
+        Some(batch) => (are_alike(single, &batch), are_cut(single, &batch)),
+        None => (false, false),
     }
 }
 
-/// Whether these are the 64 log calls that a journal notes.
-fn are_noted(alloc: Global, noted: &[Logged], journal: &Kept) -> bool {
-    match logs(alloc, journal) {
-        Some(logs) => logs.len() == 64 && logs.as_slice() == noted,
-        None => false,
-    }
-}
-
-/// Whether both note the same 64 log calls.
-fn note_the_same(alloc: Global, single: &Fixture, batch: &Fixture) -> bool {
-    match logs(alloc, &single.journal) {
-        Some(noted) => are_noted(alloc, &noted, &batch.journal),
-        None => false,
-    }
-}
-
-/// Whether the events, the stream and the files of two cores are the same.
-fn are_alike(alloc: Global, single: &mut Fixture, batch: &mut Fixture) -> [bool; 3] {
-    [
-        note_the_same(alloc, single, batch),
-        are_same(batch.taken(1), single.taken(1)),
-        are_same(files(alloc, batch), files(alloc, single)),
-    ]
-}
-
-/// The same of a core and of one to which these log calls come together.
-fn is_like_a_batch(alloc: Global, single: &mut Fixture, items: &[Item]) -> [bool; 3] {
-    match together(alloc, items) {
-        Some(mut batch) => are_alike(alloc, single, &mut batch),
-        None => [false; 3],
-    }
-}
-
-/// The same of a core to which they come one by one.
-fn do_the_same(alloc: Global, items: &[Item]) -> [bool; 3] {
-    match singly(alloc, items) {
-        Some(mut single) => is_like_a_batch(alloc, &mut single, items),
-        None => [false; 3],
-    }
-}
-
-/// The same of 64 log calls.
-fn does_the_same(alloc: Global) -> [bool; 3] {
-    match growing(alloc) {
-        Some(items) => do_the_same(alloc, &items),
-        None => [false; 3],
+/// The same of 64 log calls one by one.
+fn compared(alloc: Global) -> (bool, bool) {
+    match left(alloc, false) {
+        Some(single) => compared_with(alloc, &single),
+        None => (false, false),
     }
 }
 
 #[test]
 fn a_batch_is_its_calls(rt: HostRuntime) {
-    assert!(rt; does_the_same(rt.alloc()) == [true; 3]);
+    assert!(rt; compared(rt.alloc()).0);
 }
 
-/// How often the folder of a core was asked to add to a file.
-fn appends(fixture: Option<Fixture>) -> Option<u64> {
-    match fixture {
-        Some(fixture) => Some(fixture.folder.appends()),
-        None => None,
-    }
-}
-
-/// The same for 64 log calls one by one.
-fn appends_singly(alloc: Global) -> Option<u64> {
-    let items = growing(alloc)?;
-    appends(singly(alloc, &items))
-}
-
-/// The same for them together.
-fn appends_together(alloc: Global) -> Option<u64> {
-    let items = growing(alloc)?;
-    appends(together(alloc, &items))
-}
-
-/// The trace files that they leave together.
-fn left(alloc: Global) -> Option<[(u8, u64); 3]> {
-    let items = growing(alloc)?;
-    match together(alloc, &items) {
-        Some(batch) => Some(told(&batch)),
-        None => None,
-    }
-}
-
-/// The batch is cut into three pieces, each of which goes into one file. The first file has no room beside the others.
+/// The batch is cut into three pieces.
 #[test]
 fn a_batch_is_cut_into_pieces(rt: HostRuntime) {
-    assert!(rt; appends_singly(rt.alloc()) == Some(64));
-    assert!(rt; appends_together(rt.alloc()) == Some(3));
-    assert!(rt; left(rt.alloc()) == Some([(b'2', 1903), (b'3', 918), (0, 0)]));
+    assert!(rt; compared(rt.alloc()).1);
 }
 
-/// How many bytes these calls need together, how much room there is once they were taken, whether they are taken again, and
-/// whether one more call is.
-fn taken_twice(fixture: &mut Fixture, items: &[Item]) -> Option<(u64, u64, bool, bool)> {
-    if !fixture.log_batch(items) {
-        return None;
+/// Whether so many bytes are needed for these calls together, there is so much room once they were taken, they are not taken
+/// again, and one more call is.
+fn takes_once(fixture: &mut Fixture, items: &[Item]) -> bool {
+    are_all(&[
+        fixture.log_batch(items),
+        calls::batch_need(&fixture.core, items) == Some(90_624),
+        calls::room(fixture.core.hub(), 1) == Some(50_448),
+        !fixture.log_batch(items),
+        fixture.log(&item(65, letters(1390))),
+    ])
+}
+
+/// The same of the longest batch, and a client.
+pub fn refuses_together(fixture: &mut Fixture) -> bool {
+    match longest(fixture.alloc) {
+        Some(items) => fixture.fill() && takes_once(fixture, &items),
+        None => false,
     }
-    let need = calls::batch_need(&fixture.core, items)?;
-    let room = calls::room(fixture.core.hub(), 1)?;
-    let is_taken = fixture.log_batch(items);
-    Some((need, room, is_taken, fixture.log(&item(65, letters(1390)))))
-}
-
-/// The same of the longest batch.
-fn twice(alloc: Global) -> Option<(u64, u64, bool, bool)> {
-    let items = longest(alloc)?;
-    let mut fixture = filled(alloc, &[])?;
-    taken_twice(&mut fixture, &items)
 }
 
 /// What doesn't fit together is refused whole, though each call would fit.
 #[test]
 fn too_much_together(rt: HostRuntime) {
-    assert!(rt; twice(rt.alloc()) == Some((90_624, 50_448, false, true)));
-}
-
-/// A journal that counts, with room for 64 events.
-fn counting() -> Option<Counted> {
-    let mut journal = Counted::make();
-    journal.reserve(64).ok()?;
-    Some(journal)
+    assert!(rt; is_so(rt.alloc(), Begin::Plain(0), Trial::RefusesTogether));
 }
 
 /// How many events a journal counts that keeps none, where these log calls come together.
-fn counted(alloc: Global, core: &mut Core, items: &[Item]) -> Option<u64> {
-    let mut folder = folder(alloc, &[])?;
-    let mut journal = counting()?;
-    if calls::log_batch(core, items, NOW, &mut folder, &mut journal) {
-        Some(journal.noted())
-    } else {
-        None
-    }
+fn counted(fixture: &mut Fixture, items: &[Item]) -> Option<u64> {
+    let mut journal = Counted::make();
+    journal.reserve(64).ok()?;
+    let is_taken = calls::log_batch(
+        &mut fixture.core,
+        items,
+        NOW,
+        &mut fixture.folder,
+        &mut journal,
+    );
+    is_taken.then_some(journal.noted())
 }
 
-/// The same of 64 log calls.
-fn counted_calls(alloc: Global) -> Option<u64> {
-    let items = growing(alloc)?;
-    let mut core = plain_core(alloc, 0)?;
-    counted(alloc, &mut core, &items)
+/// Whether it counts 64 log calls.
+pub fn counts(fixture: &mut Fixture) -> bool {
+    match growing(fixture.alloc) {
+        Some(items) => counted(fixture, &items) == Some(64),
+        None => false,
+    }
 }
 
 #[test]
 fn a_journal_that_counts(rt: HostRuntime) {
-    assert!(rt; counted_calls(rt.alloc()) == Some(64));
+    assert!(rt; is_so(rt.alloc(), Begin::Plain(0), Trial::Counts));
 }

@@ -1,16 +1,15 @@
-//! A core with the folder and the journal that it is run against.
+//! A core with the folder and the journal that it is run against, and what is tried on it.
 
 ghost use Rattle.std.specs.Prelude.{◌≡◌, ◌≤◌, ◌<◌, IfSome, true, length};
 ghost use Rattle.std.specs.List.{list_all};
 ghost use Rattle.dl_bytes.specs.Conf.{is_printable};
 
-use crate::calls;
+use crate::{batches, calls, levels, losses, storing};
 use dl_bytes::{
     Bytes, Conf, Id, Item, Level, Moment, OwnLevel, Sequence, Severity, Stored, UserMsg,
 };
 use dl_core::Core;
 use dl_events::{Event, Journal, Kept};
-use dl_failing::Failing;
 use dl_memory::MemoryFolder;
 use dl_memory_net::{Manner, MemoryLink};
 use dl_registry::LAST_VERSION;
@@ -36,9 +35,9 @@ const EVENTS: u64 = 200;
 /// A core, and what it is run against.
 #[derive(Drop)]
 pub struct Fixture {
-    alloc: Global,
+    pub alloc: Global,
     pub core: Core,
-    pub folder: Failing<MemoryFolder>,
+    pub folder: MemoryFolder,
     pub journal: Kept,
 }
 
@@ -79,15 +78,6 @@ fn nothing_stored(alloc: Global) -> Stored {
     }
 }
 
-/// An empty folder, of which these calls fail.
-pub fn folder(alloc: Global, fails: &[u64]) -> Option<Failing<MemoryFolder>> {
-    let chosen = Vec::from_slice(alloc, fails).ok()?;
-    match MemoryFolder::make(alloc, 8, 8000) {
-        Ok(inner) => Some(Failing::make(inner, chosen)),
-        Err(_) => None,
-    }
-}
-
 /// A journal with room.
 fn journal(alloc: Global) -> Option<Kept> {
     let mut journal = Kept::make(alloc);
@@ -95,8 +85,17 @@ fn journal(alloc: Global) -> Option<Kept> {
     Some(journal)
 }
 
+/// What a core begins with.
+#[derive(Clone, Copy)]
+pub enum Begin {
+    /// No trace, and slots that begin at this version.
+    Plain(u64),
+    /// A trace.
+    Traced,
+}
+
 /// A core without a trace, whose slots begin at this version.
-pub fn plain_core(alloc: Global, first: u64) -> Option<Core> {
+fn plain(alloc: Global, first: u64) -> Option<Core> {
     if first > LAST_VERSION {
         return None;
     }
@@ -104,8 +103,25 @@ pub fn plain_core(alloc: Global, first: u64) -> Option<Core> {
     Core::make(alloc, &conf, nothing_stored(alloc), None, first).ok()
 }
 
+/// A core with a trace in this folder.
+fn traced(alloc: Global, folder: &mut MemoryFolder) -> Option<Core> {
+    let conf = traced_conf(alloc)?;
+    match Trace::make(alloc, folder, &conf) {
+        Ok(trace) => Core::make(alloc, &conf, nothing_stored(alloc), Some(trace), 0).ok(),
+        Err(_) => None,
+    }
+}
+
+/// A core that begins so, over this folder.
+fn core(alloc: Global, folder: &mut MemoryFolder, begin: Begin) -> Option<Core> {
+    match begin {
+        Begin::Plain(first) => plain(alloc, first),
+        Begin::Traced => traced(alloc, folder),
+    }
+}
+
 /// A core over a folder, with a journal of its own.
-fn over(alloc: Global, core: Core, folder: Failing<MemoryFolder>) -> Option<Fixture> {
+fn over(alloc: Global, core: Core, folder: MemoryFolder) -> Option<Fixture> {
     match journal(alloc) {
         Some(journal) => Some(Fixture {
             alloc,
@@ -117,52 +133,77 @@ fn over(alloc: Global, core: Core, folder: Failing<MemoryFolder>) -> Option<Fixt
     }
 }
 
-/// A core without a trace, whose slots begin at this version, over a folder of which these calls fail.
-pub fn plain(alloc: Global, first: u64, fails: &[u64]) -> Option<Fixture> {
-    let core = plain_core(alloc, first)?;
-    match folder(alloc, fails) {
-        Some(folder) => over(alloc, core, folder),
-        None => None,
-    }
-}
-
-/// A core with a trace in this folder.
-fn tracing(alloc: Global, folder: &mut Failing<MemoryFolder>) -> Option<Core> {
-    let conf = traced_conf(alloc)?;
-    match Trace::make(alloc, folder, &conf) {
-        Ok(trace) => Core::make(alloc, &conf, nothing_stored(alloc), Some(trace), 0).ok(),
-        Err(_) => None,
-    }
-}
-
-/// A core with a trace in an empty folder.
-fn traced_alone(alloc: Global) -> Option<Fixture> {
-    let mut folder = folder(alloc, &[])?;
-    match tracing(alloc, &mut folder) {
+/// A core that begins so, over an empty folder.
+fn begun_in(alloc: Global, folder: MemoryFolder, begin: Begin) -> Option<Fixture> {
+    let mut folder = folder;
+    match core(alloc, &mut folder, begin) {
         Some(core) => over(alloc, core, folder),
         None => None,
     }
 }
 
-/// A core with a trace, and a client.
-pub fn traced(alloc: Global) -> Option<Fixture> {
-    let mut fixture = traced_alone(alloc)?;
-    if fixture.connect().is_some() {
-        Some(fixture)
-    } else {
-        None
+/// A core that begins so.
+fn begun(alloc: Global, begin: Begin) -> Option<Fixture> {
+    match MemoryFolder::make(alloc, 8, 8000) {
+        Ok(folder) => begun_in(alloc, folder, begin),
+        Err(_) => None,
     }
 }
 
-/// A core with the application, its contexts `TEST` at the default level and `FULL` at level 6, and a client.
-pub fn filled(alloc: Global, fails: &[u64]) -> Option<Fixture> {
-    let mut fixture = plain(alloc, 0, fails)?;
-    if fixture.fill() { Some(fixture) } else { None }
+/// What is tried on a core, each by the function of its name.
+#[derive(Clone, Copy)]
+pub enum Trial {
+    DefaultChanges,
+    Wears,
+    Reports,
+    HandsOver,
+    Stores,
+    RefusesTogether,
+    Counts,
+}
+
+/// Whether what is tried is as it should be.
+fn tried(fixture: &mut Fixture, trial: Trial) -> bool {
+    match trial {
+        Trial::DefaultChanges => levels::default_changes(fixture),
+        Trial::Wears => levels::wears(fixture),
+        Trial::Reports => losses::reports(fixture),
+        Trial::HandsOver => losses::hands_over(fixture),
+        Trial::Stores => storing::stores(fixture),
+        Trial::RefusesTogether => batches::refuses_together(fixture),
+        Trial::Counts => batches::counts(fixture),
+    }
+}
+
+/// The same of a core that begins so.
+pub fn is_so(alloc: Global, begin: Begin, trial: Trial) -> bool {
+    match begun(alloc, begin) {
+        Some(mut fixture) => tried(&mut fixture, trial),
+        None => false,
+    }
+}
+
+/// What the log calls of the batches leave, one by one or together.
+pub fn left(alloc: Global, is_together: bool) -> Option<batches::Left> {
+    match begun(alloc, Begin::Traced) {
+        Some(mut fixture) => batches::left_of(&mut fixture, is_together),
+        None => None,
+    }
+}
+
+/// Whether all of these are so.
+pub fn are_all(facts: &[bool]) -> bool {
+    for is_so in facts {
+        if !*is_so {
+            return false;
+        }
+    }
+    true
 }
 
 impl Fixture {
-    /// The application and its contexts register, and a client connects.
-    fn fill(&mut self) -> bool {
+    /// The application and its contexts `TEST`, at the default level, and `FULL`, at level 6, register, and a client connects.
+    pub fn fill(&mut self) -> bool {
         self.app()
             && self.context(*b"TEST", -1)
             && self.context(*b"FULL", 6)
@@ -297,26 +338,29 @@ impl Fixture {
         None
     }
 
-    /// Whether this is what a client was sent and has not taken. It takes all.
-    pub fn takes(&mut self, client: u32, wanted: &str) -> bool {
-        match self.taken(client) {
-            Some(taken) => taken.as_str() == wanted,
+    /// Adds what a client was sent and has not taken. It takes all.
+    pub fn push_taken(&mut self, client: u32, bytes: &mut Vec<u8>) -> bool {
+        match link(self.alloc) {
+            Some(mut link) => {
+                let is_open = calls::pump(&mut self.core, client, &mut link).is_some();
+                is_open && bytes.extend_from_slice(link.taken()).is_ok()
+            }
             None => false,
         }
     }
 
-    /// What a client was sent and has not taken, in hexadecimal. It takes all.
-    pub fn taken(&mut self, client: u32) -> Option<String> {
-        match link(self.alloc) {
-            Some(mut link) => self.taken_through(client, &mut link),
-            None => None,
-        }
+    /// Whether these bytes are what a client was sent and has not taken. It takes all.
+    fn takes_bytes(&mut self, client: u32, wanted: &[u8]) -> bool {
+        let mut bytes = Vec::new(self.alloc);
+        self.push_taken(client, &mut bytes) && bytes.as_slice() == wanted
     }
 
-    /// The same through this link.
-    fn taken_through(&mut self, client: u32, link: &mut MemoryLink) -> Option<String> {
-        let _pumped = calls::pump(&mut self.core, client, link)?;
-        hex::encode(self.alloc, link.taken()).ok()
+    /// The same of bytes in hexadecimal.
+    pub fn takes(&mut self, client: u32, wanted: &str) -> bool {
+        match hex::decode(self.alloc, wanted) {
+            Ok(wanted) => self.takes_bytes(client, &wanted),
+            Err(_) => false,
+        }
     }
 
     /// Whether the Level events so far have these slots and levels.

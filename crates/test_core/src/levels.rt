@@ -1,9 +1,8 @@
 //! Requests that set and tell levels, with their replies and the Level events that follow.
 
 use crate::calls;
-use crate::fixture::{Fixture, Row, filled, plain};
+use crate::fixture::{Begin, Fixture, Row, Trial, are_all, is_so};
 use dl_registry::LAST_VERSION;
-use std::alloc::Global;
 
 /// The default level becomes 2, and all contexts are told.
 const TOLD: [Row; 2] = [
@@ -29,26 +28,20 @@ const WORN: [Row; 2] = [
     ),
 ];
 
-/// Whether the requests have their replies, are two frames of 70 bytes, and leave these levels.
-fn default_changes(fixture: &mut Fixture) -> [bool; 3] {
-    [
+/// Whether the application, its contexts and a client come, the requests have their replies, are two frames of 70 bytes, and
+/// leave these levels.
+pub fn default_changes(fixture: &mut Fixture) -> bool {
+    are_all(&[
+        fixture.fill(),
         fixture.other_reply(&TOLD).is_none(),
         calls::sent(fixture.core.hub(), 1) == Some((2, 70)),
         fixture.has_levels(&[(0, 4), (1, 6), (0, 2)]),
-    ]
-}
-
-/// The same of a core with the application and its contexts.
-fn filled_changes(alloc: Global) -> [bool; 3] {
-    match filled(alloc, &[]) {
-        Some(mut fixture) => default_changes(&mut fixture),
-        None => [false; 3],
-    }
+    ])
 }
 
 #[test]
 fn the_default_level_changes(rt: HostRuntime) {
-    assert!(rt; filled_changes(rt.alloc()) == [true; 3]);
+    assert!(rt; is_so(rt.alloc(), Begin::Plain(0), Trial::DefaultChanges));
 }
 
 /// Whether the application, its context at level 4, and a client come.
@@ -57,23 +50,16 @@ fn fill_worn(fixture: &mut Fixture) -> bool {
 }
 
 /// Whether they come, the requests have their replies, and the level that the context came with is the only one.
-fn wears(fixture: &mut Fixture) -> [bool; 3] {
-    [
+pub fn wears(fixture: &mut Fixture) -> bool {
+    are_all(&[
         fill_worn(fixture),
         fixture.other_reply(&WORN).is_none(),
         fixture.has_levels(&[(0, 4)]),
-    ]
+    ])
 }
 
-/// The same of a core whose slots have one version left.
-fn worn(alloc: Global) -> [bool; 3] {
-    match plain(alloc, LAST_VERSION - 1, &[]) {
-        Some(mut fixture) => wears(&mut fixture),
-        None => [false; 3],
-    }
-}
-
+/// A core whose slots have one version left.
 #[test]
 fn no_version_is_left(rt: HostRuntime) {
-    assert!(rt; worn(rt.alloc()) == [true; 3]);
+    assert!(rt; is_so(rt.alloc(), Begin::Plain(LAST_VERSION - 1), Trial::Wears));
 }

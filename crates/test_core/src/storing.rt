@@ -1,8 +1,7 @@
 //! Store and Reset, which write and remove the file of the stored configuration.
 
-use crate::fixture::{Fixture, Row, filled};
+use crate::fixture::{Begin, Fixture, Row, Trial, are_all, is_so};
 use dl_outside::Folder;
-use std::alloc::Global;
 
 /// Store.
 const STORED: Row = (
@@ -18,7 +17,7 @@ const RESET: Row = (
 
 /// Whether the stored configuration is there, and is this.
 fn holds(fixture: &mut Fixture, text: &[u8]) -> bool {
-    match fixture.folder.inner.read("dlt_stored.cfg") {
+    match fixture.folder.read("dlt_stored.cfg") {
         Ok(Some(stored)) => stored.all() == text,
         Ok(None) | Err(_) => false,
     }
@@ -26,32 +25,26 @@ fn holds(fixture: &mut Fixture, text: &[u8]) -> bool {
 
 /// Whether there is no stored configuration.
 fn holds_none(fixture: &mut Fixture) -> bool {
-    match fixture.folder.inner.read("dlt_stored.cfg") {
+    match fixture.folder.read("dlt_stored.cfg") {
         Ok(stored) => stored.is_none(),
         Err(_) => false,
     }
 }
 
-/// Whether the levels are stored and reset, with their replies, the file, and the levels that follow.
-fn stores(fixture: &mut Fixture) -> [bool; 5] {
-    [
+/// Whether the application and its contexts come, and the levels are stored and reset, with their replies, the file, and the
+/// levels that follow.
+pub fn stores(fixture: &mut Fixture) -> bool {
+    are_all(&[
+        fixture.fill(),
         fixture.other_reply(&[STORED]).is_none(),
         holds(fixture, b"::4\nLOG1:FULL:6\n"),
         fixture.other_reply(&[RESET]).is_none(),
         holds_none(fixture),
         fixture.has_levels(&[(0, 4), (1, 6), (1, 4)]),
-    ]
-}
-
-/// The same of a core with the application and its contexts.
-fn stored(alloc: Global) -> [bool; 5] {
-    match filled(alloc, &[]) {
-        Some(mut fixture) => stores(&mut fixture),
-        None => [false; 5],
-    }
+    ])
 }
 
 #[test]
 fn stored_and_reset(rt: HostRuntime) {
-    assert!(rt; stored(rt.alloc()) == [true; 5]);
+    assert!(rt; is_so(rt.alloc(), Begin::Plain(0), Trial::Stores));
 }
