@@ -35,6 +35,8 @@ pub enum Job {
     SentQueued,
     /// A message is taken out of its ring.
     Taken,
+    /// A message is taken out of its ring into one that is kept, as the daemon does it.
+    TakenInto,
 }
 
 /// What came of a job.
@@ -84,6 +86,7 @@ impl Job {
             "sent_filtered" => Some(Job::SentFiltered),
             "sent_queued" => Some(Job::SentQueued),
             "taken" => Some(Job::Taken),
+            "taken_into" => Some(Job::TakenInto),
             _ => None,
         }
     }
@@ -102,6 +105,7 @@ impl Job {
             Job::SentFiltered => logging::run_sent_filtered(rt, alloc, count),
             Job::SentQueued => logging::run_sent_queued(rt, alloc, count),
             Job::Taken => logging::run_taken(rt, alloc, count),
+            Job::TakenInto => logging::run_taken_into(rt, alloc, count),
         }
     }
 }

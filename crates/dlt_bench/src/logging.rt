@@ -1,6 +1,7 @@
 //! Log calls: filtered by their level, or queued in a ring that is emptied whenever it is full.
 
 use crate::job::Tally;
+use crate::making::call;
 use dl_args::add_text;
 use dl_bytes::{Ctx, Id, Level, Payload, Severity};
 use dl_events::{Answer, Record};
@@ -142,6 +143,26 @@ pub fn run_taken<R: Wait>(rt: &R, alloc: Global, count: u32) -> Option<Tally> {
         }
         for _turn in 0..RING {
             let item = ring.take(rt)?;
+            tally.count(item.payload.bytes().len(), u64::from(item.payload.args()));
+        }
+    }
+    Some(tally)
+}
+
+/// Takes so many messages out of a ring, each into one that is kept, as the daemon does it; otherwise as `run_taken`.
+pub fn run_taken_into<R: Wait>(rt: &R, alloc: Global, count: u32) -> Option<Tally> {
+    let (mut writer, mut ring) = writer(alloc)?;
+    let (context, payload) = (context(), payload());
+    let mut item = call(0);
+    let mut tally = Tally::new();
+    for _batch in 0..count.div_ceil(u32::from(RING)) {
+        for at in 0..u32::from(RING) {
+            let _answer = writer.send(rt, &context, Severity::Info, at, &payload);
+        }
+        for _turn in 0..RING {
+            if !ring.take_into(rt, &mut item) {
+                return None;
+            }
             tally.count(item.payload.bytes().len(), u64::from(item.payload.args()));
         }
     }
