@@ -1,5 +1,5 @@
 -- The core before its first event.
-use Rattle.std.proofs.Common.{◌≡◌, ℕ, [], Option, Some, None, refl, sym, ap, subst, ◌∙◌, arith}
+use Rattle.std.proofs.Common.{◌≡◌, ℕ, [], drop, Option, Some, None, refl, sym, ap, subst, ◌∙◌, arith}
 use Rattle.std.specs.Prelude.{IfSome}
 use Rattle.dl_bytes.specs.declared.conf.Conf.{Conf}
 use Rattle.dl_bytes.specs.declared.conf.Stored.{Stored}
@@ -11,15 +11,15 @@ use Rattle.dl_hub.specs.State.{fresh}
 use Rattle.dl_trace.specs.State as traces
 use Rattle.dl_trace.specs.State.{Trace}
 use Rattle.dl_trace.specs.Made.{IsMade}
-use Rattle.dl_core.specs.Settings.{setting_for, begun_for}
+use Rattle.dl_core.specs.Settings.{HasSizes, setting_for, begun_for}
 use Rattle.dl_core.specs.Follows.{Run, IsTraceAfter, IsAfter}
 
-trace_begins : (run : Run) (conf : Conf) (stored : Stored) (first clients : ℕ) (kept : Trace) → run.setting ≡ setting_for conf stored first clients
+trace_begins : (run : Run) (conf : Conf) (kept : Trace) → HasSizes conf run.setting
     → IsMade conf kept → traces.IsAfter run.stood [] kept → IsTraceAfter run [] kept
-trace_begins run conf stored first clients kept set made stood = record {
-  directory = made.directory ∙ sym (ap (λ (s : Setting). s.directory) set);
-  file_size = made.file_size ∙ sym (ap (λ (s : Setting). s.file_size) set);
-  max_size = made.max_size ∙ sym (ap (λ (s : Setting). s.max_size) set);
+trace_begins run conf kept sizes made stood = record {
+  directory = made.directory ∙ sizes.directory;
+  file_size = made.file_size ∙ sizes.file_size;
+  max_size = made.max_size ∙ sizes.max_size;
   stored = [];
   later = [];
   all = refl;
@@ -29,10 +29,10 @@ trace_begins run conf stored first clients kept set made stood = record {
   spent = λ at. absurd (cc (made.goes_on, at));
 }
 
-pub begins : (run : Run) (conf : Conf) (stored : Stored) (first clients : ℕ) (kept : Option Trace) → run.setting ≡ setting_for conf stored first clients
+pub begins : (run : Run) (conf : Conf) (stored : Stored) (first clients : ℕ) (kept : Option Trace) → run.setting ≡ setting_for conf stored first clients → run.before ≡ 0
     → hub.IsAfter [] (λ (number : ℕ). []) (fresh conf.ecu conf.buffer clients) → IfSome kept (IsMade conf) → IfSome kept (traces.IsAfter run.stood [])
     → IsAfter run [] (λ (number : ℕ). []) (begun_for conf stored first kept clients)
-begins run conf stored first clients kept set hubs made stood = record {
+begins run conf stored first clients kept set none hubs made stood = record {
   set_to = record {
     ecu = sym (ap (λ (s : Setting). s.ecu) set);
     unit = sym (ap (λ (s : Setting). s.ecu) set);
@@ -43,8 +43,16 @@ begins run conf stored first clients kept set hubs made stood = record {
   };
   registry = subst (λ (s : Setting). registry.IsAfter s [] (registry.made conf.level stored first)) (sym set) (made_follows (setting_for conf stored first clients));
   hub = hubs;
-  trace = traced kept made stood;
+  begun = omega (arith, none);
+  trace = subst (λ (n : ℕ). IfSome kept (IsTraceAfter run (drop n []))) (sym none) (traced kept made stood);
 } where
+  sizes : HasSizes conf run.setting
+  sizes = record {
+    directory = sym (ap (λ (s : Setting). s.directory) set);
+    file_size = sym (ap (λ (s : Setting). s.file_size) set);
+    max_size = sym (ap (λ (s : Setting). s.max_size) set);
+  }
+
   traced : (o : Option Trace) → IfSome o (IsMade conf) → IfSome o (traces.IsAfter run.stood []) → IfSome o (IsTraceAfter run [])
   traced None made stood = tt {0}
-  traced (Some t) made stood = trace_begins run conf stored first clients t set made stood
+  traced (Some t) made stood = trace_begins run conf t sizes made stood

@@ -1,7 +1,7 @@
 -- The core after one event more.
-use Rattle.std.proofs.Common.{◌≡◌, ℕ, List, [], ◌∷◌, ◌++◌, Option, None, sym, ap, subst, ◌∙◌}
+use Rattle.std.proofs.Common.{◌≡◌, ℕ, ◌+◌, List, [], ◌∷◌, ◌++◌, drop, length, Option, None, sym, ap, subst, ◌∙◌, length-append, arith}
 use Rattle.std.specs.Prelude.{IfSome}
-use Rattle.std.proofs.lemmas.List.{append-nil}
+use Rattle.std.proofs.lemmas.List.{append-nil, drop-append-le}
 use Rattle.std.proofs.lemmas.Grind.{flat_map-append}
 use Rattle.dl_events.specs.declared.event.Event.{Event}
 use Rattle.dl_outside.specs.Told.{FolderTold}
@@ -49,16 +49,21 @@ pub events_follow : (run : Run) (events more : List Event) (taken : ℕ → List
     → registry.IsAfter run.setting (events ++ more) new.registry
     → traffic (source_of run) (events ++ more) ≡ traffic (source_of run) events ++ entries
     → AddsTraffic entries old.hub new.hub
-    → stored_by run (events ++ more) ≡ stored_by run events ++ frames
+    → stored_frames (source_of run) (events ++ more) ≡ stored_frames (source_of run) events ++ frames
     → Traced run (stored_by run events) (stored_by run events ++ frames) old.trace new.trace told.files told_now.files
     → IsAfter run events taken old
     → IsAfter run (events ++ more) taken new × (HoldsTrace run events old told → HoldsTrace run (events ++ more) new told_now)
-events_follow run events more taken entries frames old new told told_now same registers talk talks stored traced is =
-    let left = traced is.trace in (
+events_follow run events more taken entries frames old new told told_now same registers talk talks all traced is =
+    let left = traced is.trace in
+    let stored : stored_by run (events ++ more) ≡ stored_by run events ++ frames =
+    ap (λ (fs : List (List ℕ)). drop run.before fs) all ∙ drop-append-le run.before (stored_frames (source_of run) events) frames is.begun in
+    let longer : length (stored_frames (source_of run) (events ++ more)) ≡ length (stored_frames (source_of run) events) + length frames =
+    ap length all ∙ length-append (stored_frames (source_of run) events) frames in (
       record {
         set_to = set_later run old new same is.set_to;
         registry = registers;
         hub = subst (λ (ts : List Traffic). hub.IsAfter ts taken new.hub) (sym talk) (talks (traffic (source_of run) events) taken is.hub);
+        begun = omega (arith, is.begun, longer);
         trace = subst (λ (fs : List (List ℕ)). IfSome new.trace (IsTraceAfter run fs)) (sym stored) left.0;
       },
       λ holds. subst (λ (fs : List (List ℕ)). IfSome new.trace (λ t. t.state.end ≡ None → HoldsFiles run fs told_now.files)) (sym stored) (left.1 holds),
@@ -76,7 +81,7 @@ pub event_follows : (run : Run) (events : List Event) (taken : ℕ → List ℕ)
 event_follows run events taken event frames old new told told_now same registers talks stored traced is =
     events_follow run events (event ∷ []) taken (traffic_of (source_of run) events event) frames old new told told_now same registers
     (along-one (traffic_of (source_of run)) events event) talks
-    (stored-one (source_of run) events event ∙ ap (λ (fs : List (List ℕ)). stored_by run events ++ fs) stored) traced is
+    (stored-one (source_of run) events event ∙ ap (λ (fs : List (List ℕ)). stored_frames (source_of run) events ++ fs) stored) traced is
 
 -- and of one that stores nothing
 pub quiet_event : (run : Run) (events : List Event) (taken : ℕ → List ℕ) (event : Event) (old new : Core) (told : FolderTold)

@@ -15,7 +15,7 @@ use Rattle.dl_message.specs.Frames.{log_message}
 use Rattle.dl_model.specs.Along.{along_from}
 use Rattle.dl_model.specs.Overflow.{overflow_frames}
 use Rattle.dl_model.specs.Setting.{Setting}
-use Rattle.dl_model.specs.Frames.{stored, stored_of}
+use Rattle.dl_model.specs.Frames.{stored, stored_of, stored_frames}
 use Rattle.dl_model.specs.Traffic.{Traffic, Admitted, Connected, Closed}
 use Rattle.dl_model.specs.ClientStream.{traffic, traffic_of}
 use Rattle.dl_laws.proofs.Lists.{along_from-append}
@@ -117,7 +117,7 @@ batch_follows items moment old new told told_now same kept talks stores = λ run
     (subst (λ (k : Kept). registry.IsAfter run.setting (events ++ more) k) (sym kept) (registry_batch run.setting items moment events old.registry is.registry))
     (along_from-append (traffic_of (source_of run)) [] events more ∙ ap (λ (ts : List Traffic). traffic (source_of run) events ++ ts) entries)
     talks
-    (flat_map-append (stored_of (source_of run)) events more ∙ ap (λ (fs : List (List ℕ)). stored_by run events ++ fs) frames)
+    (flat_map-append (stored_of (source_of run)) events more ∙ ap (λ (fs : List (List ℕ)). stored_frames (source_of run) events ++ fs) frames)
     (trace_follows run (stored_by run events) (map (λ item. stored old.ecu moment (log_message old.ecu item)) items) old.trace new.trace told told_now stores)
     is
 

@@ -1,5 +1,6 @@
 -- What the core is after a journal: registry, streams, backlog and trace files are those of its events.
-use Rattle.std.specs.Prelude.{◌≡◌, ℕ, ◌<◌, true, false, List, [], ◌++◌, length, Option, Some, None, IfSome, IsSomeAnd}
+use Rattle.std.specs.Prelude.{◌≡◌, ℕ, ◌<◌, ◌≤◌, true, false, List, [], ◌++◌, drop, length, Option, Some, None, IfSome, IsSomeAnd}
+use Rattle.dl_bytes.specs.declared.conf.Conf.{Conf}
 use Rattle.dl_bytes.specs.declared.outcome.TraceEnd.TheVariants.{Spent}
 use Rattle.dl_events.specs.declared.event.Event.{Event}
 use Rattle.dl_model.specs.Setting.{Setting}
@@ -15,23 +16,25 @@ use Rattle.dl_trace.specs.State as trace
 use Rattle.dl_trace.specs.State.{Trace}
 use Rattle.dl_trace.specs.Stands.{HasFiles}
 use Rattle.dl_core.specs.State.{Core}
-use Rattle.dl_core.specs.Settings.{IsSetTo}
+use Rattle.dl_core.specs.Settings.{HasSizes, IsSetTo}
 
 -- A run: what doesn't change in it, the frame of each log call by its writer and its number, the APID of each application
--- by its number, and the trace files that stood before it.
+-- by its number, the trace files that stood before its trace began, and how many frames its events had to store before that:
+-- none, but where a trace that had ended was begun anew.
 pub record Run : Type 0 where
   pub setting : Setting
   pub frame : ℕ → ℕ → List ℕ
   pub apid : ℕ → List ℕ
   pub stood : List StoredFile
+  pub before : ℕ
 
 -- where the frames of its events come from; replies are those of the registry
 abbrev pub source_of : Run → FrameSource
 source_of run = record { ecu = run.setting.ecu; frame = run.frame; apid = run.apid; reply = reply_after run.setting }
 
--- the frames that the events of a run store
+-- the frames that the events of a run store, from those on with which its trace began
 abbrev pub stored_by : Run → List Event → List (List ℕ)
-stored_by run events = stored_frames (source_of run) events
+stored_by run events = drop run.before (stored_frames (source_of run) events)
 
 -- the trace files after these stored frames
 abbrev pub files_with : Run → List (List ℕ) → List StoredFile
@@ -60,6 +63,7 @@ pub record IsAfter (run : Run) (events : List Event) (taken : ℕ → List ℕ) 
   pub set_to : IsSetTo run.setting core
   pub registry : registry.IsAfter run.setting events core.registry
   pub hub : hub.IsAfter (traffic (source_of run) events) taken core.hub
+  pub begun : run.before ≤ length (stored_frames (source_of run) events)
   pub trace : IfSome core.trace (IsTraceAfter run (stored_by run events))
 
 -- while the trace goes on, the folder tells its files, and its trace files are just those of these events
@@ -79,4 +83,17 @@ AddsAlone more old new = (folder : FolderTold) → Adds more (λ run. Unit {0}) 
 
 -- before its first event, in each run of this setting whose trace files are those that the trace found
 abbrev pub Begins : Setting → Option Trace → Core → Type 0
-Begins setting kept core = (run : Run) → run.setting ≡ setting → IfSome kept (trace.IsAfter run.stood []) → IsAfter run [] (λ _. []) core
+Begins setting kept core = (run : Run) → run.setting ≡ setting → run.before ≡ 0 → IfSome kept (trace.IsAfter run.stood []) → IsAfter run [] (λ _. []) core
+
+-- the run that goes on with a trace which begins anew, behind these events and over the trace files that stand
+abbrev pub begun_anew : List StoredFile → List Event → Run → Run
+begun_anew stood events run = record run { stood = stood; before = length (stored_frames (source_of run) events) }
+
+-- A trace was begun anew, which has the directory and the sizes of a configuration: in each run that has them, the core stands for the same events as
+-- before, of which none is stored by this trace; and if the folder's trace files are those that stood when it was made, the folder holds the trace.
+abbrev pub BeginsAnew : Conf → Trace → Core → Core → Type 0
+BeginsAnew conf kept old new =
+    (run : Run) (events : List Event) (taken : ℕ → List ℕ) (stood : List StoredFile) → IsAfter run events taken old → HasSizes conf run.setting
+    → trace.IsAfter stood [] kept
+    → IsAfter (begun_anew stood events run) events taken new
+    × ((folder : FolderTold) → IsSomeAnd folder.files (λ files. HasFiles conf.directory files stood) → HoldsTrace (begun_anew stood events run) events new folder)

@@ -44,6 +44,12 @@ begun_for conf stored first trace clients = record {
 abbrev pub begun : Conf → Stored → ℕ → Option Trace → Core
 begun conf stored first trace = begun_for conf stored first trace client_limit
 
+-- a setting has the directory and the sizes of trace files of a configuration
+pub record HasSizes (conf : Conf) (setting : Setting) : Type 0 where
+  pub directory : conf.directory ≡ setting.directory
+  pub file_size : conf.file_size ≡ setting.file_size
+  pub max_size : conf.max_size ≡ setting.max_size
+
 -- the core has the setting of a run
 pub record IsSetTo (setting : Setting) (core : Core) : Type 0 where
   pub ecu : core.ecu ≡ setting.ecu

@@ -1,10 +1,11 @@
 //! The core as a whole: its parts, and what is read of it.
 
-ghost use Rattle.std.specs.Prelude.{◌≡◌, ◌≤◌, [], IfOk, IfSome, option_map};
+ghost use Rattle.std.specs.Prelude.{◌≡◌, ◌≤◌, [], IfOk, IfSome, IsSome, Some, option_map};
 ghost use Rattle.dl_bytes.specs.Limits.{last_version};
+ghost use Rattle.dl_bytes.specs.declared.conf.Conf.{Conf};
 ghost use Rattle.dl_outside.specs.Folder.{Files};
 ghost use Rattle.dl_trace.specs.Made.{IsMade};
-ghost use Rattle.dl_core.specs.Follows.{Begins};
+ghost use Rattle.dl_core.specs.Follows.{Begins, BeginsAnew};
 ghost use Rattle.dl_core.specs.Settings.{begun, begun_for, setting_for, setting_of};
 ghost use Rattle.dl_core.specs.Writer.{trace_in};
 
@@ -111,6 +112,17 @@ impl Core {
         match &self.trace {
             Some(writer) => Some(writer.trace.state()),
             None => None,
+        }
+    }
+
+    /// Has this trace in the place of the one that is kept, which has ended: what is admitted from now on is stored by it. It takes no memory.
+    pub fn begin_trace(&mut self, trace: Trace)
+        requires kept { IsSome self.old.trace }
+        ensures value { self.new ≡ record self.old { trace = Some trace } }
+        ensures anew { (conf : Conf) → IsMade conf trace → BeginsAnew conf trace self.old self.new }
+    {
+        if let Some(writer) = &mut self.trace {
+            writer.trace = trace;
         }
     }
 

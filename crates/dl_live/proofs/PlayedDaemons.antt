@@ -194,7 +194,7 @@ module _ {L : Type 0} (told : L → LinkTold) (begun : Begun) (p : Players L) (w
 
     pub gives : Gives run last.first_core account.apps account.handles
     gives = record {
-      begins = subst (λ (core : Core). IsAfter run [] (λ _. []) core) (sym same_core) (are.begins run refl stood_so);
+      begins = subst (λ (core : Core). IsAfter run [] (λ _. []) core) (sym same_core) (are.begins run refl refl stood_so);
       frames = frames;
       apids = λ app spec there. ap (λ (o : Option AppSpec). option_map_or (λ (s : AppSpec). s.apid) o []) there;
     }

@@ -42,6 +42,7 @@ run_of begun stood account = record {
   frame = frame_of_record begun.conf.ecu (records_of account);
   apid = apid_in account.apps;
   stood = stood;
+  before = 0;
 }
 
 -- how many links the daemon was given: one for each client that connected, and those that were dropped

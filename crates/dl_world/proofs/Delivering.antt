@@ -50,6 +50,7 @@ core_took run events taken now number count w is at fits = record {
   set_to = record { ecu = is.set_to.ecu; unit = is.set_to.unit; buffer = is.set_to.buffer; level = is.set_to.level; injection = is.set_to.injection; clients = is.set_to.clients };
   registry = is.registry;
   hub = hub_took (traffic (source_of run) events) taken now.hub number count w is.hub at fits;
+  begun = is.begun;
   trace = is.trace;
 }
 

@@ -1,5 +1,5 @@
 -- A whole run: what its lines and its end come to is the run of the definitions.
-use Rattle.std.proofs.Common.{◌≡◌, ℕ, ◌+◌, Bool, false, cond, List, [], ◌∷◌, ◌++◌, take, Option, Some, None, refl, sym, ap, subst, ◌∙◌, arith}
+use Rattle.std.proofs.Common.{◌≡◌, ℕ, zero, suc, ◌+◌, Bool, false, cond, List, [], ◌∷◌, ◌++◌, take, drop, Option, Some, None, refl, sym, ap, subst, ◌∙◌, arith}
 use Rattle.std.specs.Prelude.{slice_get, count_by, IfSome, IsSomeAnd, Result, Ok, Err, IfOk}
 use Rattle.std.specs.FinMap as map
 use Rattle.std.specs.List.{filter_map, AllByRecursion}
@@ -30,7 +30,7 @@ use Rattle.dl_trace.specs.State.{Trace, listed}
 use Rattle.dl_core.specs.Settings.{setting_of}
 use Rattle.dl_core.specs.Serving.{stored_name}
 use Rattle.dl_core.specs.State.{Core}
-use Rattle.dl_core.specs.Follows.{Run, IsTraceAfter, HoldsTrace, stored_by}
+use Rattle.dl_core.specs.Follows.{Run, IsTraceAfter, HoldsFiles, HoldsTrace, stored_by}
 use Rattle.dl_outside.specs.Told.{FolderTold}
 use Rattle.dl_folders.specs.Files.{directory_of}
 use Rattle.dl_world.specs.Follows.{IsRunOf, IsAfter, Goes, Does, BeginWith, answer_of, answers_in, is_failure, failures_of}
@@ -97,13 +97,13 @@ count_failed (mark ∷ done) = sum_by-cons (λ (m : Mark). cond (is_failed m) 1 
 -- ---- the run of these lines
 
 module _ (conf : Conf) (kept : Stored) (handed : Option Trace) (stood : List StoredFile) (first : World)
-    (begins : (run : Run) → run.setting ≡ setting_of conf kept 0 → IfSome handed (traces.IsAfter run.stood []) → IsAfter run [] first) (stood_so : IfSome handed (traces.IsAfter stood [])) where
+    (begins : (run : Run) → run.setting ≡ setting_of conf kept 0 → run.before ≡ 0 → IfSome handed (traces.IsAfter run.stood []) → IsAfter run [] first) (stood_so : IfSome handed (traces.IsAfter stood [])) where
   abbrev setting : Setting
   setting = setting_of conf kept 0
 
   -- the run that has the frames and the ids of these marks
   abbrev pub run_of : List Mark → Run
-  run_of done = record { setting = setting; frame = frame_of_call setting done; apid = apid_of done; stood = stood }
+  run_of done = record { setting = setting; frame = frame_of_call setting done; apid = apid_of done; stood = stood; before = 0 }
 
   is_run : (done : List Mark) → AllByRecursion (HasItsFrame setting done) (filter_map call_of done) → IsRunOf (run_of done) done
   is_run done frames = record { frames = frames; apids = λ app below. refl }
@@ -116,7 +116,7 @@ module _ (conf : Conf) (kept : Stored) (handed : Option Trace) (stood : List Sto
       → IsAfter (run_of (after_lines setting does.answered steps)) (after_lines setting does.answered steps) now
   after_some steps now told told_now does =
       let done = after_lines setting does.answered steps in
-      let goes = does.goes (run_of done) [] does.answered (begin_with does.answered) (begins (run_of done) refl stood_so) (is_run done (frames_now setting done (lines_founded setting does.answered steps))) in
+      let goes = does.goes (run_of done) [] does.answered (begin_with does.answered) (begins (run_of done) refl refl stood_so) (is_run done (frames_now setting done (lines_founded setting does.answered steps))) in
       goes.after
 
   -- the next line may come
@@ -137,7 +137,7 @@ module _ (conf : Conf) (kept : Stored) (handed : Option Trace) (stood : List Sto
       → Goes (run_of (run setting does.answered steps)) [] (run setting does.answered steps) first last told told_now does.answered
   after_all steps last told told_now does =
       let done = run setting does.answered steps in
-      does.goes (run_of done) [] does.answered (begin_with does.answered) (begins (run_of done) refl stood_so) (is_run done (frames_now setting done (run_founded setting does.answered steps)))
+      does.goes (run_of done) [] does.answered (begin_with does.answered) (begins (run_of done) refl refl stood_so) (is_run done (frames_now setting done (run_founded setting does.answered steps)))
 
   -- ---- the trace
 
@@ -178,9 +178,13 @@ module _ (conf : Conf) (kept : Stored) (handed : Option Trace) (stood : List Sto
 
   begun_holds : (r : Run) (core : Core) (told : FolderTold) → IsSomeAnd told.files (λ folder. HasFiles r.setting.directory folder r.stood) → HoldsTrace r [] core told
   begun_holds r core told holds = by_trace core.trace where
-    by_trace : (o : Option Trace) → IfSome o (λ (kept : Trace). kept.state.end ≡ None → IsSomeAnd told.files (λ folder. HasFiles r.setting.directory folder r.stood))
+    none_of_none : (n : ℕ) → drop {A = List ℕ} n [] ≡ []
+    none_of_none zero = refl
+    none_of_none (suc n) = refl
+
+    by_trace : (o : Option Trace) → IfSome o (λ (kept : Trace). kept.state.end ≡ None → HoldsFiles r (stored_by r []) told.files)
     by_trace None = tt
-    by_trace (Some kept) = λ goes_on. holds
+    by_trace (Some kept) = λ goes_on. subst (λ (fs : List (List ℕ)). HoldsFiles r fs told.files) (sym (none_of_none r.before)) holds
 
   -- ---- all of it
 
