@@ -99,11 +99,11 @@ fresh_given : (o : Option (List ℕ)) → IsSome o → IfSome o (λ bytes. bytes
 fresh_given None some none = absurd (cc some)
 fresh_given (Some bytes) some none = ap Some none
 
-low_added : (xs : List ℕ) (channel : ℕ) → 1 ≤ channel → AllByRecursion (λ number. 1 ≤ number) xs → AllByRecursion (λ number. 1 ≤ number) (xs ++ channel ∷ [])
+pub low_added : (xs : List ℕ) (channel : ℕ) → 1 ≤ channel → AllByRecursion (λ number. 1 ≤ number) xs → AllByRecursion (λ number. 1 ≤ number) (xs ++ channel ∷ [])
 low_added [] channel one all = (one, tt)
 low_added (x ∷ xs) channel one all = (all.0, low_added xs channel one all.1)
 
-keys_added : {A : Type 0} (es : List (ℕ × A)) (channel : ℕ) (w : A) → keys_of (es ++ (channel, w) ∷ []) ≡ keys_of es ++ channel ∷ []
+pub keys_added : {A : Type 0} (es : List (ℕ × A)) (channel : ℕ) (w : A) → keys_of (es ++ (channel, w) ∷ []) ≡ keys_of es ++ channel ∷ []
 keys_added [] channel w = refl
 keys_added (e ∷ es) channel w = ap (λ (ks : List ℕ). e.0 ∷ ks) (keys_added es channel w)
 

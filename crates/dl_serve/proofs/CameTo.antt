@@ -36,7 +36,7 @@ use Rattle.dl_well_formed.proofs.OpenClients.{its_stream}
 use Rattle.dl_serve.specs.declared.beginning.Begun.{Begun}
 use Rattle.dl_serve.specs.declared.closed.Closed.{Closed}
 use Rattle.dl_serve.specs.Closed.{IsLeft}
-use Rattle.dl_serve.specs.Comes.{IsComeTo, TookStream, TookStreams, run_in}
+use Rattle.dl_serve.specs.Comes.{HasCome, IsComeTo, TookStream, TookStreams, run_in}
 
 -- ---- the trace files that stood before
 
@@ -49,7 +49,7 @@ pub what_stood : (conf : Conf) (files : Option Files) (kept : Option Trace) → 
 what_stood conf files None begun = record { stood = []; after = tt; told = tt }
 what_stood conf files (Some kept) begun = record { stood = begun.2.0; after = begun.2.1; told = begun.2.2 }
 
-stood_there : (conf : Conf) (files : Option Files) (kept : Option Trace) (stood : List StoredFile) → IfSome kept (λ _. IfSome files (λ all. HasFiles conf.directory all stood)) → kept ≢ None
+pub stood_there : (conf : Conf) (files : Option Files) (kept : Option Trace) (stood : List StoredFile) → IfSome kept (λ _. IfSome files (λ all. HasFiles conf.directory all stood)) → kept ≢ None
     → IfSome files (λ all. HasFiles conf.directory all stood)
 stood_there conf files None stood told some = absurd (some refl)
 stood_there conf files (Some kept) stood told some = told
@@ -93,6 +93,36 @@ module _ (run : Run) (events : List Event) (took : ℕ → List ℕ) (core : Cor
 not_some : {A : Type 0} (o : Option A) → o ≡ None → IsSome o → ⊥
 not_some o none some = (let same : false ≡ true = sym (ap is_some none) ∙ some in cc same)
 
+if_some : {A : Type 0} (o : Option A) (P : Type 0) → (IsSome o → P) → IfSome o (λ _. P)
+if_some None P holds = tt
+if_some (Some x) P holds = holds refl
+
+-- what a run came to whose journal is that of a server that closed
+module _ {L : Type 0} (link_told : L → LinkTold)
+    (outbox : (run : Run) (events : List Event) (taken : ℕ → List ℕ) (core : Core) (client : ℕ) → IsAfter run events taken core → IsSome (outbox_of core.hub client) ↔ IsOpen client events)
+    (run : Run) (old : FolderTold) (final : State) (none_open : (number : ℕ) → outbox_of final.core.hub number ≡ None) (closed : Closed L) (left : IsLeft link_told final closed)
+    (ends : Holds (TellTaken link_told) (IsSome old.files) ⊥ run closed.events.events final) where
+  pub has_come : HasCome link_told run old final.folder closed
+  has_come =
+      let hub = final.core.hub in
+      let long : length closed.clients.links ≡ length hub.clients = sym (length-map closed.clients.links link_told) ∙ ap (λ (ls : List LinkTold). length ls) left.clients ∙ sym ends.many in
+      let links : closed.state.links ≡ ends_in hub = ap (λ (e : Ends). e.links) left.state in record {
+        formed = ends.formed;
+        many = long ∙ came_by_journal run closed.events.events ends.took final.core ends.after;
+        none_open = λ client open_so. not_some (outbox_of hub client) (none_open client) ((outbox run closed.events.events ends.took final.core client ends.after).1 open_so);
+        streams = subst (λ (n : ℕ). TellStreams run closed.events.events n closed.state.links) (sym long)
+            (subst (TellStreams run closed.events.events (length hub.clients)) (sym links) (streams_told run closed.events.events ends.took final.core ends.after));
+        took = λ tells. subst (λ (es : List LinkEnd). TookStreams run closed.events.events (map link_told closed.clients.links) es) (sym links)
+            (subst (λ (ls : List LinkTold). TookStreams run closed.events.events ls (ends_in hub)) (sym left.clients)
+            (took_all run closed.events.events ends.took final.core final.clients ends.after (ends.taken tells) none_open));
+        kept = final.core.trace;
+        trace = ap (λ (e : Ends). e.trace) left.state;
+        traced = record {
+          after = ends.after.trace;
+          holds = if_some old.files (IfSome final.core.trace (λ t. t.state.end ≡ None → HoldsFiles run (stored_by run closed.events.events) final.folder.files)) ends.trace;
+        };
+      }
+
 -- What is seen of a server that was just made of what was begun: it notes into an empty journal, nobody came, and its core begins each run of this
 -- setting, over the trace files that its trace found.
 pub record IsFresh (set : Setting) (begun : Begun) (s : State) : Type 0 where
@@ -104,12 +134,9 @@ pub record IsFresh (set : Setting) (begun : Begun) (s : State) : Type 0 where
   pub settled : owed_change s.core.registry ≡ None
   pub directory : set.directory ≡ begun.conf.directory
 
-module _ {L : Type 0} (link_told : L → LinkTold)
-    (outbox : (run : Run) (events : List Event) (taken : ℕ → List ℕ) (core : Core) (client : ℕ) → IsAfter run events taken core → IsSome (outbox_of core.hub client) ↔ IsOpen client events)
-    (set : Setting) (begun : Begun) (first : FolderTold) (begins : IsBegun begun.conf first.files begun.trace) (start final : State) (quiet : IsQuiet first start.folder) (fresh : IsFresh set begun start)
-    (goes : (held : Bool) → GoesOut (TellTaken link_told) (held ≡ true) start final) (none_open : (number : ℕ) → outbox_of final.core.hub number ≡ None)
-    (closed : Closed L) (left : IsLeft link_told final closed) where
-  before_run : HaveStood begun.conf first.files begun.trace
+module _ (Tell : Type 0) (set : Setting) (begun : Begun) (first : FolderTold) (begins : IsBegun begun.conf first.files begun.trace) (start : State) (quiet : IsQuiet first start.folder)
+    (fresh : IsFresh set begun start) where
+  abbrev before_run : HaveStood begun.conf first.files begun.trace
   before_run = what_stood begun.conf first.files begun.trace begins
 
   abbrev run : Run
@@ -117,31 +144,6 @@ module _ {L : Type 0} (link_told : L → LinkTold)
 
   no_such : (place : ℕ) (link : LinkTold) → slice_get start.clients place ≡ Some link → ⊥
   no_such place link at = (let none : slice_get [] place ≡ Some link = subst (λ (ls : List LinkTold). slice_get ls place ≡ Some link) fresh.no_client at in cc none)
-
-  begun_holds : (held : Bool) → (held ≡ true → HoldsTrace run [] start.core start.folder) → Holds (TellTaken link_told) (held ≡ true) (Unit {0}) run [] start
-  begun_holds held stood = record {
-    kept = fresh.kept;
-    took = λ _. [];
-    after = fresh.begins run refl before_run.after;
-    taken = λ tells place link at. absurd (no_such place link at);
-    many = fresh.many;
-    settled = fresh.settled;
-    running = λ _. refl;
-    formed = tt;
-    trace = stood;
-  }
-
-  -- what the journal is at the end
-  at_end : (held : Bool) → (held ≡ true → HoldsTrace run [] start.core start.folder) → Holds (TellTaken link_told) (held ≡ true) ⊥ run closed.events.events final
-  at_end held stood =
-      let out = goes held run [] (begun_holds held stood) in
-      let same : [] ++ out.0 ≡ closed.events.events = cc (out.1.kept, left.events) in
-      subst (λ (es : List Event). Holds (TellTaken link_told) (held ≡ true) ⊥ run es final) same out.1
-
-  -- ---- the trace files
-
-  no_folder : (held : Bool) → held ≡ false → held ≡ true → HoldsTrace run [] start.core start.folder
-  no_folder held none is = absurd (let both : false ≡ true = sym none ∙ is in cc both)
 
   stood_holds : (files : Files) → first.files ≡ Some files → begun.trace ≢ None → HoldsFiles run (stored_by run []) start.folder.files
   stood_holds files is some =
@@ -157,27 +159,45 @@ module _ {L : Type 0} (link_told : L → LinkTold)
     by None none = tt
     by (Some t) some = λ goes_on. stood_holds files is (λ none. (let both : None ≡ Some t = sym none ∙ sym fresh.trace ∙ some in cc both))
 
-  held_in : (files : Option Files) → first.files ≡ files → IfSome files (λ all. IfSome final.core.trace (λ t. t.state.end ≡ None → HoldsFiles run (stored_by run closed.events.events) final.folder.files))
-  held_in None is = tt
-  held_in (Some files) is = (at_end true (λ _. first_trace files is)).trace refl
+  held_at_first : (files : Option Files) → first.files ≡ files → IsSome files → HoldsTrace run [] start.core start.folder
+  held_at_first None is some = absurd (cc some)
+  held_at_first (Some files) is some = first_trace files is
+
+  -- what it is to its empty journal
+  pub fresh_holds : Holds Tell (IsSome first.files) (Unit {0}) run [] start
+  fresh_holds = record {
+    kept = fresh.kept;
+    took = λ _. [];
+    after = fresh.begins run refl refl before_run.after;
+    taken = λ tells place link at. absurd (no_such place link at);
+    many = fresh.many;
+    settled = fresh.settled;
+    running = λ _. refl;
+    formed = tt;
+    trace = held_at_first first.files refl;
+  }
+
+module _ {L : Type 0} (link_told : L → LinkTold)
+    (outbox : (run : Run) (events : List Event) (taken : ℕ → List ℕ) (core : Core) (client : ℕ) → IsAfter run events taken core → IsSome (outbox_of core.hub client) ↔ IsOpen client events)
+    (set : Setting) (begun : Begun) (first : FolderTold) (begins : IsBegun begun.conf first.files begun.trace) (start final : State) (quiet : IsQuiet first start.folder) (fresh : IsFresh set begun start)
+    (goes : (held : Bool) → GoesOut (TellTaken link_told) (held ≡ true) start final) (none_open : (number : ℕ) → outbox_of final.core.hub number ≡ None)
+    (closed : Closed L) (left : IsLeft link_told final closed) where
+  abbrev stood_before : HaveStood begun.conf first.files begun.trace
+  stood_before = what_stood begun.conf first.files begun.trace begins
+
+  abbrev whole_run : Run
+  whole_run = run_in set stood_before.stood
+
+  -- what the journal is at the end
+  at_end : Holds (TellTaken link_told) (IsSome first.files) ⊥ whole_run closed.events.events final
+  at_end =
+      let out = goes (is_some first.files) whole_run [] (fresh_holds (TellTaken link_told) set begun first begins start quiet fresh) in
+      let same : [] ++ out.0 ≡ closed.events.events = cc (out.1.kept, left.events) in
+      subst (λ (es : List Event). Holds (TellTaken link_told) (IsSome first.files) ⊥ whole_run es final) same out.1
 
   pub come_to : IsComeTo link_told set begun first final.folder closed
-  come_to =
-      let ends = at_end false (no_folder false refl) in
-      let hub = final.core.hub in
-      let long : length closed.clients.links ≡ length hub.clients = sym (length-map closed.clients.links link_told) ∙ ap (λ (ls : List LinkTold). length ls) left.clients ∙ sym ends.many in
-      let links : closed.state.links ≡ ends_in hub = ap (λ (e : Ends). e.links) left.state in record {
-        stood = before_run.stood;
-        stood_so = stood_there begun.conf first.files begun.trace before_run.stood before_run.told;
-        formed = ends.formed;
-        many = long ∙ came_by_journal run closed.events.events ends.took final.core ends.after;
-        none_open = λ client open_so. not_some (outbox_of hub client) (none_open client) ((outbox run closed.events.events ends.took final.core client ends.after).1 open_so);
-        streams = subst (λ (n : ℕ). TellStreams run closed.events.events n closed.state.links) (sym long)
-            (subst (TellStreams run closed.events.events (length hub.clients)) (sym links) (streams_told run closed.events.events ends.took final.core ends.after));
-        took = λ tells. subst (λ (es : List LinkEnd). TookStreams run closed.events.events (map link_told closed.clients.links) es) (sym links)
-            (subst (λ (ls : List LinkTold). TookStreams run closed.events.events ls (ends_in hub)) (sym left.clients)
-            (took_all run closed.events.events ends.took final.core final.clients ends.after (ends.taken tells) none_open));
-        kept = final.core.trace;
-        trace = ap (λ (e : Ends). e.trace) left.state;
-        traced = record { after = ends.after.trace; holds = held_in first.files refl };
-      }
+  come_to = record {
+    stood = stood_before.stood;
+    stood_so = stood_there begun.conf first.files begun.trace stood_before.stood stood_before.told;
+    comes = has_come link_told outbox whole_run first final none_open closed left at_end;
+  }

@@ -15,7 +15,6 @@ use Rattle.dl_serving.proofs.LeftOpen as leaving
 use Rattle.dl_socket.specs.Channels.{Channels, inbox_of, open_in}
 use Rattle.dl_socket.specs.Turns.{Sight}
 use Rattle.dl_user.specs.Channel as cutter
-use Rattle.dl_user.specs.Channel.{unfed}
 use Rattle.dl_serve.proofs.HeardChannels.{OthersHeld, Stands, Visit, ends_held, hears_held, hears_visit, pumps_held, pumps_visit, said_on, stands_on, stops_visit}
 use Rattle.dl_serve.proofs.NotedMessages.{silent}
 use Rattle.dl_serve.proofs.OtherEntries.{set_apart, set_here, set_long, within}
@@ -74,7 +73,7 @@ filtered p (x ∷ xs) all = by (p x) (filtered p xs all.1) where
   by true rest = (all.0, rest)
   by false rest = rest
 
-left_low : (channel : ℕ) (old new : Channels) → leaving.Leaves channel old new → AllByRecursion (λ number. 1 ≤ number) (open_in old) → AllByRecursion (λ number. 1 ≤ number) (open_in new)
+pub left_low : (channel : ℕ) (old new : Channels) → leaving.Leaves channel old new → AllByRecursion (λ number. 1 ≤ number) (open_in old) → AllByRecursion (λ number. 1 ≤ number) (open_in new)
 left_low channel old new leaves low = elim leaves.left [
   | inl same ↦ subst (AllByRecursion (λ number. 1 ≤ number)) (sym same) low
   | inr gone ↦ subst (AllByRecursion (λ number. 1 ≤ number)) (sym gone) (filtered (λ other. not (nat_eq channel other)) (open_in old) low)

@@ -1,7 +1,7 @@
 -- Entries of a list and of a map, where another one changes.
 use Rattle.std.proofs.Common.{◌≡◌, ◌≢◌, ◌⊎◌, ◌<◌, ℕ, zero, suc, Bool, true, false, cond, not, inl, inr, List, [], ◌∷◌, ◌++◌, filter, length, take, Option, Some, None, refl, sym, ap, ◌∙◌, arith}
-use Rattle.std.specs.Prelude.{nat_eq, slice_get, slice_set}
-use Rattle.std.specs.Map.{lookup, set_value}
+use Rattle.std.specs.Prelude.{IsSome, is_some, nat_eq, slice_get, slice_set}
+use Rattle.std.specs.Map.{keys_of, lookup, set_value}
 use Rattle.std.proofs.lemmas.Bool.Decides.{eqb_tells}
 
 other_key : (other key : ℕ) → other ≢ key → nat_eq other key ≡ false
@@ -99,3 +99,15 @@ module _ {A : Type 0} where
     by (inr apart) further =
         ap (λ (t : Bool). cond t (Some e.1) (lookup (nat_eq channel) (es ++ (channel, w) ∷ []))) apart.0
         ∙ further (sym (ap (λ (t : Bool). cond t (Some e.1) (lookup (nat_eq channel) es)) apart.0) ∙ none)
+
+  pub added_some : (channel : ℕ) (es : List (ℕ × A)) (w : A) → IsSome (lookup (nat_eq channel) (es ++ (channel, w) ∷ []))
+  added_some channel [] w = ap (λ (t : Bool). is_some (cond t (Some w) None)) (own_key channel)
+  added_some channel (e ∷ es) w = by (nat_eq channel e.0) (added_some channel es w) where
+    by : (b : Bool) → IsSome (lookup (nat_eq channel) (es ++ (channel, w) ∷ [])) → IsSome (cond b (Some e.1) (lookup (nat_eq channel) (es ++ (channel, w) ∷ [])))
+    by true rest = refl
+    by false rest = rest
+
+  -- where no key is left nothing is found
+  pub none_found : (key : ℕ) (es : List (ℕ × A)) → keys_of es ≡ [] → lookup (nat_eq key) es ≡ None
+  none_found key [] none = refl
+  none_found key (e ∷ es) none = absurd (cc none)

@@ -24,7 +24,7 @@ use Rattle.dl_server.specs.State.{State, scene_of, with_want}
 use Rattle.dl_server.specs.Steps.{HearsClientsIfMay, PumpsClientsIfMay}
 use Rattle.dl_serving.specs.Accepting.{Enters}
 use Rattle.dl_serving.specs.Rounds as rounds
-use Rattle.dl_serving.specs.Rounds.{Scene, Stopped, VisitsEach, Visited, seen_by}
+use Rattle.dl_serving.specs.Rounds.{Scene, Stopped, VisitsEach, seen_by}
 use Rattle.dl_serving.specs.Visits as visits
 use Rattle.dl_serving.specs.Visits.{EndsFor}
 use Rattle.dl_serving.specs.declared.accepting.Entry.{Entry}
@@ -55,6 +55,12 @@ given_some (Some bytes) new gave.Failed into receives some = ap is_some receives
 left_all : (old new : Option (List ℕ)) → Stays old new → IfSome old (λ bytes. bytes ≡ []) → IsSome old → new ≡ Some []
 left_all None new stays nothing some = absurd (cc some)
 left_all (Some bytes) new stays nothing some = stays ∙ ap Some nothing
+
+-- none has ended
+pub none_at : (many place : ℕ) (end : Option ChannelEnd) → slice_get (replicate {A = Option ChannelEnd} many None) place ≡ Some end → end ≡ None
+none_at zero place end slot = absurd (cc slot)
+none_at (suc many) zero end slot = cc slot
+none_at (suc many) (suc place) end slot = none_at many place end slot
 
 module _ (Tells : Type 0) where
   -- ---- one channel
@@ -310,11 +316,7 @@ module _ (Tells : Type 0) where
   nothing_shown links ends many no_links no_ends = record {
     each = λ place link end there slot. absurd (let bad : slice_get [] place ≡ Some link = subst (λ (ls : List LinkTold). slice_get ls place ≡ Some link) no_links there in cc bad);
     none = λ place end above slot. none_at many place end (subst (λ (es : List (Option ChannelEnd)). slice_get es place ≡ Some end) no_ends slot);
-  } where
-    none_at : (many place : ℕ) (end : Option ChannelEnd) → slice_get (replicate {A = Option ChannelEnd} many None) place ≡ Some end → end ≡ None
-    none_at zero place end slot = absurd (cc slot)
-    none_at (suc many) zero end slot = cc slot
-    none_at (suc many) (suc place) end slot = none_at many place end slot
+  }
 
   pub all_show : (s : State) → ShownIn s → AllShowEnds Tells s.programs (take (length s.programs) s.ends)
   all_show s all = λ place link end there slot. (all.each place link end there (taken_at s.ends (length s.programs) place end slot)).cause

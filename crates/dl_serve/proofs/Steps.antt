@@ -25,6 +25,9 @@ use Rattle.dl_serve.specs.Ends.{EndsEarly, Started}
 use Rattle.dl_serve.specs.Open.{IsHeard, IsOpenedFor, Listen, setting}
 use Rattle.dl_serve.specs.Program.{Ended, EndsBegun, EndsWith, HasOpened, LeavesEarly, counts}
 use Rattle.dl_serve.specs.Rounds.{HasMadeRounds, kept}
+use Rattle.dl_serve.specs.Dropped.{HasDropped}
+use Rattle.dl_serve.specs.Levels.{AllTookLevels}
+use Rattle.dl_loop.specs.Daemon.{TellTaken}
 use Rattle.dl_serve.specs.Shown.{AllShowEnds, TellLeft}
 use Rattle.dl_serve.specs.Told.{Told, told}
 use Rattle.dl_serve.specs.Went.{AllWent}
@@ -157,10 +160,13 @@ module _ {L : Type 0} (link_told : L → LinkTold) where
       → AllAdmitted left.events.events (map link_told left.users.links) left.ends)
       → ((full : Bool) (left : Closed L) → HasOpened link_told begun full (record old { folder = between }) new left → AllShowEnds (TellLeft link_told) (map link_told left.users.links) left.ends)
       → ((full : Bool) (left : Closed L) → HasOpened link_told begun full (record old { folder = between }) new left → AllWent link_told (setting begun) left)
+      → ((full : Bool) (left : Closed L) → HasOpened link_told begun full (record old { folder = between }) new left
+      → AllTookLevels (TellTaken link_told) (setting begun) left.events.events (map link_told left.users.links) left.ends)
+      → ((full : Bool) (left : Closed L) → HasOpened link_told begun full (record old { folder = between }) new left → HasDropped left)
       → serve_of said ≡ Some asked → IsStart asked old.folder between begun → EndsBegun link_told begun (record old { folder = between }) new s closed → Ended link_told said old new s closed
-  began said asked begun old between new s None comes admits shows went is start ends =
+  began said asked begun old between new s None comes admits shows went took dropped is start ends =
       (left_early said old new (record { asked = asked; is_asked = is; begun = begun; between = between; start = start }) s ends.0, ends.1)
-  began said asked begun old between new s (Some closed) comes admits shows went is start ends = (
+  began said asked begun old between new s (Some closed) comes admits shows went took dropped is start ends = (
     ends.0,
     record {
       it = record { asked = asked; is_asked = is; begun = begun; between = between; start = start };
@@ -169,6 +175,8 @@ module _ {L : Type 0} (link_told : L → LinkTold) where
       admits = admits ends.0 closed ends.1;
       shows = shows ends.0 closed ends.1;
       went = went ends.0 closed ends.1;
+      took = took ends.0 closed ends.1;
+      dropped = dropped ends.0 closed ends.1;
     },
     ends_from closed ends.0 (counts old) (counts (record old { folder = between })) (counts new) old.out new.out s
         (counts_same old.folder between old.net old.net old.users old.users start.quiet.well refl refl) ends.2,

@@ -152,11 +152,11 @@ module _ (Bytes Over : Type 0) (run : Run) (events : List Event) (s : State) (la
 
 -- ---- what is left of a server that closed
 
--- so its clients went
-pub went_to : {L : Type 0} (told : L → LinkTold) (set : Setting) (stood : List StoredFile) (final : State) (closed : Closed L) → IsLeft told final closed → ((number : ℕ) → outbox_of final.core.hub number ≡ None)
-    → Last (TellBytes told) (TellOver told) (run_in set stood) closed.events.events final → AllWent told set closed
-went_to told set stood final closed left none_open last =
-    let run = run_in set stood in
+-- so its clients went, whenever its trace began
+pub went_to : {L : Type 0} (told : L → LinkTold) (set : Setting) (stood : List StoredFile) (before : ℕ) (final : State) (closed : Closed L) → IsLeft told final closed → ((number : ℕ) → outbox_of final.core.hub number ≡ None)
+    → Last (TellBytes told) (TellOver told) (record (run_in set stood) { before = before }) closed.events.events final → AllWent told set closed
+went_to told set stood before final closed left none_open last =
+    let run : Run = record (run_in set stood) { before = before } in
     let events = closed.events.events in
     let ends : closed.state.links ≡ ends_in final.core.hub = ap (λ (e : Ends). e.links) left.state in record {
       ended = subst (λ (es : List LinkEnd). HaveEnded (TellOver told) set events (map told closed.clients.links) es) (sym ends)
@@ -181,9 +181,9 @@ module _ {L : Type 0} (told : L → LinkTold) (stay_heard : (moved : Bool) (old 
       let start : State = seen told kept old.folder has.opened.server in
       let final : State = has.run.closes.0 in
       let at_first = known_first (TellBytes told) (TellOver told) run start (ap (λ (j : Journaled). Some j.events) opened.made.journal_is) (ap (λ (ls : Links L). map told ls.links) opened.made.no_client)
-      (opened.is_server.linked.many ∙ ap (λ (ls : Links L). length ls.links) opened.made.no_client) (opened.begins run refl before.after) in
+      (opened.is_server.linked.many ∙ ap (λ (ls : Links L). length ls.links) opened.made.no_client) (opened.begins run refl refl before.after) in
       let rounds = rounds_on told stay_heard stay_pumped show_heard show_pumped has.run.served.many has.net new.net has.users new.users start has.run.last has.run.served.rounds run [] at_first in
       let out = all_close (TellBytes told) (TellOver told) stay_closed show_closed has.run.moment has.run.last final has.run.closes.2 run ([] ++ rounds.0) rounds.1 in
       let left : IsLeft told final closed = has.run.closes.3 in
       let same : ([] ++ rounds.0) ++ out.0 ≡ closed.events.events = cc (out.1.kept, left.events) in
-      went_to told (setting begun) before.stood final closed left has.run.closes.2.clients.none_open (subst (λ (es : List Event). Last (TellBytes told) (TellOver told) run es final) {x = ([] ++ rounds.0) ++ out.0} same out.1)
+      went_to told (setting begun) before.stood 0 final closed left has.run.closes.2.clients.none_open (subst (λ (es : List Event). Last (TellBytes told) (TellOver told) run es final) {x = ([] ++ rounds.0) ++ out.0} same out.1)

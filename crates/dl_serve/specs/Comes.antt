@@ -19,7 +19,7 @@ use Rattle.dl_serve.specs.declared.closed.Closed.{Closed}
 
 -- the run of this setting that a journal tells of, where these trace files stood before: no call of this process is in it
 abbrev pub run_in : Setting → List StoredFile → Run
-run_in setting stood = record { setting = setting; frame = λ writer number. []; apid = λ app. []; stood = stood }
+run_in setting stood = record { setting = setting; frame = λ writer number. []; apid = λ app. []; stood = stood; before = 0 }
 
 -- What a client's link took is the front of the client's stream; and what is told of its end says whether it is all of it.
 pub record TookStream (run : Run) (events : List Event) (number : ℕ) (link : LinkTold) (end : LinkEnd) : Type 0 where
@@ -40,17 +40,21 @@ pub record IsTraced (run : Run) (events : List Event) (kept : Option Trace) (old
   pub after : IfSome kept (IsTraceAfter run (stored_by run events))
   pub holds : IfSome old.files (λ files. IfSome kept (λ trace. trace.state.end ≡ None → HoldsFiles run (stored_by run events) new.files))
 
--- Serving that began so, in this setting, came to this. Its journal is well-formed. Each client that came has its link, and none is open any more. What is told of the
--- ends of the links are the frames and the bytes of the clients' streams; where links tell what they took, each took the front of its stream, and all
--- of it where its end is complete. What is told of the trace is what the events make of it.
+-- A run came to this, whose trace began where the folder told the first of these. Its journal is well-formed. Each client that came has its link, and none
+-- is open any more. What is told of the ends of the links are the frames and the bytes of the clients' streams; where links tell what they took, each took
+-- the front of its stream, and all of it where its end is complete. What is told of the trace is what the events make of it.
+pub record HasCome {L : Type 0} (link_told : L → LinkTold) (run : Run) (old new : FolderTold) (closed : Closed L) : Type 0 where
+  pub formed : IsWellFormed run.setting (source_of run) closed.events.events
+  pub many : length closed.clients.links ≡ count_by is_connect closed.events.events
+  pub none_open : (client : ℕ) → ¬ (IsOpen client closed.events.events)
+  pub streams : TellStreams run closed.events.events (length closed.clients.links) closed.state.links
+  pub took : TellTaken link_told → TookStreams run closed.events.events (map link_told closed.clients.links) closed.state.links
+  pub kept : Option Trace
+  pub trace : closed.state.trace ≡ trace_told kept
+  pub traced : IsTraced run closed.events.events kept old new
+
+-- Serving that began so, in this setting, came to this, over the trace files that stood before it.
 pub record IsComeTo {L : Type 0} (link_told : L → LinkTold) (setting : Setting) (begun : Begun) (old new : FolderTold) (closed : Closed L) : Type 0 where
   pub stood : List StoredFile
   pub stood_so : begun.trace ≢ None → IfSome old.files (λ files. HasFiles begun.conf.directory files stood)
-  pub formed : IsWellFormed setting (source_of (run_in setting stood)) closed.events.events
-  pub many : length closed.clients.links ≡ count_by is_connect closed.events.events
-  pub none_open : (client : ℕ) → ¬ (IsOpen client closed.events.events)
-  pub streams : TellStreams (run_in setting stood) closed.events.events (length closed.clients.links) closed.state.links
-  pub took : TellTaken link_told → TookStreams (run_in setting stood) closed.events.events (map link_told closed.clients.links) closed.state.links
-  pub kept : Option Trace
-  pub trace : closed.state.trace ≡ trace_told kept
-  pub traced : IsTraced (run_in setting stood) closed.events.events kept old new
+  pub comes : HasCome link_told (run_in setting stood) old new closed

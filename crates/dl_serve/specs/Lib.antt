@@ -10,4 +10,6 @@ pub mod Admitted
 pub mod Shown
 pub mod Comes
 pub mod Went
+pub mod Levels
+pub mod Dropped
 pub mod Program

@@ -2,6 +2,7 @@
 use Rattle.std.specs.Prelude.{◌≡◌, ◌≢◌, ◌⊎◌, ℕ, Bool, List, [], map, Option, Some, None, IsSome, IsSomeAnd}
 use Rattle.dl_bytes.specs.declared.moment.Moment.{Moment}
 use Rattle.dl_events.specs.Journal.{Journaled}
+use Rattle.dl_loop.specs.Daemon.{TellTaken}
 use Rattle.dl_outside.specs.Links.{Links}
 use Rattle.dl_outside.specs.Outside.{HasRisen}
 use Rattle.dl_outside.specs.Told.{LinkTold, NetTold, SinkTold}
@@ -21,8 +22,10 @@ use Rattle.dl_serve.specs.declared.served.Served.{Served}
 use Rattle.dl_serve.specs.Admitted.{AllAdmitted, TellGiven}
 use Rattle.dl_serve.specs.Closed.{HasClosedTo, text_of}
 use Rattle.dl_serve.specs.Comes.{IsComeTo}
+use Rattle.dl_serve.specs.Dropped.{HasDropped}
 use Rattle.dl_serve.specs.Ends.{Ends, EndsEarly, Started}
 use Rattle.dl_serve.specs.Faults.{counted}
+use Rattle.dl_serve.specs.Levels.{AllTookLevels}
 use Rattle.dl_serve.specs.Open.{HasNotListened, IsHeard, IsOpenedFor, Listens, setting}
 use Rattle.dl_serve.specs.Rounds.{HasMadeRounds, kept}
 use Rattle.dl_serve.specs.Shown.{AllShowEnds, TellLeft}
@@ -54,6 +57,9 @@ pub record HasOpened {L : Type 0} (link_told : L → LinkTold) (begun : Begun) (
 
 -- Serving began, and what was begun was served. What that comes to is what its journal says; of each program's messages there are the events, in their
 -- order, each once, where links tell what they gave; the links of programs show why these ended, and so do those of clients, with the Closes among the events.
+-- Where links tell what they took, each program's took the front of the messages of the levels that were set for the program, and all of them where its
+-- channel is open at the end and the link never had to wait. Links were dropped
+-- for a cause.
 pub record HasClosed {L : Type 0} (link_told : L → LinkTold) (said : List (List ℕ)) (full : Bool) (old new : Told L) (closed : Closed L) : Type 0 where
   pub it : Started said old.folder
   pub opens : HasOpened link_told it.begun full (record old { folder = it.between }) new closed
@@ -61,6 +67,8 @@ pub record HasClosed {L : Type 0} (link_told : L → LinkTold) (said : List (Lis
   pub admits : TellGiven link_told → AllAdmitted closed.events.events (map link_told closed.users.links) closed.ends
   pub shows : AllShowEnds (TellLeft link_told) (map link_told closed.users.links) closed.ends
   pub went : AllWent link_told (setting it.begun) closed
+  pub took : AllTookLevels (TellTaken link_told) (setting it.begun) closed.events.events (map link_told closed.users.links) closed.ends
+  pub dropped : HasDropped closed
 
 -- what folder and nets count
 abbrev pub counts : {L : Type 0} → Told L → Faults

@@ -1,6 +1,7 @@
 //! Laws of serving: what it comes to, and what a status says of it.
 
 ghost use Rattle.std.specs.Prelude.{Bool, List, Option, map, ℕ};
+ghost use Rattle.dl_loop.specs.Daemon.{TellTaken};
 ghost use Rattle.dl_outside.specs.Told.{FolderTold, SinkTold};
 ghost use Rattle.dl_startup.specs.Setup.{IsBegun};
 ghost use Rattle.dl_startup.specs.Unchanged.{IsQuiet};
@@ -9,6 +10,8 @@ ghost use Rattle.dl_serve.specs.declared.beginning.Begun.{Begun};
 ghost use Rattle.dl_serve.specs.declared.closed.Closed.{Closed};
 ghost use Rattle.dl_serve.specs.Admitted.{AllAdmitted, TellGiven};
 ghost use Rattle.dl_serve.specs.Comes.{IsComeTo};
+ghost use Rattle.dl_serve.specs.Dropped.{HasDropped};
+ghost use Rattle.dl_serve.specs.Levels.{AllTookLevels};
 ghost use Rattle.dl_serve.specs.Open.{setting};
 ghost use Rattle.dl_serve.specs.Program.{Ended, HasOpened, IsServing, Says};
 ghost use Rattle.dl_serve.specs.Shown.{AllShowEnds, TellLeft};
@@ -52,6 +55,25 @@ pub fn how_clients_went<L: Link>()
 {
     dl_rounds::laws::clients_are_as_noted::<L>();
     dl_rounds::laws::gone_clients_show_why::<L>();
+}
+
+/// Where links tell what they took, that of each program outside took the front of the messages that tell the levels of its applications' contexts, one for
+/// each of their Level events, in the journal's order, and all of them where the channel is open at the end and the link never had to wait. A channel ended
+/// as slow only where these messages have more bytes than may wait.
+pub fn what_programs_took<L: Link>()
+    ensures { (begun : Begun) (old new : Told L) (full : Bool) (closed : Closed L) (first : FolderTold) → IsBegun begun.conf first.files begun.trace
+        → HasOpened L.told begun full old new closed
+        → AllTookLevels (TellTaken L.told) (setting begun) closed.events.events (map L.told closed.users.links) closed.ends }
+{
+    dl_rounds::laws::a_round_is_its_events::<L>();
+}
+
+/// Links were dropped only where as many clients had come as may be open at once, or as many channels, or memory was wanting.
+pub fn why_links_were_dropped<L: Link>()
+    ensures { (begun : Begun) (old new : Told L) (full : Bool) (closed : Closed L) (first : FolderTold) → IsBegun begun.conf first.files begun.trace
+        → HasOpened L.told begun full old new closed → HasDropped closed }
+{
+    dl_rounds::laws::a_round_is_its_events::<L>();
 }
 
 /// What a status says of serving is what is promised of the whole: the words decide first, and where all is of the form and nothing fails, the report was
