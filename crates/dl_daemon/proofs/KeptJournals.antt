@@ -1,62 +1,248 @@
 -- What the daemon comes to, by the laws of its rounds and of its closing.
-use Rattle.std.proofs.Common.{◌≡◌, ℕ, zero, suc, Bool, true, List, map, Some, refl, sym, ap, subst, ◌∙◌}
-use Rattle.std.specs.Prelude.{◌↔◌, IsSome}
+use Rattle.std.proofs.Common.{◌≡◌, ◌⊎◌, inl, inr, ℕ, zero, suc, Bool, true, List, [], ◌++◌, map, Option, Some, None, is_some, refl, sym, ap, subst, ◌∙◌, append-nil, append_assoc}
+use Rattle.std.specs.Prelude.{◌↔◌, IfSome, IsSome, if◌then◌else◌}
 use Rattle.std.proofs.lemmas.List.{length-map}
 use Rattle.dl_bytes.specs.declared.moment.Moment.{Moment}
-use Rattle.dl_core.specs.Follows.{IsAfter, Run}
+use Rattle.dl_core.specs.Follows.{BeginsAnew, HoldsFiles, IsAfter, Run, begun_anew, files_with, stored_by}
+use Rattle.dl_core.specs.Settings.{HasSizes}
 use Rattle.dl_core.specs.State.{Core}
 use Rattle.dl_events.specs.declared.event.Event.{Event}
 use Rattle.dl_hub.specs.State.{outbox_of}
 use Rattle.dl_loop.specs.Daemon.{TellTaken}
 use Rattle.dl_model.specs.Journal.{IsOpen}
+use Rattle.dl_model.specs.Setting.{Setting}
+use Rattle.dl_model.specs.TraceFiles.{StoredFile}
+use Rattle.dl_outside.specs.Folder.{Files}
 use Rattle.dl_outside.specs.Links.{Links}
+use Rattle.dl_outside.specs.Outside.{Stays}
 use Rattle.dl_outside.specs.Told.{FolderTold, LinkTold, NetTold}
 use Rattle.dl_server.specs.Closing.{IsClosed}
-use Rattle.dl_server.specs.Holds.{GoesOn, GoesOut}
+use Rattle.dl_server.specs.Holds.{GoesOn, GoesOut, Holds}
 use Rattle.dl_server.specs.Round.{IsRound}
 use Rattle.dl_server.specs.State.{State, seen}
-use Rattle.dl_server.proofs.HeldStates.{goes_both, goes_same}
+use Rattle.dl_server.proofs.HeldStates.{goes_aside, goes_both}
 use Rattle.dl_startup.specs.Setup.{IsBegun}
 use Rattle.dl_startup.specs.Unchanged.{IsQuiet}
+use Rattle.dl_trace.specs.Stands.{HasFiles}
+use Rattle.dl_trace.specs.State.{Trace}
 use Rattle.dl_turns.specs.Gone.{TellOver}
 use Rattle.dl_unkept.specs.Told.{Told}
 use Rattle.dl_serve.specs.declared.beginning.Begun.{Begun}
 use Rattle.dl_serve.specs.declared.closed.Closed.{Closed}
-use Rattle.dl_serve.specs.Comes.{IsComeTo}
-use Rattle.dl_serve.proofs.CameTo.{IsFresh, come_to}
-use Rattle.dl_serve.proofs.ServedJournals.{then_out}
+use Rattle.dl_serve.specs.Closed.{IsLeft}
+use Rattle.dl_serve.specs.Comes.{run_in}
+use Rattle.dl_serve.proofs.CameTo.{IsFresh, fresh_holds, has_come, stood_there, what_stood}
 use Rattle.dl_daemon.specs.declared.limits.Limits.{Limits}
 use Rattle.dl_daemon.specs.declared.rounds.Stop.{Stop}
+use Rattle.dl_daemon.specs.Comes.{IsKeptTo}
 use Rattle.dl_daemon.specs.Open.{setting}
 use Rattle.dl_daemon.specs.Outside.{Outside}
 use Rattle.dl_daemon.specs.Program.{HasOpened}
-use Rattle.dl_daemon.specs.Rounds.{AreRounds, asked_again, noted}
-use Rattle.dl_daemon.proofs.AskedAgain.{goes_again}
+use Rattle.dl_daemon.specs.Renewing.{Anew, Renewed, untried}
+use Rattle.dl_daemon.specs.Rounds.{AreRounds, IsRenewedRound, asked_again, noted, with_trace}
+use Rattle.dl_daemon.proofs.Renewals.{IsAnew, IsStill, renewed_so, some_stays, told_stays, with_new}
+
+-- the run whose trace was begun behind so many stored frames
+abbrev pub run_behind : Setting → List StoredFile → ℕ → Run
+run_behind set stood before = record (run_in set stood) { before = before }
+
+-- ---- the folder holds the trace still
+
+holds_still : (run : Run) (events : List Event) (trace : Option Trace) (old new : Option Files) → Stays old new → IfSome trace (λ kept. kept.state.end ≡ None → HoldsFiles run (stored_by run events) old)
+    → IfSome trace (λ kept. kept.state.end ≡ None → HoldsFiles run (stored_by run events) new)
+holds_still run events None old new stays holds = tt
+holds_still run events (Some kept) old new stays holds = λ goes_on. some_stays (λ (files : Files). HasFiles run.setting.directory files (files_with run (stored_by run events))) old new stays (holds goes_on)
+
+module _ (Tell Held : Type 0) where
+  -- without a word on the folder
+  folderless : (Runs : Type 0) (run : Run) (events : List Event) (s : State) → Holds Tell Held Runs run events s → Holds Tell ⊥ Runs run events s
+  folderless Runs run events s h = record {
+    kept = h.kept;
+    took = h.took;
+    after = h.after;
+    taken = h.taken;
+    many = h.many;
+    settled = h.settled;
+    running = h.running;
+    formed = h.formed;
+    trace = λ none. absurd none;
+  }
+
+  -- what was done in vain
+  holds_as : (run : Run) (events : List Event) (s : State) (folder : FolderTold) → Stays s.folder.files folder.files → Holds Tell Held (Unit {0}) run events s
+      → Holds Tell Held (Unit {0}) run events (with_trace s s.core folder)
+  holds_as run events s folder stays h = record {
+    kept = h.kept;
+    took = h.took;
+    after = h.after;
+    taken = h.taken;
+    many = h.many;
+    settled = h.settled;
+    running = h.running;
+    formed = h.formed;
+    trace = λ held. holds_still run events s.core.trace s.folder.files folder.files stays (h.trace held);
+  }
+
+  pub holds_same : (run : Run) (events : List Event) (s : State) (core : Core) (folder : FolderTold) → core ≡ s.core → Stays s.folder.files folder.files → Holds Tell Held (Unit {0}) run events s
+      → Holds Tell Held (Unit {0}) run events (with_trace s core folder)
+  holds_same run events s core folder same stays h =
+      subst (λ (c : Core). Holds Tell Held (Unit {0}) run events (with_trace s c folder)) (sym same) (holds_as run events s folder stays h)
+
+-- ---- behind the last beginning
+
+-- in the run whose trace was begun then
+pub record FromAnew (Tell Runs : Type 0) (set : Setting) (begun : Begun) (anew : Anew) (s : State) : Type 0 where
+  pub past : List Event
+  pub noted : anew.past ≡ Some past
+  pub stood : List StoredFile
+  pub stood_so : IfSome anew.folder.files (λ files. HasFiles begun.conf.directory files stood)
+  pub later : List Event
+  pub holds : Holds Tell (IsSome anew.folder.files) Runs (begun_anew stood past (run_in set stood)) (past ++ later) s
+
+-- a trace was begun
+begins_anew : (Tell : Type 0) (set : Setting) (begun : Begun) → HasSizes begun.conf set → (stood : List StoredFile) (before : ℕ) (events : List Event) (s : State) (trace : Trace) (folder : FolderTold)
+    → IsBegun begun.conf s.folder.files (Some trace) → BeginsAnew begun.conf trace s.core (with_new s.core trace) → Stays s.folder.files folder.files
+    → Holds Tell ⊥ (Unit {0}) (run_behind set stood before) events s
+    → FromAnew Tell (Unit {0}) set begun (record { folder = s.folder; past = s.events }) (with_trace s (with_new s.core trace) folder)
+begins_anew Tell set begun sizes stood before events s trace folder over anew stays h =
+    let there : List StoredFile = over.2.0 in
+    let next = anew (run_behind set stood before) events h.took there h.after sizes over.2.1 in
+    let now : Holds Tell (IsSome s.folder.files) (Unit {0}) (begun_anew there events (run_in set there)) events (with_trace s (with_new s.core trace) folder) = record {
+      kept = h.kept;
+      took = h.took;
+      after = next.0;
+      taken = h.taken;
+      many = h.many;
+      settled = h.settled;
+      running = h.running;
+      formed = h.formed;
+      trace = λ told. next.1 folder (told_stays (λ (files : Files). HasFiles begun.conf.directory files there) s.folder.files folder.files stays over.2.2 told);
+    } in record {
+      past = events;
+      noted = h.kept;
+      stood = there;
+      stood_so = over.2.2;
+      later = [];
+      holds = subst (λ (es : List Event). Holds Tell (IsSome s.folder.files) (Unit {0}) (begun_anew there events (run_in set there)) es (with_trace s (with_new s.core trace) folder)) (sym (append-nil events)) now;
+    }
 
 module _ {L : Type 0} (link_told : L → LinkTold)
     (round : (held : Bool) (net net_now users users_now : NetTold L) (old new : State) → IsRound link_told net net_now users users_now old new → GoesOn (TellTaken link_told) (held ≡ true) old new)
     (close : (held : Bool) (moment : Moment) (old new : State) → IsClosed (TellOver link_told) moment old new → GoesOut (TellTaken link_told) (held ≡ true) old new)
-    (outbox : (run : Run) (events : List Event) (taken : ℕ → List ℕ) (core : Core) (client : ℕ) → IsAfter run events taken core → IsSome (outbox_of core.hub client) ↔ IsOpen client events) where
-  -- one round more
-  round_on : (held : Bool) (net net_now users users_now : NetTold L) (old between new : State) → GoesOn (TellTaken link_told) (held ≡ true) old between
-      → IsRound link_told net net_now users users_now (asked_again between) new → GoesOn (TellTaken link_told) (held ≡ true) old new
-  round_on held net net_now users users_now old between new first last =
-      let Tell = TellTaken link_told in
-      let again = goes_both Tell (held ≡ true) old between (asked_again between) first (goes_again Tell (held ≡ true) between) in
-      goes_both Tell (held ≡ true) old (asked_again between) new again (round held net net_now users users_now (asked_again between) new last)
+    (outbox : (run : Run) (events : List Event) (taken : ℕ → List ℕ) (core : Core) (client : ℕ) → IsAfter run events taken core → IsSome (outbox_of core.hub client) ↔ IsOpen client events)
+    (most : Limits) (begun : Begun) (first : FolderTold) (begins : IsBegun begun.conf first.files begun.trace) where
+  abbrev Tell : Type 0
+  Tell = TellTaken link_told
 
-  rounds_on : (held : Bool) (many : ℕ) (net net_now users users_now : NetTold L) (old new : State) → AreRounds link_told many net net_now users users_now old new
-      → GoesOn (TellTaken link_told) (held ≡ true) old new
-  rounds_on held zero net net_now users users_now old new h = goes_same (TellTaken link_told) (held ≡ true) old new h.2
-  rounds_on held (suc many) net net_now users users_now old new h =
-      round_on held h.0 net_now h.1 users_now old h.2 new (rounds_on held many net h.0 users h.1 old h.2 h.3) h.5
+  abbrev set : Setting
+  set = setting most begun
 
-  module _ (most : Limits) (begun : Begun) (old new : Outside L) (why : Stop) (closed : Closed L) (first : FolderTold) (begins : IsBegun begun.conf first.files begun.trace)
-      (quiet : IsQuiet first old.folder) (has : HasOpened link_told most begun why old new closed) where
+  abbrev stood : List StoredFile
+  stood = (what_stood begun.conf first.files begun.trace begins).stood
+
+  sizes : HasSizes begun.conf set
+  sizes = record { directory = refl; file_size = refl; max_size = refl }
+
+  -- what is known after rounds: of the first trace, or behind the last beginning
+  abbrev Known : Type 0 → Option Anew → State → Type 0
+  Known Runs None s = (events : List Event) × Holds Tell (IsSome first.files) Runs (run_in set stood) events s
+  Known Runs (Some anew) s = FromAnew Tell Runs set begun anew s
+
+  -- ---- it goes on
+
+  goes_on : (anew : Option Anew) (was now : State) → ((held : Bool) → GoesOn Tell (held ≡ true) was now) → Known (Unit {0}) anew was → Known (Unit {0}) anew now
+  goes_on None was now goes known =
+      let one = goes (is_some first.files) (run_in set stood) known.0 known.1 in (known.0 ++ one.0, one.1)
+  goes_on (Some anew) was now goes known =
+      let run : Run = begun_anew known.stood known.past (run_in set known.stood) in
+      let one = goes (is_some anew.folder.files) run (known.past ++ known.later) known.holds in record {
+        past = known.past;
+        noted = known.noted;
+        stood = known.stood;
+        stood_so = known.stood_so;
+        later = known.later ++ one.0;
+        holds = subst (λ (es : List Event). Holds Tell (IsSome anew.folder.files) (Unit {0}) run es now) (append_assoc known.past known.later one.0) one.1;
+      }
+
+  goes_out : (anew : Option Anew) (was now : State) → ((held : Bool) → GoesOut Tell (held ≡ true) was now) → Known (Unit {0}) anew was → Known ⊥ anew now
+  goes_out None was now goes known =
+      let one = goes (is_some first.files) (run_in set stood) known.0 known.1 in (known.0 ++ one.0, one.1)
+  goes_out (Some anew) was now goes known =
+      let run : Run = begun_anew known.stood known.past (run_in set known.stood) in
+      let one = goes (is_some anew.folder.files) run (known.past ++ known.later) known.holds in record {
+        past = known.past;
+        noted = known.noted;
+        stood = known.stood;
+        stood_so = known.stood_so;
+        later = known.later ++ one.0;
+        holds = subst (λ (es : List Event). Holds Tell (IsSome anew.folder.files) ⊥ run es now) (append_assoc known.past known.later one.0) one.1;
+      }
+
+  -- ---- nothing was begun, or a trace was
+
+  goes_still : (anew : Option Anew) (s : State) (core : Core) (folder : FolderTold) → core ≡ s.core → Stays s.folder.files folder.files → Known (Unit {0}) anew s
+      → Known (Unit {0}) anew (with_trace s core folder)
+  goes_still None s core folder same stays known = (known.0, holds_same Tell (IsSome first.files) (run_in set stood) known.0 s core folder same stays known.1)
+  goes_still (Some anew) s core folder same stays known = record {
+    past = known.past;
+    noted = known.noted;
+    stood = known.stood;
+    stood_so = known.stood_so;
+    later = known.later;
+    holds = holds_same Tell (IsSome anew.folder.files) (begun_anew known.stood known.past (run_in set known.stood)) (known.past ++ known.later) s core folder same stays known.holds;
+  }
+
+  goes_anew : (anew : Option Anew) (s : State) (trace : Trace) (folder : FolderTold) → IsBegun begun.conf s.folder.files (Some trace) → BeginsAnew begun.conf trace s.core (with_new s.core trace)
+      → Stays s.folder.files folder.files → Known (Unit {0}) anew s → Known (Unit {0}) (Some (record { folder = s.folder; past = s.events })) (with_trace s (with_new s.core trace) folder)
+  goes_anew None s trace folder over begins_so stays known =
+      begins_anew Tell set begun sizes stood 0 known.0 s trace folder over begins_so stays (folderless Tell (IsSome first.files) (Unit {0}) (run_in set stood) known.0 s known.1)
+  goes_anew (Some anew) s trace folder over begins_so stays known =
+      let run : Run = begun_anew known.stood known.past (run_in set known.stood) in
+      begins_anew Tell set begun sizes known.stood run.before (known.past ++ known.later) s trace folder over begins_so stays
+      (folderless Tell (IsSome anew.folder.files) (Unit {0}) run (known.past ++ known.later) s known.holds)
+
+  -- by what was done
+  module _ (kept : Option Anew) (s : State) (core : Core) (folder : FolderTold) (known : Known (Unit {0}) kept s) where
+    abbrev last : Bool → Option Anew
+    last anew = if anew then Some (record { folder = s.folder; past = s.events }) else kept
+
+    by_what : (anew : Bool) → IsStill anew s.core core s.folder folder ⊎ IsAnew begun.conf anew s.core core s.folder folder → Known (Unit {0}) (last anew) (with_trace s core folder)
+    by_what anew (inl still) =
+        subst (λ (b : Bool). Known (Unit {0}) (last b) (with_trace s core folder)) (sym still.unbegun) (goes_still kept s core folder still.same still.stays known)
+    by_what anew (inr new) =
+        let at_new = goes_anew kept s new.trace folder new.over new.anew new.stays known in
+        let at_core : Known (Unit {0}) (last true) (with_trace s core folder) = subst (λ (c : Core). Known (Unit {0}) (last true) (with_trace s c folder)) (sym new.is) at_new in
+        subst (λ (b : Bool). Known (Unit {0}) (last b) (with_trace s core folder)) (sym new.begun_so) at_core
+
+  -- ---- rounds
+
+  one_on : (kept kept_now : Renewed) (net net_now users users_now : NetTold L) (between new : State) → IsRenewedRound link_told begun.conf kept kept_now net net_now users users_now between new
+      → Known (Unit {0}) kept.anew between → Known (Unit {0}) kept_now.anew new
+  one_on kept kept_now net net_now users users_now between new r known =
+      let renewed : State = with_trace between r.core r.folder in
+      let what = renewed_so begun.conf r.begun between.core r.core between.folder r.folder r.moment kept.tries kept_now.tries r.renews in
+      let so_far : Known (Unit {0}) kept_now.anew renewed =
+      subst (λ (a : Option Anew). Known (Unit {0}) a renewed) (sym r.anew) (by_what kept.anew between r.core r.folder known r.begun what) in
+      goes_on kept_now.anew renewed new (λ held. goes_both Tell (held ≡ true) renewed (asked_again renewed) new
+      (goes_aside Tell (held ≡ true) renewed (asked_again renewed) refl refl refl refl) (round held net net_now users users_now (asked_again renewed) new r.round)) so_far
+
+  rounds_on : (many : ℕ) (kept kept_now : Renewed) (net net_now users users_now : NetTold L) (old new : State) → AreRounds link_told begun.conf many kept kept_now net net_now users users_now old new
+      → Known (Unit {0}) kept.anew old → Known (Unit {0}) kept_now.anew new
+  rounds_on zero kept kept_now net net_now users users_now old new h known =
+      subst (λ (k : Renewed). Known (Unit {0}) k.anew new) (sym h.0) (subst (λ (s : State). Known (Unit {0}) kept.anew s) (sym h.3) known)
+  rounds_on (suc many) kept kept_now net net_now users users_now old new h known =
+      one_on h.0 kept_now h.1 net_now h.2 users_now h.3 new h.5 (rounds_on many kept h.0 net h.1 users h.2 old h.3 h.4 known)
+
+  -- ---- the whole
+
+  module _ (old new : Outside L) (why : Stop) (closed : Closed L) (quiet : IsQuiet first old.folder) (has : HasOpened link_told most begun why old new closed) where
     abbrev start : State
     start = seen link_told noted old.folder has.opened.server
 
-    fresh : IsFresh (setting most begun) begun start
+    abbrev final : State
+    final = has.run.closes.0
+
+    fresh : IsFresh set begun start
     fresh = record {
       kept = ap (λ (j : Told). Some j.events) has.is_opened.made.journal_is;
       begins = has.is_opened.begins;
@@ -67,12 +253,34 @@ module _ {L : Type 0} (link_told : L → LinkTold)
       directory = refl;
     }
 
-    goes : (held : Bool) → GoesOut (TellTaken link_told) (held ≡ true) start has.run.closes.0
-    goes held =
-        then_out (TellTaken link_told) (held ≡ true) start has.run.last has.run.closes.0
-        (rounds_on held has.run.served.many has.net new.net has.users new.users start has.run.last has.run.served.rounds) (close held has.run.moment has.run.last has.run.closes.0 has.run.closes.2)
+    left : IsLeft link_told final closed
+    left = has.run.closes.3
 
-    pub kept_to : IsComeTo link_told (setting most begun) begun first new.folder closed
+    comes_so : (anew : Option Anew) → Known ⊥ anew final → IsKeptTo link_told set begun anew first final.folder closed
+    comes_so None known =
+        let same : known.0 ≡ closed.events.events = cc (known.1.kept, left.events) in record {
+          stood = stood;
+          stood_so = stood_there begun.conf first.files begun.trace stood (what_stood begun.conf first.files begun.trace begins).told;
+          comes = has_come link_told outbox (run_in set stood) first final has.run.closes.2.clients.none_open closed left
+              (subst (λ (es : List Event). Holds Tell (IsSome first.files) ⊥ (run_in set stood) es final) same known.1);
+        }
+    comes_so (Some anew) known =
+        let run : Run = begun_anew known.stood known.past (run_in set known.stood) in
+        let same : known.past ++ known.later ≡ closed.events.events = cc (known.holds.kept, left.events) in record {
+          past = known.past;
+          noted = known.noted;
+          later = known.later;
+          all = sym same;
+          stood = known.stood;
+          stood_so = known.stood_so;
+          comes = has_come link_told outbox run anew.folder final has.run.closes.2.clients.none_open closed left
+              (subst (λ (es : List Event). Holds Tell (IsSome anew.folder.files) ⊥ run es final) same known.holds);
+        }
+
+    pub kept_to : IsKeptTo link_told (setting most begun) begun has.run.served.kept.anew first new.folder closed
     kept_to =
-        subst (λ (f : FolderTold). IsComeTo link_told (setting most begun) begun first f closed) has.run.closes.1
-        (come_to link_told outbox (setting most begun) begun first begins start has.run.closes.0 quiet fresh goes has.run.closes.2.clients.none_open closed has.run.closes.3)
+        let served = has.run.served in
+        let rounds = rounds_on served.many (record { tries = untried; anew = None }) served.kept has.net new.net has.users new.users start has.run.last served.rounds
+        ([], fresh_holds Tell set begun first begins start quiet fresh) in
+        let out = goes_out served.kept.anew has.run.last final (λ held. close held has.run.moment has.run.last final has.run.closes.2) rounds in
+        subst (λ (f : FolderTold). IsKeptTo link_told set begun served.kept.anew first f closed) has.run.closes.1 (comes_so served.kept.anew out)

@@ -1,5 +1,5 @@
 -- What is left of a server, were its events kept.
-use Rattle.std.proofs.Common.{◌≡◌, ap, length, map, take, refl, sym}
+use Rattle.std.proofs.Common.{ap, take, refl, sym}
 use Rattle.std.proofs.lemmas.List.{length-map}
 use Rattle.dl_outside.specs.Told.{FolderTold, LinkTold}
 use Rattle.dl_server.specs.State.{seen}

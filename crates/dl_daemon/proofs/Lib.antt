@@ -1,11 +1,13 @@
 pub mod Counts
 pub mod AskedWords
 pub mod OpenedDaemons
+pub mod Renewals
 pub mod AskedAgain
 pub mod MoreRounds
 pub mod KeptJournals
 pub mod SentMessages
 pub mod WentClients
+pub mod TookLevels
 pub mod HeardToTheEnd
 pub mod Steps
 pub mod LeftServers

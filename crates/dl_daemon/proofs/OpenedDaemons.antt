@@ -14,6 +14,7 @@ use Rattle.dl_serve.specs.declared.beginning.Begun.{Begun}
 use Rattle.dl_daemon.specs.declared.limits.Limits.{Limits}
 use Rattle.dl_daemon.specs.declared.opened.Opened.{Opened}
 use Rattle.dl_daemon.specs.Open.{IsOpenedFor, setting}
+use Rattle.dl_daemon.specs.Renewing.{untried}
 
 -- what it is made of is known
 made_so : {J L : Type 0} (core core_known : Core) (journal journal_known : J) (channels channels_known : Channels) (clients programs : ℕ) (s : Server J L) → core ≡ core_known
@@ -36,13 +37,16 @@ module _ {L : Type 0} (is_one : (conf : Conf) (stored : Stored) (first : ℕ) (t
     → server.IsMade (begun_for conf stored first trace clients) journal (none_opened at_once in_all) clients programs s → in_all ≤ programs → server.IsServer s) where
   pub opened_so : (limits : Limits) (begun : Begun) (opened : Opened L) (core : Core) (journal : Told) (channels : Channels) → core ≡ begun_for begun.conf begun.stored 0 begun.trace limits.clients
       → Begins (setting limits begun) begun.trace core → journal ≡ record { events = []; noted = 0; spare = 0 } → channels ≡ none_opened limits.open_channels limits.channels
-      → server.IsMade core journal channels limits.clients limits.channels opened.server → opened.port ≡ begun.port → opened.users ≡ begun.users → IsOpenedFor limits begun opened
-  opened_so limits begun opened core journal channels core_is begins journal_is channels_are made port users =
+      → server.IsMade core journal channels limits.clients limits.channels opened.server → opened.port ≡ begun.port → opened.users ≡ begun.users
+      → (opened.renewal.conf ≡ begun.conf) × (opened.renewal.tries ≡ untried) → IsOpenedFor limits begun opened
+  opened_so limits begun opened core journal channels core_is begins journal_is channels_are made port users renewal =
       let first : Told = record { events = []; noted = 0; spare = 0 } in
       let made_of = made_so core (begun_for begun.conf begun.stored 0 begun.trace limits.clients) journal first channels (none_opened limits.open_channels limits.channels) limits.clients limits.channels
       opened.server core_is journal_is channels_are made in record {
         port = port;
         users = users;
+        conf = renewal.0;
+        tries = renewal.1;
         made = made_of;
         is_server = is_one begun.conf begun.stored 0 begun.trace first limits.clients limits.channels limits.open_channels limits.channels opened.server made_of (omega arith);
         begins = subst (Begins (setting limits begun) begun.trace) (sym made.core_is) begins;

@@ -1,7 +1,9 @@
 -- What the daemon comes to, step by step.
 use Rattle.std.proofs.Common.{◌≡◌, ℕ, List, map, Option, Some, None, refl, sym, subst}
 use Rattle.std.specs.Prelude.{Err}
+use Rattle.dl_bytes.specs.declared.conf.Conf.{Conf}
 use Rattle.dl_bytes.specs.declared.moment.Moment.{Moment}
+use Rattle.dl_loop.specs.Daemon.{TellTaken}
 use Rattle.dl_outside.specs.Outside.{Stays}
 use Rattle.dl_outside.specs.Told.{FolderTold, LinkTold, NetTold}
 use Rattle.dl_server.specs.State.{State, seen}
@@ -16,7 +18,7 @@ use Rattle.dl_serve.specs.declared.beginning.Begun.{Begun}
 use Rattle.dl_serve.specs.declared.closed.Closed.{Closed}
 use Rattle.dl_serve.specs.Admitted.{AllAdmitted, TellGiven}
 use Rattle.dl_serve.specs.Begin.{IsStart}
-use Rattle.dl_serve.specs.Comes.{IsComeTo}
+use Rattle.dl_serve.specs.Levels.{AllTookLevels}
 use Rattle.dl_serve.specs.Open.{IsHeard, Listen}
 use Rattle.dl_serve.specs.Shown.{AllShowEnds, TellLeft}
 use Rattle.dl_serve.specs.Went.{AllWent}
@@ -24,13 +26,16 @@ use Rattle.dl_serve.proofs.HeardNets.{still_listens}
 use Rattle.dl_daemon.specs.declared.left.Left.{Left}
 use Rattle.dl_daemon.specs.declared.limits.Limits.{Limits}
 use Rattle.dl_daemon.specs.declared.opened.Opened.{Opened}
+use Rattle.dl_daemon.specs.declared.renewing.Tries.{Tries}
 use Rattle.dl_daemon.specs.declared.rounds.Stop.{Stop}
 use Rattle.dl_daemon.specs.Begin.{Asks, Refuses, Started, serving}
-use Rattle.dl_daemon.specs.Left.{ClosesTo, IsOf}
+use Rattle.dl_daemon.specs.Comes.{IsKeptTo}
+use Rattle.dl_daemon.specs.Left.{ClosesTo}
 use Rattle.dl_daemon.specs.Limits.{limits}
 use Rattle.dl_daemon.specs.Open.{IsOpenedFor, setting}
 use Rattle.dl_daemon.specs.Outside.{Outside, outside}
-use Rattle.dl_daemon.specs.Program.{Ended, EndsBegun, EndsEarly, EndsWith, HasOpened, LeavesEarly}
+use Rattle.dl_daemon.specs.Program.{Ended, EndsBegun, EndsEarly, EndsWith, HasOpened, HasRun, LeavesEarly}
+use Rattle.dl_daemon.specs.Renewing.{untried}
 use Rattle.dl_daemon.specs.Rounds.{HasGoneRound, noted}
 use Rattle.dl_daemon.specs.Status.{status_of}
 use Rattle.dl_daemon.proofs.HeardToTheEnd.{rounds_listen}
@@ -75,14 +80,15 @@ module _ {L : Type 0} (link_told : L → LinkTold) where
   -- ---- what was opened
 
   -- memory was wanting for its closing
-  pub opened_nothing : (server : Server Told L) (old new : Outside L) (s : Status) (left : Option (Left L)) → s ≡ status.OutOfMemory → left ≡ None → EndsWith link_told server old new s left
-  opened_nothing server old new s left is none = subst (λ (l : Option (Left L)). EndsWith link_told server old new s l) (sym none) is
+  pub opened_nothing : (conf : Conf) (tries : Tries) (server : Server Told L) (old new : Outside L) (s : Status) (left : Option (Left L)) → s ≡ status.OutOfMemory → left ≡ None
+      → EndsWith link_told conf tries server old new s left
+  opened_nothing conf tries server old new s left is none = subst (λ (l : Option (Left L)). EndsWith link_told conf tries server old new s l) (sym none) is
 
   -- it ran, and closed
-  pub opened_closed : (server : Server Told L) (why : Stop) (old new : Outside L) (last : State) (moment : Moment) (left : Left L) (s : Status) → s ≡ status_of why
-      → HasGoneRound link_told why old.net new.net old.users new.users (seen link_told noted old.folder server) last → ClosesTo link_told moment last new.folder left
-      → EndsWith link_told server old new s (Some left)
-  opened_closed server why old new last moment left s is served closes =
+  pub opened_closed : (conf : Conf) (tries : Tries) (server : Server Told L) (why : Stop) (old new : Outside L) (last : State) (moment : Moment) (left : Left L) (s : Status) → s ≡ status_of why
+      → HasGoneRound link_told conf tries why old.net new.net old.users new.users (seen link_told noted old.folder server) last → ClosesTo link_told moment last new.folder left
+      → EndsWith link_told conf tries server old new s (Some left)
+  opened_closed conf tries server why old new last moment left s is served closes =
       (why, is, closes.0, closes.1, record { last = last; served = served; moment = moment; closes = closes.2 })
 
   -- ---- what was begun
@@ -115,13 +121,21 @@ module _ {L : Type 0} (link_told : L → LinkTold) where
       unheard begun old new s (subst (λ (n : ℕ). Listen begun.port n old.net new.net old.users new.users (Err s)) is.users
       (subst (λ (n : ℕ). Listen n opened.users old.net new.net old.users new.users (Err s)) is.port listen)) same
 
+  -- the same of the trace that it was opened for
+  ran_for : (most : Limits) (begun : Begun) (opened : Opened L) (old new : Outside L) (why : Stop) (closed : Closed L) → IsOpenedFor most begun opened
+      → HasRun link_told opened.renewal.conf opened.renewal.tries opened.server why old new closed → HasRun link_told begun.conf untried opened.server why old new closed
+  ran_for most begun opened old new why closed is run =
+      subst (λ (c : Conf). HasRun link_told c untried opened.server why old new closed) is.conf
+      (subst (λ (t : Tries). HasRun link_told opened.renewal.conf t opened.server why old new closed) is.tries run)
+
   -- it was opened, both nets listen, and it ran
   pub begun_ran : (most : Limits) (begun : Begun) (opened : Opened L) (old : Outside L) (net users : NetTold L) (new : Outside L) (s : Status) (left : Option (Left L)) → IsOpenedFor most begun opened
-      → IsHeard begun.port old.net net → IsHeard begun.users old.users users → EndsWith link_told opened.server (outside old.folder net users) new s left → EndsBegun link_told most begun old new s left
+      → IsHeard begun.port old.net net → IsHeard begun.users old.users users
+      → EndsWith link_told opened.renewal.conf opened.renewal.tries opened.server (outside old.folder net users) new s left → EndsBegun link_told most begun old new s left
   begun_ran most begun opened old net users new s None is net_heard users_heard ends = subst (λ (t : Status). LeavesEarly begun old new t) (sym ends) tt
   begun_ran most begun opened old net users new s (Some left) is net_heard users_heard ends =
-      let run = ends.4 in
-      let listen = rounds_listen link_told run.served.many net new.net users new.users (seen link_told noted old.folder opened.server) run.last run.served.rounds in (
+      let run = ran_for most begun opened (outside old.folder net users) new ends.0 ends.2 is ends.4 in
+      let listen = rounds_listen link_told begun.conf run.served.many (record { tries = untried; anew = None }) run.served.kept net new.net users new.users (seen link_told noted old.folder opened.server) run.last run.served.rounds in (
         ends.0,
         ends.1,
         ends.2,
@@ -178,28 +192,38 @@ module _ {L : Type 0} (link_told : L → LinkTold) where
   left_early said old new start status.JournalFull early = absurd early
   left_early said old new start (status.StorageRefused line kind) early = absurd early
 
+  -- what was opened within these limits, and what it came to
+  abbrev KeptWith : Begun → Outside L → FolderTold → Outside L → Stop → Closed L → Limits → Type 0
+  KeptWith begun old between new why closed most =
+      (has : HasOpened link_told most begun why (record old { folder = between }) new closed) × IsKeptTo link_told (setting most begun) begun has.run.served.kept.anew old.folder new.folder closed
+
   -- they begin what they ask for, and it runs
   pub began : (said : List (List ℕ)) (asked : Daemon) (begun : Begun) (old : Outside L) (between : FolderTold) (new : Outside L) (s : Status) (left : Option (Left L)) (most : Limits) → most ≡ limits
-      → ((why : Stop) (closed : Closed L) → HasOpened link_told most begun why (record old { folder = between }) new closed → IsComeTo link_told (setting most begun) begun old.folder new.folder closed)
+      → ((why : Stop) (closed : Closed L) → (has : HasOpened link_told most begun why (record old { folder = between }) new closed)
+      → IsKeptTo link_told (setting most begun) begun has.run.served.kept.anew old.folder new.folder closed)
       → ((why : Stop) (closed : Closed L) → HasOpened link_told most begun why (record old { folder = between }) new closed → TellGiven link_told
       → AllAdmitted closed.events.events (map link_told closed.users.links) closed.ends)
       → ((why : Stop) (closed : Closed L) → HasOpened link_told most begun why (record old { folder = between }) new closed → AllShowEnds (TellLeft link_told) (map link_told closed.users.links) closed.ends)
       → ((why : Stop) (closed : Closed L) → HasOpened link_told most begun why (record old { folder = between }) new closed → AllWent link_told (setting most begun) closed)
+      → ((why : Stop) (closed : Closed L) → HasOpened link_told most begun why (record old { folder = between }) new closed
+      → AllTookLevels (TellTaken link_told) (setting most begun) closed.events.events (map link_told closed.users.links) closed.ends)
       → daemon_of said ≡ Some asked → IsStart (serving asked) old.folder between begun → EndsBegun link_told most begun (record old { folder = between }) new s left → Ended link_told said old new s left
-  began said asked begun old between new s None most is_most comes admits shows went is start ends =
+  began said asked begun old between new s None most is_most comes admits shows went took is start ends =
       left_early said old new (record { asked = asked; is_asked = is; begun = begun; between = between; start = start }) s ends
-  began said asked begun old between new s (Some left) most is_most comes admits shows went is start ends =
-      let opens = ends.4 in (
+  began said asked begun old between new s (Some left) most is_most comes admits shows went took is start ends =
+      let opens = ends.4 in
+      let kept = subst (KeptWith begun old between new ends.0 ends.2) is_most (opens, comes ends.0 ends.2 opens) in (
         ends.0,
         ends.1,
         record {
           it = record { asked = asked; is_asked = is; begun = begun; between = between; start = start };
           closed = ends.2;
           is_left = ends.3;
-          opens = subst (λ (m : Limits). HasOpened link_told m begun ends.0 (record old { folder = between }) new ends.2) is_most opens;
-          comes = subst (λ (m : Limits). IsComeTo link_told (setting m begun) begun old.folder new.folder ends.2) is_most (comes ends.0 ends.2 opens);
+          opens = kept.0;
+          comes = kept.1;
           admits = admits ends.0 ends.2 opens;
           shows = shows ends.0 ends.2 opens;
           went = subst (λ (m : Limits). AllWent link_told (setting m begun) ends.2) is_most (went ends.0 ends.2 opens);
+          took = subst (λ (m : Limits). AllTookLevels (TellTaken link_told) (setting m begun) ends.2.events.events (map link_told ends.2.users.links) ends.2.ends) is_most (took ends.0 ends.2 opens);
         },
       )

@@ -7,7 +7,7 @@ use Rattle.dl_trace.specs.State.{Trace}
 use Rattle.dl_trace.specs.Steps.{bytes_in}
 use Rattle.dl_unkept.specs.Told.{Told}
 use Rattle.dl_daemon.specs.declared.figures.Figures.{Figures}
-use Rattle.dl_daemon.specs.declared.figures.NetFaults.{NetFaults}
+use Rattle.dl_daemon.specs.declared.figures.Passed.{Passed}
 
 -- one where the client of this number is open
 abbrev pub open_at : Hub → ℕ → ℕ
@@ -33,8 +33,8 @@ has_ended None = false
 has_ended (Some trace) = is_some trace.state.end
 
 -- what it counts
-abbrev pub figures_of : {L : Type 0} → Server Told L → NetFaults → Figures
-figures_of s faults = record {
+abbrev pub figures_of : {L : Type 0} → Server Told L → Passed → Figures
+figures_of s passed = record {
   clients = length s.clients.links;
   open_clients = open_among s.core.hub (length s.clients.links);
   channels = length s.programs.links;
@@ -43,9 +43,10 @@ figures_of s faults = record {
   waiting = length s.core.hub.backlog;
   refused = s.core.hub.refused;
   dropped = s.dropped;
-  client_faults = faults.clients;
-  program_faults = faults.programs;
+  client_faults = passed.client_faults;
+  program_faults = passed.program_faults;
   files = length (files_of s.core.trace);
   bytes = sum_of (files_of s.core.trace);
+  renewed = passed.renewed;
   ended = has_ended s.core.trace;
 }

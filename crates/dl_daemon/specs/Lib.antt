@@ -2,9 +2,11 @@ pub mod Limits
 pub mod Outside
 pub mod Status
 pub mod Begin
+pub mod Renewing
 pub mod Open
 pub mod Rounds
 pub mod Left
+pub mod Comes
 pub mod Program
 pub mod Figures
 pub mod Line

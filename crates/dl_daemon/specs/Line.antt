@@ -13,10 +13,10 @@ unfoldable pub traffic : Figures → List ℕ
 traffic f =
     codes " frames " ++ decimal f.frames ++ codes " waiting " ++ decimal f.waiting ++ codes " refused " ++ decimal f.refused ++ codes " dropped " ++ decimal f.dropped
 
--- the faults of both nets, and the trace
+-- the faults of both nets, the trace files, and how often the trace was begun anew
 unfoldable pub outside : Figures → List ℕ
 outside f =
-    codes " faults " ++ decimal f.client_faults ++ codes " " ++ decimal f.program_faults ++ codes " files " ++ decimal f.files ++ codes " " ++ decimal f.bytes
+    codes " faults " ++ decimal f.client_faults ++ codes " " ++ decimal f.program_faults ++ codes " files " ++ decimal f.files ++ codes " " ++ decimal f.bytes ++ codes " renewed " ++ decimal f.renewed
 
 -- whether the trace goes on
 abbrev pub trace_word : Bool → List ℕ

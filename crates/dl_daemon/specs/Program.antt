@@ -1,12 +1,14 @@
 -- What the daemon promises.
 use Rattle.std.specs.Prelude.{◌≡◌, ◌≢◌, ◌⊎◌, ℕ, List, map, Option, Some, None, IsSome, IsSomeAnd}
+use Rattle.dl_bytes.specs.declared.conf.Conf.{Conf}
 use Rattle.dl_bytes.specs.declared.moment.Moment.{Moment}
+use Rattle.dl_loop.specs.Daemon.{TellTaken}
 use Rattle.dl_outside.specs.Outside.{HasRisen}
 use Rattle.dl_outside.specs.Told.{LinkTold, NetTold, SinkTold}
 use Rattle.dl_outside.specs.Written.{Wrote, WroteNothing}
 use Rattle.dl_serve.specs.Admitted.{AllAdmitted, TellGiven}
 use Rattle.dl_serve.specs.Closed.{HasClosedTo}
-use Rattle.dl_serve.specs.Comes.{IsComeTo}
+use Rattle.dl_serve.specs.Levels.{AllTookLevels}
 use Rattle.dl_serve.specs.Open.{HasNotListened, IsHeard, Listens}
 use Rattle.dl_serve.specs.Shown.{AllShowEnds, TellLeft}
 use Rattle.dl_serve.specs.Went.{AllWent}
@@ -23,21 +25,24 @@ use Rattle.dl_words.specs.Daemon.{Daemon, daemon_of}
 use Rattle.dl_daemon.specs.declared.left.Left.{Left}
 use Rattle.dl_daemon.specs.declared.limits.Limits.{Limits}
 use Rattle.dl_daemon.specs.declared.opened.Opened.{Opened}
+use Rattle.dl_daemon.specs.declared.renewing.Tries.{Tries}
 use Rattle.dl_daemon.specs.declared.rounds.Stop.{Stop}
 use Rattle.dl_daemon.specs.Begin.{Refuses, Started}
-use Rattle.dl_daemon.specs.Left.{ClosesTo, IsOf}
+use Rattle.dl_daemon.specs.Comes.{IsKeptTo}
+use Rattle.dl_daemon.specs.Left.{IsOf}
 use Rattle.dl_daemon.specs.Limits.{limits}
 use Rattle.dl_daemon.specs.Open.{IsOpenedFor, setting}
 use Rattle.dl_daemon.specs.Outside.{Outside, outside}
+use Rattle.dl_daemon.specs.Renewing.{untried}
 use Rattle.dl_daemon.specs.Rounds.{HasGoneRound, noted}
 use Rattle.dl_daemon.specs.Status.{line_of, status_of}
 
 -- ---- what the daemon did
 
--- Rounds of a server, until there was a cause to end them; then it closed, and this is left of it.
-pub record HasRun {L : Type 0} (link_told : L → LinkTold) (server : Server Told L) (why : Stop) (old new : Outside L) (closed : Closed L) : Type 0 where
+-- Rounds of a server, over a trace of this configuration, until there was a cause to end them; then it closed, and this is left of it.
+pub record HasRun {L : Type 0} (link_told : L → LinkTold) (conf : Conf) (tries : Tries) (server : Server Told L) (why : Stop) (old new : Outside L) (closed : Closed L) : Type 0 where
   pub last : State
-  pub served : HasGoneRound link_told why old.net new.net old.users new.users (seen link_told noted old.folder server) last
+  pub served : HasGoneRound link_told conf tries why old.net new.net old.users new.users (seen link_told noted old.folder server) last
   pub moment : Moment
   pub closes : HasClosedTo link_told moment last new.folder closed
 
@@ -49,22 +54,26 @@ pub record HasOpened {L : Type 0} (link_told : L → LinkTold) (most : Limits) (
   pub users : NetTold L
   pub net_heard : IsHeard begun.port old.net net
   pub users_heard : IsHeard begun.users old.users users
-  pub run : HasRun link_told opened.server why (outside old.folder net users) new closed
+  pub run : HasRun link_told begun.conf untried opened.server why (outside old.folder net users) new closed
   pub net_listens : Listens begun.port old.net new.net
   pub users_listen : Listens begun.users old.users new.users
 
 -- The daemon was begun, went round until there was a cause to end it, and closed; this is left. Were its events kept, `closed` would be what is left:
--- what its rounds come to is what that journal says, in a setting of so many clients; of each program's messages there are the events, in their order,
--- each once, where links tell what they gave; the links of programs show why these ended, and so do those of clients, with the Closes among the events.
+-- what its rounds come to is what that journal says, in a setting of so many clients, and its trace files are those of its events, or of those since its
+-- trace was begun anew; of each program's messages there are the events, in their order, each once, where links tell what they gave; the links of programs
+-- show why these ended, and so do those of clients, with the Closes among the events.
+-- Where links tell what they took, each program's took the front of the messages of the levels that were set for the program, and all of them where its
+-- channel is open at the end and the link never had to wait.
 pub record HasClosed {L : Type 0} (link_told : L → LinkTold) (said : List (List ℕ)) (why : Stop) (old new : Outside L) (left : Left L) : Type 0 where
   pub it : Started said old.folder
   pub closed : Closed L
   pub is_left : IsOf closed left
   pub opens : HasOpened link_told limits it.begun why (record old { folder = it.between }) new closed
-  pub comes : IsComeTo link_told (setting limits it.begun) it.begun old.folder new.folder closed
+  pub comes : IsKeptTo link_told (setting limits it.begun) it.begun opens.run.served.kept.anew old.folder new.folder closed
   pub admits : TellGiven link_told → AllAdmitted closed.events.events (map link_told closed.users.links) closed.ends
   pub shows : AllShowEnds (TellLeft link_told) (map link_told closed.users.links) closed.ends
   pub went : AllWent link_told (setting limits it.begun) closed
+  pub took : AllTookLevels (TellTaken link_told) (setting limits it.begun) closed.events.events (map link_told closed.users.links) closed.ends
 
 -- ---- how it ends
 
@@ -85,10 +94,10 @@ Ended link_told said old new status (Some left) = (why : Stop) × (status ≡ st
 -- ---- for inner functions
 
 -- what was opened ran, or memory was wanting for its closing
-abbrev pub EndsWith : {L : Type 0} → (L → LinkTold) → Server Told L → Outside L → Outside L → Status → Option (Left L) → Type 0
-EndsWith link_told server old new status None = status ≡ OutOfMemory
-EndsWith {L} link_told server old new status (Some left) =
-    (why : Stop) × (status ≡ status_of why) × (closed : Closed L) × IsOf closed left × HasRun link_told server why old new closed
+abbrev pub EndsWith : {L : Type 0} → (L → LinkTold) → Conf → Tries → Server Told L → Outside L → Outside L → Status → Option (Left L) → Type 0
+EndsWith link_told conf tries server old new status None = status ≡ OutOfMemory
+EndsWith {L} link_told conf tries server old new status (Some left) =
+    (why : Stop) × (status ≡ status_of why) × (closed : Closed L) × IsOf closed left × HasRun link_told conf tries server why old new closed
 
 -- one of the nets did not listen, or memory was wanting
 abbrev pub LeavesEarly : {L : Type 0} → Begun → Outside L → Outside L → Status → Type 0

@@ -3,7 +3,7 @@
 ghost use Rattle.std.specs.Prelude.{◌≡◌, length};
 ghost use Rattle.dl_daemon.specs.Figures.{figures_of, files_of, has_ended, open_among, open_at, sum_of};
 
-use crate::figures::{Figures, NetFaults};
+use crate::figures::{Figures, Passed};
 use dl_bytes::{TraceFile, TraceState};
 use dl_core::Core;
 use dl_hub::Hub;
@@ -74,9 +74,9 @@ fn has_ended(core: &Core) -> bool
     }
 }
 
-/// What a daemon counts, and what its nets do.
-pub fn figures_of<L: Link>(server: &Server<Unkept, L>, faults: NetFaults) -> Figures
-    ensures { result ≡ figures_of server.now faults }
+/// What a daemon counts, and what has passed.
+pub fn figures_of<L: Link>(server: &Server<Unkept, L>, passed: Passed) -> Figures
+    ensures { result ≡ figures_of server.now passed }
 {
     let hub = server.core.hub();
     let backlog = hub.backlog();
@@ -91,10 +91,11 @@ pub fn figures_of<L: Link>(server: &Server<Unkept, L>, faults: NetFaults) -> Fig
         waiting: backlog.bytes,
         refused: backlog.refused,
         dropped: server.dropped,
-        client_faults: faults.clients,
-        program_faults: faults.programs,
+        client_faults: passed.client_faults,
+        program_faults: passed.program_faults,
         files: files.len() as u64,
         bytes: sum_of(files),
+        renewed: passed.renewed,
         ended: has_ended(&server.core),
     }
 }

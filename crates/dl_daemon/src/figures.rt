@@ -1,12 +1,14 @@
 //! What a daemon counts.
 
-/// How often each net has failed.
+/// What has passed and did not end the daemon.
 #[derive(Clone, Copy, Debug, PartialEq, Eq)]
-pub struct NetFaults {
-    /// The net of the clients.
-    pub clients: u64,
-    /// The net of the programs.
-    pub programs: u64,
+pub struct Passed {
+    /// Faults of the net of the clients.
+    pub client_faults: u64,
+    /// Faults of the net of the programs.
+    pub program_faults: u64,
+    /// How often the trace was begun anew, at most 2^64 - 1.
+    pub renewed: u64,
 }
 
 /// What a daemon counts, at one moment.
@@ -36,6 +38,8 @@ pub struct Figures {
     pub files: u64,
     /// Bytes in them, at most 2^64 - 1.
     pub bytes: u64,
+    /// How often the trace was begun anew, at most 2^64 - 1.
+    pub renewed: u64,
     /// Whether nothing more is stored in trace files.
     pub ended: bool,
 }

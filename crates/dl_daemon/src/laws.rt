@@ -1,9 +1,10 @@
 //! Laws of the daemon: what it comes to, and what a status says of it.
 
 ghost use Rattle.std.specs.Prelude.{List, Option, map, ℕ};
+ghost use Rattle.dl_loop.specs.Daemon.{TellTaken};
 ghost use Rattle.dl_outside.specs.Told.{FolderTold, SinkTold};
 ghost use Rattle.dl_serve.specs.Admitted.{AllAdmitted, TellGiven};
-ghost use Rattle.dl_serve.specs.Comes.{IsComeTo};
+ghost use Rattle.dl_serve.specs.Levels.{AllTookLevels};
 ghost use Rattle.dl_serve.specs.Shown.{AllShowEnds, TellLeft};
 ghost use Rattle.dl_serve.specs.Went.{AllWent};
 ghost use Rattle.dl_serve.specs.declared.beginning.Begun.{Begun};
@@ -14,6 +15,7 @@ ghost use Rattle.dl_startup.specs.declared.status.Status.{Status};
 ghost use Rattle.dl_daemon.specs.declared.left.Left.{Left};
 ghost use Rattle.dl_daemon.specs.declared.limits.Limits.{Limits};
 ghost use Rattle.dl_daemon.specs.declared.rounds.Stop.{Stop};
+ghost use Rattle.dl_daemon.specs.Comes.{IsKeptTo};
 ghost use Rattle.dl_daemon.specs.Open.{setting};
 ghost use Rattle.dl_daemon.specs.Outside.{Outside};
 ghost use Rattle.dl_daemon.specs.Program.{Ended, HasOpened, IsKeeping, Says};
@@ -21,12 +23,12 @@ ghost use Rattle.dl_daemon.specs.Program.{Ended, HasOpened, IsKeeping, Says};
 use dl_outside::Link;
 
 /// What the daemon did is what its journal says: this is well-formed, each client has its link and is closed, each link took the front of its client's
-/// stream, and the trace files are those of the events. The folder may have been looked at before, but it was left alone since the trace was begun
-/// over it.
+/// stream, and the trace files are those of the events: of all of them, or, where the trace was begun anew, of those since. The folder may have been looked
+/// at before, but it was left alone since the trace was begun over it.
 pub fn what_was_kept_is_its_journal<L: Link>()
     ensures { (most : Limits) (begun : Begun) (old new : Outside L) (why : Stop) (closed : Closed L) (first : FolderTold)
-        → IsBegun begun.conf first.files begun.trace → IsQuiet first old.folder → HasOpened L.told most begun why old new closed
-        → IsComeTo L.told (setting most begun) begun first new.folder closed }
+        → IsBegun begun.conf first.files begun.trace → IsQuiet first old.folder → (has : HasOpened L.told most begun why old new closed)
+        → IsKeptTo L.told (setting most begun) begun has.run.served.kept.anew first new.folder closed }
 {
     dl_server::laws::a_round_is_its_events::<L>();
     dl_server::laws::a_closing_is_its_events::<L>();
@@ -56,6 +58,17 @@ pub fn how_clients_went<L: Link>()
 {
     dl_rounds::laws::clients_are_as_noted::<L>();
     dl_rounds::laws::gone_clients_show_why::<L>();
+}
+
+/// Where links tell what they took, that of each program outside took the front of the messages that tell the levels of its applications' contexts, one for
+/// each of their Level events, in the journal's order, and all of them where the channel is open at the end and the link never had to wait. A channel ended
+/// as slow only where these messages have more bytes than may wait.
+pub fn what_programs_took<L: Link>()
+    ensures { (most : Limits) (begun : Begun) (old new : Outside L) (why : Stop) (closed : Closed L) (first : FolderTold)
+        → IsBegun begun.conf first.files begun.trace → HasOpened L.told most begun why old new closed
+        → AllTookLevels (TellTaken L.told) (setting most begun) closed.events.events (map L.told closed.users.links) closed.ends }
+{
+    dl_rounds::laws::a_round_is_its_events::<L>();
 }
 
 /// What a status says of the daemon is what is promised of the whole: the words decide first, and where all is of the form and nothing fails, the watch

@@ -1,5 +1,6 @@
 //! A daemon before its nets listen.
 
+use crate::renewing::Renewal;
 use dl_server::Server;
 use dl_unkept::Unkept;
 
@@ -8,6 +9,8 @@ use dl_unkept::Unkept;
 pub struct Opened<L> {
     /// The server, to which nobody came.
     pub server: Server<Unkept, L>,
+    /// What begins its trace anew, where that has ended.
+    pub renewal: Renewal,
     /// The port on which clients are waited for.
     pub port: u16,
     /// The port on which programs are waited for that log.

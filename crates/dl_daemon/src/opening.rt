@@ -6,6 +6,7 @@ ghost use Rattle.dl_daemon.specs.Open.{IsOpenedFor};
 
 use crate::limits::Limits;
 use crate::opened::Opened;
+use crate::renewing::Renewal;
 use dl_bytes::OutOfMemory;
 use dl_core::Core;
 use dl_outside::Link;
@@ -45,6 +46,7 @@ where
     )?;
     Ok(Opened {
         server,
+        renewal: Renewal::make(alloc, conf),
         port,
         users,
     })

@@ -11,7 +11,7 @@ use crate::beginning::{ask, begin};
 use crate::closing::close;
 use crate::laws::{
     an_end_is_a_keeping, how_clients_went, how_programs_ended, what_programs_sent_is_admitted,
-    what_was_kept_is_its_journal,
+    what_programs_took, what_was_kept_is_its_journal,
 };
 use crate::limits::Limits;
 use crate::opened::Opened;
@@ -62,11 +62,24 @@ fn keep_opened<R: Wait, F: Folder, N: Net, C: Clock, W: Watch>(
 where
     N::L: Drop,
     requires server { IsServer opened.server }
-    ensures { EndsWith N.L.told opened.server (outside (F.told folder.old) (N.told net.old) (N.told users.old))
+    ensures { EndsWith N.L.told opened.renewal.conf opened.renewal.tries opened.server (outside (F.told folder.old) (N.told net.old) (N.told users.old))
         (outside (F.told folder.new) (N.told net.new) (N.told users.new)) result.status result.left }
 {
-    let Opened { mut server, .. } = opened;
-    let why = go_round(rt, &mut server, net, users, clock, folder, watch);
+    let Opened {
+        mut server,
+        mut renewal,
+        ..
+    } = opened;
+    let why = go_round(
+        rt,
+        &mut server,
+        &mut renewal,
+        net,
+        users,
+        clock,
+        folder,
+        watch,
+    );
     match close(rt, alloc, server, clock.now(), folder) {
         Ok(left) => Outcome {
             status: status_of(why),
@@ -124,6 +137,7 @@ where
     what_programs_sent_is_admitted::<N::L>();
     how_programs_ended::<N::L>();
     how_clients_went::<N::L>();
+    what_programs_took::<N::L>();
     let asked = match ask(alloc, words) {
         Ok(asked) => asked,
         Err(status) => return left_early(status),
@@ -148,7 +162,8 @@ where
 /// Keeps a daemon running for clients and programs outside, as the words ask, until its watch ends it, or until 2^40 - 4,096 frames and more were
 /// admitted; then it closes. Answers how it ended. It may wait.
 ///
-/// A failed accept does not end it: the net is asked again in the next round, and counts its faults. A trace that has ended stays ended.
+/// What passes does not end it. After a failed accept the net is asked again in the next round, and counts its faults. A trace that has ended is begun anew,
+/// over the trace files that then stand, at most once a minute and as often as that is wanted; but where its last number was used up, it stays ended.
 pub fn keep<R: Wait, F: Folder, N: Net, C: Clock, W: Watch, E: Sink>(
     rt: &R,
     alloc: Global,

@@ -2,10 +2,10 @@
 
 ghost use Rattle.std.specs.Prelude.{◌≡◌, IfSome, None};
 ghost use Rattle.dl_server.specs.Server.{IsServer};
-ghost use Rattle.dl_server.specs.State.{seen};
-ghost use Rattle.dl_daemon.specs.Rounds.{HasGoneRound, HasRoom, StopsFor, noted, opened_again};
+ghost use Rattle.dl_daemon.specs.Rounds.{HasMadeRounds, HasRoom, StopsFor, opened_again};
 
-use crate::figures::NetFaults;
+use crate::figures::Passed;
+use crate::renewing::Renewal;
 use crate::watch::Watch;
 use dl_bytes::Moment;
 use dl_outside::{Clock, Folder, Link, Net};
@@ -28,7 +28,7 @@ const TURN_FRAMES: u64 = 4096;
 /// Whether, and why, no round is to begin.
 fn stops<L: Link, W: Watch>(
     server: &Server<Unkept, L>,
-    faults: NetFaults,
+    passed: Passed,
     moment: Moment,
     watch: &mut W,
 ) -> Option<Stop>
@@ -38,7 +38,7 @@ fn stops<L: Link, W: Watch>(
     if !server.core.may_admit(TURN_FRAMES) {
         return Some(Stop::Spent);
     }
-    if !watch.goes_on(server, faults, moment) {
+    if !watch.goes_on(server, passed, moment) {
         return Some(Stop::Asked);
     }
     None
@@ -52,18 +52,21 @@ fn ask_again<L>(server: &mut Server<Unkept, L>)
     server.no_programs = false;
 }
 
-/// How often both nets have failed.
-fn faults_of<N: Net>(net: &N, users: &N) -> NetFaults {
-    NetFaults {
-        clients: net.faults(),
-        programs: users.faults(),
+/// What has passed so far.
+fn passed<N: Net>(net: &N, users: &N, renewal: &Renewal) -> Passed {
+    Passed {
+        client_faults: net.faults(),
+        program_faults: users.faults(),
+        renewed: renewal.tries.renewed,
     }
 }
 
-/// Goes round until the watch ends it, or more frames might be admitted than may be. Answers why it stopped. It may wait.
+/// Goes round until the watch ends it, or more frames might be admitted than may be. A trace that has ended is begun anew, at most once a minute. Answers
+/// why it stopped. It may wait.
 pub fn go_round<R: Wait, N: Net, C: Clock, F: Folder, W: Watch>(
     rt: &R,
     server: &mut Server<Unkept, N::L>,
+    renewal: &mut Renewal,
     net: &mut N,
     users: &mut N,
     clock: &C,
@@ -73,15 +76,17 @@ pub fn go_round<R: Wait, N: Net, C: Clock, F: Folder, W: Watch>(
 where
     N::L: Drop,
     requires server { IsServer server.old }
-    ensures rounds { let s = seen N.L.told noted in HasGoneRound N.L.told result (N.told net.old) (N.told net.new) (N.told users.old) (N.told users.new)
-        (s (F.told folder.old) server.old) (s (F.told folder.new) server.new) }
+    ensures rounds { HasMadeRounds N.L.told renewal.old.conf renewal.old.tries result (N.told net.old) (N.told net.new) (N.told users.old) (N.told users.new)
+        (F.told folder.old) (F.told folder.new) server.old server.new }
     ensures server { IsServer server.new }
 {
     for _round in rt.forever() {
-        match stops(server, faults_of(net, users), clock.now(), watch) {
+        let moment = clock.now();
+        match stops(server, passed(net, users, renewal), moment, watch) {
             Some(why) => return why,
             None => {}
         }
+        let _begun = renewal.renew(server, folder, moment);
         ask_again(server);
         server.round(rt, net, users, clock, folder);
     }

@@ -6,7 +6,7 @@ ghost use Rattle.dl_daemon.specs.Figures.{figures_of};
 ghost use Rattle.dl_daemon.specs.Line.{is_due, status_line};
 
 use crate::counting::figures_of;
-use crate::figures::{Figures, NetFaults};
+use crate::figures::{Figures, Passed};
 use crate::line::status_line;
 use crate::watch::Watch;
 use dl_bytes::Moment;
@@ -72,18 +72,18 @@ impl<O: Sink> Watch for Teller<O> {
     fn goes_on<L: Link>(
         &mut self,
         server: &Server<Unkept, L>,
-        faults: NetFaults,
+        passed: Passed,
         moment: Moment,
     ) -> bool
         ensures goes_on { result ≡ true }
         ensures silent { is_due self.old.every self.old.last moment.secs ≡ false → WroteNothing (O.told self.old.out) (O.told self.new.out) }
         // Where there is no memory for the line, nothing is said.
         ensures said { WroteNothing (O.told self.old.out) (O.told self.new.out)
-            ⊎ Wrote (O.told self.old.out) (O.told self.new.out) (status_line (figures_of server.now faults)) }
+            ⊎ Wrote (O.told self.old.out) (O.told self.new.out) (status_line (figures_of server.now passed)) }
     {
         if self.is_due(moment.secs) {
             self.last = moment.secs;
-            self.say(&figures_of(server, faults));
+            self.say(&figures_of(server, passed));
         }
         true
     }

@@ -1,6 +1,6 @@
 //! Who looks on while a daemon runs, and says when it ends.
 
-use crate::figures::NetFaults;
+use crate::figures::Passed;
 use dl_bytes::Moment;
 use dl_outside::Link;
 use dl_server::Server;
@@ -15,7 +15,7 @@ pub trait Watch {
     fn goes_on<L: Link>(
         &mut self,
         server: &Server<Unkept, L>,
-        faults: NetFaults,
+        passed: Passed,
         moment: Moment,
     ) -> bool;
 }
