@@ -10,6 +10,7 @@ mod clock;
 mod directory;
 mod once;
 mod paths;
+mod presence;
 mod reading;
 mod resting;
 mod streams;

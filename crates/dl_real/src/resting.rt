@@ -1,6 +1,6 @@
 //! How long an object rests where nothing is to be done.
 
-ghost use Rattle.std.specs.Prelude.{◌≡◌, ◌<◌, ◌≤◌};
+ghost use Rattle.std.specs.Prelude.{◌≡◌, ◌<◌, ◌≤◌, true, false};
 
 use std::thread;
 use std::time::{Clock, Duration};
@@ -13,6 +13,12 @@ const SHORT: u64 = 1;
 
 /// How long a rest is once nothing has happened for long, in milliseconds.
 const LONG: u64 = 5;
+
+/// How many rests in a row are short or long: some five seconds of them.
+const AWAKE_RESTS: u32 = 1100;
+
+/// How long a rest is once nothing has happened for longer, and nobody is there who could be kept waiting, in milliseconds.
+const LONGEST: u64 = 20;
 
 /// How often an object rested since something happened.
 #[derive(Clone, Copy, Debug)]
@@ -44,21 +50,26 @@ impl Resting {
     }
 
     /// How long the next rest is, in milliseconds.
-    fn next(&mut self) -> u64
+    fn next(&mut self, is_alone: bool) -> u64
         ensures short { self.old.rests < 100 → result ≡ 1 }
-        ensures long { 100 ≤ self.old.rests → result ≡ 5 }
+        ensures long { 100 ≤ self.old.rests → self.old.rests < 1100 → result ≡ 5 }
+        ensures attended { 1100 ≤ self.old.rests → is_alone ≡ false → result ≡ 5 }
+        ensures alone { 1100 ≤ self.old.rests → is_alone ≡ true → result ≡ 20 }
     {
         self.is_resting = true;
-        if self.rests < SHORT_RESTS {
-            self.rests += 1;
+        let rests = self.rests;
+        self.rests = AWAKE_RESTS.min(rests.saturating_add(1));
+        if rests < SHORT_RESTS {
             SHORT
-        } else {
+        } else if rests < AWAKE_RESTS || !is_alone {
             LONG
+        } else {
+            LONGEST
         }
     }
 
-    /// Rests.
-    pub fn rest<R: Clock>(&mut self, rt: &R) {
-        thread::sleep(rt, Duration::from_millis(self.next()));
+    /// Rests; where nobody is there, longer in the end.
+    pub fn rest<R: Clock>(&mut self, rt: &R, is_alone: bool) {
+        thread::sleep(rt, Duration::from_millis(self.next(is_alone)));
     }
 }

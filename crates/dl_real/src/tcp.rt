@@ -7,6 +7,7 @@ ghost use Rattle.dl_outside.specs.Outside.{HasRisen};
 use crate::answers::{came, is_memory};
 use crate::attendance::Attendance;
 use crate::client::attend;
+use crate::presence::Presence;
 use crate::reading::Reading;
 use crate::resting::Resting;
 use crate::streams::{pass_on, receive};
@@ -68,6 +69,8 @@ pub struct TcpLink<R> {
     rt: R,
     // none once it was shut
     stream: Option<TcpStream>,
+    // none where memory was wanting for it, and once it was shut
+    presence: Option<Presence>,
     resting: Resting,
     faults: u64,
     idles: u64,
@@ -121,10 +124,13 @@ impl<R: Clock> Link for TcpLink<R> {
         if let Some(stream) = self.stream.take() {
             hang_up(stream);
         }
+        if let Some(presence) = self.presence.take() {
+            presence.go();
+        }
     }
 
     fn rest(&mut self) {
-        self.resting.rest(&self.rt);
+        self.resting.rest(&self.rt, false);
     }
 
     fn faults(&self) -> u64 {
@@ -143,7 +149,8 @@ impl<R: Clock> Link for TcpLink<R> {
 /// A net over TCP. It tells no content. It listens on the address that it was made with: `Ipv4Addr::LOCALHOST` is
 /// reached from this machine alone, and nothing here asks who a client is. Its own clients dial that address, or
 /// loopback where it stands for every address of the machine. No call waits but `rest`, which sleeps about a
-/// millisecond, and up to five once a hundred rounds in a row have rested.
+/// millisecond, up to five once a hundred rounds in a row have rested, and up to twenty once some five seconds of them have, while
+/// no connection of it is open: nobody is kept waiting then.
 #[derive(Drop)]
 pub struct TcpNet<R> {
     rt: R,
@@ -153,6 +160,8 @@ pub struct TcpNet<R> {
     // how many clients were launched, and how many of them have gone
     launched: u64,
     gone: Option<Attendance>,
+    // none until one connection came, and where memory was wanting for it
+    presence: Option<Presence>,
     resting: Resting,
     faults: u64,
 }
@@ -191,6 +200,7 @@ impl<R: Threads + AllocGlobal> TcpNet<R> {
             listener: None,
             launched: 0,
             gone: None,
+            presence: None,
             resting: Resting::none(),
             faults: 0,
         }
@@ -209,6 +219,7 @@ impl<R: Threads + AllocGlobal> TcpNet<R> {
             listener,
             launched,
             gone,
+            presence: _,
             resting: _,
             faults: _,
         } = self;
@@ -229,6 +240,28 @@ impl<R: Threads + AllocGlobal> TcpNet<R> {
         match &self.gone {
             Some(gone) => gone.share(),
             None => Err(OutOfMemory),
+        }
+    }
+}
+
+impl<R: AllocGlobal> TcpNet<R> {
+    /// What one more connection has of their count, or none where memory is wanting for it.
+    fn come(&mut self) -> Option<Presence>
+        ensures { self.new ≡ record self.old { presence = self.new.presence } }
+    {
+        if self.presence.is_none() {
+            self.presence = Presence::none(self.rt.alloc()).ok();
+        }
+        self.presence.as_ref()?.come().ok()
+    }
+}
+
+impl<R> TcpNet<R> {
+    /// Whether no connection that it accepted is open.
+    fn is_alone(&self) -> bool {
+        match &self.presence {
+            Some(presence) => presence.is_alone(),
+            None => true,
         }
     }
 }
@@ -331,6 +364,7 @@ where
                 Accepted::Link(TcpLink {
                     rt: self.rt,
                     stream: Some(stream),
+                    presence: self.come(),
                     resting: Resting::none(),
                     faults: 0,
                     idles: 0,
@@ -347,7 +381,8 @@ where
     }
 
     fn rest(&mut self) {
-        self.resting.rest(&self.rt);
+        let is_alone = self.is_alone();
+        self.resting.rest(&self.rt, is_alone);
     }
 
     fn faults(&self) -> u64 {
