@@ -13,7 +13,7 @@ use Rattle.dl_sessions.specs.declared.session.Session.{Session}
 use Rattle.dl_sessions.specs.declared.session.Lost.{Lost}
 use Rattle.dl_sessions.specs.declared.session.Told.{Told}
 use Rattle.dl_sessions.specs.declared.session.Told.TheVariants as told
-use Rattle.dl_sessions.specs.Account.{IsAfter, KeepsCounters, KeepsLost, KeepsTotals, NotedContext, NotedSession, counted, entries, entry_of, gap_in_session, hole_at, hole_if, holes, is_in, last_counter, lost_in, sessions}
+use Rattle.dl_sessions.specs.Account.{IsAfter, KeepsContexts, KeepsLost, KeepsTotals, NotedContext, NotedSession, counted, entries, entry_of, gap_in_session, hole_at, hole_if, holes, is_in, latest, lost_in, sessions}
 use Rattle.dl_sessions.proofs.OneMore.{goes_on, lost-one, stands}
 
 -- ---- one message more
@@ -28,7 +28,7 @@ counted-one : (stream : List Told) (t : Told) → counted (length (stream ++ t �
 counted-one stream t = ap counted (length-append stream (t ∷ [])) ∙ goes_on (length stream) 1
 
 pub logged : (stream : List Told) (e : Entry) (old new : Account) (missing : ℕ) (step : Step) → IsAfter stream old →
-    NotedContext (entries stream) e missing new.counters → NotedSession (entries stream) e step new.totals → (KeepsLost old.lost (stream ++ told.Log e ∷ []) → KeepsLost new.lost (stream ++ told.Log e ∷ [])) →
+    NotedContext (entries stream) e missing new.contexts → NotedSession (entries stream) e step new.totals → (KeepsLost old.lost (stream ++ told.Log e ∷ []) → KeepsLost new.lost (stream ++ told.Log e ∷ [])) →
     new.sessions.items ≡ old.sessions.items ++ cond step.is_first (e.session ∷ []) [] → new.messages ≡ counted (old.messages + 1) →
     new.holes.items ≡ old.holes.items ++ hole_if (record { place = new.messages; entry = e; by_session = step.by_session; by_context = missing }) →
     IsAfter (stream ++ told.Log e ∷ []) new
@@ -37,10 +37,10 @@ logged stream e old new missing step after context session lost first messages h
     let count : new.messages ≡ counted (length stream + 1) = messages ∙ ap (λ (n : ℕ). counted (n + 1)) after.messages_are ∙ sym (goes_on (length stream) 1) in
     record {
       totals_are = subst (KeepsTotals new.totals) (sym more) session.2;
-      counters_are = subst (KeepsCounters new.counters) (sym more) context.1;
+      contexts_are = subst (KeepsContexts new.contexts) (sym more) context.1;
       lost_are = lost (λ source. after.lost_are source ∙ stands (sum_by (lost_in source) stream) ∙ sym (lost-one source stream (told.Log e)));
       sessions_are = first ∙ ap (λ (l : List Session). l ++ cond step.is_first (e.session ∷ []) []) after.sessions_are ∙ ap (λ (b : Bool). sessions (entries stream) ++ cond b (e.session ∷ []) []) session.1
-          ∙ sym (along-one (λ (before : List Entry) (x : Entry). cond (is_none (last_counter (is_in x.session) before)) (x.session ∷ []) []) (entries stream) e) ∙ ap sessions (sym more);
+          ∙ sym (along-one (λ (before : List Entry) (x : Entry). cond (is_none (latest (is_in x.session) before)) (x.session ∷ []) []) (entries stream) e) ∙ ap sessions (sym more);
       holes_are = hole ∙ ap (λ (l : List Hole). l ++ hole_if (record { place = new.messages; entry = e; by_session = step.by_session; by_context = missing })) after.holes_are
           ∙ ap (λ (n : ℕ). holes stream ++ hole_if (record { place = n; entry = e; by_session = step.by_session; by_context = missing })) count
           ∙ ap (λ (n : ℕ). holes stream ++ hole_if (record { place = counted (length stream + 1); entry = e; by_session = n; by_context = missing })) session.0
@@ -51,13 +51,13 @@ logged stream e old new missing step after context session lost first messages h
 
 -- a message that is no log message
 quiet_entries : (stream : List Told) (t : Told) → filter_map entry_of (t ∷ []) ≡ [] → hole_at stream t ≡ [] → (old new : Account) → IsAfter stream old → KeepsLost new.lost (stream ++ t ∷ []) →
-    (KeepsTotals old.totals (entries (stream ++ t ∷ [])) → KeepsTotals new.totals (entries (stream ++ t ∷ []))) → (KeepsCounters old.counters (entries (stream ++ t ∷ [])) → KeepsCounters new.counters (entries (stream ++ t ∷ []))) →
+    (KeepsTotals old.totals (entries (stream ++ t ∷ [])) → KeepsTotals new.totals (entries (stream ++ t ∷ []))) → (KeepsContexts old.contexts (entries (stream ++ t ∷ [])) → KeepsContexts new.contexts (entries (stream ++ t ∷ []))) →
     new.sessions.items ≡ old.sessions.items → new.holes.items ≡ old.holes.items → new.messages ≡ counted (old.messages + 1) → IsAfter (stream ++ t ∷ []) new
-quiet_entries stream t none no_hole old new after lost totals counters first hole messages =
+quiet_entries stream t none no_hole old new after lost totals contexts first hole messages =
     let more = entries-quiet stream t none in
     record {
       totals_are = totals (subst (KeepsTotals old.totals) (sym more) after.totals_are);
-      counters_are = counters (subst (KeepsCounters old.counters) (sym more) after.counters_are);
+      contexts_are = contexts (subst (KeepsContexts old.contexts) (sym more) after.contexts_are);
       lost_are = lost;
       sessions_are = first ∙ after.sessions_are ∙ ap sessions (sym more);
       holes_are = hole ∙ after.holes_are ∙ sym (along-one hole_at stream t ∙ ap (λ (l : List Hole). holes stream ++ l) no_hole ∙ append-nil (holes stream));
@@ -66,13 +66,13 @@ quiet_entries stream t none no_hole old new after lost totals counters first hol
 
 pub reported : (stream : List Told) (l : Lost) (old new : Account) → IsAfter stream old → KeepsLost new.lost (stream ++ told.Lost l ∷ []) →
     (KeepsTotals old.totals (entries (stream ++ told.Lost l ∷ [])) → KeepsTotals new.totals (entries (stream ++ told.Lost l ∷ []))) →
-    (KeepsCounters old.counters (entries (stream ++ told.Lost l ∷ [])) → KeepsCounters new.counters (entries (stream ++ told.Lost l ∷ []))) →
+    (KeepsContexts old.contexts (entries (stream ++ told.Lost l ∷ [])) → KeepsContexts new.contexts (entries (stream ++ told.Lost l ∷ []))) →
     new.sessions.items ≡ old.sessions.items → new.holes.items ≡ old.holes.items → new.messages ≡ counted (old.messages + 1) → IsAfter (stream ++ told.Lost l ∷ []) new
 reported stream l = quiet_entries stream (told.Lost l) refl refl
 
 pub passed_by : (stream : List Told) (old new : Account) → IsAfter stream old → (KeepsLost old.lost (stream ++ told.Other ∷ []) → KeepsLost new.lost (stream ++ told.Other ∷ [])) →
     (KeepsTotals old.totals (entries (stream ++ told.Other ∷ [])) → KeepsTotals new.totals (entries (stream ++ told.Other ∷ []))) →
-    (KeepsCounters old.counters (entries (stream ++ told.Other ∷ [])) → KeepsCounters new.counters (entries (stream ++ told.Other ∷ []))) →
+    (KeepsContexts old.contexts (entries (stream ++ told.Other ∷ [])) → KeepsContexts new.contexts (entries (stream ++ told.Other ∷ []))) →
     new.sessions.items ≡ old.sessions.items → new.holes.items ≡ old.holes.items → new.messages ≡ counted (old.messages + 1) → IsAfter (stream ++ told.Other ∷ []) new
 passed_by stream old new after lost =
     quiet_entries stream told.Other refl refl old new after

@@ -10,13 +10,14 @@ use Rattle.dl_model.specs.Along.{last_that}
 use Rattle.dl_laws.proofs.Lists.{along-one, count_by-append, last_that-one}
 use Rattle.dl_sessions.specs.declared.session.Context.{Context}
 use Rattle.dl_sessions.specs.declared.session.Entry.{Entry}
+use Rattle.dl_sessions.specs.declared.session.Latest.{Latest}
 use Rattle.dl_sessions.specs.declared.session.Lost.{Lost}
 use Rattle.dl_sessions.specs.declared.session.Session.{Session}
 use Rattle.dl_sessions.specs.declared.session.Source.{Source}
 use Rattle.dl_sessions.specs.declared.session.Told.{Told}
 use Rattle.dl_sessions.specs.declared.session.Told.TheVariants as told
 use Rattle.dl_sessions.specs.declared.session.Totals.{Totals}
-use Rattle.dl_sessions.specs.Account.{counted, gap_in_context, gap_in_session, gaps, is_in, is_of, context_of, last_counter, lost_in, lost_of, noted, no_totals, same_context, same_session, same_source, totals_of}
+use Rattle.dl_sessions.specs.Account.{context_of, counted, gap_in_context, gap_in_session, gaps, is_in, is_of, latest, latest_of, lost_in, lost_of, no_totals, noted, same_context, same_session, same_source, totals_of}
 
 -- ---- counts
 
@@ -29,15 +30,9 @@ stands n = omega arith
 
 -- ---- entries of a list, and one more
 
-pub counter-one : (test : Entry → Bool) (es : List Entry) (e : Entry) → last_counter test (es ++ e ∷ []) ≡ cond (test e) (Some e.mcnt) (last_counter test es)
-counter-one test es e = ap (option_map (λ (x : Entry). x.mcnt)) (last_that-one test es e) ∙ by_test (test e) where
-  by_test : (b : Bool) → option_map (λ (x : Entry). x.mcnt) (cond b (Some e) (last_that test es)) ≡ cond b (Some e.mcnt) (last_counter test es)
-  by_test true = refl
-  by_test false = refl
-
-last-one : (test : Entry → Bool) (es : List Entry) (e : Entry) → option_map (λ (x : Entry). x.ticks) (last_that test (es ++ e ∷ [])) ≡ cond (test e) (Some e.ticks) (option_map (λ (x : Entry). x.ticks) (last_that test es))
-last-one test es e = ap (option_map (λ (x : Entry). x.ticks)) (last_that-one test es e) ∙ by_test (test e) where
-  by_test : (b : Bool) → option_map (λ (x : Entry). x.ticks) (cond b (Some e) (last_that test es)) ≡ cond b (Some e.ticks) (option_map (λ (x : Entry). x.ticks) (last_that test es))
+pub latest-one : (test : Entry → Bool) (es : List Entry) (e : Entry) → latest test (es ++ e ∷ []) ≡ cond (test e) (Some (latest_of e)) (latest test es)
+latest-one test es e = ap (option_map latest_of) (last_that-one test es e) ∙ by_test (test e) where
+  by_test : (b : Bool) → option_map latest_of (cond b (Some e) (last_that test es)) ≡ cond b (Some (latest_of e)) (latest test es)
   by_test true = refl
   by_test false = refl
 
@@ -102,13 +97,12 @@ here es e =
     let p : counted (count_by (is_in s) (es ++ e ∷ [])) ≡ counted (counted (count_by (is_in s) es) + 1) =
     ap counted (count-one (is_in s) es e ∙ ap (λ (b : Bool). count_by (is_in s) es + cond {A = ℕ} b 1 0) is) ∙ goes_on (count_by (is_in s) es) 1 in
     let q = first-one (is_in s) es e ∙ ap (λ (b : Bool). option_or (option_map (λ (x : Entry). x.ticks) (find (is_in s) es)) (cond b (Some e.ticks) None)) is in
-    let r = last-one (is_in s) es e ∙ ap (λ (b : Bool). cond b (Some e.ticks) (option_map (λ (x : Entry). x.ticks) (last_that (is_in s) es))) is in
-    let m = counter-one (is_in s) es e ∙ ap (λ (b : Bool). cond b (Some e.mcnt) (last_counter (is_in s) es)) is in
+    let r = latest-one (is_in s) es e ∙ ap (λ (b : Bool). cond b (Some (latest_of e)) (latest (is_in s) es)) is in
     let u : counted (sum (gaps gap_in_session s (es ++ e ∷ []))) ≡ counted (counted (sum (gaps gap_in_session s es)) + gap_in_session es e) =
     ap counted (gaps-one gap_in_session s es e ∙ ap (λ (b : Bool). sum (gaps gap_in_session s es) + cond {A = ℕ} b (gap_in_session es e) 0) is) ∙ goes_on (sum (gaps gap_in_session s es)) (gap_in_session es e) in
     let v : counted (sum (gaps gap_in_context s (es ++ e ∷ []))) ≡ counted (counted (sum (gaps gap_in_context s es)) + gap_in_context es e) =
     ap counted (gaps-one gap_in_context s es e ∙ ap (λ (b : Bool). sum (gaps gap_in_context s es) + cond {A = ℕ} b (gap_in_context es e) 0) is) ∙ goes_on (sum (gaps gap_in_context s es)) (gap_in_context es e) in
-    λ i. record { messages = p i; first = q i; last = r i; mcnt = m i; by_session = u i; by_context = v i }
+    λ i. record { messages = p i; first = q i; last = r i; by_session = u i; by_context = v i }
 
 -- those of another one
 elsewhere : (session : Session) (es : List Entry) (e : Entry) → is_in session e ≡ false → totals_of session (es ++ e ∷ []) ≡ totals_of session es
@@ -116,13 +110,12 @@ elsewhere s es e not =
     let p : counted (count_by (is_in s) (es ++ e ∷ [])) ≡ counted (count_by (is_in s) es) =
     ap counted (count-one (is_in s) es e ∙ ap (λ (b : Bool). count_by (is_in s) es + cond {A = ℕ} b 1 0) not ∙ omega arith) in
     let q = first-one (is_in s) es e ∙ ap (λ (b : Bool). option_or (option_map (λ (x : Entry). x.ticks) (find (is_in s) es)) (cond b (Some e.ticks) None)) not ∙ or_none (option_map (λ (x : Entry). x.ticks) (find (is_in s) es)) in
-    let r = last-one (is_in s) es e ∙ ap (λ (b : Bool). cond b (Some e.ticks) (option_map (λ (x : Entry). x.ticks) (last_that (is_in s) es))) not in
-    let m = counter-one (is_in s) es e ∙ ap (λ (b : Bool). cond b (Some e.mcnt) (last_counter (is_in s) es)) not in
+    let r = latest-one (is_in s) es e ∙ ap (λ (b : Bool). cond b (Some (latest_of e)) (latest (is_in s) es)) not in
     let u : counted (sum (gaps gap_in_session s (es ++ e ∷ []))) ≡ counted (sum (gaps gap_in_session s es)) =
     ap counted (gaps-one gap_in_session s es e ∙ ap (λ (b : Bool). sum (gaps gap_in_session s es) + cond {A = ℕ} b (gap_in_session es e) 0) not ∙ omega arith) in
     let v : counted (sum (gaps gap_in_context s (es ++ e ∷ []))) ≡ counted (sum (gaps gap_in_context s es)) =
     ap counted (gaps-one gap_in_context s es e ∙ ap (λ (b : Bool). sum (gaps gap_in_context s es) + cond {A = ℕ} b (gap_in_context es e) 0) not ∙ omega arith) in
-    λ i. record { messages = p i; first = q i; last = r i; mcnt = m i; by_session = u i; by_context = v i }
+    λ i. record { messages = p i; first = q i; last = r i; by_session = u i; by_context = v i }
 
 pub totals-one : (session : Session) (es : List Entry) (e : Entry) (old : Option Totals) → unwrap_or old no_totals ≡ totals_of session es →
     unwrap_or (cond (same_session e.session session) (Some (noted (totals_of e.session es) e (gap_in_context es e))) old) no_totals ≡ totals_of session (es ++ e ∷ [])
@@ -140,9 +133,11 @@ lost-one source stream t =
 
 -- ---- what is kept, after a message was noted
 
-pub counters_kept : (old new : Context → Option ℕ) (es : List Entry) (e : Entry) → ((c : Context) → new c ≡ cond (same_context (context_of e) c) (Some e.mcnt) (old c)) → ((c : Context) → old c ≡ last_counter (is_of c) es) →
-    (c : Context) → new c ≡ last_counter (is_of c) (es ++ e ∷ [])
-counters_kept old new es e noted_so keeps c = noted_so c ∙ ap (cond (same_context (context_of e) c) (Some e.mcnt)) (keeps c) ∙ sym (counter-one (is_of c) es e)
+pub contexts_kept : (old new : Context → Option Latest) (es : List Entry) (e : Entry) (kept : Latest) → ((c : Context) → new c ≡ cond (same_context (context_of e) c) (Some kept) (old c)) → kept ≡ latest_of e
+    → ((c : Context) → old c ≡ latest (is_of c) es) → (c : Context) → new c ≡ latest (is_of c) (es ++ e ∷ [])
+contexts_kept old new es e kept noted_so is keeps c =
+    noted_so c ∙ ap (λ (k : Latest). cond (same_context (context_of e) c) (Some k) (old c)) is ∙ ap (cond (same_context (context_of e) c) (Some (latest_of e))) (keeps c)
+    ∙ sym (latest-one (is_of c) es e)
 
 pub totals_kept : (old new : Session → Option Totals) (es : List Entry) (e : Entry) (now : Totals) → ((s : Session) → new s ≡ cond (same_session e.session s) (Some now) (old s)) → now ≡ noted (totals_of e.session es) e (gap_in_context es e) →
     ((s : Session) → unwrap_or (old s) no_totals ≡ totals_of s es) → (s : Session) → unwrap_or (new s) no_totals ≡ totals_of s (es ++ e ∷ [])
@@ -166,7 +161,7 @@ lost_kept old new stream l now noted_so is keeps x = ap (λ (o : Option ℕ). un
 
 -- ---- an answer told the other way round
 
-pub none_if : (b : Bool) (o : Option ℕ) → not b ≡ is_some o → b ≡ is_none o
+pub none_if : (b : Bool) (o : Option Latest) → not b ≡ is_some o → b ≡ is_none o
 none_if true None e = refl
 none_if false (Some n) e = refl
 none_if true (Some n) e = absurd cc

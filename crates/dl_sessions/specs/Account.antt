@@ -1,5 +1,5 @@
 -- The account of a stream of messages: what each session has, and what is missing of it.
-use Rattle.std.specs.Prelude.{◌≡◌, ℕ, ◌+◌, ◌-◌, ◌^◌, ◌==◌, ◌&&◌, min, Bool, List, [], ◌∷◌, ◌++◌, length, sum, sum_by, count_by, find, Option, Some, None, unwrap_or, is_none, if◌then◌else◌}
+use Rattle.std.specs.Prelude.{◌≡◌, ℕ, ◌+◌, ◌-◌, ◌^◌, ◌==◌, ◌&&◌, min, Bool, List, [], ◌∷◌, ◌++◌, length, sum, sum_by, count_by, find, Option, Some, None, unwrap_or, is_none, nat_lt, if◌then◌else◌}
 use Rattle.std.specs.List.{filter_map}
 use Rattle.std.specs.Option.{option_map, option_map_or, option_or}
 use Rattle.std.specs.HashMap as hash
@@ -11,6 +11,7 @@ use Rattle.dl_sessions.specs.declared.account.Step.{Step}
 use Rattle.dl_sessions.specs.declared.session.Context.{Context}
 use Rattle.dl_sessions.specs.declared.session.Entry.{Entry}
 use Rattle.dl_sessions.specs.declared.session.Hole.{Hole}
+use Rattle.dl_sessions.specs.declared.session.Latest.{Latest}
 use Rattle.dl_sessions.specs.declared.session.Session.{Session}
 use Rattle.dl_sessions.specs.declared.session.Source.{Source}
 use Rattle.dl_sessions.specs.declared.session.Told.{Told}
@@ -48,20 +49,29 @@ entries stream = filter_map entry_of stream
 
 -- ---- what is missing
 
--- how many counters were passed over since the last one: counters have one byte
-abbrev pub gap : Option ℕ → ℕ → ℕ
-gap last mcnt = option_map_or (λ n. passed_over n mcnt) last 0
+-- what is kept of a log message
+abbrev pub latest_of : Entry → Latest
+latest_of e = record { mcnt = e.mcnt; ticks = e.ticks }
 
--- the counter of the last log message that passes a test
-abbrev pub last_counter : (Entry → Bool) → List Entry → Option ℕ
-last_counter test es = option_map (λ e. e.mcnt) (last_that test es)
+-- Who counts has begun anew with a log message: it counts from 0 again, and the timestamp falls back. So it is where a program was started again,
+-- and the trace of its earlier run goes on with that of the next one; the counters of the two have nothing to do with each other.
+abbrev pub begins_anew : Latest → Entry → Bool
+begins_anew last e = nat_lt e.ticks last.ticks && e.mcnt == 0
+
+-- how many counters were passed over since the last log message: counters have one byte
+abbrev pub gap : Option Latest → Entry → ℕ
+gap last e = option_map_or (λ l. if begins_anew l e then 0 else passed_over l.mcnt e.mcnt) last 0
+
+-- the last log message that passes a test
+abbrev pub latest : (Entry → Bool) → List Entry → Option Latest
+latest test es = option_map latest_of (last_that test es)
 
 -- how many are missing before a log message, after those before it: where its session counts, and where its context does
 abbrev pub gap_in_session : List Entry → Entry → ℕ
-gap_in_session before e = gap (last_counter (is_in e.session) before) e.mcnt
+gap_in_session before e = gap (latest (is_in e.session) before) e
 
 abbrev pub gap_in_context : List Entry → Entry → ℕ
-gap_in_context before e = gap (last_counter (is_of (context_of e)) before) e.mcnt
+gap_in_context before e = gap (latest (is_of (context_of e)) before) e
 
 -- ---- what is counted
 
@@ -77,15 +87,14 @@ abbrev pub totals_of : Session → List Entry → Totals
 totals_of session es = record {
   messages = counted (count_by (is_in session) es);
   first = option_map (λ e. e.ticks) (find (is_in session) es);
-  last = option_map (λ e. e.ticks) (last_that (is_in session) es);
-  mcnt = last_counter (is_in session) es;
+  last = latest (is_in session) es;
   by_session = counted (sum (gaps gap_in_session session es));
   by_context = counted (sum (gaps gap_in_context session es));
 }
 
 -- the sessions, in the order of their first messages
 abbrev pub sessions : List Entry → List Session
-sessions es = along (λ before e. if is_none (last_counter (is_in e.session) before) then e.session ∷ [] else []) es
+sessions es = along (λ before e. if is_none (latest (is_in e.session) before) then e.session ∷ [] else []) es
 
 -- ---- over the stream
 
@@ -113,22 +122,21 @@ lost_of source stream = counted (sum_by (lost_in source) stream)
 -- ---- one message more
 
 abbrev pub no_totals : Totals
-no_totals = record { messages = 0; first = None; last = None; mcnt = None; by_session = 0; by_context = 0 }
+no_totals = record { messages = 0; first = None; last = None; by_session = 0; by_context = 0 }
 
 -- what is counted of a session with one log message more, before which so many are missing where its context counts
 abbrev pub noted : Totals → Entry → ℕ → Totals
 noted t e by_context = record {
   messages = counted (t.messages + 1);
   first = option_or t.first (Some e.ticks);
-  last = Some e.ticks;
-  mcnt = Some e.mcnt;
-  by_session = counted (t.by_session + gap t.mcnt e.mcnt);
+  last = Some (latest_of e);
+  by_session = counted (t.by_session + gap t.last e);
   by_context = counted (t.by_context + by_context);
 }
 
 -- what is kept of contexts, of sessions and of lost messages
-abbrev pub KeepsCounters : {S : Type 0} → hash.HashMap Context ℕ S → List Entry → Type 0
-KeepsCounters counters es = (context : Context) → hash.get same_context counters context ≡ last_counter (is_of context) es
+abbrev pub KeepsContexts : {S : Type 0} → hash.HashMap Context Latest S → List Entry → Type 0
+KeepsContexts contexts es = (context : Context) → hash.get same_context contexts context ≡ latest (is_of context) es
 
 abbrev pub KeepsTotals : {S : Type 0} → hash.HashMap Session Totals S → List Entry → Type 0
 KeepsTotals totals es = (session : Session) → unwrap_or (hash.get same_session totals session) no_totals ≡ totals_of session es
@@ -137,17 +145,17 @@ abbrev pub KeepsLost : {S : Type 0} → hash.HashMap Source ℕ S → List Told 
 KeepsLost lost stream = (source : Source) → unwrap_or (hash.get same_source lost source) 0 ≡ lost_of source stream
 
 -- a log message was noted of its context, and of its session
-abbrev pub NotedContext : {S : Type 0} → List Entry → Entry → ℕ → hash.HashMap Context ℕ S → Type 0
-NotedContext es e missing counters = (missing ≡ gap_in_context es e) × KeepsCounters counters (es ++ e ∷ [])
+abbrev pub NotedContext : {S : Type 0} → List Entry → Entry → ℕ → hash.HashMap Context Latest S → Type 0
+NotedContext es e missing contexts = (missing ≡ gap_in_context es e) × KeepsContexts contexts (es ++ e ∷ [])
 
 abbrev pub NotedSession : {S : Type 0} → List Entry → Entry → Step → hash.HashMap Session Totals S → Type 0
 NotedSession es e step totals =
-    (step.by_session ≡ gap_in_session es e) × (step.is_first ≡ is_none (last_counter (is_in e.session) es)) × KeepsTotals totals (es ++ e ∷ [])
+    (step.by_session ≡ gap_in_session es e) × (step.is_first ≡ is_none (latest (is_in e.session) es)) × KeepsTotals totals (es ++ e ∷ [])
 
 -- The account of a stream.
 pub record IsAfter (stream : List Told) (account : Account) : Type 0 where
   pub totals_are : KeepsTotals account.totals (entries stream)
-  pub counters_are : KeepsCounters account.counters (entries stream)
+  pub contexts_are : KeepsContexts account.contexts (entries stream)
   pub lost_are : KeepsLost account.lost stream
   pub sessions_are : account.sessions.items ≡ sessions (entries stream)
   pub holes_are : account.holes.items ≡ holes stream

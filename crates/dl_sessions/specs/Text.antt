@@ -2,6 +2,7 @@
 use Rattle.std.specs.Prelude.{ℕ, ◌+◌, ◌/◌, ◌%◌, ◌==◌, ◌&&◌, Bool, nat_lt, List, [], ◌∷◌, ◌++◌, codes, unwrap_or, if◌then◌else◌}
 use Rattle.std.specs.List.{flat_map}
 use Rattle.std.specs.Fmt.{decimal}
+use Rattle.std.specs.Option.{option_map_or}
 use Rattle.dl_text.specs.IdText.{id_text}
 use Rattle.dl_control.specs.Reply.{daemon_apid}
 use Rattle.dl_sessions.specs.declared.session.Hole.{Hole}
@@ -81,11 +82,15 @@ verdict apid n ring buffer =
 abbrev pub counting_words : Totals → List ℕ
 counting_words totals = if counts_by_context totals then codes " by context: " else codes " by session: "
 
+-- the timestamp of the last message
+abbrev pub last_ticks : Totals → ℕ
+last_ticks totals = option_map_or (λ last. last.ticks) totals.last 0
+
 -- the number of a session's messages, the timestamps of the first and the last, and by what they are counted
 abbrev pub totals_text : Session → Totals → List ℕ
 totals_text session totals =
     codes "session" ++ session_text session ++ codes " " ++ decimal totals.messages ++ codes " " ++ time_text (unwrap_or totals.first 0) ++ codes " "
-    ++ time_text (unwrap_or totals.last 0) ++ counting_words totals
+    ++ time_text (last_ticks totals) ++ counting_words totals
 
 -- whose losses count: those of its application, and those of the daemon's own buffer on its ECU
 abbrev pub source_of : Session → Source

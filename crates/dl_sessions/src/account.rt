@@ -5,12 +5,12 @@ ghost use Rattle.std.specs.HashMap as hash;
 ghost use Rattle.std.specs.List.{flat_map};
 ghost use Rattle.dl_sessions.specs.Printing.{hole_by, session_by};
 ghost use Rattle.dl_sessions.specs.Text.{printed};
-ghost use Rattle.dl_sessions.specs.Account.{IsAfter, KeepsCounters, KeepsLost, KeepsTotals, NotedContext, NotedSession, entries, gap, gap_in_context, hole_if, holes, noted, no_totals, same_session, same_source, sessions, totals_of};
+ghost use Rattle.dl_sessions.specs.Account.{IsAfter, KeepsContexts, KeepsLost, KeepsTotals, NotedContext, NotedSession, begins_anew, entries, gap, gap_in_context, hole_if, holes, noted, latest_of, no_totals, same_session, same_source, sessions, totals_of};
 ghost use Rattle.dl_sessions.specs.declared.session.Entry.{Entry};
 ghost use Rattle.dl_sessions.specs.declared.session.Told.{Told};
 ghost use Rattle.dl_sessions.specs.declared.session.Told.TheVariants as told;
 
-use crate::session::{Context, Entry, Hole, Lost, Session, Source, Told, Totals};
+use crate::session::{Context, Entry, Hole, Latest, Lost, Session, Source, Told, Totals};
 use crate::text::{push_hole as push_hole_line, push_totals, push_verdict};
 use dl_bytes::{Id, OutOfMemory};
 use std::alloc::Global;
@@ -25,8 +25,8 @@ const DAEMON: [u8; 4] = *b"DA1\0";
 pub struct Account {
     /// What is counted of each session.
     totals: HashMap<Session, Totals>,
-    /// The message counter of each context's last message.
-    counters: HashMap<Context, u8>,
+    /// The last message of each context.
+    contexts: HashMap<Context, Latest>,
     /// How many messages each application reported as lost.
     lost: HashMap<Source, u64>,
     /// The sessions, in the order of their first messages.
@@ -37,12 +37,30 @@ pub struct Account {
     messages: u64,
 }
 
-/// How many counters were passed over since the last one.
-fn gap(last: Option<u8>, mcnt: u8) -> u8
-    ensures { result ≡ gap last mcnt }
+/// What is kept of a log message.
+fn latest_of(entry: &Entry) -> Latest
+    ensures { result ≡ latest_of entry.now }
+{
+    Latest {
+        mcnt: entry.mcnt,
+        ticks: entry.ticks,
+    }
+}
+
+/// Whether the program that counts has begun anew with a log message: it counts from 0 again, and the timestamp falls back.
+fn begins_anew(last: Latest, entry: &Entry) -> bool
+    ensures { result ≡ begins_anew last entry.now }
+{
+    entry.ticks < last.ticks && entry.mcnt == 0
+}
+
+/// How many counters were passed over since the last log message.
+fn gap(last: Option<Latest>, entry: &Entry) -> u8
+    ensures { result ≡ gap last entry.now }
 {
     match last {
-        Some(last) => mcnt.wrapping_sub(last).wrapping_sub(1),
+        Some(last) if begins_anew(last, entry) => 0,
+        Some(last) => entry.mcnt.wrapping_sub(last.mcnt).wrapping_sub(1),
         None => 0,
     }
 }
@@ -55,7 +73,6 @@ fn no_totals() -> Totals
         messages: 0,
         first: None,
         last: None,
-        mcnt: None,
         by_session: 0,
         by_context: 0,
     }
@@ -65,12 +82,11 @@ fn no_totals() -> Totals
 fn noted(totals: &Totals, entry: &Entry, by_context: u8) -> Totals
     ensures { result ≡ noted totals.now entry.now by_context }
 {
-    let missing = gap(totals.mcnt, entry.mcnt);
+    let missing = gap(totals.last, entry);
     Totals {
         messages: totals.messages.saturating_add(1),
         first: totals.first.or(Some(entry.ticks)),
-        last: Some(entry.ticks),
-        mcnt: Some(entry.mcnt),
+        last: Some(latest_of(entry)),
         by_session: totals.by_session.saturating_add(missing as u64),
         by_context: totals.by_context.saturating_add(by_context as u64),
     }
@@ -86,8 +102,8 @@ struct Step {
 }
 
 /// Notes a log message of its context. Answers how many are missing before it, where each context counts its own.
-fn note_context(counters: &mut HashMap<Context, u8>, entry: &Entry) -> Result<u8, OutOfMemory>
-    ensures { (es : List Entry) → KeepsCounters counters.old es → IfOk result (λ missing. NotedContext es entry.now missing counters.new) }
+fn note_context(contexts: &mut HashMap<Context, Latest>, entry: &Entry) -> Result<u8, OutOfMemory>
+    ensures { (es : List Entry) → KeepsContexts contexts.old es → IfOk result (λ missing. NotedContext es entry.now missing contexts.new) }
 {
     let context = Context {
         ecu: entry.session.ecu,
@@ -95,8 +111,8 @@ fn note_context(counters: &mut HashMap<Context, u8>, entry: &Entry) -> Result<u8
         seid: entry.session.seid,
         ctid: entry.ctid,
     };
-    let last = counters.insert(context, entry.mcnt)?;
-    Ok(gap(last, entry.mcnt))
+    let last = contexts.insert(context, latest_of(entry))?;
+    Ok(gap(last, entry))
 }
 
 /// What is counted of a session so far.
@@ -119,8 +135,8 @@ fn note_session(
 {
     let old = totals_so_far(totals, &entry.session);
     let step = Step {
-        by_session: gap(old.mcnt, entry.mcnt),
-        is_first: old.mcnt.is_none(),
+        by_session: gap(old.last, entry),
+        is_first: old.last.is_none(),
     };
     totals.insert(entry.session, noted(&old, entry, by_context))?;
     Ok(step)
@@ -233,7 +249,7 @@ impl Account {
     {
         Account {
             totals: HashMap::new(alloc),
-            counters: HashMap::new(alloc),
+            contexts: HashMap::new(alloc),
             lost: HashMap::new(alloc),
             sessions: Vec::new(alloc),
             holes: Vec::new(alloc),
@@ -245,7 +261,7 @@ impl Account {
     fn note_log(&mut self, entry: &Entry) -> Result<(), OutOfMemory>
         ensures { (stream : List Told) → IsAfter stream self.old → OnOk result (IsAfter (stream ++ told.Log entry.now ∷ []) self.new) }
     {
-        let by_context = note_context(&mut self.counters, entry)?;
+        let by_context = note_context(&mut self.contexts, entry)?;
         let step = note_session(&mut self.totals, entry, by_context)?;
         push_first(&mut self.sessions, step.is_first, &entry.session)?;
         self.messages = self.messages.saturating_add(1);

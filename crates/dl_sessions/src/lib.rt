@@ -8,7 +8,7 @@ mod text;
 mod told;
 
 pub use account::{Account, account_of};
-pub use session::{Context, Entry, Hole, Lost, Session, Source, Told, Totals};
+pub use session::{Context, Entry, Hole, Latest, Lost, Session, Source, Told, Totals};
 pub use stream::{End, Place, end_of, tell_all};
 pub use text::{missing, missing_here, push_missing, push_number, push_time};
 pub use told::told_of;

@@ -57,6 +57,15 @@ pub struct Lost {
     pub count: u32,
 }
 
+/// What is kept of the last log message.
+#[derive(Clone, Copy, Debug, PartialEq, Eq)]
+pub struct Latest {
+    /// MCNT: its message counter.
+    pub mcnt: u8,
+    /// TMSP: its timestamp, in units of 0.1 ms; 0 where it has none.
+    pub ticks: u32,
+}
+
 /// What a message tells an account.
 #[derive(Clone, Copy, Debug, PartialEq, Eq)]
 pub enum Told {
@@ -75,10 +84,8 @@ pub struct Totals {
     pub messages: u64,
     /// The timestamp of the first.
     pub first: Option<u32>,
-    /// The timestamp of the last.
-    pub last: Option<u32>,
-    /// The message counter of the last.
-    pub mcnt: Option<u8>,
+    /// The last.
+    pub last: Option<Latest>,
     /// How many are missing, where the session counts its messages.
     pub by_session: u64,
     /// How many are missing, where each context counts its own.

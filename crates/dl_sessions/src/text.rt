@@ -1,7 +1,7 @@
 //! The text of an account.
 
 ghost use Rattle.std.specs.Prelude.{◌≡◌, ◌++◌, List, OnOk, unwrap_or};
-ghost use Rattle.dl_sessions.specs.Text.{buffer_words, counting_words, counts_by_context, digit, hole_text, missing, missing_here, missing_words, ring_words, session_text, silent_words, time_text, told_words, totals_text, verdict};
+ghost use Rattle.dl_sessions.specs.Text.{buffer_words, counting_words, counts_by_context, digit, hole_text, last_ticks, missing, missing_here, missing_words, ring_words, session_text, silent_words, time_text, told_words, totals_text, verdict};
 
 use crate::session::{Hole, Session, Totals};
 use dl_bytes::{Id, OutOfMemory};
@@ -196,6 +196,16 @@ fn counting_words(totals: &Totals) -> &'static [u8]
     }
 }
 
+/// The timestamp of a session's last message.
+fn last_ticks(totals: &Totals) -> u32
+    ensures { result ≡ last_ticks totals.now }
+{
+    match totals.last {
+        Some(last) => last.ticks,
+        None => 0,
+    }
+}
+
 /// Adds what is counted of a session.
 pub fn push_totals(
     text: &mut Vec<u8>,
@@ -210,6 +220,6 @@ pub fn push_totals(
     text.extend_from_slice(b" ")?;
     push_time(text, totals.first.unwrap_or(0) as u128)?;
     text.extend_from_slice(b" ")?;
-    push_time(text, totals.last.unwrap_or(0) as u128)?;
+    push_time(text, last_ticks(totals) as u128)?;
     text.extend_from_slice(counting_words(totals))
 }

@@ -10,8 +10,8 @@ pub returns : goal.returns
 returns c = λ es keeps by_context.
     let e = c.args.entry.now in
     let old = c.totals_so_far-old.ensures ∙ keeps e.session in (
-      c.gap.ensures ∙ ap (λ (t : Totals). gap t.mcnt e.mcnt) old,
-      none_if c.is_none.result (totals_of e.session es).mcnt (sym c.is_none.ensures ∙ ap (λ (t : Totals). is_some t.mcnt) old),
+      c.gap.ensures ∙ ap (λ (t : Totals). gap t.last e) old,
+      none_if c.is_none.result (totals_of e.session es).last (sym c.is_none.ensures ∙ ap (λ (t : Totals). is_some t.last) old),
       totals_kept (hash.get same_session c.args.totals.now) (hash.get same_session c.insert.new.self) es e c.noted.result c.in_ok-insert.ensures.updates.0
           (c.noted.ensures ∙ ap (λ (t : Totals). noted t e c.args.by_context) old ∙ ap (noted (totals_of e.session es) e) by_context) keeps,
     )
