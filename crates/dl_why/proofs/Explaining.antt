@@ -13,6 +13,7 @@ use Rattle.dl_model.specs.Replay.{ends_of, specs_of}
 use Rattle.dl_model.specs.Report.{report}
 use Rattle.dl_model.specs.Setting.{Setting}
 use Rattle.dl_model.specs.Steps.{run}
+use Rattle.dl_model.specs.TraceFiles.{StoredFile}
 use Rattle.dl_model.specs.WholeAccounts.{source_of_records}
 use Rattle.dl_outside.specs.Told.{FolderTold}
 use Rattle.dl_startup.specs.Failures.{unserved}
@@ -20,30 +21,31 @@ use Rattle.dl_world.specs.Played.{IsPlayed, failures, is_failed}
 use Rattle.dl_world.specs.declared.played.Played.{Played}
 use Rattle.dl_replay.proofs.Answering.{said_yes}
 use Rattle.dl_why.specs.Explained.{explained, explained_of, no_trace}
-use Rattle.dl_why.specs.Rows.{rows_of}
+use Rattle.dl_why.specs.Rows.{rows_of, storage_words}
 
 -- the text of what a run left
-abbrev pub text_by : Setting → List ℕ → List Step → List (List Record) → List Event → List AppSpec → Ends → Backlog → List ℕ
-text_by setting text steps records events specs ends backlog =
-    rows_of (source_of_records setting records specs) setting.buffer records events specs (calls_in text steps) ++ report records events specs ends backlog None
+abbrev pub text_by : Setting → List StoredFile → List ℕ → List Step → List (List Record) → List Event → List AppSpec → Ends → Backlog → List ℕ
+text_by setting stood text steps records events specs ends backlog =
+    let source = source_of_records setting records specs in
+    rows_of source setting.buffer records events specs (storage_words setting stood source events) (calls_in text steps) ++ report records events specs ends backlog None
 
-module _ (setting : Setting) (text : List ℕ) (steps : List Step) (played : Played) (told told_now : FolderTold) (is : IsPlayed setting [] steps None played told told_now) where
-  of_marks : text_by setting text steps played.records played.events.events played.specs played.ends played.backlog ≡ explained_of setting text steps is.done
+module _ (setting : Setting) (stood : List StoredFile) (text : List ℕ) (steps : List Step) (played : Played) (told told_now : FolderTold) (is : IsPlayed setting [] steps None played told told_now) where
+  of_marks : text_by setting stood text steps played.records played.events.events played.specs played.ends played.backlog ≡ explained_of setting stood text steps is.done
   of_marks =
       let trace : played.ends.trace ≡ no_trace = is.trace_is in
       let ends : played.ends ≡ ends_of setting is.done no_trace = is.ends_are ∙ ap (ends_of setting is.done) trace in
-      ap (λ (rs : List (List Record)). text_by setting text steps rs played.events.events played.specs played.ends played.backlog) is.records_are
-      ∙ ap (λ (es : List Event). text_by setting text steps (records is.done) es played.specs played.ends played.backlog) is.events_are
-      ∙ ap (λ (ss : List AppSpec). text_by setting text steps (records is.done) (journal is.done) ss played.ends played.backlog) is.specs_are
-      ∙ ap (λ (e : Ends). text_by setting text steps (records is.done) (journal is.done) (specs_of is.done) e played.backlog) ends
-      ∙ ap (text_by setting text steps (records is.done) (journal is.done) (specs_of is.done) (ends_of setting is.done no_trace)) is.backlog_is
+      ap (λ (rs : List (List Record)). text_by setting stood text steps rs played.events.events played.specs played.ends played.backlog) is.records_are
+      ∙ ap (λ (es : List Event). text_by setting stood text steps (records is.done) es played.specs played.ends played.backlog) is.events_are
+      ∙ ap (λ (ss : List AppSpec). text_by setting stood text steps (records is.done) (journal is.done) ss played.ends played.backlog) is.specs_are
+      ∙ ap (λ (e : Ends). text_by setting stood text steps (records is.done) (journal is.done) (specs_of is.done) e played.backlog) ends
+      ∙ ap (text_by setting stood text steps (records is.done) (journal is.done) (specs_of is.done) (ends_of setting is.done no_trace)) is.backlog_is
 
   -- where the folder never fails, and each Store and each Reset had memory
   pub is_explained : told.faults ≡ 0 → told_now.faults ≡ 0 → unserved played.events.events ≡ false →
-      text_by setting text steps played.records played.events.events played.specs played.ends played.backlog ≡ explained setting text steps
+      text_by setting stood text steps played.records played.events.events played.specs played.ends played.backlog ≡ explained setting stood text steps
   is_explained first last served =
       let rises : min (told.faults + failures is.done played.ends.trace) (2 ^ 64 - 1) ≤ told_now.faults = is.faults_rose in
       let none : count_by is_failed is.done ≡ 0 = omega (arith, rises, first, last) in
       let done : is.done ≡ run setting is.answers steps = is.run_is in
       let fine : unserved (journal (run setting is.answers steps)) ≡ false = sym (ap unserved (is.events_are ∙ ap journal done)) ∙ served in
-      of_marks ∙ ap (explained_of setting text steps) (done ∙ said_yes setting is.answers steps (sym (ap (count_by is_failed) done) ∙ none) fine)
+      of_marks ∙ ap (explained_of setting stood text steps) (done ∙ said_yes setting is.answers steps (sym (ap (count_by is_failed) done) ∙ none) fine)

@@ -5,4 +5,5 @@ pub mod RowLines
 pub mod Lawful
 pub mod Scripts
 pub mod Explaining
+pub mod Standings
 pub mod Ending

@@ -7,19 +7,21 @@ use Rattle.dl_model.specs.Marks.{Mark, journal, records}
 use Rattle.dl_model.specs.Replay.{report_of, specs_of}
 use Rattle.dl_model.specs.Setting.{Setting}
 use Rattle.dl_model.specs.Steps.{run}
+use Rattle.dl_model.specs.TraceFiles.{StoredFile}
 use Rattle.dl_model.specs.WholeAccounts.{source_of_records}
-use Rattle.dl_why.specs.Rows.{rows_of}
+use Rattle.dl_why.specs.Rows.{rows_of, storage_words}
 
--- nothing is stored, so nothing is told of a trace
+-- the run stores nothing itself, so its report tells nothing of a trace
 abbrev pub no_trace : TraceState
 no_trace = record { files = []; end = None }
 
--- the rows of the calls of a run, where its script is this text, and the report of the run
-abbrev pub explained_of : Setting → List ℕ → List Step → List Mark → List ℕ
-explained_of setting text steps done =
-    rows_of (source_of_records setting (records done) (specs_of done)) setting.buffer (records done) (journal done) (specs_of done) (calls_in text steps)
+-- the rows of the calls of a run, where its script is this text and these trace files stood before, and the report of the run
+abbrev pub explained_of : Setting → List StoredFile → List ℕ → List Step → List Mark → List ℕ
+explained_of setting stood text steps done =
+    let source = source_of_records setting (records done) (specs_of done) in
+    rows_of source setting.buffer (records done) (journal done) (specs_of done) (storage_words setting stood source (journal done)) (calls_in text steps)
     ++ report_of setting done no_trace false
 
 -- the same of the run of these steps, in which each Store and each Reset is served
-abbrev pub explained : Setting → List ℕ → List Step → List ℕ
-explained setting text steps = explained_of setting text steps (run setting [] steps)
+abbrev pub explained : Setting → List StoredFile → List ℕ → List Step → List ℕ
+explained setting stood text steps = explained_of setting stood text steps (run setting [] steps)

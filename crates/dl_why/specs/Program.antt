@@ -1,6 +1,9 @@
 -- What `dlt_why` promises.
-use Rattle.std.specs.Prelude.{◌≡◌, ℕ, List, [], ◌∷◌, codes, map, IfSome, IsOk, Option, Result, Ok, Err, String, string_bytes}
-use Rattle.dl_core.specs.Settings.{setting_of}
+use Rattle.std.specs.Prelude.{◌≡◌, ◌<◌, ℕ, length, List, [], ◌∷◌, codes, map, IfSome, IsOk, Option, Result, Ok, Err, String, string_bytes}
+use Rattle.dl_bytes.specs.declared.conf.Conf.{Conf}
+use Rattle.dl_core.specs.Settings.{HasSizes, setting_of}
+use Rattle.dl_model.specs.Setting.{Setting}
+use Rattle.dl_model.specs.TraceFiles.{StoredFile}
 use Rattle.dl_outside.specs.Folder.{Files}
 use Rattle.dl_outside.specs.Outside.{HasRisen}
 use Rattle.dl_outside.specs.Told.{FolderTold, SinkTold, SourceTold}
@@ -10,10 +13,12 @@ use Rattle.dl_script.specs.declared.error.ScriptError.TheVariants as bad
 use Rattle.dl_startup.specs.Configuration.{SayConfs}
 use Rattle.dl_startup.specs.Setup.{conf_in, conf_name, stored_in}
 use Rattle.dl_startup.specs.Status as startup
-use Rattle.dl_startup.specs.Unchanged.{IsUnchanged}
+use Rattle.dl_startup.specs.Unchanged.{IsQuiet, IsUnchanged}
 use Rattle.dl_startup.specs.declared.configuration.Setup.{Setup}
 use Rattle.dl_startup.specs.declared.status.Status.{Status}
 use Rattle.dl_startup.specs.declared.status.Status.TheVariants as end
+use Rattle.dl_stored_in.specs.declared.calls.Rotation.{Rotation}
+use Rattle.dl_trace.specs.Stands.{HasFiles}
 use Rattle.dl_trace_files.specs.Files.{files_asked}
 use Rattle.dl_trace_why.specs.Account as trace
 use Rattle.dl_why_words.specs.Words as given_words
@@ -22,6 +27,7 @@ use Rattle.dl_why_words.specs.declared.parse.WhyFault.{WhyFault}
 use Rattle.dl_why_words.specs.declared.parse.WhyFault.TheVariants as fault
 use Rattle.dl_why_words.specs.declared.words.WhyWords.{WhyWords}
 use Rattle.dl_why.specs.Explained.{explained}
+use Rattle.dl_why.specs.Written.{IsRotating}
 use Rattle.dl_why.specs.declared.program.Start.{Start}
 use Rattle.dl_why.specs.declared.script.Script.{Script}
 
@@ -35,9 +41,9 @@ ReadsScript old new (Err end.ReadFault) = HasRisen old.faults new.faults
 ReadsScript old new (Err end.OutOfMemory) = new.faults ≡ old.faults
 ReadsScript old new (Err _) = ⊥
 
--- what is printed of a script where these configurations are set
-abbrev pub text_of : Setup → Script → List ℕ
-text_of setup script = explained (setting_of setup.conf setup.stored 0) script.text.items script.steps
+-- what is printed of a script where these configurations are set and these trace files stand
+abbrev pub text_of : Setup → List StoredFile → Script → List ℕ
+text_of setup stood script = explained (setting_of setup.conf setup.stored 0) stood script.text.items script.steps
 
 -- ---- outcomes
 
@@ -50,14 +56,19 @@ pub record Told : Type 0 where
 abbrev pub told : SourceTold → FolderTold → SinkTold → Told
 told input folder out = record { input = input; folder = folder; out = out }
 
--- folder and input say these configurations and this script
-pub record IsSaid (old new : Told) (setup : Setup) (script : Script) : Type 0 where
+-- where a trace is kept, these are the folder's trace files
+abbrev pub AreStanding : Setup → List StoredFile → Option Files → Type 0
+AreStanding setup stood told = 0 < length setup.conf.directory → IfSome told (λ files. HasFiles setup.conf.directory files stood)
+
+-- folder and input say these configurations, these trace files and this script
+pub record IsSaid (old new : Told) (setup : Setup) (stood : List StoredFile) (script : Script) : Type 0 where
   pub confs : IfSome old.folder.files (λ files. SayConfs conf_name files setup)
+  pub stand : AreStanding setup stood old.folder.files
   pub script_is : ReadsScript old.input new.input (Ok script)
 
 -- a script was explained, if this is so of its text
 abbrev pub Explains : Told → Told → (List ℕ → Type 0) → Type 0
-Explains old new P = (setup : Setup) × (script : Script) × IsSaid old new setup script × P (text_of setup script)
+Explains old new P = (setup : Setup) × (stood : List StoredFile) × (script : Script) × IsSaid old new setup stood script × P (text_of setup stood script)
 
 -- What each status says: the text was written, a front of it, or nothing.
 abbrev pub Outcome : Told → Told → Status → Type 0
@@ -81,7 +92,7 @@ pub record Ends (old new : Told) (status : Status) : Type 0 where
 -- what a run begins with is what folder and input say; or why it does not begin. No file is to change.
 abbrev pub Begins : SourceTold → SourceTold → FolderTold → FolderTold → Result Start Status → Type 0
 Begins input input_now folder folder_now (Ok start) =
-    IfSome folder.files (λ files. SayConfs conf_name files start.setup) × ReadsScript input input_now (Ok start.script) × IsUnchanged folder folder_now
+    IfSome folder.files (λ files. SayConfs conf_name files start.setup) × ReadsScript input input_now (Ok start.script) × IsQuiet folder folder_now
 Begins input input_now folder folder_now (Err (end.ConfRefused line kind)) = IfSome folder.files (λ files. conf_in conf_name files ≡ Err (line, kind)) × IsUnchanged folder folder_now
 Begins input input_now folder folder_now (Err (end.StoredRefused line kind)) =
     (IfSome folder.files (λ files. IsOk (conf_in conf_name files) × (stored_in files ≡ Err (line, kind)))) × IsUnchanged folder folder_now
@@ -91,12 +102,25 @@ Begins input input_now folder folder_now (Err end.FolderFault) = HasRisen folder
 Begins input input_now folder folder_now (Err end.OutOfMemory) = IsUnchanged folder folder_now
 Begins input input_now folder folder_now (Err _) = ⊥
 
--- the explanation was written, or a front of it, or nothing for want of memory
-abbrev pub Writes : Start → SinkTold → SinkTold → Status → Type 0
-Writes start old new end.Ok = WroteAll old new (text_of start.setup start.script)
-Writes start old new end.WriteFault = WroteFront old new (text_of start.setup start.script)
-Writes start old new end.OutOfMemory = WroteNothing old new
-Writes start old new _ = ⊥
+-- trace files that stand, with the rotation that goes on with them
+pub record Standing (conf : Conf) (rotation : Option Rotation) (told : Option Files) : Type 0 where
+  pub stood : List StoredFile
+  pub rotates : (setting : Setting) → HasSizes conf setting → IsRotating setting stood conf.directory rotation
+  pub stand : 0 < length conf.directory → IfSome told (λ files. HasFiles conf.directory files stood)
+
+-- the trace files were looked at; or why they were not. No file is to change.
+abbrev pub LooksAt : Conf → FolderTold → FolderTold → Result (Option Rotation) Status → Type 0
+LooksAt conf folder folder_now (Ok rotation) = Standing conf rotation folder.files × IsUnchanged folder folder_now
+LooksAt conf folder folder_now (Err end.FolderFault) = HasRisen folder.faults folder_now.faults × IsUnchanged folder folder_now
+LooksAt conf folder folder_now (Err end.OutOfMemory) = IsUnchanged folder folder_now
+LooksAt conf folder folder_now (Err _) = ⊥
+
+-- the explanation was written, or a front of it, or nothing for want of memory; these trace files stood
+abbrev pub Writes : Start → List StoredFile → SinkTold → SinkTold → Status → Type 0
+Writes start stood old new end.Ok = WroteAll old new (text_of start.setup stood start.script)
+Writes start stood old new end.WriteFault = WroteFront old new (text_of start.setup stood start.script)
+Writes start stood old new end.OutOfMemory = WroteNothing old new
+Writes start stood old new _ = ⊥
 
 -- ---- the program
 

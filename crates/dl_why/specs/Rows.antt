@@ -1,5 +1,5 @@
 -- What is printed of the log calls of a step script: a row for each.
-use Rattle.std.specs.Prelude.{ℕ, ◌+◌, ◌==◌, Bool, List, [], ◌++◌, codes, count_by, slice_get, Option, Some, None, if◌then◌else◌}
+use Rattle.std.specs.Prelude.{ℕ, ◌+◌, ◌==◌, Bool, List, [], ◌++◌, codes, count_by, length, slice_get, Option, Some, None, if◌then◌else◌}
 use Rattle.std.specs.Fmt.{decimal}
 use Rattle.std.specs.List.{flat_map, range_with_len}
 use Rattle.std.specs.Option.{option_map_or}
@@ -11,9 +11,14 @@ use Rattle.dl_events.specs.declared.record.Record.{Record}
 use Rattle.dl_model.specs.Along.{along}
 use Rattle.dl_model.specs.Frames.{FrameSource}
 use Rattle.dl_model.specs.Journal.{is_connect}
+use Rattle.dl_model.specs.Setting.{Setting}
+use Rattle.dl_model.specs.TraceFiles.{StoredFile, trace_name}
 use Rattle.dl_model.specs.WholeAccounts.{record_named}
 use Rattle.dl_promises.specs.Fates.{Fate, Filtered, RingFull, InRing, InStream, InBacklog, BufferFull, ForOthers, what_became_of}
 use Rattle.dl_call_lines.specs.declared.call.CallAt.{CallAt}
+use Rattle.dl_stored_in.specs.StoredIn.{place_of_call}
+use Rattle.dl_stored_in.specs.declared.place.StoredPlace.{StoredPlace}
+use Rattle.dl_stored_in.specs.declared.place.StoredPlace.TheVariants.{InFile, Removed, TraceEnded}
 
 -- ---- words
 
@@ -82,6 +87,28 @@ shown_words specs told r ForOthers heard = heard
 abbrev pub fate_words : List AppSpec → Option ℕ → Record → Fate → List ℕ → List ℕ
 fate_words specs told r fate heard = lead_words fate ++ shown_words specs told r fate heard
 
+-- ---- where the frame is stored
+
+unfoldable pub file_words : List ℕ → ℕ → List ℕ
+file_words directory number = trace_name directory number
+
+unfoldable pub removed_words : List ℕ
+removed_words = codes ", which rotation removed"
+
+unfoldable pub ended_words : List ℕ
+ended_words = codes "; not stored: the trace had ended"
+
+-- the trace file of a directory that it went into, and whether rotation removed that file; or that it was not stored
+abbrev pub stored_words : List ℕ → StoredPlace → List ℕ
+stored_words directory (InFile number) = codes "; stored in " ++ file_words directory number
+stored_words directory (Removed number) = codes "; stored in " ++ file_words directory number ++ removed_words
+stored_words directory TraceEnded = ended_words
+
+-- the same of a call, where these trace files stood before; nothing where no trace is kept, or where the daemon took no such call
+abbrev pub storage_words : Setting → List StoredFile → FrameSource → List Event → Record → List ℕ
+storage_words setting stood source events r =
+    if length setting.directory == 0 then [] else option_map_or (stored_words setting.directory) (place_of_call setting stood source events r) []
+
 -- ---- rows
 
 -- the line that begins a call, its writer, and its number
@@ -101,11 +128,12 @@ abbrev pub clients_in : List Event → List ℕ
 clients_in events = range_with_len 1 (count_by is_connect events)
 
 -- The row of a call. What became of it is said by the law of causes, for each client; the line that tells of a lost one is the call's own (`told`).
-abbrev pub row_of : FrameSource → (buffer : ℕ) → List Event → List AppSpec → CallAt → Record → List ℕ
-row_of source buffer events specs at r =
+-- Where its frame is stored is the last part.
+abbrev pub row_of : FrameSource → (buffer : ℕ) → List Event → List AppSpec → (Record → List ℕ) → CallAt → Record → List ℕ
+row_of source buffer events specs storage at r =
     place_words at.line r ++ name_words r
     ++ fate_words specs at.told r (what_became_of source buffer nobody events r) (flat_map (λ client. heard_words client (what_became_of source buffer client events r)) (clients_in events))
-    ++ codes "\n"
+    ++ storage r ++ codes "\n"
 
 -- the call of the same writer
 abbrev pub is_by : ℕ → CallAt → Bool
@@ -116,6 +144,6 @@ abbrev pub record_at : List (List Record) → List CallAt → CallAt → Option 
 record_at records before at = record_named records at.writer (1 + count_by (is_by at.writer) before)
 
 -- the rows of the calls of a script, in the order of its lines
-abbrev pub rows_of : FrameSource → (buffer : ℕ) → List (List Record) → List Event → List AppSpec → List CallAt → List ℕ
-rows_of source buffer records events specs calls =
-    along (λ before at. option_map_or (row_of source buffer events specs at) (record_at records before at) []) calls
+abbrev pub rows_of : FrameSource → (buffer : ℕ) → List (List Record) → List Event → List AppSpec → (Record → List ℕ) → List CallAt → List ℕ
+rows_of source buffer records events specs storage calls =
+    along (λ before at. option_map_or (row_of source buffer events specs storage at) (record_at records before at) []) calls

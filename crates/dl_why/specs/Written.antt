@@ -1,5 +1,5 @@
 -- What the code writes of what it found. (Of the code alone: no promise rests on these words.)
-use Rattle.std.specs.Prelude.{◌≡◌, ℕ, ◌==◌, Bool, List, [], ◌++◌, codes, count_by, unwrap_or}
+use Rattle.std.specs.Prelude.{◌≡◌, ℕ, ◌==◌, Bool, List, [], ◌++◌, ◌<◌, codes, count_by, length, Option, Some, None, unwrap_or}
 use Rattle.std.specs.HashMap as hash
 use Rattle.std.specs.List.{flat_map}
 use Rattle.std.specs.Option.{option_map_or}
@@ -9,9 +9,14 @@ use Rattle.dl_model.specs.Along.{along}
 use Rattle.dl_promises.specs.Fates.{Fate, InRing, by_answer}
 use Rattle.dl_events.specs.declared.event.Event.{Event}
 use Rattle.dl_model.specs.Frames.{FrameSource}
+use Rattle.dl_model.specs.Setting.{Setting}
+use Rattle.dl_model.specs.TraceFiles.{StoredFile}
 use Rattle.dl_why.specs.Found.{TellsWhole, name_of, or_later, same_call}
-use Rattle.dl_why.specs.Rows.{fate_words, heard_words, is_by, name_words, place_words, record_at}
+use Rattle.dl_why.specs.Rows.{fate_words, heard_words, is_by, name_words, place_words, record_at, stored_words}
 use Rattle.dl_call_lines.specs.declared.call.CallAt.{CallAt}
+use Rattle.dl_stored_in.specs.Found.{IsOf, stored_by}
+use Rattle.dl_stored_in.specs.declared.calls.Rotation.{Rotation}
+use Rattle.dl_stored_in.specs.declared.calls.StoredCalls.{StoredCalls}
 use Rattle.dl_why.specs.declared.fates.Fates.{Fates}
 use Rattle.dl_why.specs.declared.rows.WriterName.{WriterName}
 
@@ -23,12 +28,16 @@ fate_in fates r = by_answer r.answer (or_later (hash.get same_call fates.calls (
 abbrev pub heard_by : List Fates → Record → List ℕ
 heard_by clients r = flat_map (λ (fates : Fates). heard_words fates.client (fate_in fates r)) clients
 
-abbrev pub row_by : List AppSpec → Fates → List Fates → CallAt → Record → List ℕ
-row_by specs nobody clients at r = place_words at.line r ++ name_words r ++ fate_words specs at.told r (fate_in nobody r) (heard_by clients r) ++ codes "\n"
+-- where the frame of a call is stored, by what was found
+abbrev pub storage_by : List ℕ → Option StoredCalls → Record → List ℕ
+storage_by directory found r = option_map_or (λ calls. option_map_or (stored_words directory) (stored_by calls r) []) found []
 
-abbrev pub rows_by : List (List Record) → List AppSpec → Fates → List Fates → List CallAt → List ℕ
-rows_by records specs nobody clients calls =
-    along (λ before at. option_map_or (row_by specs nobody clients at) (record_at records before at) []) calls
+abbrev pub row_by : List AppSpec → Fates → List Fates → (Record → List ℕ) → CallAt → Record → List ℕ
+row_by specs nobody clients storage at r = place_words at.line r ++ name_words r ++ fate_words specs at.told r (fate_in nobody r) (heard_by clients r) ++ storage r ++ codes "\n"
+
+abbrev pub rows_by : List (List Record) → List AppSpec → Fates → List Fates → (Record → List ℕ) → List CallAt → List ℕ
+rows_by records specs nobody clients storage calls =
+    along (λ before at. option_map_or (row_by specs nobody clients storage at) (record_at records before at) []) calls
 
 abbrev pub same_writer : WriterName → WriterName → Bool
 same_writer a b = a.number == b.number
@@ -40,3 +49,8 @@ KeepsCounts counts calls = (writer : WriterName) → unwrap_or (hash.get same_wr
 -- what was found for a client tells what became of every call of a journal
 abbrev pub TellWhole : FrameSource → (buffer : ℕ) → List Event → Fates → Type 0
 TellWhole source buffer events fates = TellsWhole source buffer fates.client events fates.calls
+
+-- A setting keeps a trace by this rotation in this directory, where these files stood before; or it keeps none.
+abbrev pub IsRotating : Setting → List StoredFile → List ℕ → Option Rotation → Type 0
+IsRotating setting stood directory None = setting.directory ≡ []
+IsRotating setting stood directory (Some rotation) = (0 < length setting.directory) × (setting.directory ≡ directory) × IsOf setting stood rotation

@@ -1,15 +1,18 @@
 //! A script is played over a folder in memory, and its run explained.
 
-ghost use Rattle.std.specs.Prelude.{◌≡◌, ◌++◌, ℕ, None, IfOk};
+ghost use Rattle.std.specs.Prelude.{◌≡◌, ◌++◌, ℕ, List, None, IfOk};
 ghost use Rattle.dl_model.specs.Accounts.{AreNumbered};
 ghost use Rattle.dl_model.specs.Report.{report};
 ghost use Rattle.dl_model.specs.Setting.{Setting};
+ghost use Rattle.dl_model.specs.TraceFiles.{StoredFile};
 ghost use Rattle.dl_model.specs.WholeAccounts.{records_by, source_of_records};
 ghost use Rattle.dl_left.specs.Clients.{ComeAndGo};
 ghost use Rattle.dl_script.specs.Playable.{IsPlayable};
 ghost use Rattle.dl_call_lines.specs.Calls.{calls_in};
 ghost use Rattle.dl_why.specs.Program.{text_of};
-ghost use Rattle.dl_why.specs.Rows.{rows_of};
+ghost use Rattle.dl_core.specs.Settings.{setting_of};
+ghost use Rattle.dl_why.specs.Rows.{rows_of, storage_words};
+ghost use Rattle.dl_why.specs.Written.{IsRotating};
 
 use crate::findings::push_findings;
 use crate::script::Script;
@@ -21,6 +24,7 @@ use dl_memory::MemoryFolder;
 use dl_promises::runs::{runs_are_accounted, runs_are_well_formed};
 use dl_report::report;
 use dl_startup::{Setup, unserved};
+use dl_stored_in::Rotation;
 use dl_world::{Played, play};
 use std::alloc::Global;
 
@@ -32,13 +36,17 @@ fn text_of_played(
     alloc: Global,
     ecu: Id,
     buffer: u32,
+    directory: &[u8],
+    rotation: Option<Rotation>,
     script: &Script,
     played: &Played,
 ) -> Result<Vec<u8>, OutOfMemory>
     requires numbered { (number : ℕ) → AreNumbered (records_by number played.now.records) }
     requires clients { ComeAndGo played.now.events.events }
-    ensures { (setting : Setting) → setting.ecu ≡ ecu → IfOk result (λ text. text.items ≡
-        rows_of (source_of_records setting played.now.records played.now.specs) buffer played.now.records played.now.events.events played.now.specs (calls_in script.now.text.items script.now.steps)
+    ensures { (setting : Setting) (stood : List StoredFile) → setting.ecu ≡ ecu → IsRotating setting stood directory.now rotation
+        → let source = source_of_records setting played.now.records played.now.specs in IfOk result (λ text. text.items ≡
+        rows_of source buffer played.now.records played.now.events.events played.now.specs (storage_words setting stood source played.now.events.events)
+        (calls_in script.now.text.items script.now.steps)
         ++ report played.now.records played.now.events.events played.now.specs played.now.ends played.now.backlog None) }
 {
     let calls = calls_in(alloc, &script.text, script.steps.all())?;
@@ -50,7 +58,9 @@ fn text_of_played(
         ecu,
     };
     let mut text = Vec::new(alloc);
-    push_findings(alloc, &mut text, &sources, events, buffer, &calls)?;
+    push_findings(
+        alloc, &mut text, &sources, events, buffer, directory, rotation, &calls,
+    )?;
     let report = report(
         alloc,
         &played.records,
@@ -64,11 +74,17 @@ fn text_of_played(
     Ok(text)
 }
 
-/// The explanation of a script's run: each Store and each Reset goes to a folder in memory, and nothing is stored of the trace. More
-/// memory than such a folder has, or than there is, is want of memory.
-pub fn explain(alloc: Global, setup: Setup, script: &Script) -> Result<Vec<u8>, OutOfMemory>
+/// The explanation of a script's run: each Store and each Reset goes to a folder in memory, and nothing is stored of the trace. Where a trace is kept,
+/// the rotation says into which files its frames would go. More memory than such a folder has, or than there is, is want of memory.
+pub fn explain(
+    alloc: Global,
+    setup: Setup,
+    rotation: Option<Rotation>,
+    script: &Script,
+) -> Result<Vec<u8>, OutOfMemory>
     requires { IsPlayable script.now.steps }
-    ensures { IfOk result (λ text. text.items ≡ text_of setup script.now) }
+    ensures { (stood : List StoredFile) → IsRotating (setting_of setup.conf setup.stored 0) stood setup.conf.directory rotation
+        → IfOk result (λ text. text.items ≡ text_of setup stood script.now) }
 {
     let Setup { conf, stored } = setup;
     let mut folder = MemoryFolder::make(alloc, 1, STORED_ROOM)?;
@@ -80,5 +96,13 @@ pub fn explain(alloc: Global, setup: Setup, script: &Script) -> Result<Vec<u8>, 
     runs_are_well_formed();
     records_account_for_a_journal();
     clients_come_and_go();
-    text_of_played(alloc, conf.ecu, conf.buffer, script, &played)
+    text_of_played(
+        alloc,
+        conf.ecu,
+        conf.buffer,
+        conf.directory.all(),
+        rotation,
+        script,
+        &played,
+    )
 }

@@ -4,12 +4,14 @@ ghost use Rattle.std.specs.Prelude.{◌≡◌, ◌+◌, ◌++◌, ◌<◌, ◌^�
 ghost use Rattle.std.specs.List.{AllByRecursion, range_with_len};
 ghost use Rattle.dl_model.specs.Accounts.{AreNumbered};
 ghost use Rattle.dl_model.specs.Journal.{is_connect};
+ghost use Rattle.dl_events.specs.declared.record.Record.{Record};
 ghost use Rattle.dl_model.specs.Setting.{Setting};
+ghost use Rattle.dl_model.specs.TraceFiles.{StoredFile};
 ghost use Rattle.dl_model.specs.WholeAccounts.{records_by, source_of_records};
 ghost use Rattle.dl_left.specs.Clients.{ComeAndGo};
 ghost use Rattle.dl_left.specs.Losses.{told};
-ghost use Rattle.dl_why.specs.Rows.{rows_of};
-ghost use Rattle.dl_why.specs.Written.{TellWhole};
+ghost use Rattle.dl_why.specs.Rows.{rows_of, storage_words};
+ghost use Rattle.dl_why.specs.Written.{IsRotating, TellWhole, storage_by};
 
 use crate::fates::{Fates, find_fates};
 use crate::rows::{Findings, push_rows};
@@ -17,6 +19,7 @@ use dl_bytes::{AppSpec, Id, OutOfMemory};
 use dl_call_lines::CallAt;
 use dl_events::{Event, RecordList};
 use dl_left::Sources;
+use dl_stored_in::{Rotation, StoredCalls, find_stored};
 use std::alloc::Global;
 
 /// No client has this number.
@@ -76,19 +79,45 @@ fn find_all(
     Ok(all)
 }
 
-/// Adds the rows of the calls of a script, by what its run left: its records, its events and its applications.
+/// Where the frames of calls are stored, where a trace is kept in this directory.
+fn find_storage(
+    alloc: Global,
+    sources: &Sources<'_, '_>,
+    events: &[Event],
+    directory: &[u8],
+    rotation: Option<Rotation>,
+) -> Result<Option<StoredCalls>, OutOfMemory>
+    requires numbered { (number : ℕ) → AreNumbered (records_by number sources.now.records.now) }
+    ensures { IfOk result (λ found. (setting : Setting) (stood : List StoredFile) (r : Record) → setting.ecu ≡ sources.now.ecu → IsRotating setting stood directory.now rotation
+        → storage_by directory.now found r ≡ storage_words setting stood (source_of_records setting sources.now.records.now sources.now.specs.now) events.now r) }
+{
+    match rotation {
+        None => Ok(None),
+        Some(rotation) => match find_stored(alloc, sources, events, rotation) {
+            Ok(stored) => Ok(Some(stored)),
+            Err(none) => Err(none),
+        },
+    }
+}
+
+/// Adds the rows of the calls of a script, by what its run left: its records, its events and its applications. A trace is kept by this rotation in
+/// this directory, or none is.
 pub fn push_findings(
     alloc: Global,
     text: &mut Vec<u8>,
     sources: &Sources<'_, '_>,
     events: &[Event],
     buffer: u32,
+    directory: &[u8],
+    rotation: Option<Rotation>,
     calls: &[CallAt],
 ) -> Result<(), OutOfMemory>
     requires numbered { (number : ℕ) → AreNumbered (records_by number sources.now.records.now) }
     requires clients { ComeAndGo events.now }
-    ensures { (setting : Setting) → setting.ecu ≡ sources.now.ecu → OnOk result (text.new.items ≡ text.old.items
-        ++ rows_of (source_of_records setting sources.now.records.now sources.now.specs.now) buffer sources.now.records.now events.now sources.now.specs.now calls.now) }
+    ensures { (setting : Setting) (stood : List StoredFile) → setting.ecu ≡ sources.now.ecu → IsRotating setting stood directory.now rotation
+        → let source = source_of_records setting sources.now.records.now sources.now.specs.now in
+        OnOk result (text.new.items ≡ text.old.items
+        ++ rows_of source buffer sources.now.records.now events.now sources.now.specs.now (storage_words setting stood source events.now) calls.now) }
 {
     if told_losses(events)? >= 1 << 63 {
         return Err(OutOfMemory);
@@ -97,6 +126,8 @@ pub fn push_findings(
         specs: sources.specs,
         nobody: find_fates(alloc, NOBODY, sources, events, buffer)?,
         clients: find_all(alloc, sources, events, buffer)?,
+        directory,
+        stored: find_storage(alloc, sources, events, directory, rotation)?,
     };
     push_rows(alloc, text, sources.records, &findings, calls)
 }

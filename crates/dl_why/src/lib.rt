@@ -9,6 +9,7 @@ mod follower;
 mod program;
 mod rows;
 mod script;
+mod storage;
 
 pub use dl_startup::Status;
 pub use explanation::explain;

@@ -1,19 +1,26 @@
 //! The program: `steps` explains the script of the input, `trace` and `stream` are accounts of what was recorded.
 
-ghost use Rattle.std.specs.Prelude.{◌≡◌, ◌∷◌, [], IfOk, map, option_map, string_bytes};
+ghost use Rattle.std.specs.Prelude.{◌≡◌, ◌∷◌, [], List, Option, IfOk, map, option_map, string_bytes};
+ghost use Rattle.dl_core.specs.Settings.{setting_of};
+ghost use Rattle.dl_model.specs.TraceFiles.{StoredFile};
+ghost use Rattle.dl_outside.specs.Folder.{Files};
 ghost use Rattle.dl_outside.specs.Told.{FolderTold, SinkTold};
 ghost use Rattle.dl_script.specs.Playable.{IsPlayable};
 ghost use Rattle.dl_startup.specs.Configuration.{SetsUp};
-ghost use Rattle.dl_startup.specs.Setup.{conf_name};
+ghost use Rattle.dl_startup.specs.Setup.{IsBegun, conf_name};
 ghost use Rattle.dl_trace_files.specs.Files.{files_asked};
 ghost use Rattle.dl_trace_why.specs.Account.{Runs, sides};
 ghost use Rattle.dl_why_words.specs.Words.{said};
-ghost use Rattle.dl_why.specs.Program.{AnswersFault, Begins, Ends, Helps, RunsAsked, RunsNot, RunsSteps, TellsWhy, Writes, help, told};
+ghost use Rattle.dl_why.specs.Program.{AnswersFault, Begins, Ends, Helps, LooksAt, RunsAsked, RunsNot, RunsSteps, Standing, TellsWhy, Writes, help, told};
+ghost use Rattle.dl_why.specs.Written.{IsRotating};
 
 use crate::explanation::explain;
 use crate::script::{Script, read_script};
+use dl_bytes::Conf;
 use dl_outside::{Folder, Sink, Source, write_text};
-use dl_startup::{CONF_NAME, Setup, Status, set_up};
+use dl_startup::{CONF_NAME, Setup, Status, set_up, trace_over};
+use dl_stored_in::{Rotation, newest_number};
+use dl_trace::{Trace, TraceFault};
 use dl_trace_why::{Wanted, Which, account};
 use dl_why_words::{WhyFault, WhyWords, why_words};
 use std::alloc::Global;
@@ -75,13 +82,48 @@ fn begin<F: Folder, I: Source>(
     }
 }
 
+/// How the trace goes on with the files that stand; there is none where no directory is named.
+fn rotation_of(conf: &Conf, trace: &Option<Trace>) -> Option<Rotation>
+    ensures { (told : Option Files) → IsBegun conf.now told trace.now → Standing conf.now result told }
+{
+    match trace {
+        Some(trace) => Some(Rotation {
+            file_size: conf.file_size,
+            max_size: conf.max_size,
+            newest: newest_number(trace.state().files.all()),
+        }),
+        None => None,
+    }
+}
+
+/// Looks at the trace files that stand.
+fn look_at_trace<F: Folder>(
+    alloc: Global,
+    folder: &mut F,
+    conf: &Conf,
+) -> Result<Option<Rotation>, Status>
+    ensures { LooksAt conf.now (F.told folder.old) (F.told folder.new) result }
+{
+    match trace_over(alloc, folder, conf) {
+        Ok(trace) => Ok(rotation_of(conf, &trace)),
+        Err(TraceFault::Failed) => Err(Status::FolderFault),
+        Err(TraceFault::OutOfMemory) => Err(Status::OutOfMemory),
+    }
+}
+
 /// Writes the explanation of a script's run.
-fn write_explanation<O: Sink>(alloc: Global, start: Start, out: &mut O) -> Status
+fn write_explanation<O: Sink>(
+    alloc: Global,
+    start: Start,
+    rotation: Option<Rotation>,
+    out: &mut O,
+) -> Status
     requires { IsPlayable start.script.steps }
-    ensures { Writes start (O.told out.old) (O.told out.new) result }
+    ensures { (stood : List StoredFile) → IsRotating (setting_of start.setup.conf start.setup.stored 0) stood start.setup.conf.directory rotation
+        → Writes start stood (O.told out.old) (O.told out.new) result }
 {
     let Start { setup, script } = start;
-    let Ok(text) = explain(alloc, setup, &script) else {
+    let Ok(text) = explain(alloc, setup, rotation, &script) else {
         return Status::OutOfMemory;
     };
     match write_text(out, &text) {
@@ -99,8 +141,12 @@ fn explain_steps<F: Folder, I: Source, O: Sink>(
 ) -> Status
     ensures { Ends (told (I.told input.old) (F.told folder.old) (O.told out.old)) (told (I.told input.new) (F.told folder.new) (O.told out.new)) result }
 {
-    match begin(alloc, input, folder) {
-        Ok(start) => write_explanation(alloc, start, out),
+    let start = match begin(alloc, input, folder) {
+        Ok(start) => start,
+        Err(status) => return status,
+    };
+    match look_at_trace(alloc, folder, &start.setup.conf) {
+        Ok(rotation) => write_explanation(alloc, start, rotation, out),
         Err(status) => status,
     }
 }

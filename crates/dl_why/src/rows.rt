@@ -10,15 +10,17 @@ ghost use Rattle.dl_model.specs.WholeAccounts.{records_by};
 ghost use Rattle.dl_promises.specs.Fates.{InRing};
 ghost use Rattle.dl_why.specs.Found.{or_later, said, same_call};
 ghost use Rattle.dl_why.specs.Rows.{capacity_in, fate_words, heard_words, is_by, lead_words, level_word, level_words, line_words, lost_words, name_words, place_words, ring_words, shown_words, told_words};
-ghost use Rattle.dl_why.specs.Written.{KeepsCounts, fate_in, heard_by, row_by, rows_by, same_writer};
+ghost use Rattle.dl_why.specs.Written.{KeepsCounts, fate_in, heard_by, row_by, rows_by, same_writer, storage_by};
 ghost use Rattle.dl_call_lines.specs.declared.call.CallAt.{CallAt};
 
 use crate::fate::{CallName, Fate};
 use crate::fates::Fates;
+use crate::storage::push_storage;
 use dl_bytes::{AppSpec, Id, Level, OutOfMemory, Severity};
 use dl_call_lines::CallAt;
 use dl_events::{Answer, Record, RecordList};
 use dl_left::record_of;
+use dl_stored_in::StoredCalls;
 use dl_text::push_id;
 use itoa::{Buffer, Integer};
 use std::alloc::Global;
@@ -262,7 +264,8 @@ fn push_names(text: &mut Vec<u8>, call: &Record) -> Result<(), OutOfMemory>
     text.extend_from_slice(b": ")
 }
 
-/// What rows are made of: the applications, and what became of each call for a client that never comes and for those that came.
+/// What rows are made of: the applications, what became of each call for a client that never comes and for those that came, and where the
+/// frames of calls are stored.
 #[derive(Drop)]
 pub struct Findings<'s> {
     /// The applications.
@@ -271,6 +274,10 @@ pub struct Findings<'s> {
     pub nobody: Fates,
     /// For each client that came.
     pub clients: Vec<Fates>,
+    /// The directory of the trace files.
+    pub directory: &'s [u8],
+    /// Where the frames of calls are stored, where a trace is kept.
+    pub stored: Option<StoredCalls>,
 }
 
 /// Adds what became of a call.
@@ -294,7 +301,8 @@ fn push_row(
     at: &CallAt,
     call: Option<&Record>,
 ) -> Result<(), OutOfMemory>
-    ensures { OnOk result (text.new.items ≡ text.old.items ++ option_map_or (λ r. row_by findings.now.specs.now findings.now.nobody findings.now.clients.items at.now r.now) call.entry []) }
+    ensures { OnOk result (text.new.items ≡ text.old.items ++ option_map_or (λ r. row_by findings.now.specs.now findings.now.nobody findings.now.clients.items
+        (storage_by findings.now.directory.now findings.now.stored) at.now r.now) call.entry []) }
 {
     let Some(call) = call else {
         return Ok(());
@@ -302,6 +310,7 @@ fn push_row(
     push_place(text, at.line, call)?;
     push_names(text, call)?;
     push_fate(text, findings, at.told, call)?;
+    push_storage(text, findings.directory, &findings.stored, call)?;
     text.extend_from_slice(b"\n")
 }
 
@@ -337,7 +346,8 @@ pub fn push_rows(
     calls: &[CallAt],
 ) -> Result<(), OutOfMemory>
     requires { (number : ℕ) → AreNumbered (records_by number records.now) }
-    ensures { OnOk result (text.new.items ≡ text.old.items ++ rows_by records.now findings.now.specs.now findings.now.nobody findings.now.clients.items calls.now) }
+    ensures { OnOk result (text.new.items ≡ text.old.items ++ rows_by records.now findings.now.specs.now findings.now.nobody findings.now.clients.items
+        (storage_by findings.now.directory.now findings.now.stored) calls.now) }
 {
     let mut counts = HashMap::new(alloc);
     for at in calls {

@@ -10,6 +10,7 @@ use Rattle.dl_model.specs.WholeAccounts.{records_by}
 use Rattle.dl_promises.specs.RunRecords.{refusals_of}
 use Rattle.dl_left.specs.Clients.{ComeAndGo}
 use Rattle.dl_startup.specs.Failures.{unserved}
+use Rattle.dl_why.specs.Written.{IsRotating}
 use Rattle.dl_why.proofs.Explaining.{is_explained}
 use Rattle.dl_why.proofs.explanation.explain.Goals as goal
 
@@ -30,10 +31,10 @@ text_of_played-requires-clause-clients c =
     (c.clients_come_and_go.ensures setting (source_of setting done) (journal done) (c.runs_are_well_formed.ensures.whole setting (source_of setting done) is.answers c.args.script.now.steps))
 
 pub returns : goal.returns
-returns c =
+returns c = λ stood rotating.
     let setting = setting_of c.args.setup.conf c.args.setup.stored 0 in
     let is = c.in_ok-played.ensures.played [] tt in
     let played = c.in_ok-played.played in
     let served : unserved played.events.events ≡ false = search rules in
     subst (λ (t : List ℕ). IfOk c.text_of_played.result (λ text. text.items ≡ t))
-    (is_explained setting c.args.script.now.text.items c.args.script.now.steps played _ _ is refl refl served) (c.text_of_played.ensures setting refl)
+    (is_explained setting stood c.args.script.now.text.items c.args.script.now.steps played _ _ is refl refl served) (c.text_of_played.ensures setting stood refl (subst (λ (d : List ℕ). IsRotating setting stood d c.args.rotation) (sym c.all.ensures) rotating))

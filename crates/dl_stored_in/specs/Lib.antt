@@ -1,0 +1,5 @@
+pub mod Numbers
+pub mod Sizes
+pub mod FilePlaces
+pub mod StoredIn
+pub mod Found
