@@ -1,6 +1,6 @@
 //! The jobs that are measured, and what each leaves behind.
 
-use crate::{cutting, logging, registering, sending};
+use crate::{cutting, logging, registering, rounding, sending};
 use std::alloc::Global;
 use std::sync::Wait;
 
@@ -37,6 +37,12 @@ pub enum Job {
     Taken,
     /// A message is taken out of its ring into one that is kept, as the daemon does it.
     TakenInto,
+    /// A message is taken by the daemon in a round of 64, and sent to its client.
+    Rounds,
+    /// The same, with two clients.
+    RoundsTwo,
+    /// The daemon goes round with nothing to do and eight clients.
+    Idle,
 }
 
 /// What came of a job.
@@ -87,6 +93,9 @@ impl Job {
             "sent_queued" => Some(Job::SentQueued),
             "taken" => Some(Job::Taken),
             "taken_into" => Some(Job::TakenInto),
+            "rounds" => Some(Job::Rounds),
+            "rounds_two" => Some(Job::RoundsTwo),
+            "idle" => Some(Job::Idle),
             _ => None,
         }
     }
@@ -106,6 +115,9 @@ impl Job {
             Job::SentQueued => logging::run_sent_queued(rt, alloc, count),
             Job::Taken => logging::run_taken(rt, alloc, count),
             Job::TakenInto => logging::run_taken_into(rt, alloc, count),
+            Job::Rounds => rounding::run_rounds(rt, alloc, count, false),
+            Job::RoundsTwo => rounding::run_rounds(rt, alloc, count, true),
+            Job::Idle => rounding::run_idle(rt, alloc, count),
         }
     }
 }

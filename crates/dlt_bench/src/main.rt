@@ -7,6 +7,7 @@ mod job;
 mod logging;
 mod making;
 mod registering;
+mod rounding;
 mod sending;
 
 use job::{Job, Tally};
@@ -15,7 +16,7 @@ use std::process::ExitCode;
 
 /// What is said where the words are no job and count.
 const USAGE: &str =
-    "usage: dlt_bench cut|heads|borrowed|owned|users|frames|hub|apply|find|filtered|queued|sent_filtered|sent_queued|taken|taken_into COUNT";
+    "usage: dlt_bench cut|heads|borrowed|owned|users|frames|hub|apply|find|filtered|queued|sent_filtered|sent_queued|taken|taken_into|rounds|rounds_two|idle COUNT";
 
 /// The status where the words are no job and count.
 const WRONG_WORDS: u8 = 2;

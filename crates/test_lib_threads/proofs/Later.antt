@@ -1,8 +1,10 @@
 -- Writers of a desk, as it makes more of them and as they log.
-use Rattle.std.proofs.Common.{◌≡◌, ℕ, List, [], ◌∷◌, ◌++◌, map, Result, Ok, Err, sym, ap, ◌∙◌, subst, append_assoc}
+use Rattle.std.proofs.Common.{◌≡◌, ℕ, List, [], ◌∷◌, ◌++◌, length, map, Result, Ok, Err, sym, ap, ◌∙◌, subst, append_assoc}
 use Rattle.std.specs.Prelude.{All, IfOk, OnErr}
-use Rattle.std.proofs.lemmas.List.{map-append}
+use Rattle.std.specs.List.{range_with_len}
+use Rattle.std.proofs.lemmas.List.{length-map, map-append}
 use Rattle.std.proofs.lemmas.List.Elements.{All-head, All-push, All-tail}
+use Rattle.std.proofs.lemmas.List.FromFn.{length-range_with_len}
 use Rattle.dl_bytes.specs.Context.{Context}
 use Rattle.dl_bytes.specs.Payload.{Arguments}
 use Rattle.dl_bytes.specs.declared.level.Severity.{Severity}
@@ -89,3 +91,8 @@ module _ {C : Type 0} (desk_of : C → DeskState) where
             (All-push (λ (b : BookState). IsMadeWith desk b.writer) books b before.0 (subst (λ (d : DeskState). IsMadeWith d b.writer) (All-head (λ (c : C). desk_of c ≡ desk) child rest same) made)),
         All-tail (λ (c : C). desk_of c ≡ desk) child rest same,
       )
+
+-- ---- books that are numbered from 1 on
+
+pub as_many : (books : List BookState) (count : ℕ) → numbers books ≡ range_with_len 1 count → length books ≡ count
+as_many books count numbered = sym (length-map books (λ (b : BookState). b.writer.push.number)) ∙ ap length numbered ∙ length-range_with_len 1 count

@@ -2,13 +2,11 @@
 #![tactic(auto)]
 
 #[cfg(test)]
+mod crowds;
+#[cfg(test)]
 mod exact;
 #[cfg(test)]
-mod levels;
-#[cfg(test)]
 mod limits;
-#[cfg(test)]
-mod losses;
 #[cfg(test)]
 mod programs;
 #[cfg(test)]

@@ -128,17 +128,37 @@ pub struct Heard {
     pub lost: u64,
 }
 
+/// Takes a call of the first application, where one waits.
+fn takes<R: Wait>(rt: &R, closing: &mut Closing) -> bool
+    requires { 0 < length closing.old.apps }
+    ensures { closing.new.apps ≡ closing.old.apps }
+{
+    match closing.take(rt, 0) {
+        Some(_) => true,
+        None => false,
+    }
+}
+
+/// Takes what waits of the first application, and answers how many calls.
+fn take_all<R: Wait>(rt: &R, closing: &mut Closing) -> u64
+    requires { 0 < length closing.old.apps }
+    ensures { closing.new.apps ≡ closing.old.apps }
+{
+    for taken in 0..u64::MAX {
+        if !takes(rt, closing) {
+            return taken;
+        }
+    }
+    u64::MAX
+}
+
 /// Takes what waits of the first application, and hears of its losses.
 pub fn hear_all<R: Wait>(rt: &R, closing: &mut Closing) -> Heard
     requires { 0 < length closing.old.apps }
 {
-    let mut heard = Heard { taken: 0, lost: 0 };
-    for _call in 0..u64::MAX {
-        if closing.take(rt, 0).is_none() {
-            break;
-        }
-        heard.taken = heard.taken.saturating_add(1);
+    let taken = take_all(rt, closing);
+    Heard {
+        taken,
+        lost: closing.losses(0),
     }
-    heard.lost = closing.losses(0);
-    heard
 }

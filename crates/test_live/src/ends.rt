@@ -1,7 +1,13 @@
 //! How clients end.
 
-use crate::playing::{Case, MUCH, NO_BYTES, play_with};
+use crate::endless::EndlessNet;
+use crate::playing::{Case, MUCH, NO_BYTES, open_gate, play, play_with};
+use dl_bytes::OutOfMemory;
+use dl_memory_net::{Sign, SignGate};
+use std::alloc::Global;
+use std::sync::Wait;
 use std::test::Fail;
+use std::thread::Threads;
 
 /// A scenario without a line.
 const NOTHING: Case<'static> = Case {
@@ -66,5 +72,50 @@ fn stuck_link(rt: HostRuntime) -> Result<(), Fail> {
     let found = play_with(&rt, rt.alloc(), &ONE, 0)?;
     assert!(rt; found.is_well);
     assert!(rt; 1000 <= found.waits);
+    Ok(())
+}
+
+/// A link that never ends, of a client that is sent nothing: at the stop it gives a byte at each of its turns, and is closed after the last.
+const ENDLESS: Case<'static> = Case {
+    conf: "",
+    scenario: "client\n",
+    held: 0,
+    wanted: NO_BYTES,
+    report: "client 1 stopped 0 0 complete\n",
+};
+
+/// Whether a run ends so over this net, and the sign shows that its link gave a byte at each turn.
+fn ends_over<R: Threads + Wait + Sync>(
+    rt: &R,
+    alloc: Global,
+    net: &mut EndlessNet,
+    gate: &SignGate,
+    sign: &Sign,
+) -> Result<bool, OutOfMemory> {
+    let found = play(rt, alloc, &ENDLESS, net, gate)?;
+    Ok(found.is_well && sign.is_given())
+}
+
+/// The same, where the net gives this sign.
+fn ends_with<R: Threads + Wait + Sync>(
+    rt: &R,
+    alloc: Global,
+    sign: &Sign,
+) -> Result<bool, OutOfMemory> {
+    let mut net = EndlessNet::make(sign.share()?);
+    let gate = open_gate(alloc)?;
+    ends_over(rt, alloc, &mut net, &gate, sign)
+}
+
+/// Whether a run ends so.
+fn ends_endless<R: Threads + Wait + Sync>(rt: &R, alloc: Global) -> Result<bool, OutOfMemory> {
+    let sign = Sign::make(alloc)?;
+    ends_with(rt, alloc, &sign)
+}
+
+#[test]
+fn endless_link(rt: HostRuntime) -> Result<(), Fail> {
+    let is_so = ends_endless(&rt, rt.alloc())?;
+    assert!(rt; is_so);
     Ok(())
 }

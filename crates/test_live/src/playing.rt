@@ -260,6 +260,12 @@ where
     Ok(found)
 }
 
+/// A gate at which nobody waits.
+pub fn open_gate(alloc: Global) -> Result<SignGate, OutOfMemory> {
+    let nobody = Passing { writer: 0, call: 0 };
+    Ok(SignGate::make(nobody, Sign::make(alloc)?, PATIENCE))
+}
+
 /// Plays a case over this net, with a gate that waits for what the case wants.
 fn play_at<R: Threads + Wait + Sync>(
     rt: &R,

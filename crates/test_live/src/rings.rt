@@ -1,10 +1,10 @@
 //! Writers that crowd a ring of one call. Whatever the schedule, each of their calls has its place.
 
-use crate::playing::{Left, MUCH, PATIENCE, folder, left_by, net};
+use crate::playing::{Left, MUCH, folder, left_by, net, open_gate};
 use dl_bytes::OutOfMemory;
 use dl_events::Event;
 use dl_memory::MemoryFolder;
-use dl_memory_net::{MemoryNet, Passing, Sign, SignGate};
+use dl_memory_net::{MemoryNet, SignGate};
 use std::alloc::Global;
 use std::sync::Wait;
 use std::test::Fail;
@@ -73,12 +73,6 @@ fn plays_all<R: Threads + Wait + Sync>(
     let answer = accounts_for(alloc, &left, calls);
     drop(left);
     answer
-}
-
-/// A gate at which nobody waits.
-fn open_gate(alloc: Global) -> Result<SignGate, OutOfMemory> {
-    let nobody = Passing { writer: 0, call: 0 };
-    Ok(SignGate::make(nobody, Sign::make(alloc)?, PATIENCE))
 }
 
 /// Whether a run of so many writers on a ring of one call accounts for so many calls of each.

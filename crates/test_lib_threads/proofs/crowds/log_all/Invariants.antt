@@ -1,5 +1,5 @@
 use Rattle.test_lib_threads.proofs.Later.{IsSame}
-use Rattle.test_lib_threads.proofs.losses.log_all.Given as goal
+use Rattle.test_lib_threads.proofs.crowds.log_all.Given as goal
 
 abbrev pub invariant-loop-at : goal.invariant-loop-at
 invariant-loop-at g l = IsSame l.initial.book l.book

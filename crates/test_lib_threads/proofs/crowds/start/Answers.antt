@@ -4,7 +4,7 @@ use Rattle.std.specs.Vec.Iter.{into_iter_items}
 use Rattle.dl_writer.specs.State.{BookState}
 use Rattle.dl_desk.specs.Made.{IsMadeWith}
 use Rattle.test_lib_threads.proofs.Later.{one_started}
-use Rattle.test_lib_threads.proofs.losses.start.Goals as goal
+use Rattle.test_lib_threads.proofs.crowds.start.Goals as goal
 
 pub loop-book-preserved : goal.loop-book-preserved
 loop-book-preserved g c =

@@ -1,7 +1,7 @@
 use Rattle.std.proofs.Common.{◌≡◌, ◌++◌, All, map}
 use Rattle.std.specs.Vec.Iter.{into_iter_items}
 use Rattle.dl_desk.specs.Made.{IsMadeWith}
-use Rattle.test_lib_threads.proofs.losses.start.Given as goal
+use Rattle.test_lib_threads.proofs.crowds.start.Given as goal
 
 abbrev pub invariant-loop-book : goal.invariant-loop-book
 invariant-loop-book g l = record {

@@ -2,7 +2,7 @@ use Rattle.std.proofs.Common.{◌≡◌, ◌+◌, ◌∷◌, [], ℕ, List, leng
 use Rattle.std.specs.Vec.Iter.{into_iter_items}
 use Rattle.dl_writer.specs.State.{BookState}
 use Rattle.test_lib_threads.proofs.Later.{one_back, one_made}
-use Rattle.test_lib_threads.proofs.losses.join_all.Goals as goal
+use Rattle.test_lib_threads.proofs.crowds.join_all.Goals as goal
 
 pub loop-child-preserved : goal.loop-child-preserved
 loop-child-preserved g c =

@@ -3,7 +3,7 @@ use Rattle.std.specs.Vec.Iter.{into_iter_items}
 use Rattle.dl_desk.specs.Made.{IsMadeWith}
 use Rattle.dl_desk.specs.State.{DeskState}
 use Rattle.dl_writer.specs.State.{numbers}
-use Rattle.test_lib_threads.proofs.losses.join_all.Given as goal
+use Rattle.test_lib_threads.proofs.crowds.join_all.Given as goal
 
 abbrev pub invariant-loop-child : goal.invariant-loop-child
 invariant-loop-child g l = record {

@@ -1,0 +1,110 @@
+//! A daemon that is made for a scenario, over a folder and a net in memory.
+
+ghost use Rattle.std.specs.Prelude.{IfOk, IfSome};
+ghost use Rattle.dl_script.specs.Playable.{IsRunnable};
+ghost use Rattle.dl_trace.specs.Made.{IsMade};
+
+use dl_bytes::{Moment, OutOfMemory};
+use dl_live::{Begun, Players, assemble, begin, set_out};
+use dl_loop::Round;
+use dl_memory::{MemoryFolder, StandingClock};
+use dl_outside::{Folder, Net};
+use std::alloc::Global;
+use std::sync::Wait;
+
+/// When all happens.
+const NOW: Moment = Moment {
+    secs: 0,
+    micros: 0,
+    ticks: 0,
+};
+
+/// The clock that tells it.
+const CLOCK: StandingClock = StandingClock { moment: NOW };
+
+/// A folder with this configuration, and this scenario under the name `s`.
+pub fn folder(alloc: Global, conf: &str, scenario: &str) -> Result<MemoryFolder, OutOfMemory> {
+    let mut folder = MemoryFolder::make(alloc, 8, 100_000)?;
+    let _ = folder.put("dlt.conf", conf.as_bytes());
+    let _ = folder.put("s", scenario.as_bytes());
+    Ok(folder)
+}
+
+/// The words of a command line that plays the scenario `s`.
+fn words(alloc: Global) -> Result<Vec<String>, OutOfMemory> {
+    let mut words = Vec::new(alloc);
+    words.push(String::from_str(alloc, "dlt_run")?)?;
+    words.push(String::from_str(alloc, "s")?)?;
+    Ok(words)
+}
+
+/// What a run of the folder's scenario begins with.
+fn begun<F: Folder>(alloc: Global, folder: &mut F) -> Result<Begun, OutOfMemory>
+    ensures runnable { IfOk result (λ begun. IsRunnable begun.scenario) }
+    ensures trace { IfOk result (λ begun. IfSome begun.trace (IsMade begun.conf)) }
+{
+    let words = words(alloc)?;
+    match begin(alloc, &words, folder) {
+        Ok(begun) => Ok(begun),
+        Err(_) => Err(OutOfMemory),
+    }
+}
+
+/// The players of the folder's scenario. The daemon has noted its own applications, and the net has launched the clients.
+pub fn players<F: Folder, N: Net>(
+    alloc: Global,
+    folder: &mut F,
+    net: &mut N,
+) -> Result<Players<N::L>, OutOfMemory>
+where
+    N::L: Drop,
+{
+    let begun = begun(alloc, folder)?;
+    let mut players: Players<N::L> = assemble(alloc, begun)?;
+    match set_out(&mut players, NOW, folder, net) {
+        Ok(_) => Ok(players),
+        Err(error) => {
+            drop(players);
+            Err(error)
+        }
+    }
+}
+
+/// One round.
+fn round<R: Wait, N: Net, F: Folder>(
+    rt: &R,
+    players: &mut Players<N::L>,
+    net: &mut N,
+    folder: &mut F,
+) -> Round
+where
+    N::L: Drop,
+{
+    players.daemon.round(rt, net, &CLOCK, folder)
+}
+
+/// One round. Answers whether a link came in it.
+pub fn greets<R: Wait, N: Net, F: Folder>(
+    rt: &R,
+    players: &mut Players<N::L>,
+    net: &mut N,
+    folder: &mut F,
+) -> bool
+where
+    N::L: Drop,
+{
+    round(rt, players, net, folder).accepted
+}
+
+/// One round. Answers whether nobody waited in it to be accepted.
+pub fn meets_nobody<R: Wait, N: Net, F: Folder>(
+    rt: &R,
+    players: &mut Players<N::L>,
+    net: &mut N,
+    folder: &mut F,
+) -> bool
+where
+    N::L: Drop,
+{
+    round(rt, players, net, folder).none
+}

@@ -1,0 +1,7 @@
+//! Rounds of the live daemon, one by one, over objects in memory. It is compiled for its tests alone.
+#![tactic(auto)]
+
+#[cfg(test)]
+mod fixture;
+#[cfg(test)]
+mod rounds;
