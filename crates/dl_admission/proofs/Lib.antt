@@ -6,4 +6,5 @@ pub mod KeptClients
 pub mod KeptTraces
 pub mod Admitted
 pub mod Entries
+pub mod AllForwarded
 pub mod Told

@@ -48,15 +48,21 @@ reported_noted app (e ∷ es) noted is =
     ap (reported app) is.2 ∙ reported_behind app e.need is.0 (e.event ∷ is.1)
     ∙ sum_by-cons (lost_of app) e.event is.1 ∙ ap (λ (n : ℕ). lost_of app e.event + n) (reported_noted app es is.1 is.5) ∙ sym (sum_by-cons (lost_of app) e.event (events_of es))
 
-closes_taken : (need : ℕ) (slows : List Slow) → AllByRecursion IsTaken (map (slow_close need) slows)
-closes_taken need [] = tt
-closes_taken need (slow ∷ slows) = (tt, closes_taken need slows)
+-- ---- what holds of the Closes and of the events of entries holds of all that is noted
+
+module _ (P : Event → Type 0) (closes : (need : ℕ) (slow : Slow) → P (slow_close need slow)) where
+  all_closes : (need : ℕ) (slows : List Slow) → AllByRecursion P (map (slow_close need) slows)
+  all_closes need [] = tt
+  all_closes need (slow ∷ slows) = (closes need slow, all_closes need slows)
+
+  pub all_noted : (es : List Entry) (noted : List Event) → AllByRecursion P (events_of es) → AreNoted es noted → AllByRecursion P noted
+  all_noted [] noted all is = subst (AllByRecursion P) (sym is) tt
+  all_noted (e ∷ es) noted all is =
+      subst (AllByRecursion P) (sym is.2)
+      (all_both P (map (slow_close e.need) is.0) (e.event ∷ is.1) (all_closes e.need is.0) (all.0, all_noted es is.1 all.1 is.5))
 
 kinds_noted : (es : List Entry) (noted : List Event) → AllByRecursion IsTaken (events_of es) → AreNoted es noted → AllByRecursion IsTaken noted
-kinds_noted [] noted kinds is = subst (AllByRecursion IsTaken) (sym is) tt
-kinds_noted (e ∷ es) noted kinds is =
-    subst (AllByRecursion IsTaken) (sym is.2)
-    (all_both IsTaken (map (slow_close e.need) is.0) (e.event ∷ is.1) (closes_taken e.need is.0) (kinds.0, kinds_noted es is.1 kinds.1 is.5))
+kinds_noted es noted kinds is = all_noted IsTaken (λ need slow. tt) es noted kinds is
 
 -- ---- log calls
 
@@ -141,9 +147,28 @@ losses_tell ecu moment app apid count noted is = by (eqb_tells count 0) is where
 
 -- ---- user messages
 
-pub messages_tell : (ecu : List ℕ) (moment : Moment) (channel : ℕ) (msg : UserMsg) (noted : List Event) (app : ℕ) → AreNoted (message_entry ecu moment channel msg ∷ []) noted
-    → (order app noted ≡ []) × (reported app noted ≡ 0)
-messages_tell ecu moment channel msg noted app is = (
-  order_noted app (message_entry ecu moment channel msg ∷ []) noted is,
-  reported_noted app (message_entry ecu moment channel msg ∷ []) noted is,
-)
+module _ (ecu : List ℕ) (moment : Moment) (channel : ℕ) where
+  no_calls_told : (msgs : List UserMsg) (app : ℕ) → order app (events_of (map (message_entry ecu moment channel) msgs)) ≡ []
+  no_calls_told [] app = refl
+  no_calls_told (msg ∷ msgs) app = no_calls_told msgs app
+
+  no_losses_told : (msgs : List UserMsg) (app : ℕ) → reported app (events_of (map (message_entry ecu moment channel) msgs)) ≡ 0
+  no_losses_told [] app = refl
+  no_losses_told (msg ∷ msgs) app =
+      let none : lost_of app (event.User channel msg moment) ≡ 0 = refl in
+      omega (arith, none, sum_by-cons (lost_of app) (event.User channel msg moment) (events_of (map (message_entry ecu moment channel) msgs)), no_losses_told msgs app)
+
+  pub messages_tell : (msgs : List UserMsg) (noted : List Event) (app : ℕ) → AreNoted (map (message_entry ecu moment channel) msgs) noted
+      → (order app noted ≡ []) × (reported app noted ≡ 0)
+  messages_tell msgs noted app is = (
+    order_noted app (map (message_entry ecu moment channel) msgs) noted is ∙ no_calls_told msgs app,
+    reported_noted app (map (message_entry ecu moment channel) msgs) noted is ∙ no_losses_told msgs app,
+  )
+
+  -- what holds of each message's event, and of each Close of a slow client, holds of all that is noted
+  pub all_of_messages : (P : Event → Type 0) (msgs : List UserMsg) (noted : List Event) → ((need : ℕ) (slow : Slow) → P (slow_close need slow))
+      → ((msg : UserMsg) → P (event.User channel msg moment)) → AreNoted (map (message_entry ecu moment channel) msgs) noted → AllByRecursion P noted
+  all_of_messages P msgs noted closes user is = all_noted P closes (map (message_entry ecu moment channel) msgs) noted (each msgs) is where
+    each : (msgs : List UserMsg) → AllByRecursion P (events_of (map (message_entry ecu moment channel) msgs))
+    each [] = tt
+    each (msg ∷ msgs) = (user msg, each msgs)

@@ -12,7 +12,7 @@ use Rattle.dl_model.specs.Frames.{user_frames}
 use Rattle.dl_model.specs.Journal.{IsRunning, IsWellFormed}
 use Rattle.dl_model.specs.Report.{why_of}
 use Rattle.dl_hub.specs.State.{Hub, IsSameHub, is_open, outbox_of, replies_of}
-use Rattle.dl_core.specs.Admission.{AddsEach, GivesApid, GivesFrames, log_event, lost_frames, more_noted}
+use Rattle.dl_core.specs.Admission.{AddsEach, GivesApid, GivesFrames, log_event, lost_frames, message_frames, more_noted}
 use Rattle.dl_core.specs.Follows.{Adds, IsAfter, Run, source_of}
 use Rattle.dl_admission.specs.Kept.{KeepsTrace}
 use Rattle.dl_admission.specs.Part.{Part}
@@ -91,6 +91,11 @@ Tells moment app apid count old new =
 abbrev pub Forwards : Moment → ℕ → UserMsg → Part → Part → Type 0
 Forwards moment channel msg old new =
     Admits (message_entry old.core.ecu moment channel msg ∷ []) (λ run. Unit {0}) (length (user_frames old.core.ecu msg)) old new
+
+-- user messages of one channel and one moment
+abbrev pub ForwardsAll : Moment → ℕ → List UserMsg → Part → Part → Type 0
+ForwardsAll moment channel msgs old new =
+    Admits (map (message_entry old.core.ecu moment channel) msgs) (λ run. Unit {0}) (length (message_frames old.core.ecu msgs)) old new
 
 -- ---- the journal's count and room
 

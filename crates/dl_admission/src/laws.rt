@@ -23,8 +23,8 @@ pub fn what_losses_tell()
         → AreNoted (loss_entries ecu moment app apid count) noted → TellOf app [] count noted }
 {}
 
-/// A user message tells of no calls and of no losses of the daemon's own applications.
+/// User messages tell of no calls and of no losses of the daemon's own applications.
 pub fn what_messages_tell()
-    ensures { (ecu : List ℕ) (moment : Moment) (channel : ℕ) (msg : UserMsg) (noted : List Event) (app : ℕ)
-        → AreNoted (message_entry ecu moment channel msg ∷ []) noted → (order app noted ≡ []) × (reported app noted ≡ 0) }
+    ensures { (ecu : List ℕ) (moment : Moment) (channel : ℕ) (msgs : List UserMsg) (noted : List Event) (app : ℕ)
+        → AreNoted (map (message_entry ecu moment channel) msgs) noted → (order app noted ≡ []) × (reported app noted ≡ 0) }
 {}

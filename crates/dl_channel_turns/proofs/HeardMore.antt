@@ -26,6 +26,7 @@ use Rattle.dl_channel.specs.declared.outcome.ChannelEnd.{ChannelEnd}
 use Rattle.dl_channel.specs.declared.outcome.ChannelEnd.TheVariants.{Left, Broken, Bad, Slow, NoMemory}
 use Rattle.dl_channel.proofs.Looking.{begins_more}
 use Rattle.dl_core.specs.Admission.{AddsEach, has_frames}
+use Rattle.dl_admission.specs.Admission.{AreNoted, message_entry}
 use Rattle.dl_admission.specs.Slow as slow
 use Rattle.dl_admission.specs.Slow.{slow_close}
 use Rattle.dl_turns.specs.Turns.{Hears}
@@ -33,7 +34,7 @@ use Rattle.dl_turns.proofs.AddedEvents.{each_both, each_none}
 use Rattle.dl_turns.proofs.GrownBytes.{stays_grow}
 use Rattle.dl_channel_turns.specs.Heard.{HasHeard, HearsMore, message_of, messages_in}
 use Rattle.dl_channel_turns.specs.Levels.{TellsLevels}
-use Rattle.dl_channel_turns.specs.Messages.{Serves}
+use Rattle.dl_channel_turns.specs.Messages.{Alone, Group, Serves, ServesGroup, Together, messages_in_group, messages_of}
 use Rattle.dl_channel_turns.specs.State.{Side, Stage}
 use Rattle.dl_channel_turns.specs.Turns.{Heeds, IsTurn, ServesEach, StopsAt}
 
@@ -81,14 +82,26 @@ module _ (channel : ℕ) where
           filter_map-append (message_of channel) (user ∷ []) more.0 ∙ ap (λ (ms : List UserMsg). ms ++ messages_in channel more.0) (its_message msg) ∙ ap (λ (ms : List UserMsg). msg ∷ ms) more.2,
         )
 
-    each_noted : (msgs : List UserMsg) (old new : Side) → ServesEach channel moment msgs old new → Notes channel msgs old new
+    its_messages : (ecu : List ℕ) (msgs : List UserMsg) (events : List Event) → AreNoted (map (message_entry ecu moment channel) msgs) events → messages_in channel events ≡ msgs
+    its_messages ecu [] events noted = ap (messages_in channel) noted
+    its_messages ecu (msg ∷ msgs) events noted =
+        ap (messages_in channel) noted.2 ∙ closes_pass _ noted.0 (event.User channel msg moment ∷ noted.1)
+        ∙ filter_map-append (message_of channel) (event.User channel msg moment ∷ []) noted.1
+        ∙ ap (λ (ms : List UserMsg). ms ++ messages_in channel noted.1) (its_message msg) ∙ ap (λ (ms : List UserMsg). msg ∷ ms) (its_messages ecu msgs noted.1 noted.5)
+
+    group_noted : (group : Group) (old new : Side) → ServesGroup channel moment group old new → Notes channel (messages_in_group group) old new
+    group_noted (Together msgs) old new serves = (serves.1.more, serves.1.events, its_messages old.core.ecu msgs serves.1.more serves.1.noted)
+    group_noted (Alone msg) old new serves = one_noted msg (has_frames msg) old new serves
+
+    each_noted : (groups : List Group) (old new : Side) → ServesEach channel moment groups old new → Notes channel (messages_of groups) old new
     each_noted [] old new serves = ([], subst (λ (s : Side). AddsEach old.events s.events []) (sym serves) (each_none old.events), refl)
-    each_noted (msg ∷ msgs) old new serves =
-        let first = one_noted msg (has_frames msg) old serves.0 serves.1 in
-        let more = each_noted msgs serves.0 new serves.2 in (
+    each_noted (group ∷ groups) old new serves =
+        let first = group_noted group old serves.0 serves.1 in
+        let more = each_noted groups serves.0 new serves.2 in (
           first.0 ++ more.0,
           each_both old.events serves.0.events new.events first.0 more.0 first.1 more.1,
-          filter_map-append (message_of channel) first.0 more.0 ∙ ap (λ (ms : List UserMsg). ms ++ messages_in channel more.0) first.2 ∙ ap (λ (ms : List UserMsg). msg ∷ ms) more.2,
+          filter_map-append (message_of channel) first.0 more.0 ∙ ap (λ (ms : List UserMsg). ms ++ messages_in channel more.0) first.2
+              ∙ ap (λ (ms : List UserMsg). messages_in_group group ++ ms) more.2,
         )
 
 -- ---- why a channel ends
@@ -134,23 +147,23 @@ module _ (channel : ℕ) (moment : Moment) (end : Option ChannelEnd) (old new : 
   by_answer : (answer : Gave) (into : List ℕ) → Hears old.link new.link answer into → Heeds channel moment answer into end old.inbox new.inbox old.side new.side → HearsMore channel end stream msgs old new
   by_answer (gave.Bytes count) into hears heeds =
       let given = take count into in
-      let noted = each_noted channel moment heeds.msgs old.side new.side heeds.serves in
-      let cut : AreCut Begins (stream ++ given) (msgs ++ heeds.msgs) heeds.left =
-      cut_on Begins (stream ++ given) (old.inbox.unread ++ given) heeds.left msgs heeds.msgs (cut_more Begins begins_more stream old.inbox.unread given msgs was.cut) heeds.cut in
+      let noted = each_noted channel moment heeds.groups old.side new.side heeds.serves in
+      let cut : AreCut Begins (stream ++ given) (msgs ++ messages_of heeds.groups) heeds.left =
+      cut_on Begins (stream ++ given) (old.inbox.unread ++ given) heeds.left msgs (messages_of heeds.groups) (cut_more Begins begins_more stream old.inbox.unread given msgs was.cut) heeds.cut in
       record {
         given = given;
         link_gave = hears.given;
-        more = heeds.msgs;
+        more = messages_of heeds.groups;
         left = heeds.left;
         cut = cut;
         goes_on = λ none.
             let ends : StopsAt None heeds.left new.inbox = subst (λ (e : Option ChannelEnd). StopsAt e heeds.left new.inbox) none heeds.stops in
             record {
-              cut = subst (AreCut Begins (stream ++ given) (msgs ++ heeds.msgs)) (sym ends.1) cut;
+              cut = subst (AreCut Begins (stream ++ given) (msgs ++ messages_of heeds.groups)) (sym ends.1) cut;
               open_so = subst (λ (b : List ℕ). Stops b stops.NeedMore) (sym ends.1) ends.0;
             };
         is_bad = λ fault is. subst (λ (e : Option ChannelEnd). StopsAt e heeds.left new.inbox) is heeds.stops;
-        bad_ends = λ all rest fault bad. ends_bad (stream ++ given) heeds.left rest (msgs ++ heeds.msgs) all fault cut bad end new.inbox heeds.stops;
+        bad_ends = λ all rest fault bad. ends_bad (stream ++ given) heeds.left rest (msgs ++ messages_of heeds.groups) all fault cut bad end new.inbox heeds.stops;
         events = noted.0;
         noted = noted.1;
         of_channel = noted.2;

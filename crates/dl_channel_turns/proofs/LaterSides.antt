@@ -18,12 +18,13 @@ use Rattle.dl_core.specs.Admission.{has_frames}
 use Rattle.dl_core.specs.Follows.{Adds, source_of}
 use Rattle.dl_core.specs.State.{Core}
 use Rattle.dl_well_formed.proofs.InTurn.{level_in_turn, user_in_turn}
+use Rattle.dl_admission.specs.Admission.{ForwardsAll}
 use Rattle.dl_admission.proofs.Added.{adds_both, adds_each_both, adds_each_none, adds_none}
 use Rattle.dl_admission.proofs.Admitted.{running_both}
 use Rattle.dl_channel_turns.specs.Later.{IsLater}
 use Rattle.dl_channel_turns.specs.Levels.{TellsLevel, TellsLevels}
-use Rattle.dl_channel_turns.specs.Messages.{Notes, Serves}
-use Rattle.dl_channel_turns.specs.State.{Side, Stage}
+use Rattle.dl_channel_turns.specs.Messages.{Alone, Group, Notes, Serves, ServesGroup, Together}
+use Rattle.dl_channel_turns.specs.State.{Side, Stage, part_of}
 use Rattle.dl_channel_turns.specs.Turns.{Heeds, IsTurn, ServesEach}
 
 later_none : (side : Side) → IsLater side side
@@ -85,6 +86,15 @@ module _ (channel : ℕ) (moment : Moment) where
         formed = λ run past taken is running well. goes_on run.setting (source_of run) past (user ∷ []) well (user_in_turn old.core channel msg moment [] settled run past taken is running, tt);
       }
 
+  forwards_later : (msgs : List UserMsg) (old new : Side) → ForwardsAll moment channel msgs (part_of old) (part_of new) → IsLater old new
+  forwards_later msgs old new forwards = record {
+    more = forwards.more;
+    events = forwards.events;
+    running = forwards.running;
+    after = forwards.after;
+    formed = λ run past taken is running well. forwards.formed run past taken tt is running well;
+  }
+
   one_later : (msg : UserMsg) (b : Bool) (old new : Side) → Serves b channel moment msg old new → owed_change old.core.registry ≡ None → IsLater old new
   one_later msg true old new serves settled =
       let forwards = serves.0 in
@@ -101,15 +111,22 @@ module _ (channel : ℕ) (moment : Moment) where
   one_settled msg true old new serves settled = ap (λ (k : Core). owed_change k.registry) serves.0.rest ∙ settled
   one_settled msg false old new serves settled = levels_settled serves.2.0 serves.0 new serves.2.1
 
-  each_later : (msgs : List UserMsg) (old new : Side) → ServesEach channel moment msgs old new → owed_change old.core.registry ≡ None → IsLater old new
+  group_later : (group : Group) (old new : Side) → ServesGroup channel moment group old new → owed_change old.core.registry ≡ None → IsLater old new
+  group_later (Together msgs) old new serves settled = forwards_later msgs old new serves.1
+  group_later (Alone msg) old new serves settled = one_later msg (has_frames msg) old new serves settled
+
+  group_settled : (group : Group) (old new : Side) → ServesGroup channel moment group old new → owed_change old.core.registry ≡ None → owed_change new.core.registry ≡ None
+  group_settled (Together msgs) old new serves settled = ap (λ (k : Core). owed_change k.registry) serves.1.rest ∙ settled
+  group_settled (Alone msg) old new serves settled = one_settled msg (has_frames msg) old new serves settled
+
+  each_later : (groups : List Group) (old new : Side) → ServesEach channel moment groups old new → owed_change old.core.registry ≡ None → IsLater old new
   each_later [] old new serves settled = same_later old new serves
-  each_later (msg ∷ msgs) old new serves settled =
-      later_both old serves.0 new (one_later msg (has_frames msg) old serves.0 serves.1 settled)
-      (each_later msgs serves.0 new serves.2 (one_settled msg (has_frames msg) old serves.0 serves.1 settled))
+  each_later (group ∷ groups) old new serves settled =
+      later_both old serves.0 new (group_later group old serves.0 serves.1 settled) (each_later groups serves.0 new serves.2 (group_settled group old serves.0 serves.1 settled))
 
   heeds_later : (answer : Gave) (into : List ℕ) (end : Option ChannelEnd) (inbox inbox_now : cutter.Channel) (old new : Side) → Heeds channel moment answer into end inbox inbox_now old new
       → owed_change old.core.registry ≡ None → IsLater old new
-  heeds_later (gave.Bytes count) into end inbox inbox_now old new heeds settled = each_later heeds.msgs old new heeds.serves settled
+  heeds_later (gave.Bytes count) into end inbox inbox_now old new heeds settled = each_later heeds.groups old new heeds.serves settled
   heeds_later gave.NotYet into end inbox inbox_now old new heeds settled = same_later old new heeds.2
   heeds_later gave.End into end inbox inbox_now old new heeds settled = same_later old new heeds.2
   heeds_later gave.Failed into end inbox inbox_now old new heeds settled = same_later old new heeds.2

@@ -1,11 +1,12 @@
 -- What becomes of a user message of a channel.
-use Rattle.std.specs.Prelude.{◌≡◌, ℕ, Bool, true, false}
+use Rattle.std.specs.Prelude.{◌≡◌, ℕ, Bool, true, false, List, [], ◌∷◌}
+use Rattle.std.specs.List.{AllByRecursion, flat_map}
 use Rattle.dl_bytes.specs.declared.moment.Moment.{Moment}
 use Rattle.dl_bytes.specs.declared.user.UserMsg.{UserMsg}
-use Rattle.dl_core.specs.Admission.{has_frames}
+use Rattle.dl_core.specs.Admission.{IsLog, has_frames}
 use Rattle.dl_core.specs.Noting.{NotesMessage}
 use Rattle.dl_core.specs.Registering.{Registers}
-use Rattle.dl_admission.specs.Admission.{Forwards}
+use Rattle.dl_admission.specs.Admission.{Forwards, ForwardsAll}
 use Rattle.dl_channel_turns.specs.Levels.{HaveToldLevels}
 use Rattle.dl_channel_turns.specs.State.{Side, part_of}
 
@@ -24,3 +25,24 @@ Serves false channel moment msg old new = (between : Side) × Notes channel mome
 
 abbrev pub ServesOne : ℕ → Moment → UserMsg → Side → Side → Type 0
 ServesOne channel moment msg old new = Serves (has_frames msg) channel moment msg old new
+
+-- ---- in groups
+
+-- What is taken in at once: log messages, or a message by itself.
+pub data Group : Type 0 where
+  Together : List UserMsg → Group
+  Alone : UserMsg → Group
+
+abbrev pub messages_in_group : Group → List UserMsg
+messages_in_group (Together msgs) = msgs
+messages_in_group (Alone msg) = msg ∷ []
+
+-- the messages of groups, in order
+abbrev pub messages_of : List Group → List UserMsg
+messages_of groups = flat_map messages_in_group groups
+
+-- Log messages are admitted, each behind the Closes of the clients that are too slow for it, and nothing is told.
+abbrev pub ServesGroup : ℕ → Moment → Group → Side → Side → Type 0
+ServesGroup channel moment (Together msgs) old new =
+    AllByRecursion IsLog msgs × ForwardsAll moment channel msgs (part_of old) (part_of new) × (new.outboxes ≡ old.outboxes)
+ServesGroup channel moment (Alone msg) old new = ServesOne channel moment msg old new

@@ -13,13 +13,24 @@ use Rattle.dl_user.specs.declared.fault.Stop.TheVariants as stops
 use Rattle.dl_channel.specs.declared.outcome.ChannelEnd.{ChannelEnd}
 use Rattle.dl_channel.specs.declared.outcome.ChannelEnd.TheVariants.{Left, Broken, Bad, NoMemory}
 use Rattle.dl_turns.specs.Turns.{HasGiven, Hears}
-use Rattle.dl_channel_turns.specs.Messages.{ServesOne}
+use Rattle.dl_channel_turns.specs.Messages.{Group, ServesGroup, messages_of}
 use Rattle.dl_channel_turns.specs.State.{Side, Stage}
 
--- messages of a channel were taken in, one after the other
-abbrev pub ServesEach : ℕ → Moment → List UserMsg → Side → Side → Type 0
+-- groups of messages of a channel were taken in, one after the other
+abbrev pub ServesEach : ℕ → Moment → List Group → Side → Side → Type 0
 ServesEach channel moment [] old new = new ≡ old
-ServesEach channel moment (msg ∷ msgs) old new = (next : Side) × ServesOne channel moment msg old next × ServesEach channel moment msgs next new
+ServesEach channel moment (group ∷ groups) old new = (next : Side) × ServesGroup channel moment group old next × ServesEach channel moment groups next new
+
+-- Of messages that came the first ones were taken in, and these are left.
+pub record HasServed (channel : ℕ) (moment : Moment) (msgs left : List UserMsg) (old new : Side) : Type 0 where
+  pub groups : List Group
+  pub all : msgs ≡ messages_of groups ++ left
+  pub serves : ServesEach channel moment groups old new
+
+-- A channel ends as it would behind the messages that came, where all were taken in. Where one is left, memory was wanting for it.
+abbrev pub EndsBehind : Option ChannelEnd → Option ChannelEnd → List UserMsg → Type 0
+EndsBehind behind end [] = end ≡ behind
+EndsBehind behind end (next ∷ others) = end ≡ Some NoMemory
 
 -- Why a channel ends behind its messages: it goes on where what is left is less than a message, and is held; it is bad where no message begins
 -- with what is left. Memory may be wanting only where one does.
@@ -29,12 +40,20 @@ StopsAt (Some (Bad fault)) left inbox = Stops left (stops.Bad fault)
 StopsAt (Some NoMemory) left inbox = (msg : UserMsg) × (after : List ℕ) × Begins left msg after
 StopsAt (Some other) left inbox = ⊥
 
+-- of messages that came the first ones were taken in, up to one that was not
+abbrev pub StopsServing : ℕ → Moment → List UserMsg → Side → Side → Type 0
+StopsServing channel moment msgs old new = (next : UserMsg) × (others : List UserMsg) × HasServed channel moment msgs (next ∷ others) old new
+
+-- what came of messages, behind which a channel goes on or ends
+abbrev pub Finishes : ℕ → Moment → List UserMsg → Option ChannelEnd → Option ChannelEnd → Side → Side → Type 0
+Finishes channel moment msgs behind end old new = (left : List UserMsg) × EndsBehind behind end left × HasServed channel moment msgs left old new
+
 -- The messages at the front of these bytes were taken in, all of them unless memory was wanting.
 pub record ServesAll (channel : ℕ) (moment : Moment) (bytes : List ℕ) (end : Option ChannelEnd) (inbox : cutter.Channel) (old new : Side) : Type 0 where
-  pub msgs : List UserMsg
+  pub groups : List Group
   pub left : List ℕ
-  pub cut : AreCut Begins bytes msgs left
-  pub serves : ServesEach channel moment msgs old new
+  pub cut : AreCut Begins bytes (messages_of groups) left
+  pub serves : ServesEach channel moment groups old new
   pub stops : StopsAt end left inbox
 
 -- What came of an answer of the link, where these bytes were held of what the program sent.

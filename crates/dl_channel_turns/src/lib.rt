@@ -4,12 +4,14 @@
 #![tactic(auto)]
 
 mod clients;
+mod gathered;
 mod hearing;
 pub mod laws;
 mod levels;
 mod outboxes;
 mod serving;
 
+pub use gathered::Gathered;
 pub use hearing::hear;
 pub use outboxes::Outboxes;
 pub use serving::serve_one;

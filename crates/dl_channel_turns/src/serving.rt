@@ -1,18 +1,21 @@
 //! The user messages of a channel are taken in.
 
-ghost use Rattle.std.specs.Prelude.{◌≡◌, ◌≤◌, ◌+◌, ◌*◌, ◌++◌, true, None, Some, length, IfErr, OnErr, OnOk};
+ghost use Rattle.std.specs.Prelude.{◌≡◌, ◌≤◌, ◌<◌, ◌+◌, ◌*◌, ◌++◌, ◌∷◌, [], ℕ, List, true, None, length, IfErr, OnErr, OnOk};
+ghost use Rattle.std.specs.List.{AllByRecursion};
 ghost use Rattle.std.specs.Result.{result_err};
 ghost use Rattle.dl_bytes.specs.Limits.{admitted_limit};
 ghost use Rattle.dl_bytes.specs.UserMessage.{IsFit};
 ghost use Rattle.dl_model.specs.Frames.{user_frames};
 ghost use Rattle.dl_registry.specs.Kept.{owed_change};
+ghost use Rattle.dl_channel.specs.State.{Outbox};
 ghost use Rattle.dl_channel.specs.declared.outcome.ChannelEnd.TheVariants.{NoMemory};
-ghost use Rattle.dl_core.specs.Admission.{has_frames};
+ghost use Rattle.dl_core.specs.Admission.{IsLog, has_frames};
 ghost use Rattle.dl_channel_turns.specs.Messages.{ServesOne};
-ghost use Rattle.dl_channel_turns.specs.Turns.{ServesAll};
+ghost use Rattle.dl_channel_turns.specs.Turns.{Finishes, HasServed, ServesAll, StopsServing};
 ghost use Rattle.dl_channel_turns.specs.State.{side};
 
 use crate::clients::open_clients;
+use crate::gathered::Gathered;
 use crate::levels::note_levels;
 use crate::outboxes::Outboxes;
 use dl_admission::admit_message;
@@ -69,17 +72,184 @@ pub fn serve_one<J: Journal, F: Folder>(
     }
 }
 
-/// Takes in the messages that a piece of what a program sends makes whole, in order. An error is why the channel ends behind them.
+/// Admits the log messages that are gathered. Where memory is wanting nothing is done.
+fn serve_gathered<J: Journal, F: Folder>(
+    core: &mut Core,
+    journal: &mut J,
+    gathered: &mut Gathered,
+    channel: u16,
+    moment: Moment,
+    folder: &mut F,
+) -> Result<(), ChannelEnd>
+    requires settled { owed_change core.old.registry ≡ None }
+    requires logs { AllByRecursion IsLog gathered.old }
+    requires few { core.old.hub.admitted + length gathered.old ≤ admitted_limit }
+    ensures serves { OnOk result ((outboxes : List (ℕ × Outbox)) → HasServed channel moment gathered.old gathered.new
+        (side core.old outboxes (J.events journal.old) (F.told folder.old)) (side core.new outboxes (J.events journal.new) (F.told folder.new))) }
+    ensures none { OnOk result (gathered.new ≡ []) }
+    ensures some { OnErr result (0 < length gathered.old) }
+    ensures unserved { OnErr result ((core.new ≡ core.old) × (J.events journal.new ≡ J.events journal.old) × (folder.new ≡ folder.old) × (gathered.new ≡ gathered.old)) }
+    ensures cause { IfErr result (λ end. end ≡ NoMemory) }
+    ensures settled { owed_change core.new.registry ≡ None }
+    ensures ecu { core.new.ecu ≡ core.old.ecu }
+    ensures admitted { core.new.hub.admitted + length gathered.new ≡ core.old.hub.admitted + length gathered.old }
+{
+    let count = gathered.len() as u64;
+    if count == 0 {
+        return Ok(());
+    }
+    let Some(need) = open_clients(core.hub()).checked_add(count) else {
+        return Err(ChannelEnd::NoMemory);
+    };
+    if journal.reserve(need).is_err() {
+        return Err(ChannelEnd::NoMemory);
+    }
+    gathered.admit(core, journal, channel, moment, folder);
+    Ok(())
+}
+
+/// Makes room for one more log message behind those that are gathered: where there is none, they are admitted.
+fn make_room<J: Journal, F: Folder>(
+    core: &mut Core,
+    journal: &mut J,
+    gathered: &mut Gathered,
+    channel: u16,
+    moment: Moment,
+    folder: &mut F,
+) -> Result<(), ChannelEnd>
+    requires settled { owed_change core.old.registry ≡ None }
+    requires logs { AllByRecursion IsLog gathered.old }
+    requires few { core.old.hub.admitted + length gathered.old ≤ admitted_limit }
+    ensures serves { OnOk result ((outboxes : List (ℕ × Outbox)) → HasServed channel moment gathered.old gathered.new
+        (side core.old outboxes (J.events journal.old) (F.told folder.old)) (side core.new outboxes (J.events journal.new) (F.told folder.new))) }
+    ensures room { OnOk result (length gathered.new < 64) }
+    ensures logs { OnOk result (AllByRecursion IsLog gathered.new) }
+    ensures some { OnErr result (0 < length gathered.old) }
+    ensures unserved { OnErr result ((core.new ≡ core.old) × (J.events journal.new ≡ J.events journal.old) × (folder.new ≡ folder.old)) }
+    ensures cause { IfErr result (λ end. end ≡ NoMemory) }
+    ensures settled { owed_change core.new.registry ≡ None }
+    ensures admitted { core.new.hub.admitted + length gathered.new ≡ core.old.hub.admitted + length gathered.old }
+{
+    if gathered.is_full() {
+        serve_gathered(core, journal, gathered, channel, moment, folder)
+    } else {
+        Ok(())
+    }
+}
+
+/// Whether it is a log message.
+fn is_log(msg: &UserMsg) -> bool
+    ensures { result ≡ true → IsFit msg.now → IsLog msg.now }
+{
+    matches!(msg, UserMsg::Log(_))
+}
+
+/// Gathers a log message behind those that are gathered.
+fn gather<J: Journal, F: Folder>(
+    core: &mut Core,
+    journal: &mut J,
+    gathered: &mut Gathered,
+    channel: u16,
+    msg: UserMsg,
+    moment: Moment,
+    folder: &mut F,
+) -> Result<(), ChannelEnd>
+    requires log { IsLog msg }
+    requires settled { owed_change core.old.registry ≡ None }
+    requires logs { AllByRecursion IsLog gathered.old }
+    requires few { core.old.hub.admitted + length gathered.old ≤ admitted_limit }
+    ensures serves { OnOk result ((outboxes : List (ℕ × Outbox)) → HasServed channel moment (gathered.old ++ msg ∷ []) gathered.new
+        (side core.old outboxes (J.events journal.old) (F.told folder.old)) (side core.new outboxes (J.events journal.new) (F.told folder.new))) }
+    ensures logs { OnOk result (AllByRecursion IsLog gathered.new) }
+    ensures some { OnErr result (0 < length gathered.old) }
+    ensures unserved { OnErr result ((core.new ≡ core.old) × (J.events journal.new ≡ J.events journal.old) × (folder.new ≡ folder.old)) }
+    ensures cause { IfErr result (λ end. end ≡ NoMemory) }
+    ensures settled { owed_change core.new.registry ≡ None }
+    ensures admitted { OnOk result (core.new.hub.admitted + length gathered.new ≡ core.old.hub.admitted + length gathered.old + 1) }
+    ensures few { core.new.hub.admitted ≤ admitted_limit }
+{
+    match make_room(core, journal, gathered, channel, moment, folder) {
+        Ok(()) => {
+            gathered.push(msg);
+            Ok(())
+        }
+        Err(end) => Err(end),
+    }
+}
+
+/// Takes in a message that comes behind the log messages that are gathered: a log message is gathered with them, and before any other they
+/// are admitted.
+fn serve_next<J: Journal, F: Folder>(
+    core: &mut Core,
+    outboxes: &mut Outboxes,
+    journal: &mut J,
+    gathered: &mut Gathered,
+    channel: u16,
+    msg: UserMsg,
+    moment: Moment,
+    folder: &mut F,
+) -> Result<(), ChannelEnd>
+    requires fit { IsFit msg }
+    requires settled { owed_change core.old.registry ≡ None }
+    requires logs { AllByRecursion IsLog gathered.old }
+    requires few { core.old.hub.admitted + length gathered.old + length (user_frames core.old.ecu msg) ≤ admitted_limit }
+    ensures serves { OnOk result (HasServed channel moment (gathered.old ++ msg ∷ []) gathered.new
+        (side core.old outboxes.old (J.events journal.old) (F.told folder.old)) (side core.new outboxes.new (J.events journal.new) (F.told folder.new))) }
+    ensures logs { OnOk result (AllByRecursion IsLog gathered.new) }
+    ensures stops { OnErr result (StopsServing channel moment (gathered.old ++ msg ∷ [])
+        (side core.old outboxes.old (J.events journal.old) (F.told folder.old)) (side core.new outboxes.new (J.events journal.new) (F.told folder.new))) }
+    ensures cause { IfErr result (λ end. end ≡ NoMemory) }
+    ensures settled { owed_change core.new.registry ≡ None }
+    ensures admitted { OnOk result (core.new.hub.admitted + length gathered.new ≤ core.old.hub.admitted + length gathered.old + length (user_frames core.old.ecu msg)) }
+    ensures few { core.new.hub.admitted ≤ admitted_limit }
+{
+    if is_log(&msg) {
+        return gather(core, journal, gathered, channel, msg, moment, folder);
+    }
+    match serve_gathered(core, journal, gathered, channel, moment, folder) {
+        Ok(()) => serve_one(core, outboxes, journal, channel, msg, moment, folder),
+        Err(end) => Err(end),
+    }
+}
+
+/// Admits the log messages that are gathered, behind which the channel goes on or ends.
+fn finish<J: Journal, F: Folder>(
+    core: &mut Core,
+    journal: &mut J,
+    gathered: &mut Gathered,
+    channel: u16,
+    moment: Moment,
+    folder: &mut F,
+    behind: Result<(), ChannelEnd>,
+) -> Result<(), ChannelEnd>
+    requires settled { owed_change core.old.registry ≡ None }
+    requires logs { AllByRecursion IsLog gathered.old }
+    requires few { core.old.hub.admitted + length gathered.old ≤ admitted_limit }
+    ensures serves { (outboxes : List (ℕ × Outbox)) → Finishes channel moment gathered.old (result_err behind) (result_err result)
+        (side core.old outboxes (J.events journal.old) (F.told folder.old)) (side core.new outboxes (J.events journal.new) (F.told folder.new)) }
+    ensures settled { owed_change core.new.registry ≡ None }
+    ensures few { core.new.hub.admitted ≤ admitted_limit }
+{
+    match serve_gathered(core, journal, gathered, channel, moment, folder) {
+        Ok(()) => behind,
+        Err(end) => Err(end),
+    }
+}
+
+/// Takes in the messages that a piece of what a program sends makes whole, in order, log messages that come one behind the other together. An
+/// error is why the channel ends behind them.
 pub fn serve_each<J: Journal, F: Folder>(
     core: &mut Core,
     outboxes: &mut Outboxes,
     journal: &mut J,
     inbox: &mut Inbox,
+    gathered: &mut Gathered,
     channel: u16,
     piece: &[u8],
     moment: Moment,
     folder: &mut F,
 ) -> Result<(), ChannelEnd>
+    requires none { gathered.old ≡ [] }
     requires settled { owed_change core.old.registry ≡ None }
     requires few { 8 * core.old.hub.admitted + length (inbox.old.unread ++ piece.now) ≤ 8 * admitted_limit }
     ensures serves { ServesAll channel moment (inbox.old.unread ++ piece.now) (result_err result) inbox.new
@@ -92,14 +262,24 @@ pub fn serve_each<J: Journal, F: Folder>(
         match inbox.next(rest) {
             Next::Message(msg, taken) => {
                 rest = &rest[taken..];
-                match serve_one(core, outboxes, journal, channel, msg, moment, folder) {
+                match serve_next(
+                    core, outboxes, journal, gathered, channel, msg, moment, folder,
+                ) {
                     Ok(()) => {}
                     Err(end) => return Err(end),
                 }
             }
-            Next::NoMore => return Ok(()),
-            Next::Bad(fault) => return Err(ChannelEnd::Bad(fault)),
-            Next::NoMemory => return Err(ChannelEnd::NoMemory),
+            Next::NoMore => {
+                return finish(core, journal, gathered, channel, moment, folder, Ok(()));
+            }
+            Next::Bad(fault) => {
+                let behind = Err(ChannelEnd::Bad(fault));
+                return finish(core, journal, gathered, channel, moment, folder, behind);
+            }
+            Next::NoMemory => {
+                let behind = Err(ChannelEnd::NoMemory);
+                return finish(core, journal, gathered, channel, moment, folder, behind);
+            }
         }
     }
 }

@@ -38,7 +38,7 @@ pub record Gathered (ecu : List ℕ) (moment : Moment) (done left : List Item) (
   pub spare_is : s1 + length done ≡ s0
   pub room : EachHasRoom (size_of (map (log_message ecu) left)) h1
 
-each-more : (e0 e1 e2 : Option (List Event)) (more : List Event) (event : Event) → AddsEach e0 e1 more → notes.Adds e1 e2 event → AddsEach e0 e2 (more ++ event ∷ [])
+pub each-more : (e0 e1 e2 : Option (List Event)) (more : List Event) (event : Event) → AddsEach e0 e1 more → notes.Adds e1 e2 event → AddsEach e0 e2 (more ++ event ∷ [])
 each-more None None e2 more event first second = second
 each-more None (Some x) e2 more event first second = absurd (cc first)
 each-more (Some x) None e2 more event first second = absurd (cc first)
@@ -46,7 +46,7 @@ each-more (Some x) (Some y) e2 more event first second =
     let same : y ≡ x ++ more = cc first in
     second ∙ ap Some (ap (λ (es : List Event). es ++ event ∷ []) same ∙ append_assoc x more (event ∷ []))
 
-batch-more : (w1 w2 : Option TraceWriter) (frames : List (List ℕ)) (frame : List ℕ) → IfSome w1 (λ (w : TraceWriter). w.batch ≡ frames)
+pub batch-more : (w1 w2 : Option TraceWriter) (frames : List (List ℕ)) (frame : List ℕ) → IfSome w1 (λ (w : TraceWriter). w.batch ≡ frames)
     → option_map (λ (w : TraceWriter). w.batch) w2 ≡ option_map (λ (w : TraceWriter). w.batch ++ frame ∷ []) w1
     → IfSome w2 (λ (w : TraceWriter). w.batch ≡ frames ++ frame ∷ [])
 batch-more w1 None frames frame is more = tt {0}

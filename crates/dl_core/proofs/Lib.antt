@@ -3,10 +3,12 @@ pub mod Tracing
 pub mod Journals
 pub mod Admitted
 pub mod Gathered
+pub mod GatheredMessages
 pub mod Noted
 pub mod Beginnings
 pub mod Leveled
 pub mod Messaged
+pub mod BatchedMessages
 pub mod Sizes
 pub mod Answered
 pub mod Asked

@@ -1,14 +1,16 @@
 -- What is admitted, and noted of it.
 use Rattle.std.specs.Prelude.{◌≡◌, ℕ, ◌++◌, List, map, Option, Some, None}
 use Rattle.dl_bytes.specs.Id.{zero_id}
+use Rattle.dl_bytes.specs.UserMessage.{HoldsMessage}
 use Rattle.dl_bytes.specs.declared.item.Item.{Item}
 use Rattle.dl_bytes.specs.declared.moment.Moment.{Moment}
 use Rattle.dl_events.specs.declared.event.Event.{Event}
-use Rattle.dl_events.specs.declared.event.Event.TheVariants.{Log}
+use Rattle.dl_events.specs.declared.event.Event.TheVariants.{Log, User}
 use Rattle.dl_message.specs.Frames.{log_message}
+use Rattle.dl_model.specs.Frames.{user_frames}
 use Rattle.dl_model.specs.Overflow.{overflow_frames}
 use Rattle.dl_core.specs.Follows.{Run}
-use Rattle.std.specs.List.{AllByRecursion}
+use Rattle.std.specs.List.{AllByRecursion, flat_map}
 use Rattle.std.specs.Prelude.{Bool, true, false, zero, suc}
 use Rattle.dl_events.specs.Journal.{one_more}
 use Rattle.dl_bytes.specs.declared.user.UserMsg.{UserMsg}
@@ -20,6 +22,10 @@ use Rattle.dl_hub.specs.Follows.{IsAfter}
 -- the event of a log call that was taken from its ring
 abbrev pub log_event : Moment → Item → Event
 log_event moment item = Log item.app item.writer item.call moment
+
+-- that of a user message of a channel
+abbrev pub user_event : Moment → ℕ → UserMsg → Event
+user_event moment channel msg = User channel msg moment
 
 -- the run gives this item's frame for its writer and its number
 abbrev pub GivesFrame : Item → Run → Type 0
@@ -50,6 +56,15 @@ abbrev pub has_frames : UserMsg → Bool
 has_frames (user.Log message) = true
 has_frames (user.Overflow counter apid) = true
 has_frames other = false
+
+-- a log message, which is fit
+abbrev pub IsLog : UserMsg → Type 0
+IsLog (user.Log message) = HoldsMessage message
+IsLog other = ⊥
+
+-- the frames of user messages, in order
+abbrev pub message_frames : List ℕ → List UserMsg → List (List ℕ)
+message_frames ecu msgs = flat_map (user_frames ecu) msgs
 
 -- the count of noted events after so many more
 abbrev pub more_noted : ℕ → ℕ → ℕ

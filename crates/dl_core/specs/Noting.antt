@@ -10,7 +10,7 @@ use Rattle.dl_model.specs.Frames.{stored, user_frames}
 use Rattle.dl_outside.specs.Told.{FolderTold}
 use Rattle.dl_hub.specs.State.{Hub, IsSameHub, is_open, replies_of}
 use Rattle.dl_trace.specs.State.{Trace}
-use Rattle.dl_core.specs.Admission.{Admits, AddsEach, GivesApid, GivesFrame, GivesFrames, log_event, lost_frames}
+use Rattle.dl_core.specs.Admission.{Admits, AddsEach, GivesApid, GivesFrame, GivesFrames, log_event, lost_frames, message_frames, user_event}
 use Rattle.dl_core.specs.Follows.{Run, Adds}
 use Rattle.dl_core.specs.State.{Core}
 use Rattle.dl_core.specs.Storing.{ChangesTraceAlone, StoresEach, StoresIn}
@@ -62,3 +62,9 @@ abbrev pub NotesMessage : Moment → ℕ → UserMsg → Core → Core → Folde
 NotesMessage moment channel msg old =
     Notes (event.User channel msg moment ∷ []) (λ run. Unit {0}) (length (user_frames old.ecu msg))
     (StoresEach (map (stored old.ecu moment) (user_frames old.ecu msg))) old
+
+-- user messages of one channel and one moment, whose frames are stored together
+abbrev pub NotesMessages : Moment → ℕ → List UserMsg → Core → Core → FolderTold → FolderTold → Option (List Event) → Option (List Event) → Type 0
+NotesMessages moment channel msgs old =
+    Notes (map (user_event moment channel) msgs) (λ run. Unit {0}) (length (message_frames old.ecu msgs))
+    (StoresIn (map (stored old.ecu moment) (message_frames old.ecu msgs))) old

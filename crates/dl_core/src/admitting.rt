@@ -1,21 +1,23 @@
 //! Frames as they are admitted: each goes to the clients or into the backlog, and into the trace.
 
 ghost use Rattle.std.specs.Prelude.{◌≡◌, ◌≤◌, ◌<◌, ◌+◌, ◌++◌, ◌^◌, ◌-◌, ◌∷◌, [], ℕ, List, IfSome, length, map, option_map};
+ghost use Rattle.std.specs.List.{AllByRecursion};
 ghost use Rattle.dl_events.specs.Journal.{one_more};
 ghost use Rattle.dl_message.specs.Frames.{log_message};
 ghost use Rattle.dl_model.specs.Backlog.{size_of};
-ghost use Rattle.dl_model.specs.Frames.{stored};
+ghost use Rattle.dl_model.specs.Frames.{stored, user_frames};
 ghost use Rattle.dl_model.specs.Traffic.{Admitted};
 ghost use Rattle.dl_bytes.specs.Limits.{admitted_limit};
 ghost use Rattle.dl_hub.specs.State.{EachHasRoom, IsSameHub, is_open, replies_of};
 ghost use Rattle.dl_hub.specs.Follows.{Adds};
-ghost use Rattle.dl_core.specs.Admission.{log_event, lost_frames, more_noted, Admits, AddsEach};
+ghost use Rattle.dl_core.specs.Admission.{log_event, lost_frames, message_frames, more_noted, user_event, Admits, AddsEach, IsLog};
 ghost use Rattle.dl_core.specs.Noting.{TakesIn};
 ghost use Rattle.dl_core.specs.Storing.{StoresIn, ChangesTraceAlone};
 ghost use Rattle.dl_core.specs.Writer.{HasBatch, trace_in};
 
 use crate::storing::{TraceWriter, add_to_batch, store};
-use dl_bytes::{Frame, Id, Item, Moment};
+use circular_buffer::HeapCircularBuffer;
+use dl_bytes::{Frame, Id, Item, Moment, UserMsg};
 use dl_events::{Event, Journal};
 use dl_hub::Hub;
 use dl_message::{overflow_frame, write_log_frame};
@@ -141,5 +143,65 @@ pub fn admit_each<J: Journal>(
         hub.admit(frame);
         add_to_batch(writer, ecu, moment, frame);
         journal.note(logged(item, moment));
+    }
+}
+
+/// Writes the frame of a log message of a program.
+fn write_message(frame: &mut Frame, msg: &UserMsg)
+    requires log { IsLog msg.now }
+    ensures frame { (ecu : List ℕ) → user_frames ecu msg.now ≡ frame.new ∷ [] }
+    ensures some { 0 < length frame.new }
+{
+    frame.clear();
+    match msg {
+        UserMsg::Log(message) => frame.extend_from_slice(message.all()),
+        UserMsg::RegisterApp { .. }
+        | UserMsg::UnregisterApp { .. }
+        | UserMsg::RegisterContext { .. }
+        | UserMsg::UnregisterContext { .. }
+        | UserMsg::LogLevel { .. }
+        | UserMsg::Injection { .. }
+        | UserMsg::Overflow { .. } => unreachable!(),
+    }
+}
+
+/// Admits and notes log messages of a channel, and gathers their frames for the trace. Each is written into `frame` in turn, and none is left.
+pub fn admit_messages<J: Journal>(
+    hub: &mut Hub,
+    writer: &mut Option<TraceWriter>,
+    ecu: Id,
+    channel: u16,
+    moment: Moment,
+    msgs: &mut HeapCircularBuffer<UserMsg>,
+    frame: &mut Frame,
+    journal: &mut J,
+)
+    requires few_messages { length msgs.old.items ≤ 64 }
+    requires logs { AllByRecursion IsLog msgs.old.items }
+    requires spare { length msgs.old.items ≤ J.spare journal.old }
+    requires room { EachHasRoom (size_of (message_frames ecu msgs.old.items)) hub.old }
+    requires few { hub.old.admitted + length msgs.old.items ≤ admitted_limit }
+    requires empty { HasBatch [] writer.old }
+    ensures adds { Admits (message_frames ecu msgs.old.items) hub.old hub.new }
+    ensures same { IsSameHub hub.old hub.new }
+    ensures open { map is_open hub.new.clients ≡ map is_open hub.old.clients }
+    ensures replies { replies_of hub.new ≡ replies_of hub.old }
+    ensures admitted { hub.new.admitted ≡ hub.old.admitted + length msgs.old.items }
+    ensures trace { trace_in writer.new ≡ trace_in writer.old }
+    ensures batch { HasBatch (map (stored ecu moment) (message_frames ecu msgs.old.items)) writer.new }
+    ensures events { AddsEach (J.events journal.old) (J.events journal.new) (map (user_event moment channel) msgs.old.items) }
+    ensures noted { J.noted journal.new ≡ more_noted (length msgs.old.items) (J.noted journal.old) }
+    ensures spare { J.spare journal.new + length msgs.old.items ≡ J.spare journal.old }
+    ensures none { msgs.new ≡ record msgs.old { items = [] } }
+{
+    while let Some(msg) = msgs.pop_front() {
+        write_message(frame, &msg);
+        hub.admit(frame);
+        add_to_batch(writer, ecu, moment, frame);
+        journal.note(Event::User {
+            channel,
+            msg,
+            moment,
+        });
     }
 }

@@ -1,6 +1,7 @@
 //! User messages: applications that come, tell themselves, and go, and messages of programs outside this process.
 
-ghost use Rattle.std.specs.Prelude.{◌≡◌, ◌≢◌, ◌≤◌, ◌<◌, ◌+◌, ◌∷◌, [], ℕ, true, false, Ok, Some, None, length, IfOk, OnOk, OnErr};
+ghost use Rattle.std.specs.Prelude.{◌≡◌, ◌≢◌, ◌≤◌, ◌<◌, ◌+◌, ◌∷◌, [], ℕ, List, true, false, Ok, Some, None, length, option_copied, option_to_list, IfOk, IfSome, OnOk, OnErr};
+ghost use Rattle.std.specs.List.{AllByRecursion};
 ghost use Rattle.std.specs.Result.{result_err};
 ghost use Rattle.dl_bytes.specs.Limits.{admitted_limit, frame_limit};
 ghost use Rattle.dl_bytes.specs.UserMessage.{IsFit};
@@ -10,13 +11,15 @@ ghost use Rattle.dl_model.specs.Backlog.{size_of};
 ghost use Rattle.dl_model.specs.Frames.{user_frames};
 ghost use Rattle.dl_registry.specs.Kept.{owed_change};
 ghost use Rattle.dl_hub.specs.State.{EachHasRoom};
-ghost use Rattle.dl_core.specs.Admission.{has_frames, lost_frames};
-ghost use Rattle.dl_core.specs.Noting.{AdmitsFrames, NotesMessage};
+ghost use Rattle.dl_core.specs.Admission.{has_frames, lost_frames, message_frames, more_noted, IsLog};
+ghost use Rattle.dl_core.specs.Noting.{AdmitsFrames, NotesMessage, NotesMessages};
 ghost use Rattle.dl_core.specs.Registering.{Registers, applied_now};
 ghost use Rattle.dl_core.specs.Waiting.{changes_by, waiting};
 
-use crate::admitting::{admit, report};
+use crate::admitting::{admit, admit_messages, report};
 use crate::daemon::Core;
+use crate::storing::{begin_batch, store_batch};
+use circular_buffer::HeapCircularBuffer;
 use dl_bytes::{Frame, Id, Moment, OutOfMemory, UserMsg};
 use dl_events::{Event, Journal};
 use dl_outside::Folder;
@@ -60,6 +63,43 @@ impl Core {
             moment,
         });
         Ok(refusal)
+    }
+
+    /// Notes log messages of one channel and one moment, at most 64, and admits their frames; none is left. They are what as many calls of
+    /// `user` would be, but that the trace stores them together.
+    pub fn user_batch<F: Folder, J: Journal>(
+        &mut self,
+        channel: u16,
+        msgs: &mut HeapCircularBuffer<UserMsg>,
+        moment: Moment,
+        folder: &mut F,
+        journal: &mut J,
+    )
+        requires few_messages { length msgs.old.items ≤ 64 }
+        requires logs { AllByRecursion IsLog msgs.old.items }
+        requires spare { length msgs.old.items ≤ J.spare journal.old }
+        requires settled { owed_change self.old.registry ≡ None }
+        requires room { EachHasRoom (size_of (message_frames self.old.ecu msgs.old.items)) self.old.hub }
+        requires few { self.old.hub.admitted + length msgs.old.items ≤ admitted_limit }
+        ensures notes { NotesMessages moment channel msgs.old.items self.old self.new (F.told folder.old) (F.told folder.new)
+            (J.events journal.old) (J.events journal.new) }
+        ensures noted { J.noted journal.new ≡ more_noted (length msgs.old.items) (J.noted journal.old) }
+        ensures spare { J.spare journal.new + length msgs.old.items ≡ J.spare journal.old }
+        ensures none { msgs.new ≡ record msgs.old { items = [] } }
+        ensures rest { self.new ≡ record self.old { hub = self.new.hub; trace = self.new.trace } }
+    {
+        begin_batch(&mut self.trace);
+        admit_messages(
+            &mut self.hub,
+            &mut self.trace,
+            self.ecu,
+            channel,
+            moment,
+            msgs,
+            &mut self.frame,
+            journal,
+        );
+        store_batch(&mut self.trace, folder);
     }
 
     /// Does what a message asks for, before it is noted: its frames are admitted, or it goes to the registry.
@@ -110,6 +150,19 @@ impl Core {
             UserMsg::LogLevel { .. } => 0,
             UserMsg::Injection { .. } => 0,
         }
+    }
+
+    /// How many bytes these log messages put together.
+    pub fn messages_need(&self, msgs: &HeapCircularBuffer<UserMsg>) -> u64
+        requires few { length msgs.now.items ≤ 64 }
+        requires logs { AllByRecursion IsLog msgs.now.items }
+        ensures { result ≡ size_of (message_frames self.now.ecu msgs.now.items) }
+    {
+        let mut need = 0;
+        for place in 0..msgs.len() {
+            need += message_len(msgs.get(place));
+        }
+        need
     }
 
     /// How many bytes a report of lost messages puts. It is the same for all applications, since each id has four bytes.
@@ -221,5 +274,17 @@ fn changes_of(msg: &UserMsg) -> u64
         | UserMsg::LogLevel { .. }
         | UserMsg::Injection { .. }
         | UserMsg::Overflow { .. } => 0,
+    }
+}
+
+/// How many bytes the frame of a log message has; none where there is no message.
+fn message_len(msg: Option<&UserMsg>) -> u64
+    requires log { IfSome (option_copied msg) IsLog }
+    ensures value { (ecu : List ℕ) → result ≡ size_of (message_frames ecu (option_to_list (option_copied msg.entry))) }
+    ensures limit { result ≤ 1984 }
+{
+    match msg {
+        Some(UserMsg::Log(message)) => message.all().len() as u64,
+        Some(_) | None => 0,
     }
 }

@@ -6,12 +6,13 @@ use Rattle.std.proofs.lemmas.List.Elements.{filter_map-append}
 use Rattle.dl_bytes.specs.declared.moment.Moment.{Moment}
 use Rattle.dl_bytes.specs.declared.user.UserMsg.{UserMsg}
 use Rattle.dl_bytes.specs.declared.user.UserMsg.TheVariants.{UnregisterApp}
+use Rattle.dl_admission.proofs.Told.{all_of_messages}
 use Rattle.dl_admission.specs.Slow as slow
 use Rattle.dl_admission.specs.Slow.{slow_close}
 use Rattle.dl_channel.specs.declared.outcome.ChannelEnd.{ChannelEnd}
 use Rattle.dl_channel_turns.specs.Heard.{message_of, messages_in}
 use Rattle.dl_channel_turns.specs.Levels.{TellsLevels}
-use Rattle.dl_channel_turns.specs.Messages.{Serves}
+use Rattle.dl_channel_turns.specs.Messages.{Alone, Group, Serves, ServesGroup, Together}
 use Rattle.dl_channel_turns.specs.State.{Side, Stage}
 use Rattle.dl_channel_turns.specs.Turns.{Heeds, IsTurn, ServesEach}
 use Rattle.dl_core.specs.Admission.{AddsEach, has_frames}
@@ -92,12 +93,17 @@ module _ (channel : ℕ) where
     one_own msg false old new serves =
         own_both old serves.0 new (event.User channel msg moment ∷ [], serves.1.notes.event, (refl, tt)) (levels_own serves.2.0 serves.0 new serves.2.1)
 
-    each_own : (msgs : List UserMsg) (old new : Side) → ServesEach channel moment msgs old new → NotesOwn channel old new
+    group_own : (group : Group) (old new : Side) → ServesGroup channel moment group old new → NotesOwn channel old new
+    group_own (Together msgs) old new serves =
+        (serves.1.more, serves.1.events, all_of_messages old.core.ecu moment channel (IsOwn channel) msgs serves.1.more (λ need slow. tt) (λ msg. refl) serves.1.noted)
+    group_own (Alone msg) old new serves = one_own msg (has_frames msg) old new serves
+
+    each_own : (groups : List Group) (old new : Side) → ServesEach channel moment groups old new → NotesOwn channel old new
     each_own [] old new serves = own_none old new serves
-    each_own (msg ∷ msgs) old new serves = own_both old serves.0 new (one_own msg (has_frames msg) old serves.0 serves.1) (each_own msgs serves.0 new serves.2)
+    each_own (group ∷ groups) old new serves = own_both old serves.0 new (group_own group old serves.0 serves.1) (each_own groups serves.0 new serves.2)
 
     heeds_own : (answer : Gave) (into : List ℕ) (end : Option ChannelEnd) (inbox inbox_now : cutter.Channel) (old new : Side) → Heeds channel moment answer into end inbox inbox_now old new → NotesOwn channel old new
-    heeds_own (gave.Bytes count) into end inbox inbox_now old new heeds = each_own heeds.msgs old new heeds.serves
+    heeds_own (gave.Bytes count) into end inbox inbox_now old new heeds = each_own heeds.groups old new heeds.serves
     heeds_own gave.NotYet into end inbox inbox_now old new heeds = own_none old new heeds.2
     heeds_own gave.End into end inbox inbox_now old new heeds = own_none old new heeds.2
     heeds_own gave.Failed into end inbox inbox_now old new heeds = own_none old new heeds.2

@@ -7,12 +7,13 @@ use Rattle.dl_admission.specs.Slow.{Slow, TellRooms, slow_close}
 use Rattle.dl_admission.proofs.Added.{adds_both, adds_each_both, adds_each_none, adds_none, all_both}
 use Rattle.dl_admission.proofs.KeptClients.{clients_both, clients_none, clients_noted}
 use Rattle.dl_admission.proofs.Rooms.{rooms_both}
+use Rattle.dl_admission.proofs.Told.{all_of_messages}
 use Rattle.dl_bytes.specs.declared.moment.Moment.{Moment}
 use Rattle.dl_bytes.specs.declared.user.UserMsg.{UserMsg}
 use Rattle.dl_bytes.specs.declared.user.UserMsg.TheVariants.{UnregisterApp}
 use Rattle.dl_channel.specs.declared.outcome.ChannelEnd.{ChannelEnd}
 use Rattle.dl_channel_turns.specs.Levels.{TellsLevel, TellsLevels}
-use Rattle.dl_channel_turns.specs.Messages.{Notes, Serves}
+use Rattle.dl_channel_turns.specs.Messages.{Alone, Group, Notes, Serves, ServesGroup, Together}
 use Rattle.dl_channel_turns.specs.State.{Side, Stage, part_of}
 use Rattle.dl_channel_turns.specs.Turns.{Heeds, IsTurn, ServesEach}
 use Rattle.dl_core.specs.Admission.{AddsEach, has_frames}
@@ -127,14 +128,26 @@ module _ (channel : ℕ) (moment : Moment) where
   one_passes msg false old new serves =
       passes_both (part_of old) (part_of serves.0) (part_of new) (notes_pass msg old serves.0 serves.1) (levels_pass serves.2.0 serves.0 new serves.2.1)
 
-  each_passes : (msgs : List UserMsg) (old new : Side) → ServesEach channel moment msgs old new → Passes (part_of old) (part_of new)
+  group_passes : (group : Group) (old new : Side) → ServesGroup channel moment group old new → Passes (part_of old) (part_of new)
+  group_passes (Together msgs) old new serves =
+      let forwards = serves.1 in record {
+        more = forwards.more;
+        events = forwards.events;
+        kinds = all_of_messages old.core.ecu moment channel IsOfPrograms msgs forwards.more (λ need slow. tt) (λ msg. tt) forwards.noted;
+        after = forwards.after;
+        rooms = λ run past taken is. forwards.rooms run past taken tt is;
+        clients = forwards.clients;
+      }
+  group_passes (Alone msg) old new serves = one_passes msg (has_frames msg) old new serves
+
+  each_passes : (groups : List Group) (old new : Side) → ServesEach channel moment groups old new → Passes (part_of old) (part_of new)
   each_passes [] old new serves = passes_same (part_of old) (part_of new) (ap part_of serves)
-  each_passes (msg ∷ msgs) old new serves =
-      passes_both (part_of old) (part_of serves.0) (part_of new) (one_passes msg (has_frames msg) old serves.0 serves.1) (each_passes msgs serves.0 new serves.2)
+  each_passes (group ∷ groups) old new serves =
+      passes_both (part_of old) (part_of serves.0) (part_of new) (group_passes group old serves.0 serves.1) (each_passes groups serves.0 new serves.2)
 
   heeds_pass : (answer : Gave) (into : List ℕ) (end : Option ChannelEnd) (inbox inbox_now : cutter.Channel) (old new : Side) → Heeds channel moment answer into end inbox inbox_now old new
       → Passes (part_of old) (part_of new)
-  heeds_pass (gave.Bytes count) into end inbox inbox_now old new heeds = each_passes heeds.msgs old new heeds.serves
+  heeds_pass (gave.Bytes count) into end inbox inbox_now old new heeds = each_passes heeds.groups old new heeds.serves
   heeds_pass gave.NotYet into end inbox inbox_now old new heeds = passes_same (part_of old) (part_of new) (ap part_of heeds.2)
   heeds_pass gave.End into end inbox inbox_now old new heeds = passes_same (part_of old) (part_of new) (ap part_of heeds.2)
   heeds_pass gave.Failed into end inbox inbox_now old new heeds = passes_same (part_of old) (part_of new) (ap part_of heeds.2)

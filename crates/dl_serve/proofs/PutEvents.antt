@@ -2,6 +2,7 @@
 use Rattle.std.proofs.Common.{◌≡◌, ℕ, ◌/◌, Bool, true, false, List, [], ◌∷◌, ◌++◌, map, Option, Some, None, refl, sym, ap, subst, ◌∙◌, append-nil}
 use Rattle.std.specs.List.{AllByRecursion, filter_map}
 use Rattle.std.specs.Option.{option_map}
+use Rattle.dl_admission.proofs.Told.{all_of_messages}
 use Rattle.dl_admission.specs.Slow.{Slow, slow_close}
 use Rattle.dl_admission.proofs.Added.{adds_both, adds_each_both, adds_each_none, adds_none, all_both}
 use Rattle.dl_bytes.specs.Limits.{context_limit}
@@ -11,7 +12,7 @@ use Rattle.dl_bytes.specs.declared.user.UserMsg.TheVariants.{UnregisterApp}
 use Rattle.dl_channel.specs.State.{Outbox}
 use Rattle.dl_channel.specs.declared.outcome.ChannelEnd.{ChannelEnd}
 use Rattle.dl_channel_turns.specs.Levels.{TellsLevel, TellsLevels}
-use Rattle.dl_channel_turns.specs.Messages.{Serves}
+use Rattle.dl_channel_turns.specs.Messages.{Alone, Group, Serves, ServesGroup, Together}
 use Rattle.dl_channel_turns.specs.Put.{message_for, to_channel}
 use Rattle.dl_channel_turns.specs.State.{Side, Stage, outbox_of}
 use Rattle.dl_channel_turns.specs.Turns.{Heeds, IsTurn, ServesEach}
@@ -153,12 +154,18 @@ module _ (channel : ℕ) (moment : Moment) where
       let notes = serves.1 in
       puts_both channel old serves.0 new (puts_aside channel old serves.0 (event.User channel msg moment ∷ []) notes.notes.event notes.notes.after notes.outboxes (refl, tt)) (levels_put channel serves.2.0 serves.0 new serves.2.1)
 
-  each_puts : (msgs : List UserMsg) (old new : Side) → ServesEach channel moment msgs old new → Puts channel old new
+  group_puts : (group : Group) (old new : Side) → ServesGroup channel moment group old new → Puts channel old new
+  group_puts (Together msgs) old new serves =
+      puts_aside channel old new serves.1.more serves.1.events serves.1.after serves.2
+      (all_of_messages old.core.ecu moment channel (IsQuiet channel) msgs serves.1.more (λ need slow. tt) (λ msg. refl) serves.1.noted)
+  group_puts (Alone msg) old new serves = one_puts msg (has_frames msg) old new serves
+
+  each_puts : (groups : List Group) (old new : Side) → ServesEach channel moment groups old new → Puts channel old new
   each_puts [] old new serves = puts_same channel old new serves
-  each_puts (msg ∷ msgs) old new serves = puts_both channel old serves.0 new (one_puts msg (has_frames msg) old serves.0 serves.1) (each_puts msgs serves.0 new serves.2)
+  each_puts (group ∷ groups) old new serves = puts_both channel old serves.0 new (group_puts group old serves.0 serves.1) (each_puts groups serves.0 new serves.2)
 
   heeds_put : (answer : Gave) (into : List ℕ) (end : Option ChannelEnd) (inbox inbox_now : cutter.Channel) (old new : Side) → Heeds channel moment answer into end inbox inbox_now old new → Puts channel old new
-  heeds_put (gave.Bytes count) into end inbox inbox_now old new heeds = each_puts heeds.msgs old new heeds.serves
+  heeds_put (gave.Bytes count) into end inbox inbox_now old new heeds = each_puts heeds.groups old new heeds.serves
   heeds_put gave.NotYet into end inbox inbox_now old new heeds = puts_same channel old new heeds.2
   heeds_put gave.End into end inbox inbox_now old new heeds = puts_same channel old new heeds.2
   heeds_put gave.Failed into end inbox inbox_now old new heeds = puts_same channel old new heeds.2

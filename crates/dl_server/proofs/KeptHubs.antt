@@ -6,7 +6,7 @@ use Rattle.dl_bytes.specs.declared.user.UserMsg.TheVariants.{UnregisterApp}
 use Rattle.dl_admission.proofs.KeptClients.{clients_both, clients_none, clients_noted}
 use Rattle.dl_channel.specs.declared.outcome.ChannelEnd.{ChannelEnd}
 use Rattle.dl_channel_turns.specs.Levels.{TellsLevels}
-use Rattle.dl_channel_turns.specs.Messages.{Notes, Serves}
+use Rattle.dl_channel_turns.specs.Messages.{Alone, Group, Notes, Serves, ServesGroup, Together}
 use Rattle.dl_channel_turns.specs.State.{Side, Stage}
 use Rattle.dl_channel_turns.specs.Turns.{Heeds, IsTurn, ServesEach}
 use Rattle.dl_core.specs.Admission.{has_frames}
@@ -49,14 +49,18 @@ module _ (channel : ℕ) (moment : Moment) where
   one_keeps msg false old new serves =
       keeps_both old.core.hub serves.0.core.hub new.core.hub (notes_keep msg old serves.0 serves.1) (levels_keep serves.2.0 serves.0 new serves.2.1)
 
-  each_keeps : (msgs : List UserMsg) (old new : Side) → ServesEach channel moment msgs old new → Keeps old.core.hub new.core.hub
+  group_keeps : (group : Group) (old new : Side) → ServesGroup channel moment group old new → Keeps old.core.hub new.core.hub
+  group_keeps (Together msgs) old new serves = (serves.1.more, serves.1.clients)
+  group_keeps (Alone msg) old new serves = one_keeps msg (has_frames msg) old new serves
+
+  each_keeps : (groups : List Group) (old new : Side) → ServesEach channel moment groups old new → Keeps old.core.hub new.core.hub
   each_keeps [] old new serves = keeps_same old.core.hub new.core.hub (ap (λ (s : Side). s.core.hub) serves)
-  each_keeps (msg ∷ msgs) old new serves =
-      keeps_both old.core.hub serves.0.core.hub new.core.hub (one_keeps msg (has_frames msg) old serves.0 serves.1) (each_keeps msgs serves.0 new serves.2)
+  each_keeps (group ∷ groups) old new serves =
+      keeps_both old.core.hub serves.0.core.hub new.core.hub (group_keeps group old serves.0 serves.1) (each_keeps groups serves.0 new serves.2)
 
   heeds_keep : (answer : Gave) (into : List ℕ) (end : Option ChannelEnd) (inbox inbox_now : cutter.Channel) (old new : Side) → Heeds channel moment answer into end inbox inbox_now old new
       → Keeps old.core.hub new.core.hub
-  heeds_keep (gave.Bytes count) into end inbox inbox_now old new heeds = each_keeps heeds.msgs old new heeds.serves
+  heeds_keep (gave.Bytes count) into end inbox inbox_now old new heeds = each_keeps heeds.groups old new heeds.serves
   heeds_keep gave.NotYet into end inbox inbox_now old new heeds = keeps_same old.core.hub new.core.hub (ap (λ (s : Side). s.core.hub) heeds.2)
   heeds_keep gave.End into end inbox inbox_now old new heeds = keeps_same old.core.hub new.core.hub (ap (λ (s : Side). s.core.hub) heeds.2)
   heeds_keep gave.Failed into end inbox inbox_now old new heeds = keeps_same old.core.hub new.core.hub (ap (λ (s : Side). s.core.hub) heeds.2)

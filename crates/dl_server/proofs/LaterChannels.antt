@@ -10,7 +10,7 @@ use Rattle.dl_channel.specs.State.{Outbox}
 use Rattle.dl_channel.specs.declared.outcome.ChannelEnd.{ChannelEnd}
 use Rattle.dl_channel_turns.specs.Later.{IsLater}
 use Rattle.dl_channel_turns.specs.Levels.{TellsLevel, TellsLevels}
-use Rattle.dl_channel_turns.specs.Messages.{Notes, Serves}
+use Rattle.dl_channel_turns.specs.Messages.{Alone, Group, Notes, Serves, ServesGroup, Together}
 use Rattle.dl_channel_turns.specs.State.{Side, Stage}
 use Rattle.dl_channel_turns.specs.Turns.{Heeds, IsTurn, ServesEach}
 use Rattle.dl_core.specs.Admission.{has_frames}
@@ -110,15 +110,29 @@ module _ (channel : ℕ) (moment : Moment) where
       let rest = levels_on serves.2.0 serves.0 new serves.2.1 in
       (later_both old serves.0 new (notes_later msg old serves.0 serves.1 settled) rest.0, rest.1)
 
-  each_on : (msgs : List UserMsg) (old new : Side) → ServesEach channel moment msgs old new → owed_change old.core.registry ≡ None → IsOn old new
+  group_on : (group : Group) (old new : Side) → ServesGroup channel moment group old new → owed_change old.core.registry ≡ None → IsOn old new
+  group_on (Together msgs) old new serves settled =
+      let forwards = serves.1 in (
+        record {
+          more = forwards.more;
+          events = forwards.events;
+          running = forwards.running;
+          after = forwards.after;
+          formed = λ run past taken is running well. forwards.formed run past taken tt is running well;
+        },
+        ap (λ (k : Core). owed_change k.registry) forwards.rest ∙ settled,
+      )
+  group_on (Alone msg) old new serves settled = one_on msg (has_frames msg) old new serves settled
+
+  each_on : (groups : List Group) (old new : Side) → ServesEach channel moment groups old new → owed_change old.core.registry ≡ None → IsOn old new
   each_on [] old new serves settled = on_same old new serves settled
-  each_on (msg ∷ msgs) old new serves settled =
-      let first = one_on msg (has_frames msg) old serves.0 serves.1 settled in
-      on_both old serves.0 new first (each_on msgs serves.0 new serves.2 first.1)
+  each_on (group ∷ groups) old new serves settled =
+      let first = group_on group old serves.0 serves.1 settled in
+      on_both old serves.0 new first (each_on groups serves.0 new serves.2 first.1)
 
   heeds_on : (answer : Gave) (into : List ℕ) (end : Option ChannelEnd) (inbox inbox_now : cutter.Channel) (old new : Side) → Heeds channel moment answer into end inbox inbox_now old new
       → owed_change old.core.registry ≡ None → IsOn old new
-  heeds_on (gave.Bytes count) into end inbox inbox_now old new heeds settled = each_on heeds.msgs old new heeds.serves settled
+  heeds_on (gave.Bytes count) into end inbox inbox_now old new heeds settled = each_on heeds.groups old new heeds.serves settled
   heeds_on gave.NotYet into end inbox inbox_now old new heeds settled = on_same old new heeds.2 settled
   heeds_on gave.End into end inbox inbox_now old new heeds settled = on_same old new heeds.2 settled
   heeds_on gave.Failed into end inbox inbox_now old new heeds settled = on_same old new heeds.2 settled

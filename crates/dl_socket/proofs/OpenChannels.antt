@@ -12,7 +12,7 @@ use Rattle.dl_channel.specs.Levels.{with_level}
 use Rattle.dl_channel.specs.State.{Outbox, empty}
 use Rattle.dl_channel.specs.declared.outcome.ChannelEnd.{ChannelEnd}
 use Rattle.dl_channel_turns.specs.Levels.{TellsLevels, put_for}
-use Rattle.dl_channel_turns.specs.Messages.{Serves}
+use Rattle.dl_channel_turns.specs.Messages.{Alone, Group, Serves, ServesGroup, Together}
 use Rattle.dl_channel_turns.specs.State.{Side, Stage, changed, outbox_of, without}
 use Rattle.dl_channel_turns.specs.Turns.{Heeds, IsTurn, ServesEach}
 use Rattle.dl_core.specs.Admission.{has_frames}
@@ -102,12 +102,16 @@ module _ (channel : ℕ) (moment : Moment) where
   one_open true msg old new serves other = same_open old.outboxes new.outboxes serves.1 other
   one_open false msg old new serves other = levels_open serves.2.0 serves.0 new serves.2.1 other ∙ same_open old.outboxes serves.0.outboxes serves.1.outboxes other
 
-  each_open : (msgs : List UserMsg) (old new : Side) → ServesEach channel moment msgs old new → AreOpenAs old.outboxes new.outboxes
+  group_open : (group : Group) (old new : Side) → ServesGroup channel moment group old new → AreOpenAs old.outboxes new.outboxes
+  group_open (Together msgs) old new serves other = same_open old.outboxes new.outboxes serves.2 other
+  group_open (Alone msg) old new serves other = one_open (has_frames msg) msg old new serves other
+
+  each_open : (groups : List Group) (old new : Side) → ServesEach channel moment groups old new → AreOpenAs old.outboxes new.outboxes
   each_open [] old new serves other = ap (λ (s : Side). is_some (outbox_of s.outboxes other)) serves
-  each_open (msg ∷ msgs) old new serves other = each_open msgs serves.0 new serves.2 other ∙ one_open (has_frames msg) msg old serves.0 serves.1 other
+  each_open (group ∷ groups) old new serves other = each_open groups serves.0 new serves.2 other ∙ group_open group old serves.0 serves.1 other
 
   heeds_open : (answer : Gave) (into : List ℕ) (end : Option ChannelEnd) (inbox inbox_now : cutter.Channel) (old new : Side) → Heeds channel moment answer into end inbox inbox_now old new → AreOpenAs old.outboxes new.outboxes
-  heeds_open (gave.Bytes count) into end inbox inbox_now old new all other = each_open all.msgs old new all.serves other
+  heeds_open (gave.Bytes count) into end inbox inbox_now old new all other = each_open all.groups old new all.serves other
   heeds_open gave.NotYet into end inbox inbox_now old new same other = ap (λ (s : Side). is_some (outbox_of s.outboxes other)) same.2
   heeds_open gave.End into end inbox inbox_now old new same other = ap (λ (s : Side). is_some (outbox_of s.outboxes other)) same.2
   heeds_open gave.Failed into end inbox inbox_now old new same other = ap (λ (s : Side). is_some (outbox_of s.outboxes other)) same.2

@@ -16,7 +16,7 @@ use crate::history::History;
 use crate::ways::{Way, way_in};
 use dl_bytes::{Injection, LAST_VERSION, Level, Moment, OutOfMemory, UserMsg};
 use dl_channel::{ChannelEnd, Inbox, Outbox};
-use dl_channel_turns::{Outboxes, hear, serve_one};
+use dl_channel_turns::{Gathered, Outboxes, hear, serve_one};
 use dl_core::Core;
 use dl_desk::Post;
 use dl_events::Journal;
@@ -39,10 +39,12 @@ pub struct Messenger {
     // how many levels were set in each slot
     versions: Vec<u64>,
     history: History,
+    // none but while a channel is listened to
+    gathered: Gathered,
 }
 
 impl Model for Messenger {
-    ghost use Rattle.std.specs.Prelude.{◌≡◌, vec_len};
+    ghost use Rattle.std.specs.Prelude.{◌≡◌, [], vec_len};
     ghost use Rattle.dl_socket.specs.Messenger as state;
     ghost use Rattle.dl_socket.specs.Messenger.{AreCounted};
 
@@ -50,7 +52,7 @@ impl Model for Messenger {
 
     ghost view = { λ m. record { outboxes = m.outboxes; ways = m.ways.items; sets = m.history.sets; refused = m.history.refused } };
 
-    ghost invariant = { λ m. (vec_len m.ways ≡ 1024) × (vec_len m.versions ≡ 1024) × AreCounted m.history.sets m.versions.items };
+    ghost invariant = { λ m. (vec_len m.ways ≡ 1024) × (vec_len m.versions ≡ 1024) × AreCounted m.history.sets m.versions.items × (m.gathered ≡ []) };
 }
 
 impl Messenger {
@@ -64,6 +66,7 @@ impl Messenger {
             ways: no_ways(alloc, count)?,
             versions: Vec::from_elem(alloc, 0, count)?,
             history: History::make(alloc)?,
+            gathered: Gathered::make(alloc)?,
         })
     }
 
@@ -137,6 +140,7 @@ impl Messenger {
             &mut self.outboxes,
             journal,
             inbox,
+            &mut self.gathered,
             channel,
             link,
             moment,
