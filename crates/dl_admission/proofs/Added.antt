@@ -1,6 +1,5 @@
 -- Events that are added one after the other.
-use Rattle.std.proofs.Common.{◌≡◌, ◌+◌, ℕ, zero, suc, List, [], ◌∷◌, ◌++◌, append_assoc, append-nil, Option, Some, None, refl, sym, ap, subst, ◌∙◌, arith}
-use Rattle.std.specs.List.{AllByRecursion}
+use Rattle.std.proofs.Common.{◌≡◌, ◌+◌, ℕ, zero, suc, List, [], ◌++◌, append_assoc, append-nil, Option, Some, None, refl, sym, ap, subst, ◌∙◌, arith}
 use Rattle.dl_events.specs.Journal.{one_more}
 use Rattle.dl_events.specs.declared.event.Event.{Event}
 use Rattle.dl_outside.specs.Told.{FolderTold}
@@ -40,9 +39,3 @@ adds_both xs ys One Other old between new told told_between told_now first secon
     let there = second run (events ++ xs) taken gives.1 here.0 in
     subst (λ (es : List Event). IsAfter run es taken new × (HoldsTrace run events old told → HoldsTrace run es new told_now)) (append_assoc events xs ys)
     (there.0, λ holds. there.1 (here.1 holds))
-
--- ---- lists
-
-pub all_both : {A : Type 0} (P : A → Type 0) (xs ys : List A) → AllByRecursion P xs → AllByRecursion P ys → AllByRecursion P (xs ++ ys)
-all_both P [] ys first second = second
-all_both P (x ∷ xs) ys first second = (first.0, all_both P xs ys first.1 second)

@@ -13,6 +13,7 @@ use Rattle.dl_model.specs.Report.{closed_of, why_of}
 use Rattle.dl_hub.specs.State.{Client, Hub, Waiting, IsSameHub, client_of, is_open, outbox_of, replies_of, shut, takes}
 use Rattle.dl_admission.specs.Admission.{KeepsClients}
 use Rattle.dl_admission.specs.Slow.{room_in, shut_if_slow, slow_among, slow_clients, slow_close, without_slow}
+use Rattle.dl_lemmas.proofs.Options.{none_of}
 
 -- ---- nothing
 
@@ -25,10 +26,6 @@ clients_none hub = record {
 }
 
 -- ---- one after the other
-
-not_some : {A : Type 0} (o : Option A) → is_some o ≡ false → o ≡ None
-not_some None e = refl
-not_some (Some x) e = absurd (cc e)
 
 pub clients_both : (xs ys : List Event) (old between new : Hub) → KeepsClients xs old between → KeepsClients ys between new → KeepsClients (xs ++ ys) old new
 clients_both xs ys old between new first second = record {
@@ -45,7 +42,7 @@ clients_both xs ys old between new first second = record {
   stays client (w ∷ ws) none = absurd (cc none)
 
   still_gone : (client : ℕ) → outbox_of between client ≡ None → (o : Option Why) → why_of client ys ≡ o → outbox_of new client ≡ None
-  still_gone client gone None is = not_some (outbox_of new client) (second.stay client is ∙ ap is_some gone)
+  still_gone client gone None is = none_of (outbox_of new client) (second.stay client is ∙ ap is_some gone)
   still_gone client gone (Some w) is = (second.go client (ap is_some is)).1
 
   goes : (client : ℕ) (ws : List Why) → filter_map (closed_of client) xs ≡ ws → is_some (slice_get (ws ++ filter_map (closed_of client) ys) 0) ≡ true

@@ -11,12 +11,9 @@ use Rattle.dl_trace.specs.Stands.{ChangesTraceFiles}
 use Rattle.dl_trace.specs.State.{Trace}
 use Rattle.dl_core.specs.Storing.{ChangesTraceAlone, StoresEach, StoresIn, StoresTill}
 use Rattle.dl_admission.specs.Kept.{KeepsTrace, end_of}
+use Rattle.dl_trace.proofs.Joined.{unchanged}
 
 -- ---- no file changes but the trace files
-
-files_none : (directory : List ℕ) (told : Option Files) → ChangesTraceFiles directory told told
-files_none directory None = tt
-files_none directory (Some files) = (files, refl, λ name other. refl)
 
 files_both : (directory : List ℕ) (a b c : Option Files) → ChangesTraceFiles directory a b → ChangesTraceFiles directory b c → ChangesTraceFiles directory a c
 files_both directory None b c first second = tt
@@ -27,7 +24,7 @@ files_both directory (Some x) (Some y) c first second =
 
 changes_none : (trace : Option Trace) (told : FolderTold) → ChangesTraceAlone trace told told
 changes_none None told = refl
-changes_none (Some t) told = files_none t.directory told.files
+changes_none (Some t) told = unchanged t.directory told.files
 
 changes_both : (old between : Option Trace) (a b c : FolderTold) → option_map (λ (t : Trace). t.directory) between ≡ option_map (λ (t : Trace). t.directory) old
     → ChangesTraceAlone old a b → ChangesTraceAlone between b c → ChangesTraceAlone old a c
@@ -49,10 +46,10 @@ pub record EndsRightly (old new : Option Trace) (a b : FolderTold) : Type 0 wher
 ends_none : (trace : Option Trace) (told : FolderTold) → EndsRightly trace trace told told
 ends_none trace told = record { directory = refl; failed = λ failed. inl failed; faults = omega arith }
 
-risen_later : (a b c : ℕ) → HasRisen a b → b ≤ c → HasRisen a c
+pub risen_later : (a b c : ℕ) → HasRisen a b → b ≤ c → HasRisen a c
 risen_later a b c risen later = (omega (arith, risen.0, later), omega (arith, risen.1, later))
 
-risen_before : (a b c : ℕ) → a ≤ b → HasRisen b c → HasRisen a c
+pub risen_before : (a b c : ℕ) → a ≤ b → HasRisen b c → HasRisen a c
 risen_before a b c before risen = (omega (arith, risen.0, before), omega (arith, risen.1, before))
 
 ends_both : (old between new : Option Trace) (a b c : FolderTold) → EndsRightly old between a b → EndsRightly between new b c → EndsRightly old new a c

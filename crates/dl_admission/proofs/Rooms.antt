@@ -2,23 +2,18 @@
 use Rattle.std.proofs.Common.{◌≡◌, ℕ, ◌+◌, List, [], ◌∷◌, ◌++◌, length, append_assoc, append-nil, Option, Some, None, refl, sym, ap, subst, ◌∙◌, arith}
 use Rattle.std.specs.Prelude.{IfSome, IsSomeAnd}
 use Rattle.std.specs.List.{concat}
-use Rattle.std.specs.Option.{option_and_then}
 use Rattle.dl_events.specs.declared.event.Event.{Event}
 use Rattle.dl_events.specs.declared.event.Event.TheVariants as event
 use Rattle.dl_events.specs.declared.event.Why.TheVariants as why
 use Rattle.dl_model.specs.Backlog.{outbox_limit}
 use Rattle.dl_model.specs.ClientStream.{sent, traffic}
-use Rattle.dl_hub.specs.State.{Client, Waiting, client_of, outbox_of}
+use Rattle.dl_hub.specs.State.{Waiting, client_of, outbox_of}
 use Rattle.dl_core.specs.State.{Core}
 use Rattle.dl_core.specs.Closing.{MayEnd}
 use Rattle.dl_core.specs.Follows.{IsAfter, Run, source_of}
 use Rattle.dl_well_formed.proofs.OpenClients.{its_stream}
 use Rattle.dl_admission.specs.Slow.{TellRooms, TellsRoom}
-
--- the client of an outbox
-by_client : (o : Option Client) (outbox : Waiting) → option_and_then (λ (c : Client). c.outbox) o ≡ Some outbox → (client : Client) × (o ≡ Some client) × (client.outbox ≡ Some outbox)
-by_client None outbox there = absurd (cc there)
-by_client (Some client) outbox there = (client, refl, there)
+use Rattle.dl_well_formed.proofs.InTurn.{by_client}
 
 -- a client that may be closed as slow
 pub room_told : (run : Run) (past : List Event) (taken : ℕ → List ℕ) (core : Core) (client room need : ℕ) → IsAfter run past taken core → MayEnd core.hub client (why.Slow room need)

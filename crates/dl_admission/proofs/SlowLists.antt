@@ -1,14 +1,11 @@
 -- Lists of clients of which some are slow.
-use Rattle.std.proofs.Common.{◌≡◌, ◌<◌, ◌+◌, ℕ, zero, suc, Bool, true, false, cond, ◌&&◌, List, [], ◌∷◌, ◌++◌, map, Some, refl, ap, arith}
+use Rattle.std.proofs.Common.{◌≡◌, ◌<◌, ◌+◌, ℕ, zero, suc, Bool, true, false, cond, List, [], ◌∷◌, ◌++◌, map, Some, refl, ap, arith}
 use Rattle.std.specs.Prelude.{slice_get, slice_set}
 use Rattle.std.specs.List.{list_all, AllByRecursion}
 use Rattle.dl_hub.specs.State.{Client, Hub, shut, takes}
 use Rattle.dl_admission.specs.Admission.{AreInOrder}
 use Rattle.dl_admission.specs.Slow.{IsAsTold, Slow, room_in, shut_if_slow, slow_among}
-
-both : (a b : Bool) → (a && b) ≡ true → (a ≡ true) × (b ≡ true)
-both true b e = (refl, e)
-both false b e = absurd cc
+use Rattle.dl_lemmas.proofs.Bools.{both}
 
 -- none is slow among clients that all take so much
 pub none_slow : (need first : ℕ) (clients : List Client) → list_all (takes need) clients ≡ true → slow_among need first clients ≡ []

@@ -28,7 +28,8 @@ use Rattle.dl_well_formed.proofs.InTurn.{close_before_frames}
 use Rattle.dl_admission.specs.Slow.{Slow, StandBefore, TellRooms, Closes, ClosesIfSlow, ClosesSlow, IsAsTold, room_in, shut_if_slow, slow_among, slow_at, slow_clients, slow_close, without_slow}
 use Rattle.dl_admission.proofs.Rooms.{room_told, rooms_both}
 use Rattle.dl_admission.proofs.SlowLists.{AreTaking, first_slow, none_shut, none_slow, shut_again, shut_takes}
-use Rattle.dl_admission.proofs.Added.{adds_both, adds_each_both, adds_each_none, adds_none, all_both, more_both}
+use Rattle.dl_admission.proofs.Added.{adds_both, adds_each_both, adds_each_none, adds_none, more_both}
+use Rattle.dl_lemmas.proofs.Lists.{set_again, set_other, all_both}
 
 nobody : FolderTold
 nobody = record { files = None; faults = 0; changes = 0; appends = 0 }
@@ -64,11 +65,6 @@ slow_one need room client hub there has short =
           ∙ sym (changed_at hub client shut at.0 at.4 at.2),
     )
 
-set_same : {A : Type 0} (xs : List A) (i : ℕ) (x : A) → slice_get xs i ≡ Some x → slice_set xs i x ≡ xs
-set_same [] i x is = refl
-set_same (y ∷ ys) zero x is = let same : y ≡ x = cc in ap (λ z. z ∷ ys) (sym same)
-set_same (y ∷ ys) (suc i) x is = ap (λ zs. y ∷ zs) (set_same ys i x is)
-
 pub fast_one : (need room client : ℕ) (hub : Hub) → IsSome (outbox_of hub client) → HasJust room (outbox_of hub client) → need ≤ room
     → (slow_at need hub client ≡ []) × (changed client (shut_if_slow need) hub ≡ hub)
 fast_one need room client hub there has enough =
@@ -79,7 +75,7 @@ fast_one need room client hub there has enough =
       rw (is, fast) refl,
       changed_at hub client (shut_if_slow need) at.0 at.4 at.2
           ∙ ap (λ (d : Client). record hub { clients = slice_set hub.clients (client - 1) d }) (rw fast refl)
-          ∙ ap (λ (ds : List Client). record hub { clients = ds }) (set_same hub.clients (client - 1) at.0 at.2),
+          ∙ ap (λ (ds : List Client). record hub { clients = ds }) (set_again hub.clients (client - 1) at.0 at.2),
     )
 
 -- ---- closings
@@ -193,13 +189,6 @@ sets_out need core events noted spare = record {
 
 -- ---- lists that change at a place
 
-get_other : {A : Type 0} (xs : List A) (i j : ℕ) (x : A) → j ≢ i → slice_get (slice_set xs i x) j ≡ slice_get xs j
-get_other [] i j x apart = refl
-get_other (y ∷ ys) zero zero x apart = absurd (apart refl)
-get_other (y ∷ ys) zero (suc j) x apart = refl
-get_other (y ∷ ys) (suc i) zero x apart = refl
-get_other (y ∷ ys) (suc i) (suc j) x apart = get_other ys i j x (λ (e : j ≡ i). apart (ap suc e))
-
 get_same : {A : Type 0} (xs : List A) (i : ℕ) (x y z : A) → slice_get xs i ≡ Some x → slice_get (slice_set xs i y) i ≡ Some z → z ≡ y
 get_same [] i x y z is now = absurd cc
 get_same (v ∷ vs) zero x y z is now = cc
@@ -263,7 +252,7 @@ taking_on : (need next : ℕ) (clients : List Client) (c : Client) → slice_get
 taking_on need next clients c is taking = λ before d below at.
     elim (eqb_tells before (next - 1)) [
       | inl here ↦ ap (takes need) (get_same clients (next - 1) c (shut_if_slow need c) d is (ap (slice_get (slice_set clients (next - 1) (shut_if_slow need c))) (sym here.1) ∙ at)) ∙ shut_takes need c
-      | inr apart ↦ taking before d (omega (arith, below, apart.1)) (sym (get_other clients (next - 1) before (shut_if_slow need c) apart.1) ∙ at)
+      | inr apart ↦ taking before d (omega (arith, below, apart.1)) (sym (set_other clients (next - 1) before (shut_if_slow need c) apart.1) ∙ at)
     ]
 
 -- the next client that is open was looked at
@@ -305,7 +294,7 @@ goes_on need after next old now new events events_now events_new noted noted_now
       taking = subst (AreTaking need next) (sym clients_are) (taking_on need next now.hub.clients c at.2 taking);
       above = λ place above.
           let apart : place ≢ next - 1 = λ (e : place ≡ next - 1). absurd (omega (arith, e, above, at.4)) in
-          ap (λ (cs : List Client). slice_get cs place) clients_are ∙ get_other now.hub.clients (next - 1) place (shut_if_slow need c) apart ∙ so.above place (omega (arith, is.0, above));
+          ap (λ (cs : List Client). slice_get cs place) clients_are ∙ set_other now.hub.clients (next - 1) place (shut_if_slow need c) apart ∙ so.above place (omega (arith, is.0, above));
       same_hub = hub_is ∙ ap (λ (h : Hub). record h { clients = shut_one }) so.same_hub ∙ ap (λ (cs : List Client). record old.hub { clients = cs }) (sym clients_are);
       open_so =
           let now_open : count_by is_open new.hub.clients ≡ count_by is_open shut_one = ap (count_by is_open) clients_are in

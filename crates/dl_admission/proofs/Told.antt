@@ -16,7 +16,7 @@ use Rattle.dl_core.specs.Admission.{log_event, lost_frames}
 use Rattle.dl_admission.specs.Admission.{AreNoted, Entry, call_entry, loss_entries, message_entry}
 use Rattle.dl_admission.specs.Slow.{Slow, slow_close}
 use Rattle.dl_admission.specs.Telling.{IsTaken, TellOf}
-use Rattle.dl_admission.proofs.Added.{all_both}
+use Rattle.dl_lemmas.proofs.Lists.{all_both}
 
 -- the events of entries
 abbrev pub events_of : List Entry → List Event

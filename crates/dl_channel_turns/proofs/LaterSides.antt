@@ -27,7 +27,7 @@ use Rattle.dl_channel_turns.specs.Messages.{Alone, Group, Notes, Serves, ServesG
 use Rattle.dl_channel_turns.specs.State.{Side, Stage, part_of}
 use Rattle.dl_channel_turns.specs.Turns.{Heeds, IsTurn, ServesEach}
 
-later_none : (side : Side) → IsLater side side
+pub later_none : (side : Side) → IsLater side side
 later_none side = record {
   more = [];
   events = adds_each_none side.events;
@@ -39,7 +39,7 @@ later_none side = record {
 same_later : (old new : Side) → new ≡ old → IsLater old new
 same_later old new same = subst (IsLater old) (sym same) (later_none old)
 
-later_both : (old between new : Side) → IsLater old between → IsLater between new → IsLater old new
+pub later_both : (old between new : Side) → IsLater old between → IsLater between new → IsLater old new
 later_both old between new first second = record {
   more = first.more ++ second.more;
   events = adds_each_both old.events between.events new.events first.more second.more first.events second.events;
@@ -53,7 +53,7 @@ later_both old between new first second = record {
 
 -- ---- levels
 
-level_later : (next : LevelChange) (old new : Side) → TellsLevel next old new → IsLater old new
+pub level_later : (next : LevelChange) (old new : Side) → TellsLevel next old new → IsLater old new
 level_later next old new one =
     let level : Event = event.Level next.slot next.level in
     record {

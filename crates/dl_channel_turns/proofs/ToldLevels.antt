@@ -15,6 +15,3 @@ levels_none old new same none = ([], (same, ap (λ (s : Side). owed_change s.cor
 -- only the registry of a core changed
 abbrev pub OnlyRegistry : Core → Core → Type 0
 OnlyRegistry old new = new ≡ record old { registry = new.registry }
-
-pub registry_both : (old between new : Core) → OnlyRegistry old between → OnlyRegistry between new → OnlyRegistry old new
-registry_both old between new one two = two ∙ ap (λ (c : Core). record c { registry = new.registry }) one

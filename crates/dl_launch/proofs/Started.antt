@@ -6,6 +6,7 @@ use Rattle.dl_outside.specs.Outside.{HasRisen, Stays}
 use Rattle.dl_outside.specs.Told.{NetTold}
 use Rattle.dl_outside.specs.declared.client.ClientScript.{ClientScript}
 use Rattle.dl_launch.specs.Launching.{AreStarted, HasRisenBy, Launched, LaunchedFront}
+use Rattle.dl_lemmas.proofs.Options.{if_some_of}
 
 -- ---- which were started
 
@@ -33,9 +34,6 @@ few_started (first ∷ all) started failed are = elim are [
 ]
 
 -- ---- what the net tells
-
-if_some_of : {A : Type 0} → (o : Option A) (x : A) (P : A → Type 0) → o ≡ Some x → IfSome o P → P x
-if_some_of o x P e h = subst (λ v. IfSome v P) e h
 
 stays_on : {A : Type 0} → (old mid new : Option A) → Stays old mid → Stays mid new → Stays old new
 stays_on None mid new a b = tt

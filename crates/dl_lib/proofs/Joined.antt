@@ -6,7 +6,6 @@ use Rattle.std.specs.Option.{option_map}
 use Rattle.std.proofs.lemmas.Bool.{cases_eq}
 use Rattle.std.proofs.lemmas.List.{length-map}
 use Rattle.std.proofs.lemmas.List.Elements.{All-nil, All-cons, All-head, All-tail, All-weaker, All-contains_itself, Contains-append_left, Contains-append_right}
-use Rattle.std.proofs.lemmas.List.Sums.{sum_by-append}
 use Rattle.std.proofs.lemmas.Option.{slice_get-map}
 use Rattle.dl_bytes.specs.declared.conf.AppSpec.{AppSpec}
 use Rattle.dl_injections.specs.declared.view.Entry.{Entry}
@@ -31,6 +30,8 @@ use Rattle.dl_desk.proofs.Places.{changed_keeps, length-changed_at, map-changed_
 use Rattle.dl_lib.specs.Books.{books_of, lost_of}
 use Rattle.dl_lib.specs.Joining.{AreBack, FitFirsts, FitsHandles, join_books, join_firsts, join_writer, sent_of}
 use Rattle.dl_lib.proofs.InOrder.{within}
+use Rattle.dl_losses.proofs.Sums.{counted-append}
+use Rattle.dl_lemmas.proofs.Lists.{head_is, tail_is}
 
 -- ---- what is to be shown
 
@@ -162,9 +163,6 @@ shares-join_books s (b ∷ books) none =
     let rest = shares-join_books (join_writer s b.writer) books (All-tail (λ (c : BookState). c.writer.losses.splits_left ≡ 0) b books none) in
     omega (arith, own, rest)
 
-counted-append : (app : ℕ) (xs ys : List ℕ) → counted_of app (xs ++ ys) ≡ counted_of app xs + counted_of app ys
-counted-append app xs ys = sum_by-append (λ (a : ℕ). cond (a == app) 1 0) xs ys
-
 counted-join_books : (app : ℕ) (s : HandlesState) (books : List BookState) → counted_of app (join_books s books).losses.counted ≡ counted_of app s.losses.counted + lost_of app books
 counted-join_books app s [] = omega arith
 counted-join_books app s (b ∷ books) =
@@ -259,17 +257,11 @@ get_range a zero k below = absurd (omega (arith, below))
 get_range a (suc n) zero below = let same : a ≡ a + 0 = omega arith in ap Some same
 get_range a (suc n) (suc k) below = let same : a + 1 + k ≡ a + suc k = omega arith in get_range (a + 1) n k (omega (arith, below)) ∙ ap Some same
 
-first_same : (m n : ℕ) (ms ns : List ℕ) → m ∷ ms ≡ n ∷ ns → m ≡ n
-first_same m n ms ns e = cc
-
-rest_same : (m n : ℕ) (ms ns : List ℕ) → m ∷ ms ≡ n ∷ ns → ms ≡ ns
-rest_same m n ms ns e = cc
-
 numbers_of-books : (app from : ℕ) (books : List BookState) → numbers books ≡ range_with_len from (length books) → numbers_of app from (map (λ b. b.writer.app) books) ≡ numbers (books_of app books)
 numbers_of-books app from [] numbered = refl
 numbers_of-books app from (b ∷ books) numbered =
-    by_owner (b.writer.app == app) (first_same b.writer.push.number from (numbers books) (range_with_len (from + 1) (length books)) numbered)
-    (numbers_of-books app (from + 1) books (rest_same b.writer.push.number from (numbers books) (range_with_len (from + 1) (length books)) numbered)) where
+    by_owner (b.writer.app == app) (head_is b.writer.push.number from (numbers books) (range_with_len (from + 1) (length books)) numbered)
+    (numbers_of-books app (from + 1) books (tail_is b.writer.push.number from (numbers books) (range_with_len (from + 1) (length books)) numbered)) where
       by_owner : (own : Bool) → b.writer.push.number ≡ from → numbers_of app (from + 1) (map (λ b. b.writer.app) books) ≡ numbers (books_of app books)
           → (if own then from ∷ numbers_of app (from + 1) (map (λ b. b.writer.app) books) else numbers_of app (from + 1) (map (λ b. b.writer.app) books)) ≡ numbers (cond own (b ∷ books_of app books) (books_of app books))
       by_owner true is rest = ap (λ (n : ℕ). n ∷ numbers_of app (from + 1) (map (λ b. b.writer.app) books)) (sym is) ∙ ap (λ ns. b.writer.push.number ∷ ns) rest

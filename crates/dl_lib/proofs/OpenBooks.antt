@@ -14,6 +14,7 @@ use Rattle.dl_desk.specs.Made.{IsAppOf, IsLater, IsMadeWith, MakesWriter}
 use Rattle.dl_desk.specs.State.{DeskState}
 use Rattle.dl_lib.specs.Making.{AreInOrder, AreMadeWith}
 use Rattle.dl_lib.proofs.InOrder.{none_above, range_more}
+use Rattle.dl_lemmas.proofs.Lists.{head_is, tail_is}
 
 -- ---- writers of a desk, as it goes on
 
@@ -105,18 +106,12 @@ made_with desk books count made numbered = record {
 
 -- ---- books that came in order
 
-first_is : (m n : ℕ) (ms ns : List ℕ) → m ∷ ms ≡ n ∷ ns → m ≡ n
-first_is m n ms ns same = cc
-
-rest_is : (m n : ℕ) (ms ns : List ℕ) → m ∷ ms ≡ n ∷ ns → ms ≡ ns
-rest_is m n ms ns same = cc
-
 -- in books that are numbered from here on none has a lower number
 from_here : (a : ℕ) (books : List BookState) → numbers books ≡ range_with_len a (length books) → All (λ b. a ≤ b.writer.push.number) books
 from_here a [] numbered = All-nil (λ (b : BookState). a ≤ b.writer.push.number)
 from_here a (b ∷ books) numbered =
-    let first = first_is b.writer.push.number a (numbers books) (range_with_len (a + 1) (length books)) numbered in
-    let rest = from_here (a + 1) books (rest_is b.writer.push.number a (numbers books) (range_with_len (a + 1) (length books)) numbered) in
+    let first = head_is b.writer.push.number a (numbers books) (range_with_len (a + 1) (length books)) numbered in
+    let rest = from_here (a + 1) books (tail_is b.writer.push.number a (numbers books) (range_with_len (a + 1) (length books)) numbered) in
     All-cons (λ (b : BookState). a ≤ b.writer.push.number) b books (omega (arith, first))
     (All-weaker (λ (b : BookState). a + 1 ≤ b.writer.push.number) (λ (b : BookState). a ≤ b.writer.push.number) (λ b high. omega (arith, high)) books rest)
 
@@ -143,10 +138,10 @@ same_books a [] [] numbered numbered_too long there = refl
 same_books a [] (y ∷ ys) numbered numbered_too long there = absurd (omega (arith, long))
 same_books a (x ∷ xs) [] numbered numbered_too long there = absurd (omega (arith, long))
 same_books a (x ∷ xs) (y ∷ ys) numbered numbered_too long there =
-    let x_is = first_is x.writer.push.number a (numbers xs) (range_with_len (a + 1) (length xs)) numbered in
-    let y_is = first_is y.writer.push.number a (numbers ys) (range_with_len (a + 1) (length ys)) numbered_too in
-    let xs_numbered = rest_is x.writer.push.number a (numbers xs) (range_with_len (a + 1) (length xs)) numbered in
-    let ys_numbered = rest_is y.writer.push.number a (numbers ys) (range_with_len (a + 1) (length ys)) numbered_too in
+    let x_is = head_is x.writer.push.number a (numbers xs) (range_with_len (a + 1) (length xs)) numbered in
+    let y_is = head_is y.writer.push.number a (numbers ys) (range_with_len (a + 1) (length ys)) numbered_too in
+    let xs_numbered = tail_is x.writer.push.number a (numbers xs) (range_with_len (a + 1) (length xs)) numbered in
+    let ys_numbered = tail_is y.writer.push.number a (numbers ys) (range_with_len (a + 1) (length ys)) numbered_too in
     let rest = same_books (a + 1) xs ys xs_numbered ys_numbered (omega (arith, long))
     (others a y ys xs y_is (from_here (a + 1) xs xs_numbered) (All-tail (Contains (y ∷ ys)) x xs there)) in
     let first : x ≡ y = elim (Contains-append_cases (y ∷ []) ys x (All-head (Contains (y ∷ ys)) x xs there)) [

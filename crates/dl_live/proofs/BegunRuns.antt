@@ -1,6 +1,6 @@
 -- From what the words begin to what the program comes to.
 use Rattle.std.proofs.Common.{◌≡◌, ◌≢◌, ℕ, ◌+◌, ◌<◌, List, [], ◌∷◌, ◌++◌, length, map, Option, Some, None, refl, sym, ap, subst, ◌∙◌}
-use Rattle.std.specs.Prelude.{codes, IfOk, IfSome, IsOkAnd, Result, Ok, Err}
+use Rattle.std.specs.Prelude.{codes, IfOk, IsOkAnd, Result, Ok, Err}
 use Rattle.std.specs.FinMap as entries
 use Rattle.std.specs.List.{AllByRecursion, flat_map}
 use Rattle.std.proofs.lemmas.List.{length-append}
@@ -42,9 +42,7 @@ use Rattle.dl_live.specs.Folder.{ChangesOwnFiles, IsTraceFile}
 use Rattle.dl_live.specs.Performing.{Fails, LeavesOthers, Performs, status_of}
 use Rattle.dl_live.specs.Program.{ChangesNoOther, Outcome, no_links}
 use Rattle.dl_live.specs.Told.{Told}
-
-some_of : {A : Type 0} (o : Option A) (P : A → Type 0) (x : A) → o ≡ Some x → IfSome o P → P x
-some_of o P x is holds = subst (λ (found : Option _). IfSome found P) is holds
+use Rattle.dl_lemmas.proofs.Options.{if_some_is}
 
 -- ---- a run that does not begin
 
@@ -147,10 +145,10 @@ begun_changes said asked begun old between new is_asked start changes other is_o
       by : (o : Option Files) → old.files ≡ o → ChangesOwnFiles asked o new.files
       by None is = tt
       by (Some was) is =
-          let said = some_of old.files (λ files. AreSaid asked files begun) was is start.said in
+          let said = if_some_is old.files (λ files. AreSaid asked files begun) was is start.said in
           and_filters asked begun was changes.0 new.files said
           (own_files asked begun was begun.trace between.files changes.0 said (subst (λ (o : Option Files). IsBegun begun.conf o begun.trace) is start.trace)
-          (some_of old.files (λ files. between.files ≡ Some files) was is start.quiet.unchanged.files) changes.1)
+          (if_some_is old.files (λ files. between.files ≡ Some files) was is start.quiet.unchanged.files) changes.1)
           changes.2
 
 -- ---- a run that began

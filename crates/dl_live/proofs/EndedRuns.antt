@@ -1,6 +1,6 @@
 -- How a run ends that came to an account, by what its report's writing left.
 use Rattle.std.proofs.Common.{◌≡◌, ◌≢◌, inl, inr, ℕ, ◌<◌, ◌≤◌, Bool, true, false, List, [], ◌∷◌, Option, Some, None, refl, sym, ap, subst, ◌∙◌, arith}
-use Rattle.std.specs.Prelude.{nat_lt, ◌||◌}
+use Rattle.std.specs.Prelude.{nat_lt}
 use Rattle.std.specs.List.{AllByRecursion}
 use Rattle.std.proofs.lemmas.Bool.{ltb-false, ltb-true}
 use Rattle.dl_bytes.specs.declared.outcome.TraceEnd.{TraceEnd}
@@ -17,6 +17,7 @@ use Rattle.dl_storage.specs.declared.ends.StoreEnd.{StoreEnd}
 use Rattle.dl_live.specs.declared.beginning.Begun.{Begun}
 use Rattle.dl_live.specs.Ends.{EndsStored, KnownOf, report}
 use Rattle.dl_live.specs.Told.{Told}
+use Rattle.dl_lemmas.proofs.Bools.{or_left as left, or_right as right}
 
 -- a count tells whether it rose
 pub counted : (before now : ℕ) (failed : Bool) → before ≤ now → failed ≡ nat_lt before now → (failed ≡ true → HasRisen before now) × (failed ≡ false → now ≡ before)
@@ -32,14 +33,6 @@ goes_on None failed spent wanted = refl
 goes_on (Some end.Failed) failed spent wanted = absurd (failed refl)
 goes_on (Some end.Spent) failed spent wanted = absurd (spent refl)
 goes_on (Some end.NoMemory) failed spent wanted = absurd (wanted refl)
-
-left : (a b : Bool) → (a || b) ≡ false → a ≡ false
-left false b is = refl
-left true b is = is
-
-right : (a b : Bool) → (a || b) ≡ false → b ≡ false
-right false b is = is
-right true b is = absurd (cc is)
 
 none_of : (ended : Option TraceEnd) → has_failed ended ≡ false → is_spent ended ≡ false → has_no_memory ended ≡ false → ended ≡ None
 none_of None failed spent wanted = refl

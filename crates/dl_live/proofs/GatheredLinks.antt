@@ -1,5 +1,5 @@
 -- How the wait for clients ends.
-use Rattle.std.proofs.Common.{◌≡◌, ◌⊎◌, inl, inr, ℕ, zero, suc, ◌≤◌, true, false, drop, length, List, [], ◌∷◌, Option, Some, None, sym, subst, ◌∙◌, arith}
+use Rattle.std.proofs.Common.{◌≡◌, ◌⊎◌, inl, inr, ℕ, zero, suc, ◌≤◌, true, false, drop, length, List, [], ◌∷◌, Option, Some, None, sym, ◌∙◌, arith}
 use Rattle.std.specs.Prelude.{IfSome}
 use Rattle.dl_loop.specs.Coming.{HaveCome, TellsAccept}
 use Rattle.dl_loop.specs.Later.{GoesRound}
@@ -8,6 +8,7 @@ use Rattle.dl_loop.specs.State.{DaemonState}
 use Rattle.dl_loop.specs.declared.round.Round.{Round}
 use Rattle.dl_outside.specs.Told.{NetTold}
 use Rattle.dl_live.specs.Playing.{Gathers}
+use Rattle.dl_lemmas.proofs.Options.{if_some_is}
 
 dropped_all : {A : Type 0} (n : ℕ) (xs : List A) → drop n xs ≡ [] → length xs ≤ n
 dropped_all zero [] none = omega arith
@@ -15,16 +16,13 @@ dropped_all zero (x ∷ xs) none = absurd cc
 dropped_all (suc n) [] none = omega arith
 dropped_all (suc n) (x ∷ xs) none = let rest = dropped_all n xs none in omega (arith, rest)
 
-some_of : {A : Type 0} (o : Option A) (P : A → Type 0) (x : A) → o ≡ Some x → IfSome o P → P x
-some_of o P x is holds = subst (λ (found : Option _). IfSome found P) is holds
-
 -- where nobody waits any more, all came that waited
 pub all_came : {L : Type 0} (came : ℕ) (net between : NetTold L) (first was : DaemonState L) → HaveCome came net between first was
     → IfSome between.waiting (λ links. links ≡ []) → IfSome net.waiting (λ links. length links ≤ came)
 all_came {L} came net between first was come nobody = by net.waiting come.waiting where
   by : (told : Option (List L)) → IfSome told (λ links. (came ≤ length links) × (between.waiting ≡ Some (drop came links))) → IfSome told (λ links. length links ≤ came)
   by None so = tt
-  by (Some links) so = dropped_all came links (some_of between.waiting (λ ls. ls ≡ []) (drop came links) so.1 nobody)
+  by (Some links) so = dropped_all came links (if_some_is between.waiting (λ ls. ls ≡ []) (drop came links) so.1 nobody)
 
 -- a round whose accept failed or wanted memory is the last one
 pub last_round : {L : Type 0} (launched : ℕ) (answer : Round) (net last : NetTold L) (first now : Scene L) → GoesRound net last first now → (came : ℕ) → HaveCome came net last first.daemon now.daemon

@@ -1,5 +1,5 @@
 -- What is known of a run that was played when its report is written.
-use Rattle.std.proofs.Common.{◌≡◌, inl, inr, Bool, true, false, ◌+◌, ◌-◌, ◌^◌, ◌≤◌, ◌⊎◌, min, List, [], ◌++◌, length, Option, Some, None, refl, sym, ap, subst, ◌∙◌, arith}
+use Rattle.std.proofs.Common.{◌≡◌, inl, inr, Bool, true, false, ◌+◌, ◌-◌, ◌^◌, ◌≤◌, min, List, [], ◌++◌, length, Option, Some, None, refl, sym, ap, subst, ◌∙◌, arith}
 use Rattle.std.specs.Prelude.{IfSome, ◌||◌, not}
 use Rattle.std.specs.List.{range_with_len}
 use Rattle.std.proofs.lemmas.Bool.Decides.{eqb_tells}
@@ -37,11 +37,8 @@ use Rattle.dl_live.specs.Told.{told}
 use Rattle.dl_live.proofs.LaunchedNets.{all_launched, known_before, not_launched}
 use Rattle.dl_live.proofs.EndedRuns.{ended as ended_so}
 use Rattle.dl_live.proofs.Performed as performed
-use Rattle.dl_live.proofs.StoredRuns.{rises_on, risen_since}
-
-either : (a b : Bool) → (a || b) ≡ true → (a ≡ true) ⊎ (b ≡ true)
-either true b is = inl refl
-either false b is = inr is
+use Rattle.dl_lemmas.proofs.Bools.{either, neither}
+use Rattle.dl_admission.proofs.KeptTraces.{risen_later, risen_before}
 
 no_more : {b : Bool} → b ≡ true → b ≡ false → ⊥
 no_more found lacks = let both : true ≡ false = sym found ∙ lacks in cc both
@@ -53,10 +50,6 @@ by_cause None f = refl
 by_cause (Some end.Failed) f = refl
 by_cause (Some end.Spent) f = refl
 by_cause (Some end.NoMemory) f = refl
-
-neither : (a b : Bool) → (a || b) ≡ false → (a ≡ false) × (b ≡ false)
-neither true b is = absurd (cc is)
-neither false b is = (refl, is)
 
 module _ {L : Type 0} (link_told : L → LinkTold) (begun : Begun) (p : Players L) (wanted failed : Bool) (before net net_now : NetTold L) (first folder folder_now : FolderTold)
     (account : AccountState) (links : Links L) (runnable : IsRunnable begun.scenario) (are : ArePlayersOf begun p) (begins : IsBegun begun.conf first.files begun.trace)
@@ -195,10 +188,10 @@ module _ {L : Type 0} (link_told : L → LinkTold) (begun : Begun) (p : Players 
     folder_by : any_folder ≡ true → HasRisen first.faults last.faults
     folder_by some = elim (either (has_failed ended || folder_failed) (some_end has_failed ends) some) [
       | inl run ↦ elim (either (has_failed ended) folder_failed run) [
-        | inl trace ↦ rises_on first.faults folder_now.faults last.faults (trace_rose (has_failed_so trace)) since
-        | inr other ↦ rises_on first.faults folder_now.faults last.faults (folder_so other) since
+        | inl trace ↦ risen_later first.faults folder_now.faults last.faults (trace_rose (has_failed_so trace)) since
+        | inr other ↦ risen_later first.faults folder_now.faults last.faults (folder_so other) since
       ]
-      | inr filter ↦ risen_since first.faults folder_now.faults last.faults never_fell (filter_so filter)
+      | inr filter ↦ risen_before first.faults folder_now.faults last.faults never_fell (filter_so filter)
     ]
 
     folder_none : any_folder ≡ false → last.faults ≡ first.faults

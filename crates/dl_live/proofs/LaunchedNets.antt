@@ -10,6 +10,7 @@ use Rattle.dl_outside.specs.Told.{NetTold}
 use Rattle.dl_outside.specs.declared.client.ClientScript.{ClientScript}
 use Rattle.dl_script_lines.specs.declared.scenario.ScenarioLine.{ScenarioLine}
 use Rattle.dl_live.specs.Clients.{IsHeard, IsNetAfter}
+use Rattle.dl_lemmas.proofs.Options.{if_some_is}
 
 -- those that were started and those at which the net failed are all
 pub as_many_tried : (all started : List ClientScript) (failed : ℕ) → AreStarted all started failed → length started + failed ≡ length all
@@ -33,18 +34,15 @@ all_started (script ∷ scripts) started failed are none = elim are [
   | inr refused ↦ absurd (let one = refused.1 in omega (arith, one, none))
 ]
 
-some_of : {A : Type 0} (o : Option A) (P : A → Type 0) (x : A) → o ≡ Some x → IfSome o P → P x
-some_of o P x is holds = subst (λ (found : Option _). IfSome found P) is holds
-
 -- what stays, and stays again, stays
 pub stays_both : {A : Type 0} (one two three : Option A) → Stays one two → Stays two three → Stays one three
 stays_both None two three first second = tt
-stays_both (Some x) two three first second = some_of two (λ told. three ≡ Some told) x first second
+stays_both (Some x) two three first second = if_some_is two (λ told. three ≡ Some told) x first second
 
 -- what is said of what an object tells, and of what it told before
 pub known_before : {A : Type 0} (old mid : Option A) (P : A → Type 0) → Stays old mid → IfSome mid P → IfSome old P
 known_before None mid P stays holds = tt
-known_before (Some x) mid P stays holds = some_of mid P x stays holds
+known_before (Some x) mid P stays holds = if_some_is mid P x stays holds
 
 -- ---- the net of a run
 
@@ -54,13 +52,13 @@ module _ {L : Type 0} (port : ℕ) (lines : List ScenarioLine) (old heard launch
   listens_now = by_told old.listens_on listens.listens where
     by_told : (told : Option (Option ℕ)) → IfSome told (λ _. heard.listens_on ≡ Some (Some port)) → IfSome told (λ _. now.listens_on ≡ Some (Some port))
     by_told None so = tt
-    by_told (Some before) so = some_of heard.listens_on (λ at. now.listens_on ≡ Some at) (Some port) so (stays_both heard.listens_on launched.listens_on now.listens_on launches.listens later.listens)
+    by_told (Some before) so = if_some_is heard.listens_on (λ at. now.listens_on ≡ Some at) (Some port) so (stays_both heard.listens_on launched.listens_on now.listens_on launches.listens later.listens)
 
   launched_now : IfSome old.launched (λ before. now.launched ≡ Some (before ++ launches.started))
   launched_now = known_before old.launched heard.launched (λ before. now.launched ≡ Some (before ++ launches.started)) listens.launched (by_told heard.launched launches.launched) where
     by_told : (told : Option (List ClientScript)) → IfSome told (λ before. launched.launched ≡ Some (before ++ launches.started)) → IfSome told (λ before. now.launched ≡ Some (before ++ launches.started))
     by_told None so = tt
-    by_told (Some before) so = some_of launched.launched (λ all. now.launched ≡ Some all) (before ++ launches.started) so later.launched
+    by_told (Some before) so = if_some_is launched.launched (λ all. now.launched ≡ Some all) (before ++ launches.started) so later.launched
 
   faults_rose : min (old.faults + launches.failed) (2 ^ 64 - 1) ≤ now.faults
   faults_rose = let rose = launches.faults.rose in let more = later.faults in let same = listens.faults in omega (arith, rose, more, same)
@@ -77,7 +75,7 @@ module _ {L : Type 0} (port : ℕ) (lines : List ScenarioLine) (old heard launch
     by_told : (told : Option (List L)) → IfSome told (λ before. (links : List L) × (length links ≡ count) × (launched.waiting ≡ Some (before ++ links))) → IfSome told (AreTaken came)
     by_told None so = tt
     by_told (Some before) so =
-        let now_so = some_of launched.waiting (λ links. (came ≤ length links) × (now.waiting ≡ Some (drop came links))) (before ++ so.0) so.2 taken in
+        let now_so = if_some_is launched.waiting (λ links. (came ≤ length links) × (now.waiting ≡ Some (drop came links))) (before ++ so.0) so.2 taken in
         (so.0, so.1 ∙ launches.counted, now_so.0, now_so.1)
 
   -- so the net is as a run leaves it

@@ -48,6 +48,8 @@ use Rattle.dl_live.specs.Told.{told}
 use Rattle.dl_live.proofs.ComeTo as come
 use Rattle.dl_live.proofs.LaunchedNets.{known_before, net_after}
 use Rattle.dl_live.proofs.PlayedDaemons as daemons
+use Rattle.dl_lemmas.proofs.Options.{if_some_is}
+use Rattle.dl_lemmas.proofs.Lists.{not_empty}
 
 -- a kept trace among those of one directory
 kept_too : (first now : Option Trace) (kept : Trace) → option_map (λ (t : Trace). t.directory) now ≡ option_map (λ (t : Trace). t.directory) first → first ≡ Some kept → (there : Trace) × (now ≡ Some there)
@@ -58,15 +60,9 @@ none_too : (first now : Option Trace) → option_map (λ (t : Trace). t.director
 none_too first None same is = refl
 none_too first (Some there) same is = absurd (let both : Some there.directory ≡ None = same ∙ ap (option_map (λ (t : Trace). t.directory)) is in cc)
 
-some_of : {A : Type 0} (o : Option A) (P : A → Type 0) (x : A) → o ≡ Some x → IfSome o P → P x
-some_of o P x is holds = subst (λ (found : Option _). IfSome found P) is holds
-
 of_any : {A : Type 0} (o : Option A) (P : A → Type 0) → ((x : A) → P x) → IfSome o P
 of_any None P all = tt
 of_any (Some x) P all = all x
-
-no_name : (directory : List ℕ) → directory ≡ [] → 0 < length directory → ⊥
-no_name directory none some = let zero = ap length none in absurd (omega (arith, zero, some))
 
 module _ {L : Type 0} (link_told : L → LinkTold) (begun : Begun) (p : Players L) (wanted failed : Bool) (net net_now : NetTold L) (folder folder_now : FolderTold)
     (account : AccountState) (links : Links L) (runnable : IsRunnable begun.scenario) (are : ArePlayersOf begun p) (first : FolderTold) (begins : IsBegun begun.conf first.files begun.trace)
@@ -133,7 +129,7 @@ module _ {L : Type 0} (link_told : L → LinkTold) (begun : Begun) (p : Players 
   untraced unnamed = by begun.trace refl begins where
     by : (kept : Option Trace) → begun.trace ≡ kept → IsBegun begun.conf first.files kept → account.outcome.trace ≡ no_trace
     by None is so = been.stops.stopped.trace ∙ ap trace_told (none_too p.daemon.core.trace been.stops.stopped.last_core.trace all_left.same (first_trace ∙ is))
-    by (Some kept) is so = absurd (no_name begun.conf.directory unnamed so.0)
+    by (Some kept) is so = absurd (not_empty begun.conf.directory unnamed so.0)
 
   -- ---- the clients
 
@@ -217,8 +213,8 @@ module _ {L : Type 0} (link_told : L → LinkTold) (begun : Begun) (p : Players 
 
     last_holds : (files : Files) → first.files ≡ Some files → HoldsTrace run account.events been.stops.stopped.last_core folder_now
     last_holds files is =
-        let told : folder.files ≡ Some files = some_of first.files (λ (all : Files). folder.files ≡ Some all) files is quiet.unchanged.files in
-        let stood : HasFiles begun.conf.directory files before_run.stood = some_of first.files (λ (all : Files). HasFiles begun.conf.directory all before_run.stood) files is stood_so in
+        let told : folder.files ≡ Some files = if_some_is first.files (λ (all : Files). folder.files ≡ Some all) files is quiet.unchanged.files in
+        let stood : HasFiles begun.conf.directory files before_run.stood = if_some_is first.files (λ (all : Files). HasFiles begun.conf.directory all before_run.stood) files is stood_so in
         let holds : HoldsFiles run (stored_by run []) folder.files = subst (λ (o : Option Files). HoldsFiles run (stored_by run []) o) (sym told) stood in
         let begin : HoldsTrace run [] p.daemon.core folder = of_any p.daemon.core.trace (λ (t : Trace). t.state.end ≡ None → HoldsFiles run (stored_by run []) folder.files) (λ t goes_on. holds) in
         stops.holds (all_later.holds run gives_before (subst (λ (es : List Event). HoldsTrace run es p.daemon.core folder) (sym no_events) begin))
@@ -226,14 +222,14 @@ module _ {L : Type 0} (link_told : L → LinkTold) (begun : Begun) (p : Players 
     holds_now : (told : Option Files) → first.files ≡ told → account.outcome.trace.end ≡ None → IfSome told (λ files. HoldsFiles run (stored_by run account.events) folder_now.files)
     holds_now None is goes_on = tt
     holds_now (Some files) is goes_on =
-        some_of been.stops.stopped.last_core.trace (λ (t : Trace). t.state.end ≡ None → HoldsFiles run (stored_by run account.events) folder_now.files) last_kept.0 last_kept.1
+        if_some_is been.stops.stopped.last_core.trace (λ (t : Trace). t.state.end ≡ None → HoldsFiles run (stored_by run account.events) folder_now.files) last_kept.0 last_kept.1
         (last_holds files is) (ap (λ (s : TraceState). s.end) last_state ∙ goes_on)
 
     pub is_traced : IsTraced begun.filters run account.events account.outcome.trace first folder_now
     is_traced = record {
       kept = last_kept.0;
       state = last_state;
-      after = some_of been.stops.stopped.last_core.trace (IsTraceAfter run (stored_by run account.events)) last_kept.0 last_kept.1 stops.after.trace;
+      after = if_some_is been.stops.stopped.last_core.trace (IsTraceAfter run (stored_by run account.events)) last_kept.0 last_kept.1 stops.after.trace;
       stood = stood_so;
       holds = λ goes_on are. holds_now first.files refl goes_on;
     }
@@ -241,7 +237,7 @@ module _ {L : Type 0} (link_told : L → LinkTold) (begun : Begun) (p : Players 
   traced : IsQuiet first folder → 0 < length begun.conf.directory → IsTraced begun.filters run account.events account.outcome.trace first folder_now
   traced quiet named = by begun.trace refl begins where
     by : (kept : Option Trace) → begun.trace ≡ kept → IsBegun begun.conf first.files kept → IsTraced begun.filters run account.events account.outcome.trace first folder_now
-    by None is so = absurd (no_name begun.conf.directory so named)
+    by None is so = absurd (not_empty begun.conf.directory so named)
     by (Some kept) is so = is_traced quiet kept is
 
   -- ---- all of it

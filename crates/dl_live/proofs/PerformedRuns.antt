@@ -41,7 +41,8 @@ use Rattle.dl_live.proofs.EndedRuns as ended
 use Rattle.dl_live.proofs.KnownRuns.{ends_so}
 use Rattle.dl_live.proofs.Performed.{come_to}
 use Rattle.dl_live.proofs.Starting.{few}
-use Rattle.dl_live.proofs.StoredRuns.{all_causes, all_filtered, all_kept, kept_before, risen_since, stored_so}
+use Rattle.dl_live.proofs.StoredRuns.{all_causes, all_filtered, all_kept, kept_before, stored_so}
+use Rattle.dl_admission.proofs.KeptTraces.{risen_before}
 
 -- a folder that tells nothing of its files owes nothing
 changes_untold : (kept : Option Trace) (told_now : Option Files) → folders.ChangesOwnFiles kept None told_now
@@ -141,7 +142,7 @@ module _ {L : Type 0} (link_told : L → LinkTold) (begun : Begun) (p : Players 
               stored_so link_told begun (told first before out) (told folder_now net_now out_now) (told last net_now out_now) account links refl filters_so causes.0 come_so,
               (
                 all_filtered begun account first.files folder_now.files last.files folder_now.faults last.faults begun.filters ends.filters kept is.0,
-                λ some. risen_since first.faults folder_now.faults last.faults come_so.played_out.folder_after.never_falls (causes.1 some),
+                λ some. risen_before first.faults folder_now.faults last.faults come_so.played_out.folder_after.never_falls (causes.1 some),
               ),
               ends_so link_told begun p wanted failed before net net_now first folder folder_now account links runnable are begins quiet heard been ends.filters last causes.0 causes.1 causes.2 out out_now
                   net_failed folder_failed net_counts.0 net_counts.1 (λ rose. subst (λ (n : ℕ). HasRisen n folder_now.faults) quiet.well (folder_counts.0 rose))

@@ -1,5 +1,5 @@
 -- A daemon from its making to its stop, step by step.
-use Rattle.std.proofs.Common.{◌≡◌, Bool, true, false, ℕ, ◌≤◌, List, ◌++◌, length, refl, sym, ap, subst, ◌∙◌}
+use Rattle.std.proofs.Common.{◌≡◌, Bool, ℕ, ◌≤◌, List, ◌++◌, length, sym, ap, subst, ◌∙◌}
 use Rattle.std.specs.Prelude.{All, ◌==◌, ◌||◌, not}
 use Rattle.dl_crew.specs.Plays.{ArePairs, CanPlay, HasPlayed}
 use Rattle.dl_lib.specs.Making.{AreMadeWith, IsMissing}
@@ -17,10 +17,7 @@ use Rattle.dl_live.specs.declared.gathering.Gathered.{Gathered}
 use Rattle.dl_live.specs.declared.players.Players.{Players}
 use Rattle.dl_live.specs.Playing.{CanBePlayed, Gathers, HasBeenPlayed, HasSetOut, Rounds}
 use Rattle.dl_live.proofs.Starting.{few, few_books, made, none_missing, room, whole}
-
-neither : (a b : Bool) → (a || b) ≡ false → a ≡ false
-neither true b is = absurd (cc is)
-neither false b is = refl
+use Rattle.dl_lemmas.proofs.Bools.{or_left}
 
 module _ {L : Type 0} (first now : Players L) (count : ℕ) (net net_now : NetTold L) (folder folder_now : FolderTold) (can : CanBePlayed first)
     (out : HasSetOut first now count net net_now folder folder_now) where
@@ -76,5 +73,5 @@ module _ {L : Type 0} (first now : Players L) (count : ℕ) (net net_now : NetTo
           played = played_first;
           stops = stops;
           failed_so = failed_so ∙ ap (λ (scripts : List ClientScript). not (count == length scripts) || got.failed) (clients_are ∙ ap (λ (p : Players L). p.scripts) out.rest);
-          wanted_so = λ none. neither got.wanted late (sym wanted_so ∙ none);
+          wanted_so = λ none. or_left got.wanted late (sym wanted_so ∙ none);
         })

@@ -38,14 +38,10 @@ use Rattle.dl_live.specs.Folder.{IsFolderAfter}
 use Rattle.dl_live.specs.Performing.{LeavesOthers}
 use Rattle.dl_live.specs.Stored.{AreKept, IsFiltered}
 use Rattle.dl_live.specs.Told.{Told, told}
+use Rattle.dl_lemmas.proofs.Lists.{same_front}
+use Rattle.dl_admission.proofs.KeptTraces.{risen_later, risen_before}
 
 -- ---- names of files tell their directories
-
-same_front : (xs ys us vs : List ℕ) → length us ≡ length vs → xs ++ us ≡ ys ++ vs → xs ≡ ys
-same_front [] [] us vs len is = refl
-same_front [] (y ∷ ys) us vs len is = absurd (omega (arith, len, ap length is, length-append ys vs))
-same_front (x ∷ xs) [] us vs len is = absurd (omega (arith, len, ap length is, length-append xs us))
-same_front (x ∷ xs) (y ∷ ys) us vs len is = cc (same_front xs ys us vs len cc, is)
 
 -- what stands behind the directory in a trace file's name
 abbrev tail : ℕ → List ℕ
@@ -107,9 +103,6 @@ held filters run frames settled last (Some files) changes holds are = still_held
 
 -- ---- what a run is come to
 
-pub rises_on : (a b c : ℕ) → HasRisen a b → b ≤ c → HasRisen a c
-rises_on a b c risen later = let up = risen.1 in let on = risen.0 in (omega (arith, on, later), omega (arith, up, later))
-
 -- a run that was played is come to the same, where only files of its filters changed since, and the folder's count of faults did not fall
 pub stored_so : {L : Type 0} (link_told : L → LinkTold) (begun : Begun) (old settled last : Told L) (account : AccountState) (links : Links L) → last.net ≡ settled.net
     → ChangesFiltersFiles begun.filters settled.folder.files last.folder.files → settled.folder.faults ≤ last.folder.faults
@@ -156,9 +149,6 @@ one_cause before now (Some Failed) cause = (cause.0, λ bad. cause, λ good. abs
 one_cause before now (Some Spent) cause = (omega (arith, cause), λ bad. absurd (cc bad), λ good. cause)
 one_cause before now (Some NoMemory) cause = (omega (arith, cause), λ bad. absurd (cc bad), λ good. cause)
 
-pub risen_since : (a b c : ℕ) → a ≤ b → HasRisen b c → HasRisen a c
-risen_since a b c earlier risen = let up = risen.1 in let on = risen.0 in (omega (arith, on, earlier), omega (arith, up, earlier))
-
 -- the folder's count of faults rose where it failed a filter, and stands where it failed none
 pub all_causes : (ecu : List ℕ) (records : List (List Record)) (events : List Event) (told told_now : Option Files) (before now : ℕ) (filters : List Filter) (ends : List StoreEnd)
     → AreStored ecu records events told told_now before now filters ends
@@ -172,8 +162,8 @@ all_causes ecu records events told told_now before now (filter ∷ filters) (end
           → (before ≤ are.1.0) × (has_failed end.end ≡ true → HasRisen before are.1.0) × (has_failed end.end ≡ false → are.1.0 ≡ before)
           → (are.1.0 ≤ now) × (some_end has_failed ends ≡ true → HasRisen are.1.0 now) × (some_end has_failed ends ≡ false → now ≡ are.1.0)
           → (before ≤ now) × ((t || some_end has_failed ends) ≡ true → HasRisen before now) × ((t || some_end has_failed ends) ≡ false → now ≡ before)
-      by_test true is first rest = (omega (arith, first.0, rest.0), λ bad. rises_on before are.1.0 now (first.1 is) rest.0, λ good. absurd (cc good))
-      by_test false is first rest = (omega (arith, first.0, rest.0), λ bad. risen_since before are.1.0 now first.0 (rest.1 bad), λ good. rest.2 good ∙ first.2 is)
+      by_test true is first rest = (omega (arith, first.0, rest.0), λ bad. risen_later before are.1.0 now (first.1 is) rest.0, λ good. absurd (cc good))
+      by_test false is first rest = (omega (arith, first.0, rest.0), λ bad. risen_before before are.1.0 now first.0 (rest.1 bad), λ good. rest.2 good ∙ first.2 is)
 all_causes ecu records events told told_now before now [] (end ∷ ends) are = absurd are
 all_causes ecu records events told told_now before now (filter ∷ filters) [] are = absurd are
 

@@ -20,6 +20,7 @@ use Rattle.dl_lib.specs.Books.{books_of}
 use Rattle.dl_lib.specs.Known.{IsAllOf, taken_of}
 use Rattle.dl_lib.specs.Settled.{IsSettled}
 use Rattle.dl_lib.specs.State.{AccountState}
+use Rattle.dl_lemmas.proofs.Lists.{head_is, tail_is}
 
 -- ---- what holds of the items of each number holds of all
 
@@ -65,20 +66,14 @@ record IsAtPlace (first : ℕ) (records : List (List Record)) (b : BookState) : 
   pub from : first ≤ b.writer.push.number
   pub at : slice_get records (b.writer.push.number - first) ≡ Some b.records
 
-first_is : (m n : ℕ) (ms ns : List ℕ) → m ∷ ms ≡ n ∷ ns → m ≡ n
-first_is m n ms ns same = cc
-
-rest_is : (m n : ℕ) (ms ns : List ℕ) → m ∷ ms ≡ n ∷ ns → ms ≡ ns
-rest_is m n ms ns same = cc
-
 abbrev record_lists : List BookState → List (List Record)
 record_lists books = map (λ (b : BookState). b.records) books
 
 at_places : (first : ℕ) (books : List BookState) → numbers books ≡ range_with_len first (length books) → All (IsAtPlace first (record_lists books)) books
 at_places first [] are = All-nil (IsAtPlace first [])
 at_places first (b ∷ books) are =
-    let here = first_is b.writer.push.number first (numbers books) (range_with_len (first + 1) (length books)) are in
-    let later = at_places (first + 1) books (rest_is b.writer.push.number first (numbers books) (range_with_len (first + 1) (length books)) are) in
+    let here = head_is b.writer.push.number first (numbers books) (range_with_len (first + 1) (length books)) are in
+    let later = at_places (first + 1) books (tail_is b.writer.push.number first (numbers books) (range_with_len (first + 1) (length books)) are) in
     let zero_is : b.writer.push.number - first ≡ 0 = omega (arith, here) in
     All-cons (IsAtPlace first (b.records ∷ record_lists books)) b books
     (record { from = omega (arith, here); at = ap (slice_get (b.records ∷ record_lists books)) zero_is })
@@ -95,15 +90,15 @@ apart_from : (n from : ℕ) (records : List Record) (rest : List Record) → map
     → n ≡ from + length records → find (λ (r : Record). eqb r.item.call n) (records ++ rest) ≡ find (λ (r : Record). eqb r.item.call n) rest
 apart_from n from [] rest are is = refl
 apart_from n from (r ∷ records) rest are is =
-    let here = first_is r.item.call from (map (λ (r : Record). r.item.call) (records ++ rest)) (range_with_len (from + 1) (length (records ++ rest))) are in
+    let here = head_is r.item.call from (map (λ (r : Record). r.item.call) (records ++ rest)) (range_with_len (from + 1) (length (records ++ rest))) are in
     let apart : eqb r.item.call n ≡ false = ne_eqb r.item.call n (λ same. omega (arith, same, here, is)) in
-    rw apart (apart_from n (from + 1) records rest (rest_is r.item.call from (map (λ (r : Record). r.item.call) (records ++ rest)) (range_with_len (from + 1) (length (records ++ rest))) are) (omega (arith, is)))
+    rw apart (apart_from n (from + 1) records rest (tail_is r.item.call from (map (λ (r : Record). r.item.call) (records ++ rest)) (range_with_len (from + 1) (length (records ++ rest))) are) (omega (arith, is)))
 
 call_at : (from : ℕ) (records : List Record) (r : Record) (rest : List Record) → map (λ (r : Record). r.item.call) (records ++ r ∷ rest) ≡ range_with_len from (length (records ++ r ∷ rest))
     → r.item.call ≡ from + length records
-call_at from [] r rest are = first_is r.item.call from (map (λ (r : Record). r.item.call) rest) (range_with_len (from + 1) (length rest)) are ∙ omega arith
+call_at from [] r rest are = head_is r.item.call from (map (λ (r : Record). r.item.call) rest) (range_with_len (from + 1) (length rest)) are ∙ omega arith
 call_at from (s ∷ records) r rest are =
-    let later = call_at (from + 1) records r rest (rest_is s.item.call from (map (λ (r : Record). r.item.call) (records ++ r ∷ rest)) (range_with_len (from + 1) (length (records ++ r ∷ rest))) are) in
+    let later = call_at (from + 1) records r rest (tail_is s.item.call from (map (λ (r : Record). r.item.call) (records ++ r ∷ rest)) (range_with_len (from + 1) (length (records ++ r ∷ rest))) are) in
     omega (arith, later)
 
 found : (before : List Record) (r : Record) (rest : List Record) → AreNumbered (before ++ r ∷ rest) → find (λ (x : Record). eqb x.item.call r.item.call) (before ++ r ∷ rest) ≡ Some r

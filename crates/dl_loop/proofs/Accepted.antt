@@ -1,6 +1,6 @@
 -- What is true of a daemon goes on with a client that comes.
-use Rattle.std.proofs.Common.{◌≡◌, ◌≢◌, ◌+◌, ℕ, zero, suc, Bool, List, [], ◌∷◌, ◌++◌, Option, Some, None, length, map, count_by, slice_get, append-nil, refl, sym, ap, subst, ◌∙◌, arith}
-use Rattle.std.specs.Prelude.{IfSome, IsSome, cond}
+use Rattle.std.proofs.Common.{◌≡◌, ◌≢◌, ◌+◌, ℕ, Bool, List, [], ◌∷◌, ◌++◌, Some, None, length, map, count_by, append-nil, refl, sym, ap, subst, ◌∙◌, arith}
+use Rattle.std.specs.Prelude.{cond}
 use Rattle.std.proofs.lemmas.List.Sums.{sum_by-append}
 use Rattle.std.proofs.lemmas.List.{length-append, length-map, map-append}
 use Rattle.dl_events.specs.Journal.{Journaled}
@@ -33,22 +33,11 @@ use Rattle.dl_settling.proofs.NoRequests.{posted_none}
 use Rattle.dl_loop.proofs.NotedDaemons.{noted_connected}
 use Rattle.dl_loop.proofs.ShownDaemons.{shown_connected}
 use Rattle.dl_loop.proofs.ToldJournals.{told_more}
-
--- the last of a longer list
-last_or_before : {A : Type 0} (xs : List A) (x y : A) (place : ℕ) → slice_get (xs ++ x ∷ []) place ≡ Some y → (P : Type 0)
-    → (slice_get xs place ≡ Some y → P) → (place ≡ length xs → x ≡ y → P) → P
-last_or_before [] x y zero is P before last = last refl (cc is)
-last_or_before [] x y (suc place) is P before last = absurd cc
-last_or_before (z ∷ zs) x y zero is P before last = before is
-last_or_before (z ∷ zs) x y (suc place) is P before last = last_or_before zs x y place is P before (λ e same. last (ap suc e) same)
-
--- a fresh link that tells what it took, or what it gave, took or gave nothing
-nothing_taken : (o : Option (List ℕ)) → IsSome o → IfSome o (λ bytes. bytes ≡ []) → o ≡ Some []
-nothing_taken None there nothing = absurd cc
-nothing_taken (Some bytes) there nothing = ap Some nothing
+use Rattle.dl_lemmas.proofs.Lists.{last_or_before}
+use Rattle.dl_lemmas.proofs.Options.{nothing_taken}
 
 -- the links took just that, and one more took nothing
-taken_one_more : (links : List LinkTold) (link : LinkTold) (took : ℕ → List ℕ) → took (length links + 1) ≡ [] → link.taken ≡ Some [] → AreTaken links took → AreTaken (links ++ link ∷ []) took
+pub taken_one_more : (links : List LinkTold) (link : LinkTold) (took : ℕ → List ℕ) → took (length links + 1) ≡ [] → link.taken ≡ Some [] → AreTaken links took → AreTaken (links ++ link ∷ []) took
 taken_one_more links link took none nothing taken = λ place other there.
     last_or_before links link other place there (other.taken ≡ Some (took (place + 1))) (λ before. taken place other before)
     (λ e same. ap (λ (l : LinkTold). l.taken) (sym same) ∙ nothing ∙ ap Some (sym none ∙ ap (λ n. took (n + 1)) (sym e)))

@@ -21,6 +21,7 @@ use Rattle.dl_loop.specs.State.{DaemonState, desk_told}
 use Rattle.dl_loop.specs.Steps.{Hears, Parts, Pumps, is_failure}
 use Rattle.dl_loop.specs.Takes.{TakesLossesIfMay, TakesTurn, TakesTurns}
 use Rattle.dl_loop.specs.declared.round.Round.{Round}
+use Rattle.dl_admission.proofs.KeptTraces.{risen_later, risen_before}
 
 -- ---- counts
 
@@ -32,13 +33,6 @@ both_dropped a b c let_go then small one two = omega (arith, small, one, two)
 
 few_dropped : (a b : ℕ) → b ≡ min a (2 ^ 32 - 1) → b < 2 ^ 32
 few_dropped a b is = omega (arith, is)
-
--- a count that has risen before or behind others has risen over all
-risen_before : (a b c : ℕ) → HasRisen a b → b ≤ c → HasRisen a c
-risen_before a b c risen more = (omega (arith, risen.0, more), omega (arith, risen.1, more))
-
-risen_behind : (a b c : ℕ) → a ≤ b → HasRisen b c → HasRisen a c
-risen_behind a b c more risen = (omega (arith, risen.0, more), omega (arith, risen.1, more))
 
 -- ---- the connections that wait
 
@@ -86,11 +80,11 @@ module _ {L : Type 0} where
   } where
     before : (first.failed ≡ true) ⊎ HasRisen net.faults net_between.faults → (first.failed ≡ true) ⊎ HasRisen net.faults net_now.faults
     before (inl was) = inl was
-    before (inr risen) = inr (risen_before net.faults net_between.faults net_now.faults risen two.faults)
+    before (inr risen) = inr (risen_later net.faults net_between.faults net_now.faults risen two.faults)
 
     behind : (second.failed ≡ true) ⊎ HasRisen net_between.faults net_now.faults → (first.failed ≡ true) ⊎ HasRisen net.faults net_now.faults
     behind (inl was) = before (one.risen was)
-    behind (inr risen) = inr (risen_behind net.faults net_between.faults net_now.faults one.faults risen)
+    behind (inr risen) = inr (risen_before net.faults net_between.faults net_now.faults one.faults risen)
 
     by : third.failed ≡ false → (b : Bool) → second.failed ≡ b → net_now.faults ≡ net.faults
     by is true was = absurd (true≢false (sym (two.failed_once was) ∙ is))

@@ -1,19 +1,17 @@
 -- What becomes of the folder in the turns of clients, in pumps and in closing turns, and in visits to all clients.
-use Rattle.std.proofs.Common.{◌≡◌, ℕ, zero, suc, Bool, List, [], ◌∷◌, ◌++◌, length, Option, Some, None, inl, inr, take, refl, sym, ap, subst, ◌∙◌, append_assoc, append-nil}
-use Rattle.std.specs.Prelude.{◌≤◌, IsSomeAnd}
+use Rattle.std.proofs.Common.{◌≡◌, ℕ, zero, suc, Bool, List, [], ◌∷◌, ◌++◌, Option, Some, None, inl, inr, refl, sym, ap, subst, ◌∙◌, append_assoc, append-nil}
 use Rattle.std.specs.List.{AllByRecursion}
 use Rattle.std.proofs.lemmas.List.{append_cancel_left}
 use Rattle.dl_events.specs.declared.event.Event.{Event}
 use Rattle.dl_events.specs.declared.event.Event.TheVariants as event
 use Rattle.dl_events.specs.declared.event.Why.{Why}
 use Rattle.dl_model.specs.declared.registry.LevelChange.{LevelChange}
-use Rattle.dl_outside.specs.Outside.{Grows}
 use Rattle.dl_outside.specs.Told.{LinkTold}
 use Rattle.dl_outside.specs.declared.link.Gave.{Gave}
 use Rattle.dl_outside.specs.declared.link.Gave.TheVariants as gave
 use Rattle.dl_trace.specs.State.{Trace}
 use Rattle.dl_hub.specs.Follows.{took_more}
-use Rattle.dl_hub.specs.State.{Hub, Waiting, bytes_before, changed, outbox_of, without}
+use Rattle.dl_hub.specs.State.{Hub, bytes_before, changed, outbox_of, without}
 use Rattle.dl_services.specs.Wish.{needed}
 use Rattle.dl_core.specs.Admission.{AddsEach}
 use Rattle.dl_core.specs.Follows.{IsAfter, Run}
@@ -31,7 +29,7 @@ use Rattle.dl_turns.specs.State.{Side, Stage}
 use Rattle.dl_turns.specs.Stopping.{GoesOn, IsClosedIn, IsWoundUp, TurnsOn}
 use Rattle.dl_turns.specs.Turns.{ClosesFor, Heeds, IsPump, IsTurn, ServesEach}
 use Rattle.dl_turns.proofs.AddedEvents.{each_both, each_none}
-use Rattle.dl_turns.proofs.LaterStages.{WhatLinksTake}
+use Rattle.dl_turns.proofs.LaterStages.{WhatLinksTake, fits}
 use Rattle.dl_rounds.specs.Clients.{Client, Clients, Visits, VisitsAll, stage_of, with_client}
 use Rattle.dl_rounds.specs.Visits.{Closed, ClosesAll, Heard, HearsAll, Pumped}
 use Rattle.dl_settling.proofs.NoRequests.{AsksNothing}
@@ -157,10 +155,6 @@ on_turn client why old new turn =
     (on_closed client why turn.between new.side turn.closes)
 
 -- ---- a pump, and the closing turns
-
-fits : (o : Option Waiting) (count : ℕ) (taken taken_now : Option (List ℕ)) → IsSomeAnd o (λ w. (count ≤ length w.bytes) × Grows taken taken_now (take count w.bytes)) → IsSomeAnd o (λ w. count ≤ length w.bytes)
-fits None count taken taken_now sent = absurd sent
-fits (Some w) count taken taken_now sent = sent.0
 
 module _ (takes : WhatLinksTake) where
   on_pump : (client : ℕ) (why : Option Why) (link link_now : LinkTold) (old new : Side) → IsPump client why link link_now old new → FolderGoesOn old new

@@ -1,5 +1,5 @@
 -- A daemon is later by each part of a round, and by rounds in a row.
-use Rattle.std.proofs.Common.{◌⊎◌, true, false, ◌≡◌, ◌≢◌, ℕ, ◌+◌, ◌<◌, ◌≤◌, inl, inr, Bool, cond, List, [], ◌∷◌, ◌++◌, Option, Some, None, append-nil, append_assoc, length, map, count_by, refl, sym, ap, subst, ◌∙◌, arith}
+use Rattle.std.proofs.Common.{◌⊎◌, ◌≡◌, ◌≢◌, ℕ, ◌+◌, ◌<◌, ◌≤◌, inl, inr, Bool, cond, List, [], ◌∷◌, ◌++◌, Option, Some, None, append-nil, append_assoc, length, map, count_by, refl, sym, ap, subst, ◌∙◌, arith}
 use Rattle.std.specs.Prelude.{IfSome}
 use Rattle.std.specs.List.{AllByRecursion}
 use Rattle.std.proofs.lemmas.Bool.{cases_lt}
@@ -52,7 +52,9 @@ use Rattle.dl_loop.proofs.DeskRest.{later_both, later_none, same_later, same_tak
 use Rattle.dl_loop.proofs.LaterDaemons.{gives_before}
 use Rattle.dl_loop.proofs.TakenDaemons.{Took, taken_later}
 use Rattle.dl_loop.proofs.TakenEvents.{taken_set_nothing}
-use Rattle.dl_loop.proofs.TakenSteps.{calls_grow, calls_took, front, losses_grow, losses_took}
+use Rattle.dl_loop.proofs.TakenSteps.{calls_grow, calls_took, losses_grow, losses_took}
+use Rattle.dl_lemmas.proofs.Bools.{at_most_one}
+use Rattle.dl_lemmas.proofs.Lists.{all_first as front}
 
 -- ---- the net
 
@@ -172,11 +174,7 @@ taken_of_round (event.Connect client ∷ more) are = absurd are.0
 taken_of_round (event.Request client frame answer ∷ more) are = absurd are.0
 
 -- no more are open than came
-at_most_one : (b : Bool) → ◌≤◌ (cond b 1 0) 1
-at_most_one true = omega arith
-at_most_one false = omega arith
-
-open_few : (clients : List Client) → count_by is_open clients ≤ length clients
+pub open_few : (clients : List Client) → count_by is_open clients ≤ length clients
 open_few [] = omega arith
 open_few (c ∷ clients) = omega (arith, sum_by-cons (λ (x : Client). cond (is_open x) 1 0) c clients, at_most_one (is_open c), open_few clients)
 

@@ -58,6 +58,7 @@ use Rattle.dl_loop.proofs.LaterDaemons.{same_took_by, add_none, gives_before}
 use Rattle.dl_settling.proofs.NoRequests.{AsksNothing, posted_none}
 use Rattle.dl_loop.proofs.ToldJournals.{told_more}
 use Rattle.dl_loop.proofs.NotedDaemons.{noted_none}
+use Rattle.dl_rounds.proofs.GreetedEvents.{both_of_greeting}
 
 -- ---- one side and a later one
 
@@ -86,10 +87,6 @@ none_stops (event.Connect client ∷ more) are = absurd are.0
 none_stops (event.Request client frame answer ∷ more) are = absurd are.0
 none_stops (event.Close client cause ∷ more) are = absurd are.0
 
-both_kinds : (first second : List Event) → AllByRecursion IsOfGreeting first → AllByRecursion IsOfGreeting second → AllByRecursion IsOfGreeting (first ++ second)
-both_kinds [] second one two = two
-both_kinds (e ∷ first) second one two = (one.0, both_kinds first second one.1 two)
-
 leads_none : (side : Side) → Leads [] side side
 leads_none side = record {
   events = each_none side.events;
@@ -109,7 +106,7 @@ leads_none side = record {
 leads_both : (first second : List Event) (a b c : Side) → Leads first a b → Leads second b c → Leads (first ++ second) a c
 leads_both first second a b c one two = record {
   events = each_both a.events b.events c.events first second one.events two.events;
-  kinds = both_kinds first second one.kinds two.kinds;
+  kinds = both_of_greeting first second one.kinds two.kinds;
   after = λ run events taken gives after.
       let here = one.after run events taken tt after in
       let next = two.after run (events ++ first) taken tt here.0 in

@@ -1,5 +1,5 @@
 -- What is true of a daemon goes on with a round over its clients.
-use Rattle.std.proofs.Common.{◌≡◌, ◌≤◌, ◌+◌, ℕ, List, [], ◌∷◌, ◌++◌, Option, Some, refl, sym, ap, subst, ◌∙◌, arith, append-nil, length, map, count_by, slice_get, zero, suc, pred}
+use Rattle.std.proofs.Common.{◌≡◌, ◌≤◌, ◌+◌, ℕ, List, [], ◌∷◌, ◌++◌, Option, Some, refl, sym, ap, subst, ◌∙◌, arith, append-nil, length, map, count_by}
 use Rattle.std.specs.Prelude.{cond}
 use Rattle.std.specs.List.{AllByRecursion}
 use Rattle.std.proofs.lemmas.List.{length-map}
@@ -43,6 +43,7 @@ use Rattle.dl_loop.specs.Told.{IsToldBy}
 use Rattle.dl_loop.proofs.ToldJournals.{told_more}
 use Rattle.dl_loop.proofs.NotedDaemons.{each_tells, noted_later}
 use Rattle.dl_loop.proofs.DeskRest.{later_both, same_apps, same_later, same_reported, same_taken}
+use Rattle.dl_lemmas.proofs.Lists.{there_too}
 
 -- ---- events of clients take nothing
 
@@ -66,18 +67,10 @@ of_clients_take_nothing (event.Connect client ∷ more) is = absurd is.0
 
 -- ---- what links took
 
-grown : (before now : Option (List ℕ)) (had more : List ℕ) → before ≡ Some had → Grows before now more → now ≡ Some (had ++ more)
+pub grown : (before now : Option (List ℕ)) (had more : List ℕ) → before ≡ Some had → Grows before now more → now ≡ Some (had ++ more)
 grown before now had more is grows = subst (λ (o : Option (List ℕ)). Grows o now more) is grows
 
--- an entry of a list is one of a list that is as long
-there_too : {A : Type 0} (xs ys : List A) (place : ℕ) (y : A) → length ys ≡ length xs → slice_get ys place ≡ Some y → (x : A) × (slice_get xs place ≡ Some x)
-there_too [] [] place y long is = absurd cc
-there_too [] (b ∷ ys) place y long is = absurd cc
-there_too (a ∷ xs) [] place y long is = absurd cc
-there_too (a ∷ xs) (b ∷ ys) zero y long is = (a, refl)
-there_too (a ∷ xs) (b ∷ ys) (suc place) y long is = there_too xs ys place y (ap pred long) is
-
-taken_later : (old new : Clients) (took : ℕ → List ℕ) (later : AreLater old new) → AreTaken old.links took → AreTaken new.links (took_all took later.sent)
+pub taken_later : (old new : Clients) (took : ℕ → List ℕ) (later : AreLater old new) → AreTaken old.links took → AreTaken new.links (took_all took later.sent)
 taken_later old new took later taken = λ place link there.
     let before = there_too old.links new.links place link later.many there in
     grown before.0.taken link.taken (took (place + 1)) (later.sent (place + 1)) (taken place before.0 before.1) (later.links_took place before.0 link before.1 there)

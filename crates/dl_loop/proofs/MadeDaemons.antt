@@ -38,11 +38,11 @@ use Rattle.dl_settling.proofs.NoRequests.{still}
 use Rattle.dl_loop.proofs.NotedDaemons.{noted_none}
 
 -- a registry with nobody there owes no Level event
-none_owed : (held : ℕ → Slot) (level : ℕ) (stored : List StoredLevel) (all : List ℕ) → first_change held (record { level = level; stored = stored; apps = [] }) all ≡ None
+pub none_owed : (held : ℕ → Slot) (level : ℕ) (stored : List StoredLevel) (all : List ℕ) → first_change held (record { level = level; stored = stored; apps = [] }) all ≡ None
 none_owed held level stored [] = refl
 none_owed held level stored (slot ∷ all) = none_owed held level stored all
 
-made_owes_none : (level : ℕ) (stored : Stored) (first : ℕ) → owed_change (made level stored first) ≡ None
+pub made_owes_none : (level : ℕ) (stored : Stored) (first : ℕ) → owed_change (made level stored first) ≡ None
 unfolding owed_change
 made_owes_none level stored first = none_owed (slots (made level stored first)) (unwrap_or stored.level level) stored.own all_slots
 
@@ -51,13 +51,13 @@ unset_there first zero slot = refl
 unset_there first (suc many) zero = refl
 unset_there first (suc many) (suc slot) = unset_there first many slot
 
-each_fresh : (many place : ℕ) (listener : Listener) → slice_get (replicate many fresh_listener) place ≡ Some listener → listener ≡ fresh_listener
+pub each_fresh : (many place : ℕ) (listener : Listener) → slice_get (replicate many fresh_listener) place ≡ Some listener → listener ≡ fresh_listener
 each_fresh zero place listener is = absurd cc
 each_fresh (suc many) zero listener is = cc is
 each_fresh (suc many) (suc place) listener is = each_fresh many place listener is
 
 -- nobody is open in a hub to which nobody came
-nobody_open : (ecu : List ℕ) (buffer limit number : ℕ) → outbox_of (fresh ecu buffer limit) number ≡ None
+pub nobody_open : (ecu : List ℕ) (buffer limit number : ℕ) → outbox_of (fresh ecu buffer limit) number ≡ None
 nobody_open ecu buffer limit number = by_test (number == 0) where
   by_test : (b : Bool) → option_and_then (λ (c : Client). c.outbox) (if b then None else None) ≡ None
   by_test true = refl

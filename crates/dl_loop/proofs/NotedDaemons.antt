@@ -1,12 +1,10 @@
 -- A daemon's clients stay as its journal has them.
-use Rattle.std.proofs.Common.{◌≡◌, ℕ, zero, suc, ◌+◌, ◌-◌, ◌<◌, ◌≤◌, inl, inr, Bool, true, false, cond, eqb, List, [], ◌∷◌, ◌++◌, length, map, slice_get, append-nil, append_assoc, length-append, Option, Some, None, is_some, refl, sym, ap, subst, ◌∙◌, arith}
-use Rattle.std.specs.Prelude.{IsSome, count_by, get_or}
+use Rattle.std.proofs.Common.{◌≡◌, ℕ, ◌+◌, ◌-◌, ◌<◌, ◌≤◌, inl, inr, Bool, true, false, cond, List, [], ◌∷◌, ◌++◌, length, map, slice_get, append-nil, append_assoc, length-append, Option, Some, None, is_some, refl, sym, ap, subst, ◌∙◌, arith}
+use Rattle.std.specs.Prelude.{IsSome, get_or}
 use Rattle.std.specs.List.{AllByRecursion, cons_option}
-use Rattle.std.specs.Option.{option_and_then, option_map}
 use Rattle.std.proofs.lemmas.Bool.{ne_eqb}
 use Rattle.std.proofs.lemmas.Bool.Decides.{eqb_tells}
 use Rattle.std.proofs.lemmas.List.Elements.{filter_map-append}
-use Rattle.std.proofs.lemmas.List.Sums.{sum_by-cons}
 use Rattle.std.proofs.lemmas.Option.{slice_get-get_or, slice_get_within}
 use Rattle.dl_bytes.specs.Limits.{message_limit}
 use Rattle.dl_events.specs.declared.event.Event.{Event}
@@ -15,8 +13,6 @@ use Rattle.dl_events.specs.declared.event.Why.TheVariants as why
 use Rattle.dl_message.specs.Requests.{requests}
 use Rattle.dl_message.proofs.Pieces.{short_no_piece}
 use Rattle.dl_model.specs.ClientEnds.{LinkDid, asked_by, asked_in}
-use Rattle.dl_model.specs.Journal.{is_request_of}
-use Rattle.dl_outside.specs.Outside.{Stays}
 use Rattle.dl_outside.specs.Told.{FolderTold, LinkTold}
 use Rattle.dl_desk.specs.Told.{PostTold}
 use Rattle.dl_hub.specs.State.{Client as HubClient, Hub, Waiting, client_of, outbox_of}
@@ -25,17 +21,15 @@ use Rattle.dl_core.specs.State.{Core}
 use Rattle.dl_core.proofs.Answered.{replies_are}
 use Rattle.dl_admission.specs.Admission.{Admits, AreNoted as AreNotedOf, Entry}
 use Rattle.dl_admission.specs.Part.{Part}
-use Rattle.dl_admission.specs.Slow.{Slow, slow_close}
-use Rattle.dl_admission.proofs.Added.{all_both}
+use Rattle.dl_admission.specs.Slow.{slow_close}
 use Rattle.dl_turns.specs.Sent.{HasCut}
 use Rattle.dl_turns.specs.State.{Side, side}
 use Rattle.dl_rounds.specs.Clients.{Client, Clients, IsClient}
 use Rattle.dl_rounds.specs.Partings.{ShutsGone}
 use Rattle.dl_rounds.specs.Passing.{AreAsNoted, Did, IsAsNoted, IsOverIfLeft, StayAsNoted, TellFrom, took_all}
 use Rattle.dl_rounds.specs.Ready.{fresh_listener}
-use Rattle.dl_rounds.specs.Visits.{IsShut}
 use Rattle.dl_rounds.specs.declared.listener.Listener.{Listener}
-use Rattle.dl_rounds.proofs.ByPlace.{get_before, get_end}
+use Rattle.dl_rounds.proofs.ByPlace.{get_before}
 use Rattle.dl_rounds.proofs.NotedClients.{gone_longer}
 use Rattle.dl_rounds.proofs.Turned.{open_and_gone, placed}
 use Rattle.dl_taking.specs.Drained.{IsOfDrain}
@@ -45,21 +39,18 @@ use Rattle.dl_settling.proofs.Ready.{replies, same_replies}
 use Rattle.dl_loop.specs.Daemon.{is_noted}
 use Rattle.dl_loop.specs.Holds.{AreNoted, AreTaken}
 use Rattle.dl_loop.proofs.TakenEvents.{IsCounted}
+use Rattle.dl_settling.proofs.WentClients.{each_told, did_before}
+use Rattle.dl_lemmas.proofs.Options.{one_is, as_some}
+use Rattle.dl_settling.proofs.ShownDrains.{outbox_at}
+use Rattle.dl_turns.proofs.HeardSides.{how_many}
+use Rattle.dl_lemmas.proofs.Lists.{empty_of as nothing, all_both, get_end}
+use Rattle.dl_taking.proofs.DrainedEvents.{closes_kinds}
 
 -- ---- what links tell
-
-each_told : {L : Type 0} (told : L → LinkTold) (P : LinkTold → Type 0) (links : List L) (place : ℕ) (link : LinkTold) → ((l : L) → P (told l)) → slice_get (map told links) place ≡ Some link → P link
-each_told told P [] place link all at = absurd cc
-each_told told P (l ∷ links) zero link all at = (let same : told l ≡ link = cc at in subst P same (all l))
-each_told told P (l ∷ links) (suc place) link all at = each_told told P links place link all at
 
 -- where all links of a kind tell what they gave and took, these do
 pub each_tells : {L : Type 0} (told : L → LinkTold) (links : List L) → TellBytes told → TellFrom 0 (map told links)
 each_tells told links tells = λ place link above at. each_told told (λ (l : LinkTold). IsSome l.given × IsSome l.taken) links place link tells at
-
-one_is : {A : Type 0} (x y : A) (o : Option A) → o ≡ Some x → o ≡ Some y → x ≡ y
-one_is x y None a b = absurd cc
-one_is x y (Some z) a b = cc
 
 took_of : (links : List LinkTold) (took : ℕ → List ℕ) → AreTaken links took → (place : ℕ) (link : LinkTold) (bytes : List ℕ) → slice_get links place ≡ Some link → link.taken ≡ Some bytes → bytes ≡ took (place + 1)
 took_of links took taken place link bytes at is = one_is bytes (took (place + 1)) link.taken is (taken place link at)
@@ -104,26 +95,10 @@ noted_later run events took old new stays tells noted = noted_any run (events ++
 client_here : (hub : Hub) (number : ℕ) (c : HubClient) → 0 < number → slice_get hub.clients (number - 1) ≡ Some c → client_of hub number ≡ Some c
 client_here hub number c some at = ap (λ (b : Bool). cond b None (slice_get hub.clients (number - 1))) (ne_eqb number 0 (λ same. omega (arith, some, same))) ∙ at
 
-outbox_is : (hub : Hub) (number : ℕ) (c : HubClient) → client_of hub number ≡ Some c → outbox_of hub number ≡ c.outbox
-outbox_is hub number c is = ap (λ (o : Option HubClient). option_and_then (λ (k : HubClient). k.outbox) o) is
-
 -- who was sent no reply asked nothing
 one_asked : (b : Bool) (frame : List ℕ) (others : List (List ℕ)) → length (cons_option (cond b (Some frame) None) others) ≡ cond b 1 0 + length others
 one_asked true frame others = omega arith
 one_asked false frame others = omega arith
-
-asked_first : (client : ℕ) (e : Event) (others : List (List ℕ)) → length (cons_option (asked_in client e) others) ≡ cond (is_request_of client e) 1 0 + length others
-asked_first client (event.Request other frame answer) others = one_asked (eqb other client) frame others
-asked_first client _ others = omega arith
-
-how_many : (client : ℕ) (events : List Event) → length (asked_by client events) ≡ count_by (is_request_of client) events
-how_many client [] = refl
-how_many client (e ∷ events) =
-    omega (arith, asked_first client e (asked_by client events), how_many client events, sum_by-cons (λ x. cond (is_request_of client x) 1 0) e events)
-
-nothing : {A : Type 0} (xs : List A) → length xs ≡ 0 → xs ≡ []
-nothing [] none = refl
-nothing (x ∷ xs) none = absurd (omega (arith, none))
 
 asked_none : (run : Run) (events : List Event) (took : ℕ → List ℕ) (core : Core) (number : ℕ) (c : HubClient) → IsAfter run events took core → client_of core.hub number ≡ Some c → c.replies ≡ 0 → asked_by number events ≡ []
 asked_none run events took core number c after there none = nothing (asked_by number events) (how_many number events ∙ sym (replies_are run events took core number c after there) ∙ none)
@@ -163,8 +138,8 @@ module _ (run : Run) (events : List Event) (took : ℕ → List ℕ) (old new : 
       let was_at : IsClient n before was = record { link = sym (get_before links (link ∷ []) (n - 1) (omega (arith, below, many))) ∙ at.link; listener = at.listener; side = refl } in
       let was_so = (noted desk journal folder).each n was was_at (ap is_some k_was) in
       let core : client.side.core ≡ new = ap (λ (s : Side). s.core) at.side in
-      let outbox : outbox_of client.side.core.hub n ≡ k.outbox = ap (λ (h : Core). outbox_of h.hub n) core ∙ outbox_is new.hub n k k_now in
-      let outbox_was : outbox_of old.hub n ≡ k.outbox = outbox_is old.hub n k k_was in
+      let outbox : outbox_of client.side.core.hub n ≡ k.outbox = ap (λ (h : Core). outbox_of h.hub n) core ∙ outbox_at new.hub n k k_now in
+      let outbox_was : outbox_of old.hub n ≡ k.outbox = outbox_at old.hub n k k_was in
       let back : n - 1 + 1 ≡ n = omega (arith, some) in
       let asked : asked_by n (events ++ event.Connect number ∷ []) ≡ asked_by n events = asked_still n events (event.Connect number ∷ []) refl in
       record {
@@ -183,7 +158,7 @@ module _ (run : Run) (events : List Event) (took : ℕ → List ℕ) (old new : 
       let at_end : slice_get (links ++ link ∷ []) (n - 1) ≡ Some link = ap (λ (p : ℕ). slice_get (links ++ link ∷ []) p) (last ∙ many) ∙ get_end links link in
       let same : client.link ≡ link = one_is client.link link (slice_get (links ++ link ∷ []) (n - 1)) at.link at_end in
       let fresh : client.listener ≡ fresh_listener = unused (n - 1) client.listener at.listener (omega (arith, last)) in
-      let outbox : outbox_of client.side.core.hub n ≡ c.outbox = ap (λ (s : Side). outbox_of s.core.hub n) at.side ∙ outbox_is new.hub n c c_now in
+      let outbox : outbox_of client.side.core.hub n ≡ c.outbox = ap (λ (s : Side). outbox_of s.core.hub n) at.side ∙ outbox_at new.hub n c c_now in
       record {
         open_so = λ open_so bytes is_given.
             let none : bytes ≡ [] = one_is bytes [] link.given (ap (λ (l : LinkTold). l.given) (sym same) ∙ is_given) given in (
@@ -226,20 +201,11 @@ of_drain (event.Connect client) is = absurd cc
 of_drain (event.Request client frame answer) is = absurd cc
 of_drain (event.Close client cause) is = absurd cc
 
-closes_of_drain : (need : ℕ) (slows : List Slow) → AllByRecursion IsOfDrain (map (slow_close need) slows)
-closes_of_drain need [] = tt
-closes_of_drain need (slow ∷ slows) = (tt, closes_of_drain need slows)
-
 -- Log and Lost events are noted, and Closes of clients that are too slow for them
 pub all_of_drain : (es : List Entry) (more : List Event) → AllByRecursion IsCounted es → AreNotedOf es more → AllByRecursion IsOfDrain more
 all_of_drain [] more all is = subst (AllByRecursion IsOfDrain) (sym is) tt
 all_of_drain (e ∷ es) more all is =
-    subst (AllByRecursion IsOfDrain) (sym is.2) (all_both IsOfDrain (map (slow_close e.need) is.0) (e.event ∷ is.1) (closes_of_drain e.need is.0) (of_drain e.event all.0, all_of_drain es is.1 all.1 is.5))
-
-as_some : {A B : Type 0} (f : A → B) (o n : Option A) → option_map f n ≡ option_map f o → IsSome n → IsSome o
-as_some f None None same some = absurd cc
-as_some f None (Some x) same some = absurd cc
-as_some f (Some x) n same some = refl
+    subst (AllByRecursion IsOfDrain) (sym is.2) (all_both IsOfDrain (map (slow_close e.need) is.0) (e.event ∷ is.1) (closes_kinds e.need is.0) (of_drain e.event all.0, all_of_drain es is.1 all.1 is.5))
 
 pub noted_taken : (run : Run) (events : List Event) (took : ℕ → List ℕ) {es : List Entry} {Gives : Run → Type 0} {n : ℕ} (old new : Part) (admits : Admits es Gives n old new) → AllByRecursion IsOfDrain admits.more → Gives run
     → (links : List LinkTold) (listeners : List Listener) → AreNoted run events took links listeners old.core → AreNoted run (events ++ admits.more) took links listeners new.core
@@ -257,19 +223,6 @@ noted_taken run events took old new admits kinds gives links listeners noted = �
     }
 
 -- ---- the links of clients that are gone were shut
-
-bytes_before : (was now : Option (List ℕ)) (bytes : List ℕ) → IsSome was → Stays was now → now ≡ Some bytes → was ≡ Some bytes
-bytes_before None now bytes some stays is = absurd cc
-bytes_before (Some x) now bytes some stays is = sym stays ∙ is
-
-did_before : (was now : LinkTold) (did : LinkDid) → IsShut was now → IsSome was.given → IsSome was.taken → Did now did → Did was did
-did_before was now did shut given taken tells = record {
-  given = bytes_before was.given now.given did.given given shut.given tells.given;
-  taken = bytes_before was.taken now.taken did.taken taken shut.taken tells.taken;
-  faults = sym shut.faults ∙ tells.faults;
-  idles = sym shut.idles ∙ tells.idles;
-  waits = sym shut.waits ∙ tells.waits;
-}
 
 module _ (run : Run) (events : List Event) (took : ℕ → List ℕ) (core : Core) (listeners : List Listener) (old new : List LinkTold) (shuts : ShutsGone core.hub old new) (tells : TellFrom 0 old)
     (noted : AreNoted run events took old listeners core) (desk : PostTold) (journal : Option (List Event)) (folder : FolderTold) where

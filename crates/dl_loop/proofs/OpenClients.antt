@@ -24,6 +24,7 @@ use Rattle.dl_loop.specs.Takes.{TakesLossesIfMay, TakesTurns}
 use Rattle.dl_loop.specs.declared.round.Round.{Round}
 use Rattle.dl_loop.proofs.TakenEvents.{open_before}
 use Rattle.dl_loop.proofs.Visited.{visits_keep}
+use Rattle.dl_rounds.proofs.VisitedClients.{same_link}
 
 -- ---- one visit
 
@@ -105,9 +106,6 @@ leaves_turns first (suc many) old new turns =
     }) (leaves_both turn.between turns.0 new (leaves_losses first turn.between turns.0 turn.losses) (leaves_turns (first + 1) many turns.0 new turns.2))
 
 -- ---- the round
-
-same_link : (links : List LinkTold) (place : ℕ) (a b : LinkTold) → slice_get links place ≡ Some a → slice_get links place ≡ Some b → b ≡ a
-same_link links place a b one two = cc (sym two ∙ one)
 
 module _ (heard_each : (moved : Bool) (old new : Clients) → HearsAll moved old new → (number : ℕ) → IsSome (outbox_of new.side.core.hub number) → WasVisited Heard number old new)
     (pumped_each : (moved : Bool) (old new : Clients) → VisitsAll Pumped moved old new → (number : ℕ) → IsSome (outbox_of new.side.core.hub number) → WasVisited Pumped number old new)

@@ -26,7 +26,7 @@ use Rattle.dl_loop.proofs.NotedDaemons.{each_tells, noted_parted}
 use Rattle.dl_loop.proofs.ShownDaemons.{shown_parted}
 
 -- links that are shut took what they took
-taken_parted : (hub : Hub) (old new : List LinkTold) (took : ℕ → List ℕ) → ShutsGone hub old new → AreTaken old took → AreTaken new took
+pub taken_parted : (hub : Hub) (old new : List LinkTold) (took : ℕ → List ℕ) → ShutsGone hub old new → AreTaken old took → AreTaken new took
 taken_parted hub old new took shuts taken = λ place link there. by place link there (outbox_of hub (place + 1)) refl where
   same : (place : ℕ) → place + 1 - 1 ≡ place
   same place = omega arith

@@ -10,9 +10,10 @@ use Rattle.dl_hub.specs.State.{Client as HubClient, Hub, client_of, outbox_of}
 use Rattle.dl_turns.specs.Gone.{TellOver}
 use Rattle.dl_rounds.specs.Partings.{ShutsGone}
 use Rattle.dl_rounds.specs.Shown.{AllShowWhy}
-use Rattle.dl_rounds.proofs.ByPlace.{get_before, get_end}
+use Rattle.dl_rounds.proofs.ByPlace.{get_before}
 use Rattle.dl_rounds.proofs.ShownClients.{shows_on, shows_shut}
 use Rattle.dl_rounds.proofs.Turned.{placed}
+use Rattle.dl_lemmas.proofs.Lists.{get_end}
 
 -- where all links of a kind tell whether they are over, these do
 pub tell_overs : {L : Type 0} (told : L → LinkTold) (links : List L) → TellOver told → (place : ℕ) (link : LinkTold) → slice_get (map told links) place ≡ Some link → IsSome link.over

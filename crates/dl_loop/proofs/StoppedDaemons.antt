@@ -1,8 +1,8 @@
 -- A daemon that stops.
-use Rattle.std.proofs.Common.{◌≡◌, ℕ, zero, suc, ◌-◌, ◌^◌, ◌<◌, ◌≤◌, List, [], ◌∷◌, ◌++◌, length, map, slice_get, Option, Some, None, is_some, true, false, refl, sym, ap, ◌∙◌, subst, arith}
+use Rattle.std.proofs.Common.{◌≡◌, ℕ, zero, suc, ◌-◌, ◌^◌, ◌<◌, ◌≤◌, List, [], ◌∷◌, ◌++◌, length, map, slice_get, Option, Some, refl, sym, ap, ◌∙◌, subst, arith}
 use Rattle.std.specs.Prelude.{◌↔◌, IsSome, All, unwrap_or}
 use Rattle.std.specs.Option.{option_map}
-use Rattle.std.specs.List.{AllByRecursion, filter_map}
+use Rattle.std.specs.List.{filter_map}
 use Rattle.std.proofs.lemmas.List.Elements.{filter_map-append}
 use Rattle.dl_bytes.specs.declared.conf.AppSpec.{AppSpec}
 use Rattle.dl_bytes.specs.declared.item.Item.{Item}
@@ -55,6 +55,8 @@ use Rattle.dl_loop.specs.Told.{IsToldBy}
 use Rattle.dl_loop.proofs.AdmittedBounds.{bounds_few}
 use Rattle.dl_loop.proofs.FolderSides.{same_more}
 use Rattle.dl_loop.proofs.StoppedFolders.{FolderStops}
+use Rattle.dl_lemmas.proofs.Options.{not_some}
+use Rattle.dl_lemmas.proofs.Lists.{all_first}
 
 -- ---- what stands for the desk tells what the desk told
 
@@ -101,13 +103,6 @@ may_stop told d books closing is few calls made gathered whole fits =
 
 -- ---- what it leaves
 
-not_some : {A : Type 0} (o : Option A) → o ≡ None → IsSome o → ⊥
-not_some o none some = (let same : false ≡ true = sym (ap is_some none) ∙ some in cc same)
-
-first_all : {A : Type 0} (P : A → Type 0) (xs ys : List A) → AllByRecursion P (xs ++ ys) → AllByRecursion P xs
-first_all P [] ys all = tt
-first_all P (x ∷ xs) ys all = (all.0, first_all P xs ys all.1)
-
 module _ {L : Type 0} (told : L → LinkTold) (d : DaemonState L) (books : List BookState) (closing : ClosingState) (account : AccountState) (links : Links L) (folder folder_now : FolderTold)
     (core : Core) (is : IsDaemon told d) (made : IsMadeOf d.desk books closing) (stop : IsStop told d.dropped core (stopping_of d closing) account links folder folder_now)
     (went : (run : Run) (taken : ℕ → List ℕ) → TellBytes told → GivesTook account.apps (account_took account) run → AreAsNoted run d.journal.events taken (stopping.clients_of told (stopping_of d closing) folder)
@@ -149,7 +144,7 @@ module _ {L : Type 0} (told : L → LinkTold) (d : DaemonState L) (books : List 
     begins = gives.begins;
     frames = λ app.
         let more = stop.taken_more app in
-        first_all (λ item. GivesFrame item run) (taken_of d.desk.handles app) more.0
+        all_first (λ item. GivesFrame item run) (taken_of d.desk.handles app) more.0
         (subst (λ (items : List Item). GivesFrames items run) (more.1 ∙ ap (λ (t : Took). t.taken app ++ more.0) took_so) (gives.frames app));
     apids = subst (λ (specs : List AppSpec). (app : ℕ) → At specs app (λ spec. run.apid app ≡ spec.apid)) apps_so gives.apids;
   }

@@ -1,8 +1,7 @@
 -- The events of calls and losses that are taken, and what they leave of the clients.
-use Rattle.std.proofs.Common.{◌≡◌, ℕ, zero, suc, ◌+◌, ◌-◌, ◌≤◌, inl, inr, Bool, true, false, cond, eqb, List, [], ◌∷◌, Option, Some, None, length, map, count_by, slice_get, refl, sym, ap, subst, ◌∙◌, arith}
+use Rattle.std.proofs.Common.{◌≡◌, ℕ, zero, suc, ◌+◌, ◌≤◌, Bool, true, false, cond, eqb, List, [], ◌∷◌, Option, Some, None, length, map, count_by, slice_get, refl, sym, ap, subst, ◌∙◌, arith}
 use Rattle.std.specs.Prelude.{IsSome, IsSomeAnd, is_some}
 use Rattle.std.specs.List.{AllByRecursion, filter_map}
-use Rattle.std.proofs.lemmas.Bool.Decides.{eqb_tells}
 use Rattle.std.proofs.lemmas.List.{length-map}
 use Rattle.std.proofs.lemmas.List.Sums.{sum_by-append, sum_by-cons}
 use Rattle.dl_bytes.specs.Limits.{request_limit}
@@ -13,7 +12,7 @@ use Rattle.dl_events.specs.declared.event.Event.TheVariants as event
 use Rattle.dl_events.specs.declared.event.Why.{Why}
 use Rattle.dl_model.specs.Backlog.{size_of}
 use Rattle.dl_model.specs.Report.{why_of}
-use Rattle.dl_hub.specs.State.{Client, Hub, client_of, outbox_of, replies_of}
+use Rattle.dl_hub.specs.State.{Client, Hub, outbox_of, replies_of}
 use Rattle.dl_core.specs.Admission.{lost_frames}
 use Rattle.dl_core.specs.State.{Core}
 use Rattle.dl_admission.specs.Admission.{AreNoted, Entry, KeepsClients, call_entry, loss_entries}
@@ -23,6 +22,7 @@ use Rattle.dl_turns.specs.Events.{HasServed}
 use Rattle.dl_turns.specs.Later.{level_in}
 use Rattle.dl_loop.specs.Daemon.{is_noted}
 use Rattle.dl_settling.proofs.NoRequests.{AsksNothing}
+use Rattle.dl_rounds.proofs.Connected.{at_next}
 
 -- ---- the events
 
@@ -98,15 +98,8 @@ served_at place served (c ∷ olds) [] same has = absurd cc
 served_at zero served (c ∷ olds) (d ∷ news) same has = (let head : d.replies ≡ c.replies = cc same in (head ∙ has.0, has.1))
 served_at (suc place) served (c ∷ olds) (d ∷ news) same has = (let tail : map (λ (x : Client). x.replies) news ≡ map (λ (x : Client). x.replies) olds = cc same in served_at place served olds news tail has)
 
-client_at : (hub : Hub) (place : ℕ) → client_of hub (place + 1) ≡ slice_get hub.clients place
-client_at hub place = elim (eqb_tells (place + 1) 0) [
-  | inl same ↦ absurd (omega (arith, same.1))
-  | inr apart ↦ (let back : place + 1 - 1 ≡ place = omega arith in
-      ap (λ (b : Bool). cond {A = Option Client} b None (slice_get hub.clients (place + 1 - 1))) apart.0 ∙ ap (λ (n : ℕ). slice_get hub.clients n) back)
-]
-
 pub served_before : (place served : ℕ) (old new : Core) → replies_of new.hub ≡ replies_of old.hub → HasServed (place + 1) served old → HasServed (place + 1) served new
 served_before place served old new same has =
-    subst (λ (o : Option Client). IsSomeAnd o (λ c. (c.replies ≡ served) × (served ≤ request_limit))) (sym (client_at new.hub place))
+    subst (λ (o : Option Client). IsSomeAnd o (λ c. (c.replies ≡ served) × (served ≤ request_limit))) (sym (at_next new.hub place))
     (served_at place served old.hub.clients new.hub.clients same
-    (subst (λ (o : Option Client). IsSomeAnd o (λ c. (c.replies ≡ served) × (served ≤ request_limit))) (client_at old.hub place) has))
+    (subst (λ (o : Option Client). IsSomeAnd o (λ c. (c.replies ≡ served) × (served ≤ request_limit))) (at_next old.hub place) has))

@@ -1,6 +1,5 @@
 -- A daemon is one after calls of an application were taken, and after its losses were.
-use Rattle.std.proofs.Common.{◌≡◌, ◌≢◌, ℕ, zero, suc, ◌+◌, ◌<◌, ◌≤◌, ◌^◌, inl, inr, Bool, true, false, cond, eqb, List, [], ◌∷◌, ◌++◌, Some, append-nil, length, map, slice_get, refl, sym, ap, subst, ◌∙◌, arith}
-use Rattle.std.specs.List.{AllByRecursion}
+use Rattle.std.proofs.Common.{◌≡◌, ◌≢◌, ℕ, ◌+◌, ◌<◌, ◌≤◌, ◌^◌, inl, inr, Bool, true, false, cond, eqb, List, [], ◌∷◌, ◌++◌, append-nil, length, map, refl, sym, ap, subst, ◌∙◌, arith}
 use Rattle.std.proofs.lemmas.Bool.Decides.{eqb_tells}
 use Rattle.std.proofs.lemmas.List.{length-map}
 use Rattle.dl_bytes.specs.declared.conf.AppSpec.{AppSpec}
@@ -19,7 +18,7 @@ use Rattle.dl_admission.proofs.Told.{calls_tell, losses_tell}
 use Rattle.dl_taking.specs.Takes.{TellAllTaken, owned}
 use Rattle.dl_taking.specs.Took.{Took as Seen, took_by}
 use Rattle.dl_taking.proofs.Steps.{one_report}
-use Rattle.dl_taking.proofs.Telling.{calls_told, losses_told}
+use Rattle.dl_taking.proofs.Telling.{calls_told, losses_told, own_app}
 use Rattle.dl_settling.specs.Room.{IsFew}
 use Rattle.dl_loop.specs.Bounds.{HasBounds}
 use Rattle.dl_loop.specs.Daemon.{IsDaemon}
@@ -30,27 +29,9 @@ use Rattle.dl_loop.proofs.AdmittedBounds.{bounds_logs, bounds_report}
 use Rattle.dl_loop.proofs.TakenDaemons.{Took, taken_apps, taken_daemon}
 use Rattle.dl_loop.proofs.FewEvents.{few_calls, few_losses, one_at_most}
 use Rattle.dl_loop.proofs.TakenEvents.{calls_counted, losses_counted}
-
--- ---- lists
-
-pub front : {A : Type 0} (P : A → Type 0) (xs ys : List A) → AllByRecursion P (xs ++ ys) → AllByRecursion P xs
-front P [] ys all = tt
-front P (x ∷ xs) ys all = (all.0, front P xs ys all.1)
-
-back : {A : Type 0} (P : A → Type 0) (xs ys : List A) → AllByRecursion P (xs ++ ys) → AllByRecursion P ys
-back P [] ys all = all
-back P (x ∷ xs) ys all = back P xs ys all.1
-
-there : {A : Type 0} (xs : List A) (place : ℕ) → place < length xs → (x : A) × (slice_get xs place ≡ Some x)
-there [] place within = absurd (omega (arith, within))
-there (x ∷ xs) zero within = (x, refl)
-there (x ∷ xs) (suc place) within = there xs place (omega (arith, within))
+use Rattle.dl_lemmas.proofs.Lists.{all_first as front, all_second as back, there}
 
 -- ---- calls as the application's own
-
-own_app : (app : ℕ) (items : List Item) → AllByRecursion (λ item. item.app ≡ app) (map (owned app) items)
-own_app app [] = tt
-own_app app (item ∷ items) = (refl, own_app app items)
 
 own_frames : (app : ℕ) (run : Run) (items : List Item) → GivesFrames items run → GivesFrames (map (owned app) items) run
 own_frames app run [] gives = tt

@@ -16,6 +16,7 @@ use Rattle.dl_opening.specs.Opening.{IsBookOf, IsOpened}
 use Rattle.dl_opening.specs.Scenario.{all_calls, calls_in, count_in, count_of, writers}
 use Rattle.dl_opening.specs.declared.opened.Opened.{Opened}
 use Rattle.dl_opening.proofs.Runnable.{no_cause}
+use Rattle.dl_lemmas.proofs.Lists.{head_is, tail_is}
 
 -- ---- what all lines ask
 
@@ -97,20 +98,14 @@ lines_once (entry ∷ lines) from count =
 
 -- ---- the books
 
-first_is : (m n : ℕ) (ms ns : List ℕ) → m ∷ ms ≡ n ∷ ns → m ≡ n
-first_is m n ms ns same = cc
-
-rest_is : (m n : ℕ) (ms ns : List ℕ) → m ∷ ms ≡ n ∷ ns → ms ≡ ns
-rest_is m n ms ns same = cc
-
 rooms : (lines : List ScenarioLine) (from : ℕ) (apids : List (List ℕ)) (books : List BookState) → numbers books ≡ range_with_len from (length books) → ArePairs (IsBookOf lines) apids books
     → sum_by (λ b. b.room) books ≡ of_row (λ writer. count_of writer lines) from (length books)
 rooms lines from [] [] numbered pairs = refl
 rooms lines from [] (b ∷ books) numbered pairs = absurd pairs
 rooms lines from (apid ∷ apids) [] numbered pairs = absurd pairs
 rooms lines from (apid ∷ apids) (b ∷ books) numbered pairs =
-    let number = first_is b.writer.push.number from (numbers books) (range_with_len (from + 1) (length books)) numbered in
-    let others = rest_is b.writer.push.number from (numbers books) (range_with_len (from + 1) (length books)) numbered in
+    let number = head_is b.writer.push.number from (numbers books) (range_with_len (from + 1) (length books)) numbered in
+    let others = tail_is b.writer.push.number from (numbers books) (range_with_len (from + 1) (length books)) numbered in
     let here = pairs.0.room ∙ ap (λ (n : ℕ). count_of n lines) number in
     let rest = rooms lines (from + 1) apids books others pairs.1 in
     let all = sum_by-cons (λ (b : BookState). b.room) b books in

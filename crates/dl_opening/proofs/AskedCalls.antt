@@ -26,9 +26,11 @@ use Rattle.dl_opening.specs.Asked.{AskedCall, IsAsked, asked_in, asked_of, witho
 use Rattle.dl_opening.specs.Opening.{IsBookOf, IsOpened}
 use Rattle.dl_opening.specs.Scenario.{apps, contexts_of, handles_from, number_in, spec_of, specs_of, writers}
 use Rattle.dl_opening.specs.declared.opened.Opened.{Opened}
-use Rattle.dl_opening.proofs.Declared.{map_at, read_at, there}
+use Rattle.dl_opening.proofs.Declared.{map_at}
 use Rattle.dl_opening.proofs.FoundContexts.{IsFound, found_from, names}
 use Rattle.dl_opening.proofs.Runnable.{no_cause}
+use Rattle.dl_lemmas.proofs.Options.{some_is}
+use Rattle.dl_lemmas.proofs.Lists.{head_is, tail_is, get_or-there, there}
 
 -- ---- who was declared stays declared
 
@@ -42,9 +44,6 @@ numbered_still xs ys number x at = by_test (eqb number 0) at where
   by_test : (b : Bool) → cond b None (slice_get xs (number - 1)) ≡ Some x → cond b None (slice_get (xs ++ ys) (number - 1)) ≡ Some x
   by_test true none = absurd cc
   by_test false at = longer_still xs ys (number - 1) x at
-
-some_is : {A : Type 0} {x y : A} → Some x ≡ Some y → x ≡ y
-some_is is = cc
 
 alike : (call : CallContent) (count : ℕ) → map without_slot (replicate count call) ≡ replicate count (without_slot call)
 alike call zero = refl
@@ -134,7 +133,7 @@ handles_there lines apid app number ctid one =
     let many = length-map (apps lines) spec_of in
     let entry = there (apps lines) app (omega (arith, at.0, many)) in
     let same : bytes_eq entry.0.apid apid ≡ true =
-    ap (λ (spec : AppSpec). bytes_eq spec.apid apid) (sym (read_at (specs_of lines) app (spec_of entry.0) none (map_at spec_of (apps lines) app entry.0 entry.1))) ∙ at.1 in
+    ap (λ (spec : AppSpec). bytes_eq spec.apid apid) (sym (get_or-there (specs_of lines) app (spec_of entry.0) none (map_at spec_of (apps lines) app entry.0 entry.1))) ∙ at.1 in
     let named : entry.0.apid ≡ apid = (bytes_eq-Decides entry.0.apid apid).0 same in
     let zero_more : 0 + app ≡ app = omega arith in
     subst (λ (n : ℕ). IsFound apid ctid (context_named (handles_from lines 0 (apps lines)) n ctid)) zero_more
@@ -156,20 +155,14 @@ numbered_here before rest x number is = by_test (eqb number 0) (ne_eqb number 0 
   by_test true is = absurd cc
   by_test false other = at_end before rest x (number - 1) (omega (arith, is))
 
-first_is : (m n : ℕ) (ms ns : List ℕ) → m ∷ ms ≡ n ∷ ns → m ≡ n
-first_is m n ms ns same = cc
-
-rest_is : (m n : ℕ) (ms ns : List ℕ) → m ∷ ms ≡ n ∷ ns → ms ≡ ns
-rest_is m n ms ns same = cc
-
 each_asked : (lines : List ScenarioLine) (o : Opened) → IsRunnable lines → IsOpened lines o → (before apids : List (List ℕ)) (books : List BookState) → writers lines ≡ before ++ apids
     → numbers books ≡ range_with_len (length before + 1) (length books) → ArePairs (IsBookOf lines) apids books → ArePairs (IsAsked lines o) apids books
 each_asked lines o runs is before [] [] all numbered_so pairs = tt
 each_asked lines o runs is before [] (b ∷ books) all numbered_so pairs = absurd pairs
 each_asked lines o runs is before (apid ∷ apids) [] all numbered_so pairs = absurd pairs
 each_asked lines o runs is before (apid ∷ apids) (b ∷ books) all numbered_so pairs =
-    let number = first_is b.writer.push.number (length before + 1) (numbers books) (range_with_len (length before + 1 + 1) (length books)) numbered_so in
-    let others = rest_is b.writer.push.number (length before + 1) (numbers books) (range_with_len (length before + 1 + 1) (length books)) numbered_so in
+    let number = head_is b.writer.push.number (length before + 1) (numbers books) (range_with_len (length before + 1 + 1) (length books)) numbered_so in
+    let others = tail_is b.writer.push.number (length before + 1) (numbers books) (range_with_len (length before + 1 + 1) (length books)) numbered_so in
     let own : numbered (writers lines) b.writer.push.number ≡ Some apid =
     ap (λ (l : List (List ℕ)). numbered l b.writer.push.number) all ∙ numbered_here before apids apid b.writer.push.number number in
     let here = asks (handles_from lines 0 (apps lines)) b.writer.app b.writer.push.number apid nothing lines runs.follows own (handles_there lines apid b.writer.app pairs.0.app) in

@@ -1,5 +1,5 @@
 -- Applications, of which the first ones have their contexts.
-use Rattle.std.proofs.Common.{◌≡◌, ℕ, zero, suc, ◌+◌, ◌-◌, ◌<◌, ◌≤◌, get_or, List, [], ◌∷◌, ◌++◌, drop, length, map, Some, slice_get, slice_set, refl, sym, ap, ◌∙◌, append_assoc, length-append, arith}
+use Rattle.std.proofs.Common.{◌≡◌, ℕ, zero, suc, ◌+◌, ◌-◌, ◌≤◌, get_or, List, [], ◌∷◌, ◌++◌, drop, length, map, Some, slice_get, slice_set, refl, sym, ap, ◌∙◌, append_assoc, length-append, arith}
 use Rattle.std.proofs.lemmas.List.{length-map, map-append}
 use Rattle.dl_bytes.specs.Context.{Context}
 use Rattle.dl_bytes.specs.declared.conf.AppSpec.{AppSpec}
@@ -9,9 +9,8 @@ use Rattle.dl_script_lines.specs.declared.line.ContextLine.{ContextLine}
 use Rattle.dl_script_lines.specs.declared.scenario.ScenarioLine.{ScenarioLine}
 use Rattle.dl_desk.specs.Apps.{AppState, declared_app, declared_apps, registration}
 use Rattle.dl_opening.specs.Scenario.{apps, contexts_of, handles_from, opened_app, opened_from, placed, registered, spec_of, specs_of}
-
-some_is : {A : Type 0} {x y : A} → Some x ≡ Some y → x ≡ y
-some_is is = cc
+use Rattle.dl_lemmas.proofs.Options.{some_is}
+use Rattle.dl_lemmas.proofs.Lists.{there, get_or-there}
 
 -- so many of them have
 abbrev pub opened_to : List ScenarioLine → ℕ → ℕ → List AppLine → List AppState
@@ -57,16 +56,6 @@ next_opened lines number (first ∷ rest) (suc done) app at =
     ∙ ap (λ (l : List AppState). opened_app lines number first ∷ l) (next_opened lines (number + 1) rest done app at)
 
 -- ---- lists
-
-pub there : {A : Type 0} (xs : List A) (place : ℕ) → place < length xs → (x : A) × (slice_get xs place ≡ Some x)
-there [] place less = absurd (omega (arith, less))
-there (x ∷ xs) zero less = (x, refl)
-there (x ∷ xs) (suc place) less = there xs place (omega (arith, less))
-
-pub read_at : {A : Type 0} (xs : List A) (place : ℕ) (x d : A) → slice_get xs place ≡ Some x → get_or xs place d ≡ x
-read_at [] place x d at = absurd cc
-read_at (y ∷ xs) zero x d at = cc
-read_at (y ∷ xs) (suc place) x d at = read_at xs place x d at
 
 pub map_at : {A B : Type 0} (f : A → B) (xs : List A) (place : ℕ) (x : A) → slice_get xs place ≡ Some x → slice_get (map f xs) place ≡ Some (f x)
 map_at f [] place x at = absurd cc
@@ -124,7 +113,7 @@ few_places lines list is = ap length (is ∙ sym (none_opened lines 0 (apps line
 module _ (lines : List ScenarioLine) (place : ℕ) (app : AppLine) (at : slice_get (apps lines) place ≡ Some app) where
   pub spec_at : (specs : List AppSpec) (d : AppSpec) → specs ≡ specs_of lines → (get_or specs place d).apid ≡ app.apid
   spec_at specs d is =
-      ap (λ (l : List AppSpec). (get_or l place d).apid) is ∙ ap (λ (spec : AppSpec). spec.apid) (read_at (specs_of lines) place (spec_of app) d (map_at spec_of (apps lines) place app at))
+      ap (λ (l : List AppSpec). (get_or l place d).apid) is ∙ ap (λ (spec : AppSpec). spec.apid) (get_or-there (specs_of lines) place (spec_of app) d (map_at spec_of (apps lines) place app at))
 
   pub given_is : (list : List AppState) (given : AppState) → list ≡ opened_to lines place 0 (apps lines) → slice_get list place ≡ Some given → given ≡ declared_app place (spec_of app)
   given_is list given is here =

@@ -19,6 +19,7 @@ use Rattle.dl_script.specs.Spelled.{MayFollow, scenario_claim}
 use Rattle.dl_script.specs.declared.claim.Client.{Client}
 use Rattle.dl_opening.specs.Opening.{HasRoomFor}
 use Rattle.dl_opening.specs.Scenario.{apps, clients, clients_in, count_in, count_of, spec_of, specs_of}
+use Rattle.dl_lemmas.proofs.Options.{some_is}
 
 -- none of several causes holds
 pub record NoCause (cause : Bool) (others : List (Bool × ScriptKind)) : Type 0 where
@@ -123,9 +124,6 @@ are_few known (line.Leave client count ∷ lines) may apps_few clients_few calls
     }
 
 -- ---- the applications are fit
-
-some_is : {A : Type 0} {x y : A} → Some x ≡ Some y → x ≡ y
-some_is is = cc
 
 abbrev IsFitSpec : AppSpec → Type 0
 IsFitSpec spec = (1 ≤ spec.capacity) × (spec.capacity ≤ 4096) × (length spec.text ≤ 255)

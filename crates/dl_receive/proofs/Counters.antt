@@ -8,14 +8,11 @@ use Rattle.dl_receive.specs.declared.kind.Kind.TheVariants.{Log}
 use Rattle.dl_receive.specs.declared.printer.Printer.{Printer}
 use Rattle.dl_receive.specs.Receiving.{kept, Keeps}
 use Rattle.dl_receive.specs.Text.{counter_of, last_counter, lines_of, text_of}
+use Rattle.dl_lemmas.proofs.Options.{or_assoc}
 
 or_none : (x : Option ℕ) → option_or None x ≡ option_or x None
 or_none None = refl
 or_none (Some x) = refl
-
-or_assoc : (x y z : Option ℕ) → option_or (option_or x y) z ≡ option_or x (option_or y z)
-or_assoc None y z = refl
-or_assoc (Some x) y z = refl
 
 pub last_counter-one : (session : ℕ) (kinds : List Kind) (kind : Kind) → last_counter session (kinds ++ kind ∷ []) ≡ option_or (counter_of session kind) (last_counter session kinds)
 last_counter-one session [] kind = or_none (counter_of session kind)

@@ -18,12 +18,9 @@ use Rattle.dl_model.specs.Traffic.{Traffic, Connected, Admitted, Reply, Closed, 
 use Rattle.dl_laws.proofs.Lists.{along_from-append}
 use Rattle.dl_laws.proofs.ClientStreams.{is_open-one, same_number, any_open-admit, any_open-reply, waiting-admit, waiting-reply}
 use Rattle.dl_receive.specs.Calls.{heard_frames, comes_or_goes, stirs}
+use Rattle.dl_lemmas.proofs.Bools.{neither}
 
 -- ---- no coming or going
-
-none_of : (a b : Bool) → (a || b) ≡ false → (a ≡ false) × (b ≡ false)
-none_of true b e = absurd cc
-none_of false b e = (refl, e)
 
 admits_stay : (client : ℕ) (frames : List (List ℕ)) → list_any (ts.comes_or_goes client) (map Admitted frames) ≡ false
 admits_stay client [] = refl
@@ -46,7 +43,7 @@ events_stay : (source : FrameSource) (client : ℕ) (before events : List Event)
     → list_any (ts.comes_or_goes client) (along_from (traffic_of source) before events) ≡ false
 events_stay source client before [] none = refl
 events_stay source client before (e ∷ events) none =
-    let parts = none_of (comes_or_goes client e) (list_any (comes_or_goes client) events) none in
+    let parts = neither (comes_or_goes client e) (list_any (comes_or_goes client) events) none in
     list_any-append (ts.comes_or_goes client) (traffic_of source before e) (along_from (traffic_of source) (before ++ e ∷ []) events)
     ∙ or_none _ _ (event_stays source client before e parts.0) (events_stay source client (before ++ e ∷ []) events parts.1)
 
@@ -66,7 +63,7 @@ during : (ecu : List ℕ) (buffer client : ℕ) (before all : List Traffic) → 
     along_from (put ecu buffer client) before all ≡ filter_map (meant_for client) all
 during ecu buffer client before [] there none = refl
 during ecu buffer client before (t ∷ all) there none =
-    let parts = none_of (ts.comes_or_goes client t) (list_any (ts.comes_or_goes client) all) none in
+    let parts = neither (ts.comes_or_goes client t) (list_any (ts.comes_or_goes client) all) none in
     let next : is_open client (before ++ t ∷ []) ≡ true = is_open-one client before t ∙ rw parts.0 there in
     let later = during ecu buffer client (before ++ t ∷ []) all next parts.1 in
     let now = puts_meant ecu buffer client before t there parts.0 in
@@ -171,7 +168,7 @@ events_wait : (source : FrameSource) (client : ℕ) (done events : List Event) (
     → Waits client before (along_from (traffic_of source) done events)
 events_wait source client done [] before shut none = nothing_waits client before shut
 events_wait source client done (e ∷ events) before shut none =
-    let parts = none_of (stirs client e) (list_any (stirs client) events) none in
+    let parts = neither (stirs client e) (list_any (stirs client) events) none in
     let now = traffic_of source done e in
     let rest = along_from (traffic_of source) (done ++ e ∷ []) events in
     let first = event_waits source client done before e shut parts.0 in

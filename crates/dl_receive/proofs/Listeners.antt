@@ -16,6 +16,7 @@ use Rattle.dl_receive.specs.Text.{received}
 use Rattle.dl_outside.proofs.Sinks.{took_both, took_front, whole_is_front}
 use Rattle.dl_receive.proofs.Sources.{given_more}
 use Rattle.dl_receive.proofs.StreamCuts.{good_now}
+use Rattle.dl_lemmas.proofs.Options.{if_some_of}
 
 pub is_good : (stream : List ℕ) (receiver : Receiver) → IsAt stream receiver → IsGood stream
 is_good stream receiver at = good_now stream (received stream) receiver at.after at.ready.is_open
@@ -71,9 +72,6 @@ module _ (first before now : Sides) (total : ℕ) (receiver new : Receiver) (is 
 
 -- ---- what the program says
 
-some_is : (o : Option (List ℕ)) (x : List ℕ) (P : List ℕ → Type 0) → o ≡ Some x → IfSome o P → P x
-some_is o x P e h = let family : Option (List ℕ) → Type 0 = λ v. IfSome v P in subst family e h
-
 pub had_served : (serves : Option (ℕ → List ℕ)) (port : ℕ) (left : Option (List ℕ)) → IfSome serves (λ all. left ≡ Some (all port))
     → IfSome (option_map (λ all. all port) serves) (λ bytes. left ≡ Some bytes)
 had_served None port left e = tt
@@ -81,11 +79,11 @@ had_served (Some all) port left e = e
 
 gave_served : (serves left now : Option (List ℕ)) (given : List ℕ) → IfSome serves (λ bytes. left ≡ Some bytes) → Gave left now given → Gave serves now given
 gave_served None left now given e gave = tt
-gave_served (Some bytes) left now given e gave = some_is left bytes (λ all. (rest : List ℕ) × (now ≡ Some rest) × (given ++ rest ≡ all)) e gave
+gave_served (Some bytes) left now given e gave = if_some_of left bytes (λ all. (rest : List ℕ) × (now ≡ Some rest) × (given ++ rest ≡ all)) e gave
 
 up_served : (serves left now : Option (List ℕ)) → IfSome serves (λ bytes. left ≡ Some bytes) → IfSome left (λ all. now ≡ Some []) → IfSome serves (λ all. now ≡ Some [])
 up_served None left now e up = tt
-up_served (Some bytes) left now e up = some_is left bytes (λ all. now ≡ Some []) e up
+up_served (Some bytes) left now e up = if_some_of left bytes (λ all. now ≡ Some []) e up
 
 module _ (serves : Option (List ℕ)) (first now : Sides) (dial dial_now : DialTold) (dials : dial_now.faults ≡ dial.faults) (sound : first.source.faults ≡ 0)
     (had : IfSome serves (λ bytes. first.source.left ≡ Some bytes)) where

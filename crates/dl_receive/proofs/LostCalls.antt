@@ -32,6 +32,8 @@ use Rattle.dl_receive.specs.Calls.{heard_frames, AreFramed, logged, AreInOrder, 
 use Rattle.dl_receive.specs.MessageKind.{kind_of, kind_by}
 use Rattle.dl_receive.specs.Text.{counter_of, last_counter, passed_over}
 use Rattle.dl_receive.proofs.Fields.{kind_read, standard_long, extended_long}
+use Rattle.dl_lemmas.proofs.Options.{or_assoc}
+use Rattle.dl_lemmas.proofs.Lists.{all_here}
 
 -- ---- the frame of a call
 
@@ -154,10 +156,6 @@ counters_apart passed missing a b ea eb few = omega (arith, ea, eb, few)
 
 -- ---- the last counter of a session
 
-or_assoc : (x y z : Option ℕ) → option_or (option_or x y) z ≡ option_or x (option_or y z)
-or_assoc None y z = refl
-or_assoc (Some x) y z = refl
-
 or_none : (x : Option ℕ) → option_or x None ≡ x
 or_none None = refl
 or_none (Some x) = refl
@@ -173,12 +171,6 @@ last_here session mcnt len apid ctid before between none =
     let here : last_counter session (Log session mcnt apid ctid len ∷ between) ≡ Some mcnt =
     ap (λ (o : Option ℕ). option_or o (cond (eqb session session) (Some mcnt) None)) none ∙ ap (λ (b : Bool). cond b (Some mcnt) None) (same_number session) in
     last_counter-append session before (Log session mcnt apid ctid len ∷ between) ∙ ap (λ (o : Option ℕ). option_or o (last_counter session before)) here
-
--- ---- all of a list
-
-all_at : {A : Type 0} (P : A → Type 0) (front : List A) (x : A) (back : List A) → AllByRecursion P (front ++ x ∷ back) → P x
-all_at P [] x back all = all.0
-all_at P (y ∷ front) x back all = all_at P front x back all.1
 
 -- ---- the law
 
@@ -252,11 +244,11 @@ module _ (source : FrameSource) (client app writer first second : ℕ) (at then 
   IsFramed r = IsLogCall r.item × (source.frame r.item.writer r.item.call ≡ log_message source.ecu r.item)
 
   framed_one : IsFramed m.it
-  framed_one = all_at IsFramed m.skipped m.it m.rest (subst (AllByRecursion IsFramed) m.parts framed)
+  framed_one = all_here IsFramed m.skipped m.it m.rest (subst (AllByRecursion IsFramed) m.parts framed)
 
   framed_two : IsFramed f.it
   framed_two =
-      all_at IsFramed (m.skipped ++ m.it ∷ f.skipped) f.it f.rest
+      all_here IsFramed (m.skipped ++ m.it ∷ f.skipped) f.it f.rest
       (subst (AllByRecursion IsFramed) (records_are ∙ sym (append_assoc m.skipped (m.it ∷ f.skipped) (f.it ∷ f.rest))) framed)
 
   kind_at : (r : Record) (call : ℕ) → name_of r.item ≡ (writer, call) → IsFramed r

@@ -21,6 +21,7 @@ use Rattle.dl_outside.proofs.Sinks.{took_nothing}
 use Rattle.dl_receive.specs.Text.{lines_of, text_of, len_limit, received}
 use Rattle.dl_receive.proofs.Counters.{text-one}
 use Rattle.dl_receive.proofs.StreamCuts.{cut_fed, cut_one, bad_stream, shown_is, rest_now, good_now}
+use Rattle.dl_lemmas.proofs.Lists.{empty_of}
 
 -- a receiver of these parts
 abbrev pub with : Cutting → Printer → Receiver
@@ -167,16 +168,12 @@ cleared stream shown old printer counters empty after ready =
 
 -- ---- at the end
 
-pub nothing_left : (xs : List ℕ) → length xs ≡ 0 → xs ≡ []
-nothing_left [] e = refl
-nothing_left (x ∷ xs) e = absurd (omega arith)
-
 module _ (stream : List ℕ) (receiver : Receiver) (at : IsAt stream receiver) where
   left_is : receiver.cutter.unread ≡ stream_rest stream
   left_is = rest_now stream (received stream) receiver at.after at.ready.is_open
 
   pub ends_whole : (count : ℕ) → count ≡ min (len_limit + 4) receiver.cutter.room → count ≡ len_limit + 4 → IsWhole stream
-  ends_whole count is all = sym left_is ∙ nothing_left receiver.cutter.unread (omega (arith, is, all, at.ready.room))
+  ends_whole count is all = sym left_is ∙ empty_of receiver.cutter.unread (omega (arith, is, all, at.ready.room))
 
   pub ends_truncated : (count : ℕ) → count ≡ min (len_limit + 4) receiver.cutter.room → (count ≡ len_limit + 4 → ⊥) → IsTruncated stream
   ends_truncated count is less = (

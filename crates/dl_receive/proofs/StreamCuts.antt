@@ -1,5 +1,5 @@
 -- The stream so far, its messages and its rest.
-use Rattle.std.proofs.Common.{◌≡◌, ℕ, ◌/◌, false, eqb, arith, List, [], ◌∷◌, ◌++◌, map, Option, Some, None, refl, sym, ap, subst, ◌∙◌, append_assoc}
+use Rattle.std.proofs.Common.{◌≡◌, ℕ, ◌/◌, false, eqb, arith, List, [], ◌∷◌, ◌++◌, map, refl, sym, ap, subst, ◌∙◌, append_assoc}
 use Rattle.std.specs.Prelude.{IsSome}
 use Rattle.std.specs.List.{concat, AllByRecursion}
 use Rattle.std.proofs.lemmas.List.{append-nil, map-append}
@@ -19,6 +19,7 @@ use Rattle.dl_receive.specs.Program.{stream_rest, IsBad, IsGood}
 use Rattle.dl_receive.specs.Receiving.{IsAfter}
 use Rattle.dl_receive.specs.Text.{lines_of, text_of, len_limit, received}
 use Rattle.dl_receive.proofs.Counters.{text-append}
+use Rattle.dl_lemmas.proofs.Options.{some_of, is_some_of}
 
 -- ---- a cut, step by step
 
@@ -91,14 +92,6 @@ received-more a b =
       along_from lines_of first second,
       ap (λ (ms : List (List ℕ)). text_of (map kind_of ms)) all ∙ ap text_of (map-append kind_of (messages len_limit a) (map without_serial (pieces len_limit (rest_of len_limit a ++ b)))) ∙ text-append first second,
     )
-
-some_of : {A : Type 0} (x : Option A) → IsSome x → (y : A) × (x ≡ Some y)
-some_of None e = absurd cc
-some_of (Some x) e = (x, refl)
-
-is_some_of : {A : Type 0} (x : Option A) (y : A) → x ≡ Some y → IsSome x
-is_some_of None y e = absurd cc
-is_some_of (Some x) y e = refl
 
 -- ---- a stream that is bad stays so, and prints no more
 

@@ -11,7 +11,7 @@ use Rattle.dl_text.specs.Faults.{size_limit}
 use Rattle.dl_text.specs.Lines.{lines_of}
 
 -- a text that is too long is no script
-refused : (text : List ℕ) → size_limit < length text → steps_of text ≡ Err (bad.Fault 0 Size)
+pub refused : (text : List ℕ) → size_limit < length text → steps_of text ≡ Err (bad.Fault 0 Size)
 unfolding script_of
 refused text long = ap (λ b. if b then Err (bad.Fault 0 Size) else entries step_of nothing 1 (lines_of text)) (lt-ltb size_limit (length text) long)
 

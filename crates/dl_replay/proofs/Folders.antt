@@ -6,7 +6,7 @@ use Rattle.dl_conf.specs.Outcome.{values_of}
 use Rattle.dl_model.specs.Marks.{Mark, journal}
 use Rattle.dl_outside.specs.Folder.{Files}
 use Rattle.dl_outside.specs.Outside.{Stays}
-use Rattle.dl_startup.proofs.Told.{if_some_of, known_before}
+use Rattle.dl_startup.proofs.Told.{known_before}
 use Rattle.dl_startup.specs.Setup.{conf_in, conf_name, stored_name}
 use Rattle.dl_replay.specs.declared.begin.Start.{Start}
 use Rattle.dl_replay.specs.Begin.{IsSaid}
@@ -16,6 +16,7 @@ use Rattle.dl_replay.specs.Run.{HoldsItsStored, setting}
 use Rattle.dl_replay.specs.declared.task.Task.{Task}
 use Rattle.dl_trace.specs.Stands.{IsTraceName}
 use Rattle.dl_world.specs.Stored.{HoldsStored}
+use Rattle.dl_lemmas.proofs.Options.{if_some_of}
 
 -- ---- what is told
 

@@ -29,6 +29,7 @@ use Rattle.dl_replay.specs.Program.{Asked, Outcome}
 use Rattle.dl_replay.specs.Run.{marks, setting, text_of}
 use Rattle.dl_replay.specs.Task.{shows_frames, task_of}
 use Rattle.dl_replay.specs.Told.{Told}
+use Rattle.dl_lemmas.proofs.Options.{same_thing}
 
 -- ---- one run
 
@@ -71,9 +72,6 @@ set_by values stored = record {
   first = 0;
   clients = client_limit;
 }
-
-one_of : {A : Type 0} (x y : A) → Some x ≡ Some y → x ≡ y
-one_of x y same = cc
 
 at_some : {A : Type 0} (o : Option A) (x : A) (P : A → Type 0) → o ≡ Some x → IfSome o P → P x
 at_some {A = A} o x P is has = let family : Option A → Type 0 = λ v. IfSome v P in subst family is has
@@ -121,7 +119,7 @@ pub one_text : (words : List (List ℕ)) (script : List ℕ) (files : Files) (fi
 one_text words script files first first_now second second_now one two =
     let a = prints words first first_now one.well in
     let b = prints words second second_now two.well in
-    let task_same : a.0 ≡ b.0 = one_of a.0 b.0 (sym a.1 ∙ b.1) in
+    let task_same : a.0 ≡ b.0 = same_thing a.0 b.0 (sym a.1 ∙ b.1) in
     let p = a.2 in
     let q : Prints a.0 second second_now = subst (λ (task : Task). Prints task second second_now) (sym task_same) b.2 in
     let flag = shows_frames a.0 in

@@ -40,8 +40,9 @@ use Rattle.dl_replay.specs.Playing.{IsOf, OwnFiles}
 use Rattle.dl_replay.specs.Run.{Run, HoldsItsStored, marks, setting}
 use Rattle.dl_replay.specs.Task.{shows_frames}
 use Rattle.dl_outside.specs.Told.{FolderTold}
-use Rattle.dl_startup.proofs.Told.{if_some_of}
 use Rattle.dl_replay.proofs.Folders.{stored_before}
+use Rattle.dl_lemmas.proofs.Lists.{not_empty}
+use Rattle.dl_lemmas.proofs.Options.{if_some_of}
 
 -- ---- the report
 
@@ -106,9 +107,6 @@ is_of start old new stood trace played told told_now p run answers trace_is =
 named_files : (directory : List ℕ) (files : List StoredFile) → 0 < length directory → files ≡ (if length directory == 0 then [] else files)
 named_files directory files named = sym (ap (λ b. if b then [] else files) (ne_eqb (length directory) 0 (λ e. absurd (omega (arith, e, named)))))
 
-is_empty : (directory : List ℕ) → directory ≡ [] → 0 < length directory → ⊥
-is_empty directory empty named = omega (arith, ap length empty, named)
-
 -- what the stored configuration holds, where the folder stood while the trace was begun
 stored_at_end : (start : Start) (old mid new : Option Files) (done other : List Mark) → Stays old mid → done ≡ other
     → (count_by is_failed done ≡ 0 → HoldsItsStored start mid new done) → count_by is_failed other ≡ 0 → HoldsItsStored start old new other
@@ -123,10 +121,10 @@ untraced_run start old mid new played unnamed told well p =
       stood = [];
       answers = p.answers;
       trace = played.ends.trace;
-      stood_are = λ named. absurd (is_empty start.conf.directory unnamed named);
+      stood_are = λ named. absurd (not_empty start.conf.directory unnamed named);
       untraced = λ _. p.trace_is;
-      traced = λ named. absurd (is_empty start.conf.directory unnamed named);
-      holds = λ named goes. absurd (is_empty start.conf.directory unnamed named);
+      traced = λ named. absurd (not_empty start.conf.directory unnamed named);
+      holds = λ named goes. absurd (not_empty start.conf.directory unnamed named);
       stored = stored_at_end start old.files mid.files new.files p.done (marks start p.answers) told p.run_is p.stored;
       failed =
           subst (λ (n : ℕ). min (n + failures (marks start p.answers) played.ends.trace) (2 ^ 64 - 1) ≤ new.faults) well
@@ -154,7 +152,7 @@ traced_run start old mid new stood trace played named told well had p =
       answers = p.answers;
       trace = played.ends.trace;
       stood_are = λ _. had;
-      untraced = λ unnamed. absurd (is_empty start.conf.directory unnamed named);
+      untraced = λ unnamed. absurd (not_empty start.conf.directory unnamed named);
       traced = λ _. subst (λ (d : List Mark). IsTraced (setting start) stood d played.ends.trace) p.run_is p.trace_is;
       holds = λ _ goes. holding start stood (marks start p.answers) trace played.ends.trace old.files mid.files new.files named told had
           (subst (λ (d : List Mark). Holds (setting start) stood d (Some trace) played.ends.trace mid.files new.files) p.run_is p.holds) goes;

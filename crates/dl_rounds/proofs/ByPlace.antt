@@ -3,24 +3,6 @@ use Rattle.std.proofs.Common.{◌≡◌, ◌≢◌, ℕ, zero, suc, pred, ◌+�
 use Rattle.std.specs.Prelude.{count_by, cond, slice_get, slice_set}
 use Rattle.std.proofs.lemmas.List.Sums.{sum_by-cons}
 
-pub set_other : {A : Type 0} (xs : List A) (i j : ℕ) (x : A) → j ≢ i → slice_get (slice_set xs i x) j ≡ slice_get xs j
-set_other [] i j x apart = refl
-set_other (y ∷ ys) zero zero x apart = absurd (apart refl)
-set_other (y ∷ ys) zero (suc j) x apart = refl
-set_other (y ∷ ys) (suc i) zero x apart = refl
-set_other (y ∷ ys) (suc i) (suc j) x apart = set_other ys i j x (λ (e : j ≡ i). apart (ap suc e))
-
-pub set_here : {A : Type 0} (xs : List A) (i : ℕ) (x y : A) → slice_get xs i ≡ Some x → slice_get (slice_set xs i y) i ≡ Some y
-set_here [] i x y is = absurd cc
-set_here (z ∷ zs) zero x y is = refl
-set_here (z ∷ zs) (suc i) x y is = set_here zs i x y is
-
--- the entry that was there
-pub set_again : {A : Type 0} (xs : List A) (i : ℕ) (x : A) → slice_get xs i ≡ Some x → slice_set xs i x ≡ xs
-set_again [] i x is = refl
-set_again (z ∷ zs) zero x is = ap (λ (y : _). y ∷ zs) (sym cc)
-set_again (z ∷ zs) (suc i) x is = ap (λ (ys : List _). z ∷ ys) (set_again zs i x is)
-
 pub set_length : {A : Type 0} (xs : List A) (i : ℕ) (x : A) → length (slice_set xs i x) ≡ length xs
 set_length [] i x = refl
 set_length (z ∷ zs) zero x = refl
@@ -73,7 +55,3 @@ pub get_before : {A : Type 0} (xs ys : List A) (place : ℕ) → place < length 
 get_before [] ys place within = absurd (omega (arith, within))
 get_before (x ∷ xs) ys zero within = refl
 get_before (x ∷ xs) ys (suc place) within = get_before xs ys place (omega (arith, within))
-
-pub get_end : {A : Type 0} (xs : List A) (x : A) → slice_get (xs ++ x ∷ []) (length xs) ≡ Some x
-get_end [] x = refl
-get_end (y ∷ ys) x = get_end ys x

@@ -19,7 +19,8 @@ use Rattle.dl_turns.specs.Events.{HasServed, IsDeskOf}
 use Rattle.dl_rounds.specs.declared.listener.Listener.{Listener}
 use Rattle.dl_rounds.specs.Arrivals.{Connects}
 use Rattle.dl_rounds.specs.Ready.{AreHeard}
-use Rattle.dl_rounds.proofs.ByPlace.{get_before, get_end}
+use Rattle.dl_rounds.proofs.ByPlace.{get_before}
+use Rattle.dl_lemmas.proofs.Lists.{get_end}
 
 pub connected : (r : Result ℕ HubFault) (o : Option ℕ) (old new : Core) (events events_now : Option (List Event)) → o ≡ result_ok r → HasPlace old.hub
     → IfOk r (λ number. number ≡ length old.hub.clients + 1) → IfOk r (λ number. AddsAlone (event.Connect number ∷ []) old new)
@@ -32,7 +33,7 @@ connected (Ok number) o old new events events_now is place next after noted come
 
 -- ---- its listener
 
-at_next : (hub : Hub) (place : ℕ) → client_of hub (place + 1) ≡ slice_get hub.clients place
+pub at_next : (hub : Hub) (place : ℕ) → client_of hub (place + 1) ≡ slice_get hub.clients place
 at_next hub place =
     let back : place + 1 - 1 ≡ place = omega arith in elim (eqb_tells (place + 1) 0) [
       | inl none ↦ absurd (omega (arith, none.1))

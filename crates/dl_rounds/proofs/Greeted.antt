@@ -1,12 +1,11 @@
 -- What a registration leaves: the desk is still that of the registry.
 use Rattle.std.proofs.Common.{◌≡◌, ℕ, ◌+◌, ◌≤◌, ◌<◌, Bool, true, false, cond, List, [], ◌∷◌, ◌++◌, length, Option, Some, None, Result, Ok, Err, inl, inr, ◌⊎◌, refl, sym, ap, subst, ◌∙◌, arith, suc, zero, length-append}
 use Rattle.std.specs.Prelude.{eqb, nat_le, ◌==◌, ◌-◌, ◌||◌, IfOk, IfSome, slice_get}
-use Rattle.std.specs.List.{AllByRecursion, list_any, range_with_len}
+use Rattle.std.specs.List.{AllByRecursion, range_with_len}
 use Rattle.std.specs.Map.{lookup}
 use Rattle.std.specs.Option.{option_and_then, option_or}
 use Rattle.std.specs.Str.{bytes_eq}
 use Rattle.std.proofs.lemmas.List.{length-map, map-append}
-use Rattle.std.proofs.lemmas.List.Sums.{prefix_len-le-length}
 use Rattle.dl_bytes.specs.Id.{zero_id}
 use Rattle.dl_bytes.specs.Limits.{last_version}
 use Rattle.dl_bytes.specs.declared.user.UserMsg.{UserMsg}
@@ -18,7 +17,7 @@ use Rattle.dl_model.specs.declared.registry.RegistryFault.TheVariants as fault
 use Rattle.dl_model.specs.declared.registry.Slot.{Slot}
 use Rattle.dl_model.specs.Frames.{user_frames}
 use Rattle.dl_model.specs.Registry.{App, Registry, app_of, app_registered, applied, context_of, context_registered, for_app, least_free, numbers, places, slot_of, stored_level, with_app, with_context, with_new_context}
-use Rattle.dl_model.proofs.Numbered.{map-set_value}
+use Rattle.dl_model.proofs.Numbered.{map-set_value, least_free-le-length}
 use Rattle.dl_model.proofs.Order.{app_of_found}
 use Rattle.dl_desk.specs.Told.{PostTold}
 use Rattle.dl_registry.specs.Kept.{Applies, Kept, slots}
@@ -28,6 +27,7 @@ use Rattle.dl_core.specs.State.{Core}
 use Rattle.dl_turns.specs.Events.{HaveSetLevels, IsDeskOf, SetsLevels}
 use Rattle.dl_turns.specs.State.{Side}
 use Rattle.dl_rounds.specs.Greetings.{IsRegistration, apps_in, registered}
+use Rattle.dl_lemmas.proofs.Options.{ifok_if}
 
 -- ---- nobody is there
 
@@ -67,13 +67,6 @@ range_len : (from count : ℕ) → length (range_with_len from count) ≡ count
 range_len from zero = refl
 range_len from (suc count) = ap suc (range_len (from + 1) count)
 
-free_within : (used : List ℕ) → least_free used ≤ length used
-free_within used = omega (arith, prefix_len-le-length (λ n. list_any (λ m. n == m) used) (range_with_len 0 (length used)), range_len 0 (length used))
-
-ifok_if : {A E : Type 0} (P : A → Type 0) (b : Bool) (e : E) (r : Result A E) → IfOk r P → IfOk (cond b (Err e) r) P
-ifok_if P true e r ok = tt
-ifok_if P false e r ok = ok
-
 module _ (limit : ℕ) (r : Registry) (below : AllByRecursion (λ n. n < limit) (numbers r.apps)) where
   with_same : (most : ℕ) (apid : List ℕ) (old new : App) → length r.apps ≤ most → lookup (bytes_eq apid) r.apps ≡ Some old → new.number ≡ old.number → AreBelow limit most (with_app r apid new)
   with_same most apid old new few found same =
@@ -91,7 +84,7 @@ module _ (limit : ℕ) (r : Registry) (below : AllByRecursion (λ n. n < limit) 
     by false = tt
   app_below apid pid text None found place = ifok_if (AreBelow limit (length r.apps + 1)) (nat_le 16 (length r.apps)) fault.AppsFull _ (record {
     below = subst (AllByRecursion (λ n. n < limit)) (sym (map-append (λ e. e.1.number) r.apps ((apid, new) ∷ [])))
-        (all_push limit (numbers r.apps) (least_free (numbers r.apps)) below (omega (arith, free_within (numbers r.apps), length-map r.apps (λ (e : List ℕ × App). e.1.number), place)));
+        (all_push limit (numbers r.apps) (least_free (numbers r.apps)) below (omega (arith, least_free-le-length (numbers r.apps), length-map r.apps (λ (e : List ℕ × App). e.1.number), place)));
     many = omega (arith, length-append r.apps ((apid, new) ∷ []));
   }) where
     new : App

@@ -52,11 +52,6 @@ introduced app is =
     subst (λ (msgs : List UserMsg). AllByRecursion IsRegistration msgs × (sum_by apps_in msgs ≡ 1)) (sym is.hello)
     ((tt, rest.0), omega (arith, rest.1, sum_by-cons apps_in (RegisterApp is.apid is.pid is.text) is.contexts))
 
-pub all_at : {A : Type 0} (P : A → Type 0) (xs : List A) (place : ℕ) (x : A) → AllByRecursion P xs → slice_get xs place ≡ Some x → P x
-all_at P [] place x all is = absurd cc
-all_at P (y ∷ ys) zero x all is = let same : y ≡ x = cc is in subst (λ (z : _). P z) same all.0
-all_at P (y ∷ ys) (suc place) x all is = all_at P ys place x all.1 is
-
 -- ---- the messages of all applications
 
 pub hello_both : (first second : List AppState) → hello_of (first ++ second) ≡ hello_of first ++ hello_of second

@@ -27,7 +27,7 @@ both_adds first second old between new folder folder_between folder_now one two 
     let same = append_assoc events first second in
     (subst (λ (es : List Event). IsAfter run es taken new) same b.0, λ held. subst (λ (es : List Event). HoldsTrace run es new folder_now) same (b.1 (a.1 held)))
 
-both_of_greeting : (first second : List Event) → AllByRecursion IsOfGreeting first → AllByRecursion IsOfGreeting second → AllByRecursion IsOfGreeting (first ++ second)
+pub both_of_greeting : (first second : List Event) → AllByRecursion IsOfGreeting first → AllByRecursion IsOfGreeting second → AllByRecursion IsOfGreeting (first ++ second)
 both_of_greeting [] second one two = two
 both_of_greeting (e ∷ first) second one two = (one.0, both_of_greeting first second one.1 two)
 

@@ -31,19 +31,20 @@ use Rattle.dl_turns.proofs.HeardSides.{asked_both}
 use Rattle.dl_rounds.specs.Clients.{Client, Clients, IsClient, Visits, stage_of, with_client}
 use Rattle.dl_rounds.specs.Passing.{AreAsNoted, AreLater, IsAsNoted, IsOverIfLeft, IsVisit, StayAsNoted, TellFrom, took_all}
 use Rattle.dl_rounds.specs.Visits.{ShutsFor}
-use Rattle.dl_rounds.proofs.ByPlace.{set_here, set_other}
 use Rattle.dl_rounds.proofs.Turned.{open_and_gone, placed, there_of}
 use Rattle.dl_rounds.proofs.VisitedEvents.{all_both, all_none, all_one, only, took_none, took_twice}
+use Rattle.dl_lemmas.proofs.Options.{some_of}
+use Rattle.dl_lemmas.proofs.Lists.{set_here, set_other}
 
 -- ---- a client that went stays as it went
 
 -- what is left of its stream
-record IsLeft (run : Run) (events : List Event) (number : ℕ) (took : List ℕ) (size : ℕ) : Type 0 where
-  left : List ℕ
-  parts : concat (stream (source_of run) run.setting.buffer number events) ≡ took ++ left
-  size_is : length left ≡ size
+pub record IsLeft (run : Run) (events : List Event) (number : ℕ) (took : List ℕ) (size : ℕ) : Type 0 where
+  pub left : List ℕ
+  pub parts : concat (stream (source_of run) run.setting.buffer number events) ≡ took ++ left
+  pub size_is : length left ≡ size
 
-left_of : (run : Run) (events : List Event) (taken : ℕ → List ℕ) (core : Core) (number : ℕ) (c : HubClient) → IsAfter run events taken core → client_of core.hub number ≡ Some c → c.outbox ≡ None
+pub left_of : (run : Run) (events : List Event) (taken : ℕ → List ℕ) (core : Core) (number : ℕ) (c : HubClient) → IsAfter run events taken core → client_of core.hub number ≡ Some c → c.outbox ≡ None
     → IsLeft run events number (taken number) c.left
 left_of run events taken core number c is there gone =
     let rest = (its_stream run events taken core is number c there).gone gone in
@@ -75,7 +76,7 @@ gone_longer run past more taken taken_now core core_now number did c c_now is is
       too_many = gone.too_many;
     }
 
-over_longer : (past more : List Event) (number : ℕ) (did : LinkDid) → IsOverIfLeft (past ++ more) number did → IsOverIfLeft past number did
+pub over_longer : (past more : List Event) (number : ℕ) (did : LinkDid) → IsOverIfLeft (past ++ more) number did → IsOverIfLeft past number did
 over_longer past more number did over before after is =
     over before (after ++ more) (ap (λ (es : List Event). es ++ more) is ∙ append_assoc before (event.Close number Left ∷ after) more)
 
@@ -87,7 +88,7 @@ left_slow run events taken core number room need is None there has = absurd has
 left_slow run events taken core number room need is (Some c) there has =
     (c.left, left_of run events taken core number c is there has.0, subst (λ (b : ℕ). room + c.left ≡ outbox_limit b) is.set_to.buffer has.1)
 
-not_bad : (bytes : List ℕ) (cutter : Cutting) → HasCut bytes cutter → is_some (rest_fault message_limit (rest_of message_limit bytes)) ≡ false
+pub not_bad : (bytes : List ℕ) (cutter : Cutting) → HasCut bytes cutter → is_some (rest_fault message_limit (rest_of message_limit bytes)) ≡ false
 not_bad bytes cutter cut = ap (λ (rest : List ℕ). is_some (rest_fault message_limit rest)) (sym cut.rest) ∙ ap (λ (o : Option _). is_some o) cut.good.good
 
 pub slow_went : (number room need : ℕ) (run : Run) (past : List Event) (taken : ℕ → List ℕ) (from : List ℕ) (stage : Stage) → IsOpenWith number run past taken from stage
@@ -114,10 +115,6 @@ slow_went number room need run past taken from stage was core after has did give
     by b no_so yes_so = let bad : true ≡ false = sym yes_so ∙ no_so in cc bad
 
 -- ---- what links tell
-
-some_of : {A : Type 0} (o : Option A) → IsSome o → (x : A) × (o ≡ Some x)
-some_of None some = absurd cc
-some_of (Some x) some = (x, refl)
 
 grown : (old new : Option (List ℕ)) (bytes more : List ℕ) → old ≡ Some bytes → Grows old new more → new ≡ Some (bytes ++ more)
 grown None new bytes more is grows = absurd cc

@@ -16,6 +16,7 @@ use Rattle.dl_turns.specs.Stopping.{GoesOn, IsClosedIn, IsWoundUp, TurnsOn}
 use Rattle.dl_turns.specs.Turns.{ClosesFor, Heeds, IsPump, IsTurn, Listens, ServesEach}
 use Rattle.dl_turns.proofs.ClientChanges.{client_other}
 use Rattle.dl_rounds.proofs.ByPlace.{set_length}
+use Rattle.dl_core.proofs.Admitted.{same_hub-later}
 
 -- all other clients are as they were, and as many came
 pub record IsBut (client : ℕ) (old new : Hub) : Type 0 where
@@ -134,6 +135,3 @@ but_stop client why old new wound =
             | inr all ↦ but_same client wound.last.side.core.hub stopped.0.side.core.hub (ap (λ (s : Stage). s.side.core.hub) all.1)
           ]) (but_closes client why stopped.0.side new.side stopped.3)
     ])
-
-pub same_both : (a b c : Hub) → IsSameHub a b → IsSameHub b c → IsSameHub a c
-same_both a b c one two = record { ecu = two.ecu ∙ one.ecu; buffer = two.buffer ∙ one.buffer; limit = two.limit ∙ one.limit }

@@ -21,10 +21,11 @@ use Rattle.dl_rounds.specs.Clients.{Client, Clients, IsClient, Visits, stage_of,
 use Rattle.dl_rounds.specs.Shown.{AllShowWhy, IsOverFor, ShowWhy, ShowsWhy, TellOvers, WasServedAll}
 use Rattle.dl_rounds.specs.Visits.{Closed, Heard, IsShut, Pumped, ShutsFor}
 use Rattle.dl_rounds.specs.declared.listener.Listener.{Listener}
-use Rattle.dl_rounds.proofs.ByPlace.{set_here, set_other}
 use Rattle.dl_rounds.proofs.OneClient.{IsBut, but_pump, but_stop, but_turn}
 use Rattle.dl_rounds.proofs.ServedClients.{pump_served, stop_served, turn_served}
 use Rattle.dl_rounds.proofs.Turned.{open_and_gone, placed}
+use Rattle.dl_lemmas.proofs.Options.{one_is}
+use Rattle.dl_lemmas.proofs.Lists.{set_here, set_other}
 
 -- ---- what a client that is gone shows, it goes on to show
 
@@ -75,10 +76,6 @@ module _ {Tells : Type 0} where
     counts = counts_shut shows.cause link link_now shut shows.counts;
     over = λ tells. over_shut shows.cause link link_now shut (shows.over tells);
   }
-
-one_is : {A : Type 0} (x y : A) (o : Option A) → o ≡ Some x → o ≡ Some y → x ≡ y
-one_is x y None a b = absurd cc
-one_is x y (Some z) a b = cc
 
 -- ---- one visit
 

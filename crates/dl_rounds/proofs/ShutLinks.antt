@@ -11,9 +11,10 @@ use Rattle.dl_rounds.specs.Clients.{Client, Clients, HaveVisited, IsClient, Visi
 use Rattle.dl_rounds.specs.Passing.{IsVisit}
 use Rattle.dl_rounds.specs.Visits.{IsShut, ShutsFor}
 use Rattle.dl_rounds.specs.Partings.{AreShut, ShutsGone, ShutsTo}
-use Rattle.dl_rounds.proofs.ByPlace.{set_here, set_length, set_map, set_other}
+use Rattle.dl_rounds.proofs.ByPlace.{set_length, set_map}
 use Rattle.dl_rounds.proofs.Turned.{open_and_gone}
 use Rattle.dl_rounds.proofs.VisitedClients.{other_visit, outbox_in}
+use Rattle.dl_lemmas.proofs.Lists.{set_here, set_other}
 
 pub shuts_one : (done : ℕ) (hub : Hub) (old now : List LinkTold) (link link_now : LinkTold) → ShutsTo done hub old now → slice_get now done ≡ Some link
     → (IsSome (outbox_of hub (done + 1)) → link_now ≡ link) → (outbox_of hub (done + 1) ≡ None → IsShut link link_now) → ShutsTo (done + 1) hub old (slice_set now done link_now)

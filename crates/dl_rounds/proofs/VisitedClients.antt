@@ -13,8 +13,8 @@ use Rattle.dl_turns.specs.Turns.{HasGiven, HasSent, IsPump, IsTurn}
 use Rattle.dl_rounds.specs.Clients.{Client, Clients, HaveVisited, IsClient, Visits, stage_of, with_client}
 use Rattle.dl_rounds.specs.Passing.{EachOpen, IsVisit, WasRead, WasSent, WasVisited}
 use Rattle.dl_rounds.specs.Visits.{Heard, Pumped, ShutsFor}
-use Rattle.dl_rounds.proofs.ByPlace.{set_here, set_other}
 use Rattle.dl_rounds.proofs.Turned.{closed_so, open_and_gone, open_within}
+use Rattle.dl_lemmas.proofs.Lists.{set_here, set_other}
 
 -- a client that isn't visited is as it was
 pub record IsAsBefore (number : ℕ) (old new : Clients) : Type 0 where
@@ -115,7 +115,7 @@ sent_by number moved was now pumped some = by pumped.why pumped.pump pumped.shut
       ]
   by (Some why) pump shut = open_and_gone now.side.core.hub number some (closed_so number why pump.between now.side pump.closes)
 
-same_link : (links : List LinkTold) (place : ℕ) (a b : LinkTold) → slice_get links place ≡ Some a → slice_get links place ≡ Some b → b ≡ a
+pub same_link : (links : List LinkTold) (place : ℕ) (a b : LinkTold) → slice_get links place ≡ Some a → slice_get links place ≡ Some b → b ≡ a
 same_link links place a b one two = cc (sym two ∙ one)
 
 pub each_read : ((client : ℕ) (old new : Stage) → IsTurn client None old new → HasGiven old.link.given new.link.given ⊎ HasRisen old.link.idles new.link.idles)

@@ -31,7 +31,8 @@ use Rattle.dl_rounds.specs.declared.listener.Listener.{Listener}
 use Rattle.dl_rounds.specs.Clients.{Client, Clients, IsClient, Visits, stage_of, with_client}
 use Rattle.dl_rounds.specs.Passing.{AddsSendingAll, AreLater, IsOfClients, IsVisit, took_all}
 use Rattle.dl_rounds.specs.Visits.{Closed, Heard, Pumped, ShutsFor}
-use Rattle.dl_rounds.proofs.ByPlace.{set_here, set_length, set_other}
+use Rattle.dl_rounds.proofs.ByPlace.{set_length}
+use Rattle.dl_lemmas.proofs.Lists.{set_here, set_other}
 
 -- ---- the events
 

@@ -12,6 +12,7 @@ use Rattle.dl_rounds.specs.declared.listener.Listener.{Listener}
 use Rattle.dl_rounds.specs.Clients.{Client, Clients, HaveVisited, IsClient, Visits, seen, with_client}
 use Rattle.dl_rounds.specs.Rounds.{seen as all_seen}
 use Rattle.dl_rounds.proofs.ByPlace.{set_map}
+use Rattle.dl_lemmas.proofs.Bools.{or_false}
 
 pub visited_none : (Visit : ℕ → Bool → Client → Client → Type 0) (last : ℕ) (clients : Clients) → IsNextOpen clients.side.core.hub last None → HaveVisited Visit last false clients clients
 visited_none Visit last clients none = ([], (none, refl, refl))
@@ -26,10 +27,6 @@ visited_one Visit last number here later old between new was now next is visit s
 pub moved_or : (a b c : Bool) → ((a || b) || c) ≡ (a || (b || c))
 moved_or true b c = refl
 moved_or false b c = refl
-
-pub moved_end : (a : Bool) → (a || false) ≡ a
-moved_end true = refl
-moved_end false = refl
 
 -- the next visit, where links and listeners are kept in lists
 pub visited_next : {L D J F : Type 0} (told : L → LinkTold) (desk_told : D → PostTold) (events : J → Option (List Event)) (folder_told : F → FolderTold)

@@ -24,8 +24,7 @@ use Rattle.dl_server.specs.Holds.{GoesOut, Holds}
 use Rattle.dl_server.specs.State.{State}
 use Rattle.dl_settling.specs.Ends.{end_in, ends_in}
 use Rattle.dl_settling.specs.Went.{TellStreams}
-use Rattle.dl_settling.proofs.StoppedEvents.{within_of}
-use Rattle.dl_settling.proofs.WentClients.{client_at, end_at, some_is, streams_told}
+use Rattle.dl_settling.proofs.WentClients.{client_at, end_at, streams_told}
 use Rattle.dl_startup.specs.Setup.{IsBegun}
 use Rattle.dl_startup.specs.Unchanged.{IsQuiet}
 use Rattle.dl_trace.specs.Stands.{HasFiles}
@@ -37,6 +36,8 @@ use Rattle.dl_serve.specs.declared.beginning.Begun.{Begun}
 use Rattle.dl_serve.specs.declared.closed.Closed.{Closed}
 use Rattle.dl_serve.specs.Closed.{IsLeft}
 use Rattle.dl_serve.specs.Comes.{HasCome, IsComeTo, TookStream, TookStreams, run_in}
+use Rattle.dl_lemmas.proofs.Lists.{within_of}
+use Rattle.dl_lemmas.proofs.Options.{one_is}
 
 -- ---- the trace files that stood before
 
@@ -85,7 +86,7 @@ module _ (run : Run) (events : List Event) (took : ℕ → List ℕ) (core : Cor
       let client = client_at core.hub place below in
       let number : 1 + place ≡ place + 1 = omega arith in
       let same : end_in core.hub (place + 1) ≡ end =
-      some_is (end_in core.hub (place + 1)) end (slice_get (ends_in core.hub) place) (end_at (end_in core.hub) 1 (length core.hub.clients) place below ∙ ap (λ (n : ℕ). Some (end_in core.hub n)) number) there in
+      one_is (end_in core.hub (place + 1)) end (slice_get (ends_in core.hub) place) (end_at (end_in core.hub) 1 (length core.hub.clients) place below ∙ ap (λ (n : ℕ). Some (end_in core.hub n)) number) there in
       took_one place link end client.0 client.1 at same
 
 -- ---- the whole

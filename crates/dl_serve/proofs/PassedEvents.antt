@@ -4,7 +4,7 @@ use Rattle.std.specs.List.{AllByRecursion}
 use Rattle.dl_admission.specs.Admission.{KeepsClients}
 use Rattle.dl_admission.specs.Part.{Part, part}
 use Rattle.dl_admission.specs.Slow.{Slow, TellRooms, slow_close}
-use Rattle.dl_admission.proofs.Added.{adds_both, adds_each_both, adds_each_none, adds_none, all_both}
+use Rattle.dl_admission.proofs.Added.{adds_both, adds_each_both, adds_each_none, adds_none}
 use Rattle.dl_admission.proofs.KeptClients.{clients_both, clients_none, clients_noted}
 use Rattle.dl_admission.proofs.Rooms.{rooms_both}
 use Rattle.dl_admission.proofs.Told.{all_of_messages}
@@ -33,6 +33,7 @@ use Rattle.dl_socket.specs.Channels.{Channels, open_in}
 use Rattle.dl_socket.specs.Closing.{UnregistersEach}
 use Rattle.dl_socket.specs.Turns.{Sight}
 use Rattle.dl_user.specs.Channel as cutter
+use Rattle.dl_lemmas.proofs.Lists.{all_both}
 
 -- an event of programs: a message, a level, or the Close of a client that was too slow for a message
 abbrev pub IsOfPrograms : Event → Type 0

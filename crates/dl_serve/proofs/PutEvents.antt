@@ -4,7 +4,7 @@ use Rattle.std.specs.List.{AllByRecursion, filter_map}
 use Rattle.std.specs.Option.{option_map}
 use Rattle.dl_admission.proofs.Told.{all_of_messages}
 use Rattle.dl_admission.specs.Slow.{Slow, slow_close}
-use Rattle.dl_admission.proofs.Added.{adds_both, adds_each_both, adds_each_none, adds_none, all_both}
+use Rattle.dl_admission.proofs.Added.{adds_both, adds_each_both, adds_each_none, adds_none}
 use Rattle.dl_bytes.specs.Limits.{context_limit}
 use Rattle.dl_bytes.specs.declared.moment.Moment.{Moment}
 use Rattle.dl_bytes.specs.declared.user.UserMsg.{UserMsg}
@@ -40,6 +40,7 @@ use Rattle.dl_serve.specs.Levels.{message_at}
 use Rattle.dl_serve.proofs.NamedSlots.{NamesSame, names_both, names_served}
 use Rattle.dl_serve.proofs.NotedMessages.{IsOwn}
 use Rattle.dl_serve.proofs.PutMessages.{put_all, put_both, same_map, told_one}
+use Rattle.dl_lemmas.proofs.Lists.{all_both}
 
 -- the messages of these events for a channel, behind those before them
 abbrev pub put_on : Setting → ℕ → List Event → List Event → List (List ℕ)

@@ -32,9 +32,9 @@ use Rattle.dl_rounds.specs.Clients.{Client}
 use Rattle.dl_rounds.specs.Passing.{Did, IsAsNoted, IsOverIfLeft}
 use Rattle.dl_rounds.specs.Shown.{AllShowWhy, ShowsWhy, WasServedAll}
 use Rattle.dl_rounds.specs.declared.listener.Listener.{Listener}
-use Rattle.dl_rounds.proofs.NotedClients.{gone_longer}
+use Rattle.dl_rounds.proofs.NotedClients.{gone_longer, left_of}
 use Rattle.dl_rounds.proofs.Turned.{placed}
-use Rattle.dl_settling.proofs.NotedDrains.{Parts, as_some, left_of, no_outbox, some_of}
+use Rattle.dl_settling.proofs.NotedDrains.{Parts}
 use Rattle.dl_settling.proofs.Ready.{replies, same_replies}
 use Rattle.dl_settling.proofs.ShownDrains.{has_left, left_at, outbox_at}
 use Rattle.dl_settling.proofs.StandingStreams.{Stands, StandsAfter, stands_closing}
@@ -44,6 +44,7 @@ use Rattle.dl_turns.specs.State.{side}
 use Rattle.dl_turns.specs.State as turns
 use Rattle.dl_well_formed.proofs.OpenClients.{its_stream}
 use Rattle.dl_serve.proofs.PassedEvents.{IsOfPrograms, Passes}
+use Rattle.dl_lemmas.proofs.Options.{as_some, none_of, some_of}
 
 -- ---- the stream of a client that is not open stands
 
@@ -188,7 +189,7 @@ module _ (run : Run) (past : List Event) (taken : ℕ → List ℕ) (old new : P
 
   was_gone : (number : ℕ) → why_of number more ≡ None → IsSome (client_of new.core.hub number) → outbox_of new.core.hub number ≡ None → WasGone number
   was_gone number stays there none =
-      let gone_old : outbox_of old.core.hub number ≡ None = no_outbox (outbox_of old.core.hub number) (sym (passes.clients.stay number stays) ∙ ap is_some none) in
+      let gone_old : outbox_of old.core.hub number ≡ None = none_of (outbox_of old.core.hub number) (sym (passes.clients.stay number stays) ∙ ap is_some none) in
       let c = some_of (client_of old.core.hub number) (there_old number there) in
       let c_now = some_of (client_of new.core.hub number) there in
       let shut : c.0.outbox ≡ None = sym (outbox_at old.core.hub number c.0 c.1) ∙ gone_old in

@@ -30,10 +30,8 @@ use Rattle.dl_server.specs.State.{State, seen}
 use Rattle.dl_server.proofs.HeldRounds.{no_desk}
 use Rattle.dl_settling.specs.Ends.{end_in, ends_in}
 use Rattle.dl_settling.specs.Went.{HasEnded, HaveEnded, HaveGone, TellBytes}
-use Rattle.dl_settling.proofs.NotedDrains.{left_of}
 use Rattle.dl_settling.proofs.ShownDrains.{left_at, outbox_at}
-use Rattle.dl_settling.proofs.StoppedEvents.{within_of}
-use Rattle.dl_settling.proofs.WentClients.{client_at, end_at, get_of, some_is, stream_of}
+use Rattle.dl_settling.proofs.WentClients.{client_at, end_at, stream_of}
 use Rattle.dl_startup.specs.Setup.{IsBegun}
 use Rattle.dl_turns.specs.Gone.{TellOver}
 use Rattle.dl_turns.specs.Later.{LeavesSo}
@@ -49,6 +47,9 @@ use Rattle.dl_serve.specs.Told.{Told}
 use Rattle.dl_serve.specs.Went.{AllWent}
 use Rattle.dl_serve.proofs.CameTo.{what_stood}
 use Rattle.dl_serve.proofs.GoneServers.{Last, all_close, known_first, rounds_on}
+use Rattle.dl_rounds.proofs.NotedClients.{left_of}
+use Rattle.dl_lemmas.proofs.Lists.{within_of, there as get_of}
+use Rattle.dl_lemmas.proofs.Options.{one_is}
 
 -- ---- at the end
 
@@ -106,7 +107,7 @@ module _ (Bytes Over : Type 0) (run : Run) (events : List Event) (s : State) (la
       let shows = last.stands.shown number link (ap is_some one.at) (none_open number) (subst (λ (p : ℕ). slice_get s.clients p ≡ Some link) back there) in
       let has = stream_of run events took s.core number c last.stands.after one.at in
       let within : c.left ≤ c.bytes = omega (arith, sizes place one, has.bytes) in
-      subst (HasEnded Over run.setting events number link) (some_is (end_in hub number) end (slice_get (ends_in hub) place) one.end_so end_is) (record {
+      subst (HasEnded Over run.setting events number link) (one_is (end_in hub number) end (slice_get (ends_in hub) place) one.end_so end_is) (record {
         before = shows.before;
         cause = shows.cause;
         after = shows.after;
@@ -139,7 +140,7 @@ module _ (Bytes Over : Type 0) (run : Run) (events : List Event) (s : State) (la
         let one = one_of place link there in
         let number = place + 1 in
         let has = stream_of run events took s.core number one.client last.stands.after one.at in
-        let took_so : did.taken ≡ took number = some_is did.taken (took number) link.taken tells.taken (last.stands.taken bytes place link there) in
+        let took_so : did.taken ≡ took number = one_is did.taken (took number) link.taken tells.taken (last.stands.taken bytes place link there) in
         let size : size_of (frames_of number) ≡ length did.taken + one.client.left = omega (arith, sizes place one, ap length took_so) in
         let its : end_in hub number ≡ end_of_link run.setting (source_of run) events number did = λ i. record {
           client = number;

@@ -7,17 +7,15 @@ use Rattle.std.specs.Option.{option_map_or}
 use Rattle.std.proofs.lemmas.Bool.Decides.{eqb_tells}
 use Rattle.std.proofs.lemmas.Map.Keys.{IsDistinct-head, IsDistinct-tail}
 use Rattle.dl_serving.specs.Rounds.{is_at, place_behind}
+use Rattle.dl_lemmas.proofs.Numbers.{nat_eq_same}
 
 -- those of other numbers
 abbrev pub others_than : ℕ → List ℕ → List ℕ
 others_than channel numbers = filter (λ other. not (nat_eq channel other)) numbers
 
-same_eq : (n : ℕ) → nat_eq n n ≡ true
-same_eq n = elim (eqb_tells n n) [ inl same ↦ same.0 | inr apart ↦ absurd (apart.1 refl) ]
-
 flipped : (a b : ℕ) → nat_eq a b ≡ false → nat_eq b a ≡ false
 flipped a b apart = elim (eqb_tells b a) [
-  | inl same ↦ absurd (true≢false (sym (ap (nat_eq a) same.1 ∙ same_eq a) ∙ apart))
+  | inl same ↦ absurd (true≢false (sym (ap (nat_eq a) same.1 ∙ nat_eq_same a) ∙ apart))
   | inr other ↦ other.0
 ]
 
@@ -61,7 +59,7 @@ moved_up : (channel : ℕ) (xs : List ℕ) (place : ℕ) → IsDistinct nat_eq x
 moved_up channel [] place apart there = absurd (cc there)
 moved_up channel (x ∷ xs) zero apart there =
     let same : x ≡ channel = cc there in
-    let here : nat_eq channel x ≡ true = ap (nat_eq channel) same ∙ same_eq channel in
+    let here : nat_eq channel x ≡ true = ap (nat_eq channel) same ∙ nat_eq_same channel in
     ap (λ (b : Bool). cond (not b) (x ∷ others_than channel xs) (others_than channel xs)) here
     ∙ all_others channel xs (subst (λ (n : ℕ). AllByRecursion (λ y. nat_eq n y ≡ false) xs) same (IsDistinct-head nat_eq x xs apart))
 moved_up channel (x ∷ xs) (suc place) apart there =
@@ -76,7 +74,7 @@ next_stands channel numbers numbers_now place apart there left =
     let one : place + 1 ≡ suc place = omega arith in
     from_place channel numbers place there ∙ ap (λ (ns : List ℕ). channel ∷ ns) (elim left [
       | inl same ↦
-          let here : is_at numbers_now place channel ≡ true = ap (λ (o : List ℕ). is_at o place channel) same ∙ ap (λ (o : Option ℕ). option_map_or (λ other. nat_eq other channel) o false) there ∙ same_eq channel in
+          let here : is_at numbers_now place channel ≡ true = ap (λ (o : List ℕ). is_at o place channel) same ∙ ap (λ (o : Option ℕ). option_map_or (λ other. nat_eq other channel) o false) there ∙ nat_eq_same channel in
           ap (λ (o : List ℕ). drop (suc place) o) (sym same) ∙ sym (ap (λ (b : Bool). drop (cond b (place + 1) place) numbers_now) here ∙ ap (λ (n : ℕ). drop n numbers_now) one)
       | inr gone ↦
           let none : is_at numbers_now place channel ≡ false = ap (λ (o : List ℕ). is_at o place channel) gone ∙ nowhere channel numbers place in

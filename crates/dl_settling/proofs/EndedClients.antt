@@ -37,10 +37,12 @@ use Rattle.dl_settling.specs.Settling.{Settles}
 use Rattle.dl_settling.specs.State.{Stopping, clients_of, taking_of}
 use Rattle.dl_settling.specs.Stopped.{account_took}
 use Rattle.dl_settling.specs.Went.{HasEnded, HaveEnded}
-use Rattle.dl_settling.proofs.NotedDrains.{left_of}
 use Rattle.dl_settling.proofs.ShownDrains.{left_at, outbox_at, shown_taken}
-use Rattle.dl_settling.proofs.StoppedEvents.{same_took, shut_at, there_too, within_of}
-use Rattle.dl_settling.proofs.WentClients.{client_at, end_at, some_is, stream_of}
+use Rattle.dl_settling.proofs.StoppedEvents.{same_took, shut_at}
+use Rattle.dl_settling.proofs.WentClients.{client_at, end_at, stream_of}
+use Rattle.dl_rounds.proofs.NotedClients.{left_of}
+use Rattle.dl_lemmas.proofs.Lists.{there_too, within_of}
+use Rattle.dl_lemmas.proofs.Options.{one_is}
 
 -- the replies that a client was put who asked too much
 all_served : (hub : Hub) (number : ℕ) (c : HubClient) → client_of hub number ≡ Some c → WasServedAll number TooMany hub → c.replies ≡ request_limit
@@ -121,7 +123,7 @@ module _ {L : Type 0} (told : L → LinkTold) (dropped : ℕ) (old : Stopping L)
       let shows = shows_shut closed.journal.events closed.core.hub (place + 1) between.0 link shut
       (shown_closed (place + 1) between.0 (ap is_some c.1) gone (subst (λ (p : ℕ). slice_get (map told closed.links.links) p ≡ Some between.0) back between.1)) in
       let its : end_in closed.core.hub (place + 1) ≡ end =
-      some_is (end_in closed.core.hub (place + 1)) end (slice_get (ends_in closed.core.hub) place)
+      one_is (end_in closed.core.hub (place + 1)) end (slice_get (ends_in closed.core.hub) place)
       (end_at (end_in closed.core.hub) 1 (length closed.core.hub.clients) place below ∙ ap (λ (n : ℕ). Some (end_in closed.core.hub n)) number) end_is in
       subst (HasEnded (TellOver told) run.setting closed.journal.events (place + 1) link) its (record {
         before = shows.before;

@@ -2,7 +2,7 @@
 use Rattle.std.proofs.Common.{◌≡◌, ℕ, ◌+◌, ◌-◌, Bool, true, false, eqb, List, [], ◌∷◌, ◌++◌, length, append_assoc, append-nil, length-append, Option, Some, None, is_some, inl, inr, refl, sym, ap, ◌∙◌, subst, arith}
 use Rattle.std.specs.Prelude.{IsSome}
 use Rattle.std.specs.List.{AllByRecursion, concat}
-use Rattle.std.specs.Option.{option_and_then, option_map}
+use Rattle.std.specs.Option.{option_and_then}
 use Rattle.std.proofs.lemmas.Bool.Decides.{eqb_tells}
 use Rattle.std.proofs.lemmas.List.Elements.{filter_map-append}
 use Rattle.dl_bytes.specs.declared.conf.AppSpec.{AppSpec}
@@ -13,11 +13,10 @@ use Rattle.dl_events.specs.declared.event.Event.TheVariants as event
 use Rattle.dl_events.specs.declared.event.Why.{Why}
 use Rattle.dl_events.specs.declared.event.Why.TheVariants as why
 use Rattle.dl_message.specs.Cut.{rest_fault, rest_of}
-use Rattle.dl_message.specs.Cutting.{Cutting}
 use Rattle.dl_message.specs.Requests.{requests}
 use Rattle.dl_model.specs.Backlog.{outbox_limit}
 use Rattle.dl_model.specs.ClientEnds.{HasGone, LinkDid, asked_by, asked_in}
-use Rattle.dl_model.specs.ClientStream.{sent, stream, traffic}
+use Rattle.dl_model.specs.ClientStream.{stream}
 use Rattle.dl_model.specs.Report.{why_of}
 use Rattle.dl_hub.specs.State.{Client as HubClient, client_of, outbox_of}
 use Rattle.dl_core.specs.Follows.{IsAfter, Run, source_of}
@@ -32,13 +31,15 @@ use Rattle.dl_outside.specs.Told.{LinkTold}
 use Rattle.dl_rounds.specs.Clients.{Client}
 use Rattle.dl_rounds.specs.declared.listener.Listener.{Listener}
 use Rattle.dl_rounds.specs.Passing.{AreAsNoted, Did, IsAsNoted, IsOverIfLeft}
-use Rattle.dl_rounds.proofs.NotedClients.{gone_longer}
+use Rattle.dl_rounds.proofs.NotedClients.{gone_longer, left_of, not_bad, over_longer}
 use Rattle.dl_rounds.proofs.Turned.{placed}
 use Rattle.dl_taking.specs.Drained.{GivesTook, IsDrain, IsOfDrain}
 use Rattle.dl_taking.specs.Side.{Side}
 use Rattle.dl_settling.specs.State.{clients_at}
 use Rattle.dl_settling.proofs.Ready.{replies, same_replies}
 use Rattle.dl_settling.proofs.StandingStreams.{StandsAfter, stands_closing, stands_on}
+use Rattle.dl_lemmas.proofs.Lists.{all_first, all_second}
+use Rattle.dl_lemmas.proofs.Options.{none_of, some_of, as_some}
 
 -- ---- where a client was closed
 
@@ -50,10 +51,10 @@ pub record Parts (client : ℕ) (events : List Event) : Type 0 where
   pub after : List Event
   pub parted : events ≡ before ++ event.Close client (why.Slow room need) ∷ after
 
-later_parts : (client : ℕ) (e : Event) (events : List Event) → Parts client events → Parts client (e ∷ events)
+pub later_parts : (client : ℕ) (e : Event) (events : List Event) → Parts client events → Parts client (e ∷ events)
 later_parts client e events p = record { before = e ∷ p.before; room = p.room; need = p.need; after = p.after; parted = ap (λ (es : List Event). e ∷ es) p.parted }
 
-close_parts : (client other room need : ℕ) (events : List Event) → (IsSome (why_of client events) → Parts client events) → IsSome (why_of client (event.Close other (why.Slow room need) ∷ events))
+pub close_parts : (client other room need : ℕ) (events : List Event) → (IsSome (why_of client events) → Parts client events) → IsSome (why_of client (event.Close other (why.Slow room need) ∷ events))
     → Parts client (event.Close other (why.Slow room need) ∷ events)
 close_parts client other room need events rest some = elim (eqb_tells other client) [
   | inl same ↦ record { before = []; room = room; need = need; after = events; parted = ap (λ (n : ℕ). event.Close n (why.Slow room need) ∷ events) same.1 }
@@ -95,57 +96,12 @@ asked_still : (client : ℕ) (past more : List Event) → AllByRecursion IsOfDra
 asked_still client past more all =
     filter_map-append (asked_in client) past more ∙ ap (λ (fs : List (List ℕ)). asked_by client past ++ fs) (asks_none client more all) ∙ append-nil (asked_by client past)
 
--- parts of events that are all so
-front_all : {A : Type 0} (P : A → Type 0) (xs ys : List A) → AllByRecursion P (xs ++ ys) → AllByRecursion P xs
-front_all P [] ys all = tt
-front_all P (x ∷ xs) ys all = (all.0, front_all P xs ys all.1)
-
-back_all : {A : Type 0} (P : A → Type 0) (xs ys : List A) → AllByRecursion P (xs ++ ys) → AllByRecursion P ys
-back_all P [] ys all = all
-back_all P (x ∷ xs) ys all = back_all P xs ys all.1
-
-rooms_at : (run : Run) (taken : ℕ → List ℕ) (past xs : List Event) (e : Event) (ys : List Event) → TellRooms run taken past (xs ++ e ∷ ys) → TellsRoom run taken (past ++ xs) e
+pub rooms_at : (run : Run) (taken : ℕ → List ℕ) (past xs : List Event) (e : Event) (ys : List Event) → TellRooms run taken past (xs ++ e ∷ ys) → TellsRoom run taken (past ++ xs) e
 rooms_at run taken past [] e ys rooms = subst (λ (es : List Event). TellsRoom run taken es e) (sym (append-nil past)) rooms.0
 rooms_at run taken past (x ∷ xs) e ys rooms = subst (λ (es : List Event). TellsRoom run taken es e) (append_assoc past (x ∷ []) xs) (rooms_at run taken (past ++ x ∷ []) xs e ys rooms.1)
 
--- ---- what is left of a stream
-
-pub record IsLeft (run : Run) (events : List Event) (number : ℕ) (took : List ℕ) (size : ℕ) : Type 0 where
-  pub left : List ℕ
-  pub parts : concat (stream (source_of run) run.setting.buffer number events) ≡ took ++ left
-  pub size_is : length left ≡ size
-
-pub left_of : (run : Run) (events : List Event) (taken : ℕ → List ℕ) (core : Core) (number : ℕ) (c : HubClient) → IsAfter run events taken core → client_of core.hub number ≡ Some c → c.outbox ≡ None
-    → IsLeft run events number (taken number) c.left
-left_of run events taken core number c is there gone =
-    let rest = (its_stream run events taken core is number c there).gone gone in
-    let frames : (ecu : List ℕ) (buffer : ℕ) → List (List ℕ) = λ ecu buffer. sent ecu buffer number (traffic (source_of run) events) in
-    let ecu : concat (frames core.hub.ecu core.hub.buffer) ≡ concat (frames run.setting.ecu core.hub.buffer) = ap (λ (e : List ℕ). concat (frames e core.hub.buffer)) is.set_to.unit in
-    let buffer : concat (frames run.setting.ecu core.hub.buffer) ≡ concat (frames run.setting.ecu run.setting.buffer) = ap (λ (b : ℕ). concat (frames run.setting.ecu b)) is.set_to.buffer in
-    record { left = rest.0; parts = sym (ecu ∙ buffer) ∙ rest.1; size_is = rest.2 }
-
-not_bad : (bytes : List ℕ) (cutter : Cutting) → HasCut bytes cutter → is_some (rest_fault message_limit (rest_of message_limit bytes)) ≡ false
-not_bad bytes cutter cut = ap (λ (rest : List ℕ). is_some (rest_fault message_limit rest)) (sym cut.rest) ∙ ap (λ (o : Option _). is_some o) cut.good.good
-
 both_so : (b : Bool) → b ≡ false → b ≡ true → ⊥
 both_so b no_so yes_so = let bad : true ≡ false = sym yes_so ∙ no_so in cc bad
-
-over_longer : (past more : List Event) (number : ℕ) (did : LinkDid) → IsOverIfLeft (past ++ more) number did → IsOverIfLeft past number did
-over_longer past more number did over before after is =
-    over before (after ++ more) (ap (λ (es : List Event). es ++ more) is ∙ append_assoc before (event.Close number why.Left ∷ after) more)
-
-pub no_outbox : {A : Type 0} (o : Option A) → is_some o ≡ false → o ≡ None
-no_outbox None none = refl
-no_outbox (Some x) none = absurd cc
-
-pub some_of : {A : Type 0} (o : Option A) → IsSome o → (x : A) × (o ≡ Some x)
-some_of None some = absurd cc
-some_of (Some x) some = (x, refl)
-
-pub as_some : {A B : Type 0} (f : A → B) (o n : Option A) → option_map f n ≡ option_map f o → IsSome n → IsSome o
-as_some f None None same some = absurd cc
-as_some f None (Some x) same some = absurd cc
-as_some f (Some x) n same some = refl
 
 -- ---- one client
 
@@ -189,7 +145,7 @@ module _ (run : Run) (past : List Event) (taken : ℕ → List ℕ) {es : List E
       let kinds_parted = subst (AllByRecursion IsOfDrain) parts.parted kinds in
       let room = rooms_at run taken past parts.before close parts.after (subst (TellRooms run taken past) parts.parted (admits.rooms run past taken gives is)) in
       let place : past ++ more ≡ (past ++ parts.before) ++ close ∷ parts.after = ap (λ (events : List Event). past ++ events) parts.parted ∙ sym (append_assoc past parts.before (close ∷ parts.after)) in
-      let kinds_after = (back_all IsOfDrain parts.before (close ∷ parts.after) kinds_parted).1 in
+      let kinds_after = (all_second IsOfDrain parts.before (close ∷ parts.after) kinds_parted).1 in
       let same : stream source buffer number (((past ++ parts.before) ++ close ∷ []) ++ parts.after) ≡ stream source buffer number (past ++ parts.before) =
       (stands_on source buffer number (stream source buffer number (past ++ parts.before)) ((past ++ parts.before) ++ close ∷ []) parts.after kinds_after
       (stands_closing source buffer number (why.Slow parts.room parts.need) (past ++ parts.before))).same in
@@ -212,7 +168,7 @@ module _ (run : Run) (past : List Event) (taken : ℕ → List ℕ) {es : List E
     went_before : why_of number more ≡ None → outbox_of new.core.hub number ≡ None → (did : LinkDid) → Did client.link did → IsOverIfLeft (past ++ more) number did
         → HasGone run.setting (source_of run) (past ++ more) number did
     went_before stays none did tells over =
-        let gone_old : outbox_of old.core.hub number ≡ None = no_outbox (outbox_of old.core.hub number) (sym (admits.clients.stay number stays) ∙ ap is_some none) in
+        let gone_old : outbox_of old.core.hub number ≡ None = none_of (outbox_of old.core.hub number) (sym (admits.clients.stay number stays) ∙ ap is_some none) in
         let c_now = some_of (client_of new.core.hub number) there in
         let c = some_of (client_of old.core.hub number) (as_some replies (client_of old.core.hub number) (client_of new.core.hub number) (same_replies old.core.hub new.core.hub number admits.clients.replies) there) in
         let shut : c.0.outbox ≡ None = sym (ap (λ (o : Option HubClient). option_and_then (λ (k : HubClient). k.outbox) o) c.1) ∙ gone_old in
@@ -230,7 +186,7 @@ module _ (run : Run) (past : List Event) (taken : ℕ → List ℕ) {es : List E
         let kinds_parted = subst (AllByRecursion IsOfDrain) parts.parted kinds in
         let cut = opened (admits.clients.go number some).0 did.given tells.given in
         let asked : requests did.given ≡ asked_by number (past ++ parts.before) =
-        sym cut.1 ∙ sym (asked_still number past parts.before (front_all IsOfDrain parts.before (close ∷ parts.after) kinds_parted)) in
+        sym cut.1 ∙ sym (asked_still number past parts.before (all_first IsOfDrain parts.before (close ∷ parts.after) kinds_parted)) in
         let took_so : did.taken ≡ taken number = took did.taken (ap (λ (l : LinkTold). l.taken) (sym link) ∙ tells.taken) in
         record {
           before = past ++ parts.before;

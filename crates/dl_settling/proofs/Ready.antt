@@ -53,7 +53,7 @@ same_replies old new number same = by (eqb number 0) where
   by true = refl
   by false = sym (get_map new.clients (number - 1)) ∙ ap (λ (ns : List ℕ). slice_get ns (number - 1)) same ∙ get_map old.clients (number - 1)
 
-served_by : (served : ℕ) (o n : Option Client) → option_map replies n ≡ option_map replies o → IsSomeAnd o (λ c. (c.replies ≡ served) × (served ≤ request_limit)) → IsSomeAnd n (λ c. (c.replies ≡ served) × (served ≤ request_limit))
+pub served_by : (served : ℕ) (o n : Option Client) → option_map replies n ≡ option_map replies o → IsSomeAnd o (λ c. (c.replies ≡ served) × (served ≤ request_limit)) → IsSomeAnd n (λ c. (c.replies ≡ served) × (served ≤ request_limit))
 served_by served None n same has = absurd has
 served_by served (Some c) None same has = absurd cc
 served_by served (Some c) (Some d) same has = (ap (λ (o : Option ℕ). unwrap_or o 0) same ∙ has.0, has.1)

@@ -18,8 +18,10 @@ use Rattle.dl_admission.specs.Part.{Part}
 use Rattle.dl_turns.specs.Later.{HasLeft, LeavesSo}
 use Rattle.dl_rounds.specs.Shown.{AllShowWhy, ShowsWhy, WasServedAll}
 use Rattle.dl_taking.specs.Drained.{IsOfDrain}
-use Rattle.dl_settling.proofs.NotedDrains.{as_some, left_before, left_of, no_outbox, some_of, was_slow}
+use Rattle.dl_settling.proofs.NotedDrains.{left_before, was_slow}
 use Rattle.dl_settling.proofs.Ready.{replies, same_replies}
+use Rattle.dl_lemmas.proofs.Options.{as_some, none_of, some_of}
+use Rattle.dl_rounds.proofs.NotedClients.{left_of}
 
 -- its outbox, by the client
 pub outbox_at : (hub : Hub) (number : ℕ) (c : HubClient) → client_of hub number ≡ Some c → outbox_of hub number ≡ c.outbox
@@ -33,12 +35,12 @@ pub left_at : (hub : Hub) (number : ℕ) (cause : Why) (c : HubClient) → clien
 left_at hub number cause c at left = (subst (λ (o : Option HubClient). IsSomeAnd o (λ k. (k.outbox ≡ None) × LeavesSo (outbox_limit hub.buffer) cause k.left)) at left).1
 
 -- it was put as many replies
-served_by : (o n : Option HubClient) → option_map replies n ≡ option_map replies o → IsSomeAnd o (λ c. c.replies ≡ request_limit) → IsSomeAnd n (λ c. c.replies ≡ request_limit)
+pub served_by : (o n : Option HubClient) → option_map replies n ≡ option_map replies o → IsSomeAnd o (λ c. c.replies ≡ request_limit) → IsSomeAnd n (λ c. c.replies ≡ request_limit)
 served_by None n same has = absurd has
 served_by (Some c) None same has = absurd cc
 served_by (Some c) (Some d) same has = ap (λ (o : Option ℕ). unwrap_or o 0) same ∙ has
 
-served_on : (number : ℕ) (cause : Why) (old new : Hub) → option_map replies (client_of new number) ≡ option_map replies (client_of old number) → WasServedAll number cause old → WasServedAll number cause new
+pub served_on : (number : ℕ) (cause : Why) (old new : Hub) → option_map replies (client_of new number) ≡ option_map replies (client_of old number) → WasServedAll number cause old → WasServedAll number cause new
 served_on number why.TooMany old new same served = served_by (client_of old number) (client_of new number) same served
 served_on number _ old new same served = tt
 
@@ -59,7 +61,7 @@ module _ (run : Run) (past : List Event) (taken : ℕ → List ℕ) {es : List E
     went_before : why_of number more ≡ None → ShowsWhy Tells (past ++ more) new.core.hub number link
     went_before stays =
         let gone : outbox_of new.core.hub number ≡ None = outbox_at new.core.hub number c_now at_now ∙ shut_now in
-        let gone_old : outbox_of old.core.hub number ≡ None = no_outbox (outbox_of old.core.hub number) (sym (admits.clients.stay number stays) ∙ ap is_some gone) in
+        let gone_old : outbox_of old.core.hub number ≡ None = none_of (outbox_of old.core.hub number) (sym (admits.clients.stay number stays) ∙ ap is_some gone) in
         let there_old = as_some replies (client_of old.core.hub number) (client_of new.core.hub number) (same_replies old.core.hub new.core.hub number admits.clients.replies) (ap is_some at_now) in
         let c = some_of (client_of old.core.hub number) there_old in
         let shut : c.0.outbox ≡ None = sym (outbox_at old.core.hub number c.0 c.1) ∙ gone_old in

@@ -1,5 +1,5 @@
 -- A stop as its events.
-use Rattle.std.proofs.Common.{◌≡◌, ℕ, ◌+◌, List, [], ◌∷◌, ◌++◌, length, map, append_assoc, append-nil, zero, suc, pred, ◌-◌, ◌<◌, ◌≤◌, slice_get, Option, Some, None, refl, sym, ap, ◌∙◌, subst, arith}
+use Rattle.std.proofs.Common.{◌≡◌, ℕ, ◌+◌, List, [], ◌∷◌, ◌++◌, length, map, append_assoc, append-nil, ◌-◌, ◌≤◌, slice_get, Option, Some, None, refl, sym, ap, ◌∙◌, subst, arith}
 use Rattle.std.specs.List.{AllByRecursion, filter_map}
 use Rattle.std.proofs.lemmas.List.{length-map}
 use Rattle.std.proofs.lemmas.List.Elements.{filter_map-append}
@@ -23,7 +23,6 @@ use Rattle.dl_lib.specs.State.{AccountState, ClosingState}
 use Rattle.dl_lib.proofs.Resting.{taken_rest}
 use Rattle.dl_core.specs.Follows.{HoldsTrace, IsAfter, Run, source_of}
 use Rattle.dl_well_formed.proofs.Following.{stays_formed}
-use Rattle.dl_admission.proofs.Added.{all_both}
 use Rattle.dl_taking.specs.Drained.{GivesTook, IsDrain, IsOfDrain}
 use Rattle.dl_taking.specs.Draining.{closing_told, closing_took}
 use Rattle.dl_taking.specs.Takes.{TellAllTaken}
@@ -41,6 +40,7 @@ use Rattle.dl_settling.specs.Settling.{Closes, Drains, SameButSet, Settles}
 use Rattle.dl_settling.specs.State.{Stopping, clients_of, taking_of}
 use Rattle.dl_settling.specs.Stopped.{IsOfStop, IsStop, RunsOn}
 use Rattle.dl_settling.proofs.NoRequests.{AsksNothing, posted_none}
+use Rattle.dl_lemmas.proofs.Lists.{there_too, within_of, all_both}
 
 -- ---- the kinds of events
 
@@ -95,19 +95,6 @@ same_took old new same = λ i. record {
 }
 
 -- ---- links that are shut
-
--- an entry of a list is one of a list that is as long
-pub there_too : {A : Type 0} (xs ys : List A) (place : ℕ) (y : A) → length ys ≡ length xs → slice_get ys place ≡ Some y → (x : A) × (slice_get xs place ≡ Some x)
-there_too [] [] place y long is = absurd cc
-there_too [] (b ∷ ys) place y long is = absurd cc
-there_too (a ∷ xs) [] place y long is = absurd cc
-there_too (a ∷ xs) (b ∷ ys) zero y long is = (a, refl)
-there_too (a ∷ xs) (b ∷ ys) (suc place) y long is = there_too xs ys place y (ap pred long) is
-
-pub within_of : {A : Type 0} (xs : List A) (place : ℕ) (x : A) → slice_get xs place ≡ Some x → place < length xs
-within_of [] place x is = absurd cc
-within_of (a ∷ xs) zero x is = omega arith
-within_of (a ∷ xs) (suc place) x is = omega (arith, within_of xs place x is)
 
 pub shut_at : (hub : Hub) (old new : List LinkTold) → ShutsGone hub old new → ((number : ℕ) → outbox_of hub number ≡ None) → (place : ℕ) (link link_now : LinkTold)
     → slice_get old place ≡ Some link → slice_get new place ≡ Some link_now → IsShut link link_now

@@ -1,10 +1,9 @@
 -- How clients went by the end of a stop, and the ends of their links.
-use Rattle.std.proofs.Common.{◌≡◌, ℕ, zero, suc, ◌+◌, ◌-◌, ◌<◌, ◌==◌, Bool, false, cond, eqb, List, [], ◌∷◌, ◌++◌, length, map, slice_get, length-append, Option, Some, None, is_some, inl, inr, refl, sym, ap, ◌∙◌, subst, arith}
+use Rattle.std.proofs.Common.{◌≡◌, ℕ, zero, suc, ◌+◌, ◌-◌, ◌<◌, ◌==◌, Bool, false, cond, eqb, List, [], ◌∷◌, ◌++◌, length, map, slice_get, length-append, Option, Some, None, is_some, refl, sym, ap, ◌∙◌, subst, arith}
 use Rattle.std.specs.Prelude.{IsSome}
 use Rattle.std.specs.List.{range_with_len}
 use Rattle.std.specs.Option.{option_and_then, option_map_or}
-use Rattle.std.proofs.lemmas.Bool.{eq-eqb, ne_eqb}
-use Rattle.std.proofs.lemmas.Bool.Decides.{eqb_tells}
+use Rattle.std.proofs.lemmas.Bool.{ne_eqb}
 use Rattle.std.proofs.lemmas.List.{length-map}
 use Rattle.std.proofs.lemmas.List.FromFn.{length-range_with_len}
 use Rattle.dl_bytes.specs.declared.conf.AppSpec.{AppSpec}
@@ -35,8 +34,12 @@ use Rattle.dl_settling.specs.Settling.{Settles}
 use Rattle.dl_settling.specs.State.{Stopping, clients_at, clients_of, taking_of}
 use Rattle.dl_settling.specs.Stopped.{account_took}
 use Rattle.dl_settling.specs.Went.{HaveGone, TellBytes, TellsStream, TellStreams}
-use Rattle.dl_settling.proofs.NotedDrains.{left_of, noted_drain}
-use Rattle.dl_settling.proofs.StoppedEvents.{same_took, shut_at, there_too, within_of}
+use Rattle.dl_settling.proofs.NotedDrains.{noted_drain}
+use Rattle.dl_settling.proofs.StoppedEvents.{same_took, shut_at}
+use Rattle.dl_lemmas.proofs.Options.{one_is}
+use Rattle.dl_lemmas.proofs.Lists.{there as get_of, there_too, within_of}
+use Rattle.dl_lemmas.proofs.Numbers.{all_or_some}
+use Rattle.dl_rounds.proofs.NotedClients.{left_of}
 
 -- ---- ends by their places
 
@@ -73,10 +76,6 @@ stream_of run events taken core number c is there =
       bytes = sym its.bytes ∙ ap size_of same;
     }
 
-pub some_is : {A : Type 0} (x y : A) (o : Option A) → o ≡ Some x → o ≡ Some y → x ≡ y
-some_is x y None a b = absurd cc
-some_is x y (Some z) a b = cc
-
 pub streams_told : (run : Run) (events : List Event) (taken : ℕ → List ℕ) (core : Core) → IsAfter run events taken core → TellStreams run events (length core.hub.clients) (ends_in core.hub)
 streams_told run events taken core is =
     let many : length (ends_in core.hub) ≡ length core.hub.clients = length-map (range_with_len 1 (length core.hub.clients)) (end_in core.hub) ∙ length-range_with_len 1 (length core.hub.clients) in record {
@@ -87,7 +86,7 @@ streams_told run events taken core is =
           let stream = stream_of run events taken core (place + 1) c.0 is c.1 in
           let number : 1 + place ≡ place + 1 = omega arith in
           let its : end_in core.hub (place + 1) ≡ end =
-          some_is (end_in core.hub (place + 1)) end (slice_get (ends_in core.hub) place) (end_at (end_in core.hub) 1 (length core.hub.clients) place below ∙ ap (λ (n : ℕ). Some (end_in core.hub n)) number) at in
+          one_is (end_in core.hub (place + 1)) end (slice_get (ends_in core.hub) place) (end_at (end_in core.hub) 1 (length core.hub.clients) place below ∙ ap (λ (n : ℕ). Some (end_in core.hub n)) number) at in
           subst (TellsStream run events (place + 1)) its (record {
             client = refl;
             frames = ap (λ (o : Option HubClient). option_map_or (λ (k : HubClient). k.frames) o 0) c.1 ∙ stream.frames;
@@ -98,16 +97,16 @@ streams_told run events taken core is =
 -- ---- what links did
 
 -- whatever each link of a kind tells, these tell
-each_told : {L : Type 0} (told : L → LinkTold) (P : LinkTold → Type 0) (links : List L) (place : ℕ) (link : LinkTold) → ((l : L) → P (told l)) → slice_get (map told links) place ≡ Some link → P link
+pub each_told : {L : Type 0} (told : L → LinkTold) (P : LinkTold → Type 0) (links : List L) (place : ℕ) (link : LinkTold) → ((l : L) → P (told l)) → slice_get (map told links) place ≡ Some link → P link
 each_told told P [] place link all at = absurd cc
-each_told told P (l ∷ links) zero link all at = subst P (some_is (told l) link (Some (told l)) refl at) (all l)
+each_told told P (l ∷ links) zero link all at = subst P (one_is (told l) link (Some (told l)) refl at) (all l)
 each_told told P (l ∷ links) (suc place) link all at = each_told told P links place link all at
 
-bytes_before : (was now : Option (List ℕ)) (bytes : List ℕ) → IsSome was → Stays was now → now ≡ Some bytes → was ≡ Some bytes
+pub bytes_before : (was now : Option (List ℕ)) (bytes : List ℕ) → IsSome was → Stays was now → now ≡ Some bytes → was ≡ Some bytes
 bytes_before None now bytes some stays is = absurd cc
 bytes_before (Some x) now bytes some stays is = sym stays ∙ is
 
-did_before : (was now : LinkTold) (did : LinkDid) → IsShut was now → IsSome was.given → IsSome was.taken → Did now did → Did was did
+pub did_before : (was now : LinkTold) (did : LinkDid) → IsShut was now → IsSome was.given → IsSome was.taken → Did now did → Did was did
 did_before was now did shut given taken tells = record {
   given = bytes_before was.given now.given did.given given shut.given tells.given;
   taken = bytes_before was.taken now.taken did.taken taken shut.taken tells.taken;
@@ -115,18 +114,6 @@ did_before was now did shut given taken tells = record {
   idles = sym shut.idles ∙ tells.idles;
   waits = sym shut.waits ∙ tells.waits;
 }
-
--- a list goes so far
-pub get_of : {A : Type 0} (xs : List A) (place : ℕ) → place < length xs → (x : A) × (slice_get xs place ≡ Some x)
-get_of [] place below = absurd (omega (arith, below))
-get_of (x ∷ xs) zero below = (x, refl)
-get_of (x ∷ xs) (suc place) below = get_of xs place (omega (arith, below))
-
-same_test : (left took size : ℕ) → size ≡ took + left → (left == 0) ≡ (size == took)
-same_test left took size is = elim (eqb_tells left 0) [
-  | inl none ↦ none.0 ∙ sym (eq-eqb size took (omega (arith, is, none.1)))
-  | inr some ↦ some.0 ∙ sym (ne_eqb size took (λ same. some.1 (omega (arith, is, same))))
-]
 
 -- ---- all of it
 
@@ -232,7 +219,7 @@ module _ {L : Type 0} (told : L → LinkTold) (dropped : ℕ) (old : Stopping L)
           client = place + 1;
           frames = (ap (λ (o : Option HubClient). option_map_or (λ (k : HubClient). k.frames) o 0) last.there ∙ stream_so.frames) i;
           bytes = (ap (λ (o : Option HubClient). option_map_or (λ (k : HubClient). k.bytes) o 0) last.there ∙ stream_so.bytes) i;
-          complete = (ap (λ (o : Option HubClient). option_map_or (λ (k : HubClient). k.left) o 0 == 0) last.there ∙ same_test last.client.left (length did.taken) (size_of frames) size) i;
+          complete = (ap (λ (o : Option HubClient). option_map_or (λ (k : HubClient). k.left) o 0 == 0) last.there ∙ all_or_some last.client.left (length did.taken) (size_of frames) size) i;
         } in
         subst (λ (es : List Event). slice_get account.outcome.links place ≡ Some (end_of_link run.setting (source_of run) es (place + 1) did)) (sym events_so)
         (ap (λ (ends : List LinkEnd). slice_get ends place) ends_so ∙ end_at (end_in settles.closed.core.hub) 1 (length settles.closed.core.hub.clients) place below

@@ -1,5 +1,5 @@
 -- What a folder tells, over calls in a row.
-use Rattle.std.proofs.Common.{◌≡◌, ℕ, List, Option, Some, None, subst, ap, ◌∙◌}
+use Rattle.std.proofs.Common.{◌≡◌, ℕ, List, Option, Some, None, ap, ◌∙◌}
 use Rattle.std.specs.Prelude.{IfSome, IsOk, Ok, Err, is_ok}
 use Rattle.dl_conf.specs.Conf.{Values}
 use Rattle.dl_conf.specs.Outcome.{values_of}
@@ -11,9 +11,7 @@ use Rattle.dl_startup.specs.Configuration.{SayConfs}
 use Rattle.dl_startup.specs.Setup.{conf_in, stored_in}
 use Rattle.dl_startup.specs.Unchanged.{IsQuiet, IsUnchanged}
 use Rattle.dl_startup.specs.declared.configuration.Setup.{Setup}
-
-pub if_some_of : {A : Type 0} → (o : Option A) (x : A) (P : A → Type 0) → o ≡ Some x → IfSome o P → P x
-if_some_of o x P e h = subst (λ v. IfSome v P) e h
+use Rattle.dl_lemmas.proofs.Options.{if_some_of}
 
 -- it stays over two calls
 pub stays_on : {A : Type 0} → (old mid new : Option A) → Stays old mid → Stays mid new → Stays old new

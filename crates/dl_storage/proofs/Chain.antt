@@ -1,5 +1,5 @@
 -- One filter after another: what each stored stays, since no two have files of the same name.
-use Rattle.std.proofs.Common.{◌≡◌, ℕ, Bool, true, false, not, ◌&&◌, ◌||◌, List, [], ◌∷◌, ◌++◌, length, Option, Some, None, refl, sym, ap, subst, ◌∙◌, append_assoc, length-append, arith, drop}
+use Rattle.std.proofs.Common.{◌≡◌, ℕ, Bool, true, false, not, List, [], ◌∷◌, ◌++◌, Option, Some, None, refl, sym, ap, subst, ◌∙◌, append_assoc, drop}
 use Rattle.std.specs.Prelude.{codes, IfSome}
 use Rattle.std.specs.List.{AllByRecursion, list_any}
 use Rattle.std.specs.Str.{bytes_eq}
@@ -18,23 +18,19 @@ use Rattle.dl_storage.specs.Ended.{EndHasCause}
 use Rattle.dl_storage.specs.Passing.{directory_of, frames_for}
 use Rattle.dl_storage.specs.Storing.{AreStored, ChangesFiltersFiles, EndsAs, HoldsFiles, IsOther, IsStored}
 use Rattle.dl_storage.specs.declared.ends.StoreEnd.{StoreEnd}
+use Rattle.dl_lemmas.proofs.Lists.{same_front}
+use Rattle.dl_lemmas.proofs.Bools.{and_left, and_right, or_left, or_right}
 
 -- ---- names of files tell their directories
 
-same_front : (xs ys us vs : List ℕ) → length us ≡ length vs → xs ++ us ≡ ys ++ vs → xs ≡ ys
-same_front [] [] us vs len is = refl
-same_front [] (y ∷ ys) us vs len is = absurd (omega (arith, len, ap length is, length-append ys vs))
-same_front (x ∷ xs) [] us vs len is = absurd (omega (arith, len, ap length is, length-append xs us))
-same_front (x ∷ xs) (y ∷ ys) us vs len is = cc (same_front xs ys us vs len cc, is)
-
 -- what stands behind the directory in a trace file's name
-abbrev tail : ℕ → List ℕ
+abbrev pub tail : ℕ → List ℕ
 tail number = codes "/dlt_offlinetrace." ++ (six_digits number ++ codes ".dlt")
 
-named : (directory : List ℕ) (number : ℕ) → trace_name directory number ≡ directory ++ tail number
+pub named : (directory : List ℕ) (number : ℕ) → trace_name directory number ≡ directory ++ tail number
 named directory number = append_assoc (directory ++ codes "/dlt_offlinetrace.") (six_digits number) (codes ".dlt") ∙ append_assoc directory (codes "/dlt_offlinetrace.") (six_digits number ++ codes ".dlt")
 
-one_directory : (directory other name : List ℕ) → IsTraceName directory name → IsTraceName other name → directory ≡ other
+pub one_directory : (directory other name : List ℕ) → IsTraceName directory name → IsTraceName other name → directory ≡ other
 one_directory directory other name is there =
     same_front directory other (tail is.0) (tail there.0) refl (sym (named directory is.0) ∙ sym is.3 ∙ there.3 ∙ named other there.0)
 
@@ -48,22 +44,6 @@ other_files filter other name apart is there =
 
 abbrev pub AreApart : Filter → List Filter → Type 0
 AreApart filter others = AllByRecursion (λ (other : Filter). ¬ (other.name ≡ filter.name)) others
-
-and_left : (a b : Bool) → (a && b) ≡ true → a ≡ true
-and_left true b is = refl
-and_left false b is = is
-
-and_right : (a b : Bool) → (a && b) ≡ true → b ≡ true
-and_right true b is = is
-and_right false b is = absurd (cc is)
-
-or_left : (a b : Bool) → (a || b) ≡ false → a ≡ false
-or_left false b is = refl
-or_left true b is = is
-
-or_right : (a b : Bool) → (a || b) ≡ false → b ≡ false
-or_right false b is = is
-or_right true b is = absurd (cc is)
 
 not_true : (a : Bool) → not a ≡ true → a ≡ false
 not_true false is = refl

@@ -1,9 +1,7 @@
 -- A record by its call's number, where the numbers are one behind the other.
-use Rattle.std.proofs.Common.{Bor, option_map, ◌≡◌, ℕ, zero, suc, ◌+◌, ◌-◌, ◌<◌, true, false, eqb, List, [], ◌∷◌, length, Option, Some, None, inl, inr, refl, sym, ap, ◌∙◌, arith}
+use Rattle.std.proofs.Common.{◌≡◌, ℕ, zero, suc, ◌+◌, ◌-◌, ◌<◌, true, false, eqb, List, [], ◌∷◌, length, Some, None, refl, ap, ◌∙◌, arith}
 use Rattle.std.specs.Prelude.{map, slice_get}
 use Rattle.std.specs.List.{find, range_with_len}
-use Rattle.std.specs.Slice.{IsItemAt}
-use Rattle.std.proofs.lemmas.Option.{slice_get_cases, slice_get_read}
 use Rattle.std.proofs.lemmas.Bool.{eq-eqb, ne_eqb}
 use Rattle.dl_events.specs.declared.record.Record.{Record}
 use Rattle.dl_model.specs.WholeAccounts.{records_by}
@@ -38,11 +36,3 @@ found_at first (suc place) (r ∷ records) are =
 -- a writer's records, where they stand at its place
 pub records_at : (writer : ℕ) (records : List (List Record)) (own : List Record) → (writer ≡ 0 → ⊥) → slice_get records (writer - 1) ≡ Some own → records_by writer records ≡ own
 records_at writer records own some at = rw (ne_eqb writer 0 some, at) refl
-
--- what is lent of a place is what stands there
-pub lent_is : {X : Type 0} (xs : List X) (place : ℕ) (lent : Option (Bor X)) → IsItemAt xs place lent → option_map (λ (x : Bor X). x.now) lent ≡ slice_get xs place
-lent_is xs place None is = elim (slice_get_cases xs place).1 [
-  | inl there ↦ absurd (omega (arith, is.3, there.1))
-  | inr none ↦ sym none.1
-]
-lent_is xs place (Some x) is = sym (slice_get_read xs (length xs) place x.now refl is.3.0 is.1)

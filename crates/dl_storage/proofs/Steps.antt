@@ -27,7 +27,8 @@ use Rattle.dl_storage.specs.Ended.{EndHasCause}
 use Rattle.dl_storage.specs.Writing.{Begins, HasNotFailed, Holds, IsAfterFrames, IsSized, IsUntouched, Writes, WritesAny, WritesTill, counted}
 use Rattle.dl_storage.specs.declared.writing.Writing.{Writing}
 use Rattle.dl_storage.proofs.Bounds.{bytes_below, no_more_than_bytes, size_push}
-use Rattle.dl_storage.proofs.Changes.{changes_on, stayed}
+use Rattle.dl_storage.proofs.Changes.{stayed}
+use Rattle.dl_trace.proofs.Joined.{changes_later}
 
 -- ---- lists
 
@@ -177,7 +178,7 @@ stored_follows first stood frames frame folder between folder_now old new goes_o
           → (files : Files) × (folder_now.files ≡ Some files) × HasFiles d files (trace_files n m stood (stored ++ frame ∷ [])))) first old.trace is.same (does.folder stood stored is.tells))
           (is.holds (subst HasNotFailed (sym goes_on) tt));
       cause = cause_goes_on folder.faults between.faults folder_now.faults old.trace.state.end new.trace.state.end goes_on does.goes_on is.cause faults;
-      others = changes_on first.directory folder.files between.files folder_now.files is.others (subst (λ (d : List ℕ). ChangesTraceFiles d between.files folder_now.files) is.same.directory others);
+      others = changes_later first.directory folder.files between.files folder_now.files is.others (subst (λ (d : List ℕ). ChangesTraceFiles d between.files folder_now.files) is.same.directory others);
     }
 
 -- ---- the frame stopped the trace
@@ -241,7 +242,7 @@ stopped_follows first stood frames frame folder between folder_now old new end g
           → (files : Files) × (folder_now.files ≡ Some files) × HasFiles d files (trace_files n m stood stored))) first old.trace is.same step)
           (is.holds (subst HasNotFailed (sym goes_on) tt));
       cause = stopped_cause folder.faults between.faults folder_now.faults old.trace.state.end new.trace.state.end end goes_on does.ended is.cause cause;
-      others = changes_on first.directory folder.files between.files folder_now.files is.others (subst (λ (d : List ℕ). ChangesTraceFiles d between.files folder_now.files) is.same.directory others);
+      others = changes_later first.directory folder.files between.files folder_now.files is.others (subst (λ (d : List ℕ). ChangesTraceFiles d between.files folder_now.files) is.same.directory others);
     }
 
 -- ---- whatever the write left

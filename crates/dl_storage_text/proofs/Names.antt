@@ -15,22 +15,7 @@ use Rattle.dl_storage_text.specs.Apart.{AreFilters, are_apart, names_of}
 use Rattle.dl_storage_text.specs.Held.{refused_by}
 use Rattle.dl_storage_text.specs.Whole.{fault_by, fault_in, name_in, wanted_in, wanted_of}
 use Rattle.dl_storage_text.specs.declared.filter.Filter.{Filter}
-
-and_left : (a b : Bool) → (a && b) ≡ true → a ≡ true
-and_left true b is = refl
-and_left false b is = is
-
-and_right : (a b : Bool) → (a && b) ≡ true → b ≡ true
-and_right true b is = is
-and_right false b is = absurd (cc is)
-
-or_left : (a b : Bool) → (a || b) ≡ false → a ≡ false
-or_left false b is = refl
-or_left true b is = is
-
-or_right : (a b : Bool) → (a || b) ≡ false → b ≡ false
-or_right false b is = is
-or_right true b is = absurd (cc is)
+use Rattle.dl_lemmas.proofs.Bools.{and_left, and_right, or_left, or_right}
 
 joined : (a c b : Bool) → not a ≡ true → c ≡ false → b ≡ true → (not (a || (c || false)) && b) ≡ true
 joined false c b n d e = rw (d, e) refl

@@ -1,5 +1,5 @@
 -- Draining as its events.
-use Rattle.std.proofs.Common.{◌≡◌, ◌≢◌, ℕ, zero, suc, ◌+◌, ◌<◌, ◌≤◌, Bool, true, false, cond, List, [], ◌∷◌, ◌++◌, length, map, append_assoc, append-nil, eqb, eq-eqb, ne_eqb, Some, slice_get, refl, sym, ap, ◌∙◌, subst, arith}
+use Rattle.std.proofs.Common.{◌≡◌, ℕ, zero, suc, ◌+◌, ◌<◌, ◌≤◌, Bool, true, false, cond, List, [], ◌∷◌, ◌++◌, length, map, append_assoc, append-nil, eqb, eq-eqb, Some, slice_get, refl, sym, ap, ◌∙◌, subst, arith}
 use Rattle.std.specs.List.{AllByRecursion}
 use Rattle.dl_bytes.specs.declared.conf.AppSpec.{AppSpec}
 use Rattle.dl_bytes.specs.declared.item.Item.{Item}
@@ -16,7 +16,7 @@ use Rattle.dl_core.specs.State.{Core}
 use Rattle.dl_admission.specs.Admission.{Admits, AreNoted, Entry, call_entry, loss_entries}
 use Rattle.dl_admission.specs.Part.{Part}
 use Rattle.dl_admission.specs.Slow.{Slow, slow_close}
-use Rattle.dl_admission.proofs.Added.{adds_both, adds_each_both, adds_each_none, adds_none, all_both}
+use Rattle.dl_admission.proofs.Added.{adds_both, adds_each_both, adds_each_none, adds_none}
 use Rattle.dl_admission.proofs.Admitted.{noted_both, running_both}
 use Rattle.dl_admission.proofs.KeptClients.{clients_both, clients_none}
 use Rattle.dl_admission.proofs.KeptTraces.{trace_both, trace_none}
@@ -27,21 +27,15 @@ use Rattle.dl_taking.specs.Side.{Side}
 use Rattle.dl_taking.specs.Takes.{Reports, TellAllTaken, owned}
 use Rattle.dl_taking.specs.Took.{Took, with_calls}
 use Rattle.dl_taking.proofs.Telling.{calls_told, losses_told}
+use Rattle.dl_lemmas.proofs.Lists.{all_first, all_second, all_both}
+use Rattle.dl_taking.proofs.Drains.{taken_else}
 
 -- ---- what a run gives
-
-first_all : {A : Type 0} (P : A → Type 0) (xs ys : List A) → AllByRecursion P (xs ++ ys) → AllByRecursion P xs
-first_all P [] ys all = tt
-first_all P (x ∷ xs) ys all = (all.0, first_all P xs ys all.1)
-
-last_all : {A : Type 0} (P : A → Type 0) (xs ys : List A) → AllByRecursion P (xs ++ ys) → AllByRecursion P ys
-last_all P [] ys all = all
-last_all P (x ∷ xs) ys all = last_all P xs ys all.1
 
 -- what it gives in the end it gave before
 gave : (specs : List AppSpec) (took took_now : Took) (run : Run) → ((app : ℕ) → (items : List Item) × (took_now.taken app ≡ took.taken app ++ items)) → GivesTook specs took_now run → GivesTook specs took run
 gave specs took took_now run more gives = record {
-  frames = λ app. first_all (λ item. GivesFrame item run) (took.taken app) (more app).0 (subst (λ (items : List Item). GivesFrames items run) (more app).1 (gives.frames app));
+  frames = λ app. all_first (λ item. GivesFrame item run) (took.taken app) (more app).0 (subst (λ (items : List Item). GivesFrames items run) (more app).1 (gives.frames app));
   apids = gives.apids;
 }
 
@@ -135,7 +129,7 @@ drain_both specs old between new first second = record {
 
 -- ---- the kinds of events
 
-closes_kinds : (need : ℕ) (slows : List Slow) → AllByRecursion IsOfDrain (map (slow_close need) slows)
+pub closes_kinds : (need : ℕ) (slows : List Slow) → AllByRecursion IsOfDrain (map (slow_close need) slows)
 closes_kinds need [] = tt
 closes_kinds need (slow ∷ slows) = (tt, closes_kinds need slows)
 
@@ -162,9 +156,6 @@ calls_more app other items took = by (eqb other app) where
   by true = (items, refl)
   by false = ([], sym (append-nil (took.taken other)))
 
-calls_else : (app other : ℕ) (items : List Item) (took : Took) → other ≢ app → (with_calls app items took).taken other ≡ took.taken other
-calls_else app other items took apart = ap (λ (b : Bool). cond b (took.taken other ++ items) (took.taken other)) (ne_eqb other app apart)
-
 calls_there : (app : ℕ) (items : List Item) (took : Took) → (with_calls app items took).taken app ≡ took.taken app ++ items
 calls_there app items took = ap (λ (b : Bool). cond b (took.taken app ++ items) (took.taken app)) (eq-eqb app app refl)
 
@@ -172,7 +163,7 @@ batch_drain : (specs : List AppSpec) (app : ℕ) (old new : Side) → app < leng
 batch_drain specs app old new within batch =
     let takes = batch.1 in
     let frames_of : (run : Run) → GivesTook specs new.took run → GivesFrames (map (owned app) takes.items) run = λ run gives.
-    own_frames app takes.items run (last_all (λ item. GivesFrame item run) (old.took.taken app) takes.items
+    own_frames app takes.items run (all_second (λ item. GivesFrame item run) (old.took.taken app) takes.items
     (subst (λ (items : List Item). GivesFrames items run) (ap (λ (t : Took). t.taken app) takes.took ∙ calls_there app takes.items old.took) (gives.frames app))) in
     record {
       entries = _;
@@ -183,7 +174,7 @@ batch_drain specs app old new within batch =
       taken_more = λ other.
           subst (λ (t : Took). (more : List Item) × (t.taken other ≡ old.took.taken other ++ more)) (sym takes.took) (calls_more app other takes.items old.took);
       others = λ other beyond. (
-        ap (λ (t : Took). t.taken other) takes.took ∙ calls_else app other takes.items old.took (λ same. absurd (omega (arith, same, within, beyond))),
+        ap (λ (t : Took). t.taken other) takes.took ∙ taken_else app other takes.items old.took (λ same. absurd (omega (arith, same, within, beyond))),
         ap (λ (t : Took). reported_of other t.reported) takes.took,
       );
     }

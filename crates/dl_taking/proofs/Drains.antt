@@ -28,7 +28,7 @@ use Rattle.dl_taking.specs.Took.{Took, with_calls, with_losses}
 taken_there : (app : ℕ) (items : List Item) (took : Took) → length ((with_calls app items took).taken app) ≡ length (took.taken app) + length items
 taken_there app items took = ap (λ (b : Bool). length (cond b (took.taken app ++ items) (took.taken app))) (eq-eqb app app refl) ∙ length-append (took.taken app) items
 
-taken_else : (app other : ℕ) (items : List Item) (took : Took) → other ≢ app → (with_calls app items took).taken other ≡ took.taken other
+pub taken_else : (app other : ℕ) (items : List Item) (took : Took) → other ≢ app → (with_calls app items took).taken other ≡ took.taken other
 taken_else app other items took apart = ap (λ (b : Bool). cond b (took.taken other ++ items) (took.taken other)) (ne_eqb other app apart)
 
 -- ---- one batch

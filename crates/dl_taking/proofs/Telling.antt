@@ -25,7 +25,7 @@ order_more app past more = filter_map-append (logged_of app) past more
 reported_both : (app : ℕ) (past more : List Event) → reported app (past ++ more) ≡ reported app past + reported app more
 reported_both app past more = sum_by-append (lost_of app) past more
 
-own_app : (app : ℕ) (items : List Item) → AllByRecursion (λ item. item.app ≡ app) (map (owned app) items)
+pub own_app : (app : ℕ) (items : List Item) → AllByRecursion (λ item. item.app ≡ app) (map (owned app) items)
 own_app app [] = tt
 own_app app (item ∷ items) = (refl, own_app app items)
 

@@ -1,21 +1,10 @@
 -- A client of the hub that changes, and the others that don't.
-use Rattle.std.proofs.Common.{◌≡◌, ◌≢◌, ◌⊎◌, ℕ, zero, suc, ◌-◌, Bool, true, false, cond, eqb, List, [], ◌∷◌, Option, Some, None, inl, inr, refl, sym, ap, subst, arith}
-use Rattle.std.specs.Prelude.{IsSome, option_map, slice_get, slice_set}
+use Rattle.std.proofs.Common.{◌≡◌, ◌≢◌, ◌⊎◌, ℕ, ◌-◌, Bool, true, false, cond, eqb, Option, Some, None, inl, inr, refl, sym, ap, subst, arith}
+use Rattle.std.specs.Prelude.{IsSome, option_map, slice_get}
 use Rattle.std.specs.Option.{option_and_then}
 use Rattle.std.proofs.lemmas.Bool.Decides.{eqb_tells}
 use Rattle.dl_hub.specs.State.{Client, Hub, changed, client_of, outbox_of}
-
-set_other : {A : Type 0} (xs : List A) (i j : ℕ) (x : A) → j ≢ i → slice_get (slice_set xs i x) j ≡ slice_get xs j
-set_other [] i j x apart = refl
-set_other (y ∷ ys) zero zero x apart = absurd (apart refl)
-set_other (y ∷ ys) zero (suc j) x apart = refl
-set_other (y ∷ ys) (suc i) zero x apart = refl
-set_other (y ∷ ys) (suc i) (suc j) x apart = set_other ys i j x (λ (e : j ≡ i). apart (ap suc e))
-
-set_same : {A : Type 0} (xs : List A) (i : ℕ) (x y : A) → slice_get xs i ≡ Some x → slice_get (slice_set xs i y) i ≡ Some y
-set_same [] i x y is = absurd cc
-set_same (z ∷ zs) zero x y is = refl
-set_same (z ∷ zs) (suc i) x y is = set_same zs i x y is
+use Rattle.dl_lemmas.proofs.Lists.{set_other, set_here}
 
 -- the client of a number that has changed
 pub client_changed : (hub : Hub) (number : ℕ) (f : Client → Client) → client_of (changed number f hub) number ≡ option_map f (client_of hub number)
@@ -23,7 +12,7 @@ client_changed hub number f = by (eqb number 0) refl (slice_get hub.clients (num
   by : (b : Bool) → eqb number 0 ≡ b → (o : Option Client) → slice_get hub.clients (number - 1) ≡ o → client_of (changed number f hub) number ≡ option_map f (client_of hub number)
   by true nobody o at = rw nobody refl
   by false somebody None at = rw (somebody, at, at) refl
-  by false somebody (Some c) at = rw (somebody, at) (set_same hub.clients (number - 1) c (f c) at)
+  by false somebody (Some c) at = rw (somebody, at) (set_here hub.clients (number - 1) c (f c) at)
 
 -- and the others
 pub client_other : (hub : Hub) (number other : ℕ) (f : Client → Client) → other ≢ number → client_of (changed number f hub) other ≡ client_of hub other

@@ -57,11 +57,11 @@ one_asked : (b : Bool) (frame : List ℕ) (others : List (List ℕ)) → length 
 one_asked true frame others = omega arith
 one_asked false frame others = omega arith
 
-asked_first : (client : ℕ) (e : Event) (others : List (List ℕ)) → length (cons_option (asked_in client e) others) ≡ cond (is_request_of client e) 1 0 + length others
+pub asked_first : (client : ℕ) (e : Event) (others : List (List ℕ)) → length (cons_option (asked_in client e) others) ≡ cond (is_request_of client e) 1 0 + length others
 asked_first client (event.Request other frame answer) others = one_asked (eqb other client) frame others
 asked_first client _ others = omega arith
 
-how_many : (client : ℕ) (events : List Event) → length (asked_by client events) ≡ count_by (is_request_of client) events
+pub how_many : (client : ℕ) (events : List Event) → length (asked_by client events) ≡ count_by (is_request_of client) events
 how_many client [] = refl
 how_many client (e ∷ events) =
     omega (arith, asked_first client e (asked_by client events), how_many client events, sum_by-cons (λ x. cond (is_request_of client x) 1 0) e events)

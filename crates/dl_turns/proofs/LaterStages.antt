@@ -101,7 +101,7 @@ grows_by : (o : Option Waiting) (count : ℕ) (taken taken_now : Option (List �
 grows_by None count taken taken_now sent = absurd sent
 grows_by (Some w) count taken taken_now sent = sent.1
 
-fits : (o : Option Waiting) (count : ℕ) (taken taken_now : Option (List ℕ)) → IsSomeAnd o (λ w. (count ≤ length w.bytes) × Grows taken taken_now (take count w.bytes)) → IsSomeAnd o (λ w. count ≤ length w.bytes)
+pub fits : (o : Option Waiting) (count : ℕ) (taken taken_now : Option (List ℕ)) → IsSomeAnd o (λ w. (count ≤ length w.bytes) × Grows taken taken_now (take count w.bytes)) → IsSomeAnd o (λ w. count ≤ length w.bytes)
 fits None count taken taken_now sent = absurd sent
 fits (Some w) count taken taken_now sent = sent.0
 

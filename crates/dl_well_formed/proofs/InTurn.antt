@@ -55,7 +55,7 @@ told_alike setting source before client (why.Slow room need) later not = absurd 
 told_alike setting source before client _ later not = tt
 
 -- the client of an outbox
-by_client : (o : Option Client) (outbox : Waiting) → option_and_then (λ (c : Client). c.outbox) o ≡ Some outbox → (client : Client) × (o ≡ Some client) × (client.outbox ≡ Some outbox)
+pub by_client : (o : Option Client) (outbox : Waiting) → option_and_then (λ (c : Client). c.outbox) o ≡ Some outbox → (client : Client) × (o ≡ Some client) × (client.outbox ≡ Some outbox)
 by_client None outbox there = absurd (cc there)
 by_client (Some client) outbox there = (client, refl, there)
 

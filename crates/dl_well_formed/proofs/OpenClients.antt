@@ -1,9 +1,9 @@
 -- Who is open, by the core and by its journal.
-use Rattle.std.proofs.Common.{◌≡◌, ◌≢◌, ℕ, zero, suc, ◌+◌, ◌-◌, ◌<◌, ◌≤◌, Bool, true, false, cond, eqb, get_or, List, [], ◌∷◌, ◌++◌, length, Option, Some, None, is_some, refl, sym, ap, subst, ◌∙◌, arith, inl, inr}
+use Rattle.std.proofs.Common.{◌≡◌, ◌≢◌, ℕ, ◌+◌, ◌-◌, ◌<◌, ◌≤◌, Bool, true, false, cond, eqb, get_or, List, [], ◌∷◌, ◌++◌, length, Option, Some, None, is_some, refl, sym, ap, subst, ◌∙◌, arith, inl, inr}
 use Rattle.std.specs.Prelude.{◌⊎◌, slice_get, IsSome}
-use Rattle.std.specs.List.{list_any, cons_option, range_with_len}
+use Rattle.std.specs.List.{list_any, cons_option}
 use Rattle.std.specs.Option.{option_and_then}
-use Rattle.std.proofs.lemmas.Bool.{ne_eqb, or_parts, or_from}
+use Rattle.std.proofs.lemmas.Bool.{or_parts}
 use Rattle.std.proofs.lemmas.Bool.Decides.{eqb_tells}
 use Rattle.std.proofs.lemmas.List.Elements.{filter_map-append}
 use Rattle.std.proofs.lemmas.List.Folds.{list_any-append}
@@ -21,6 +21,8 @@ use Rattle.dl_hub.specs.Follows.{IsStream}
 use Rattle.dl_hub.proofs.Following.{one_of}
 use Rattle.dl_core.specs.State.{Core}
 use Rattle.dl_core.specs.Follows.{IsAfter, Run, source_of}
+use Rattle.dl_lemmas.proofs.Bools.{choice_same}
+use Rattle.dl_lemmas.proofs.Lists.{not_in_range}
 
 -- ---- who never came
 
@@ -30,16 +32,12 @@ came_one client ts t none =
     or_parts (list_any (λ d. eqb d client) (clients ts)) (list_any (λ d. eqb d client) (cons_option (comer_of t) []))
     (sym (list_any-append (λ d. eqb d client) (clients ts) (cons_option (comer_of t) [])) ∙ ap (list_any (λ d. eqb d client)) (sym (filter_map-append comer_of ts (t ∷ []))) ∙ none)
 
-either_shut : (b : Bool) → cond b false false ≡ false
-either_shut true = refl
-either_shut false = refl
-
 -- one entry by which it does not come
 shut_one : (client : ℕ) (ts : List Traffic) (t : Traffic) → list_any (λ d. eqb d client) (cons_option (comer_of t) []) ≡ false → is_open client ts ≡ false
     → cond (comes_or_goes client t) (is_coming t) (is_open client ts) ≡ false
 shut_one client ts (Connected other) none shut =
     ap (λ (b : Bool). cond b true (is_open client ts)) (or_parts (eqb other client) false none).0 ∙ shut
-shut_one client ts (Closed other) none shut = ap (λ (b : Bool). cond (eqb other client) false b) shut ∙ either_shut (eqb other client)
+shut_one client ts (Closed other) none shut = ap (λ (b : Bool). cond (eqb other client) false b) shut ∙ choice_same (eqb other client)
 shut_one client ts (Admitted frame) none shut = shut
 shut_one client ts (Reply other frame) none shut = shut
 
@@ -47,18 +45,6 @@ never_came : (client : ℕ) (ts : List Traffic) → list_any (λ d. eqb d client
 never_came client = by_end (λ (ts : List Traffic). list_any (λ d. eqb d client) (clients ts) ≡ false → is_open client ts ≡ false) (λ none. refl) (λ ts t before none.
     let parts = came_one client ts t none in
     is_open-one client ts t ∙ shut_one client ts t parts.1 (before parts.0))
-
-not_in_range : (first n client : ℕ) → (client < first) ⊎ (first + n ≤ client) → list_any (λ d. eqb d client) (range_with_len first n) ≡ false
-not_in_range first zero client outside = refl
-not_in_range first (suc n) client outside =
-    or_from (eqb first client) (list_any (λ d. eqb d client) (range_with_len (first + 1) n)) (ne_eqb first client (apart outside)) (not_in_range (first + 1) n client (further outside)) where
-      apart : (client < first) ⊎ (first + suc n ≤ client) → first ≢ client
-      apart (inl below) same = omega (arith, below, same)
-      apart (inr above) same = omega (arith, above, same)
-
-      further : (client < first) ⊎ (first + suc n ≤ client) → (client < first + 1) ⊎ (first + 1 + n ≤ client)
-      further (inl below) = inl (omega (arith, below))
-      further (inr above) = inr (omega (arith, above))
 
 -- ---- a client of the hub
 

@@ -21,16 +21,13 @@ use Rattle.dl_world_calls.specs.State.{App, Calls, numbered, app_named}
 use Rattle.dl_world_calls.proofs.Declaring.{number_is}
 use Rattle.dl_world_calls.proofs.Places.{position_to_len, position-map, there}
 use Rattle.dl_world.specs.Known.{IsKnown, name_of}
+use Rattle.dl_lemmas.proofs.Bools.{not_false}
 
 -- ---- causes that don't hold
 
 none_of : (b : Bool) (kind : ScriptKind) (rest : List (Bool × ScriptKind)) → first_of ((b, kind) ∷ rest) ≡ None → (b ≡ false) × (first_of rest ≡ None)
 none_of true kind rest e = absurd cc
 none_of false kind rest e = (refl, e)
-
-is_not : (b : Bool) → not b ≡ false → b ≡ true
-is_not true e = refl
-is_not false e = absurd cc
 
 -- ---- the place of one that is there
 
@@ -60,7 +57,7 @@ numbered_so known done now apid is after declared =
 pub owner_is_known : (known : Declared) (done : List Mark) (now : Calls) (apid : List ℕ) → IsKnown known done → calls.IsAfter done now → refusal known (claim.Writer apid) ≡ None
     → IsSome (numbered now apid)
 owner_is_known known done now apid is after admitted =
-    let declared = is_not (is_app known apid) (none_of (not (is_app known apid)) Unknown ((nat_le 32 (length known.writers), Limit) ∷ []) admitted).0 in
+    let declared = not_false (is_app known apid) (none_of (not (is_app known apid)) Unknown ((nat_le 32 (length known.writers), Limit) ∷ []) admitted).0 in
     ap is_some (numbered_so known done now apid is after declared).1
 
 -- ---- a context
@@ -88,7 +85,7 @@ contexts_are_few known done now apid ctid is after admitted =
     let owned = none_of (not (is_app known apid)) Unknown ((is_context known apid ctid, Twice) ∷ limit) unheard.1 in
     let fresh = none_of (is_context known apid ctid) Twice limit owned.1 in
     let few = none_of (nat_le 64 (count_by (is_of apid) known.contexts)) Limit [] fresh.1 in
-    let place = numbered_so known done now apid is after (is_not (is_app known apid) owned.0) in
+    let place = numbered_so known done now apid is after (not_false (is_app known apid) owned.0) in
     let n = place.0 in
     let at = position_to_len (is_named apid) now.apps n place.1 in
     let found : app_named now apid ≡ Some (get_or now.apps n no_app) = ap (option_and_then (λ (number : ℕ). slice_get now.apps number)) place.1 ∙ there now.apps n no_app at.1 in

@@ -15,12 +15,9 @@ use Rattle.dl_outside.specs.Told.{FolderTold}
 use Rattle.dl_world.specs.Follows.{GivesCall, IsRunOf, IsAfter, BeginWith, answers_in, is_failure, Deed, Goes, Does, Doing}
 use Rattle.dl_world.specs.Stored.{HoldsStored}
 use Rattle.dl_world.specs.declared.world.World.{World}
+use Rattle.dl_lemmas.proofs.Lists.{all_first as front}
 
 -- ---- parts of what is given
-
-pub front : {A : Type 0} (P : A → Type 0) (xs ys : List A) → AllByRecursion P (xs ++ ys) → AllByRecursion P xs
-front P [] ys all = tt
-front P (x ∷ xs) ys all = (all.0, front P xs ys all.1)
 
 pub begin_before : (xs ys answers : List Done) → BeginWith (xs ++ ys) answers → BeginWith xs answers
 begin_before xs ys answers begins = (ys ++ begins.0, begins.1 ∙ append_assoc xs ys begins.0)

@@ -27,7 +27,8 @@ use Rattle.dl_world.specs.State.{Client, client_at, taken_by}
 use Rattle.dl_world.specs.declared.world.World.{World}
 use Rattle.dl_world.proofs.Quiet.{goes_on, held}
 use Rattle.dl_world.proofs.StoredFiles.{asked_in, holds_same, stored_unasked, unanswered}
-use Rattle.dl_world.proofs.Noting.{IsNoTurn, noted_before, journal_noted, if_some}
+use Rattle.dl_world.proofs.Noting.{IsNoTurn, noted_before, journal_noted}
+use Rattle.dl_lemmas.proofs.Options.{if_some}
 
 -- a folder that tells nothing
 abbrev pub nothing_told : FolderTold

@@ -1,5 +1,5 @@
 -- An outbox that is emptied, one piece after the other.
-use Rattle.std.proofs.Common.{◌≡◌, ℕ, ◌<◌, ◌≤◌, inl, inr, true, false, take, drop, List, [], ◌∷◌, ◌++◌, length, Some, None, refl, sym, ap, subst, ◌∙◌, length-drop, arith}
+use Rattle.std.proofs.Common.{◌≡◌, ℕ, ◌<◌, ◌≤◌, inl, inr, true, false, take, drop, List, [], ◌++◌, length, Some, None, refl, sym, ap, subst, ◌∙◌, length-drop, arith}
 use Rattle.std.specs.Prelude.{IsSome, IsSomeAnd, ◌==◌}
 use Rattle.std.specs.Option.{option_map_or}
 use Rattle.std.proofs.lemmas.List.{take_all}
@@ -12,6 +12,7 @@ use Rattle.dl_hub.proofs.Following.{one_of}
 use Rattle.dl_hub.proofs.Keeping.{found}
 use Rattle.dl_hub.proofs.Pumping.{nothing-sent, more-sent, outbox-after}
 use Rattle.dl_core.specs.State.{Core}
+use Rattle.dl_lemmas.proofs.Lists.{empty_of}
 
 -- what a link tells that took these bytes
 abbrev took : List ℕ → LinkTold
@@ -59,10 +60,6 @@ pub record IsEmptied (client : ℕ) (first now : Core) (bytes : List ℕ) : Type
   pub value : now ≡ record first { hub = changed client (without (length bytes)) first.hub }
   pub empty : IsSomeAnd (outbox_of now.hub client) (λ outbox. outbox.bytes ≡ [])
 
-no_bytes : (xs : List ℕ) → length xs ≡ 0 → xs ≡ []
-no_bytes [] e = refl
-no_bytes (x ∷ xs) e = absurd (omega (arith, e))
-
 take_whole : (n : ℕ) (xs : List ℕ) → n ≡ length xs → take n xs ≡ xs
 take_whole n xs e = take_all n xs (omega (arith, e))
 
@@ -81,7 +78,7 @@ emptied_where client first now bytes piece is there none empty =
     record {
       all = rw it.5 bytes_are;
       value = is.same ∙ ap (λ (h : Hub). record first { hub = h }) (is.sent.left ∙ ap (λ (n : ℕ). changed client (without n) first.hub) count);
-      empty = rw after (no_bytes (drop k it.1.bytes) nothing);
+      empty = rw after (empty_of (drop k it.1.bytes) nothing);
     } where
       zero_of : (n : ℕ) → (n == 0) ≡ true → n ≡ 0
       zero_of n e = elim (eqb_tells n 0) as (λ _. n ≡ 0) [ inl same ↦ same.1 | inr other ↦ absurd cc ]

@@ -27,6 +27,7 @@ use Rattle.dl_world.proofs.Doings.{ComesTo, doing_by}
 use Rattle.dl_world.proofs.Going.{open_by_hub, known_by_hub}
 use Rattle.dl_world.proofs.Noting.{came_by_events}
 use Rattle.dl_world.proofs.StoredFiles.{asked_by, asked_in}
+use Rattle.dl_lemmas.proofs.Bools.{and_false, both_true}
 
 -- ---- an event in its turn
 
@@ -108,15 +109,8 @@ coming run done world after =
       all_is = all;
     }
 
-and_none : (a b : Bool) → b ≡ false → (a && b) ≡ false
-and_none true b e = e
-and_none false b e = refl
-
 none_and : (a b : Bool) → a ≡ false → (a && b) ≡ false
 none_and a b e = ap (λ (x : Bool). x && b) e
-
-and_both : (a b : Bool) → a ≡ true → b ≡ true → (a && b) ≡ true
-and_both a b one two = ap (λ (x : Bool). x && b) one ∙ two
 
 not_below : (a b : ℕ) → b ≤ a → nat_lt a b ≡ false
 not_below a b le = grind (arith, nat_tests, le)
@@ -135,7 +129,7 @@ connect_refused world full told = does_none (λ setting answers. connect setting
           none_and (nat_lt (count_by is_connect (journal done)) limit) (nat_lt (count_by is_connect (journal done)) (count_by is_close (journal done) + 8))
           (not_below (count_by is_connect (journal done)) limit (omega (arith, at.came_is, all, limit_is)))
       not_so limit limit_is done at (inr many) =
-          and_none (nat_lt (count_by is_connect (journal done)) limit) (nat_lt (count_by is_connect (journal done)) (count_by is_close (journal done) + 8))
+          and_false (nat_lt (count_by is_connect (journal done)) limit) (nat_lt (count_by is_connect (journal done)) (count_by is_close (journal done) + 8))
           (not_below (count_by is_connect (journal done)) (count_by is_close (journal done) + 8) (omega (arith, at.came_is, at.open_is, many)))
 
 -- Level events are nobody's coming
@@ -167,7 +161,7 @@ connect_accepted old one two new few open_few before clients_are hub_is noted be
     let closes = count_by is_close (journal done) in
     let limit_is : run.setting.clients ≡ 32 = after.so_far.limit_so in
     let test : (nat_lt came run.setting.clients && nat_lt came (closes + 8)) ≡ true =
-    and_both (nat_lt came run.setting.clients) (nat_lt came (closes + 8)) (is_below came run.setting.clients (omega (arith, at.came_is, few, limit_is))) (is_below came (closes + 8) (omega (arith, at.came_is, at.open_is, open_few))) in
+    both_true (nat_lt came run.setting.clients) (nat_lt came (closes + 8)) (is_below came run.setting.clients (omega (arith, at.came_is, few, limit_is))) (is_below came (closes + 8) (omega (arith, at.came_is, at.open_is, open_few))) in
     let marks : connect run.setting done ≡ note run.setting next_number done =
     ap (λ (c : Bool). cond c (note run.setting (λ _. event.Connect (came + 1)) done) []) test ∙ sym (numbered_alike run.setting done) in
     let may : MayConnect one = (omega (arith, ap (λ (h : Hub). length h.clients) hub_is, ap (λ (h : Hub). h.limit) hub_is, after.so_far.core_so.set_to.clients, limit_is, at.hub_is, few), omega (arith, ap (λ (h : Hub). count_by is_open h.clients) hub_is, at.all_is, open_few)) in

@@ -1,6 +1,5 @@
 -- What bytes of a client make whole, piece by piece.
-use Rattle.std.proofs.Common.{◌≡◌, ◌≢◌, ℕ, ◌+◌, ◌-◌, ◌<◌, true, false, List, [], ◌∷◌, ◌++◌, length, Option, Some, None, inl, inr, refl, sym, ap, subst, ◌∙◌, append_assoc, length-append, arith}
-use Rattle.std.specs.Prelude.{IsSome}
+use Rattle.std.proofs.Common.{◌≡◌, ◌≢◌, ℕ, ◌+◌, ◌-◌, ◌<◌, true, false, List, [], ◌∷◌, ◌++◌, length, Some, inl, inr, refl, sym, ap, subst, ◌∙◌, append_assoc, length-append, arith}
 use Rattle.std.specs.List.{All, filter}
 use Rattle.std.proofs.lemmas.List.{append-nil}
 use Rattle.std.proofs.lemmas.List.Elements.{All-push, filter-append}
@@ -15,6 +14,7 @@ use Rattle.dl_message.specs.declared.cutter.Cut.TheVariants.{Message, NeedMore, 
 use Rattle.dl_message.proofs.Pieces.{piece_long}
 use Rattle.dl_core.specs.Serving.{IsRequest}
 use Rattle.dl_world.specs.Fed.{Stands}
+use Rattle.dl_lemmas.proofs.Options.{is_some_of}
 
 -- ---- one message more
 
@@ -62,14 +62,6 @@ pub gave_all : (bytes : List ℕ) (before after : List (List ℕ)) (old new : Cu
 gave_all bytes before after old new Message other cuts gave = absurd (other refl)
 gave_all bytes before after old new NeedMore other cuts gave = subst (λ (r : List ℕ). Gave bytes r before after) (sym (ap (λ (c : Cutting). c.unread) cuts.2)) gave
 gave_all bytes before after old new (Bad fault) other cuts gave = subst (λ (r : List ℕ). Gave bytes r before after) (sym (ap (λ (c : Cutting). c.unread) cuts.1)) gave
-
-pub is_some_of : {A : Type 0} (x : Option A) (y : A) → x ≡ Some y → IsSome x
-is_some_of None y e = absurd cc
-is_some_of (Some x) y e = refl
-
-pub some_of : {A : Type 0} (x : Option A) → IsSome x → (y : A) × (x ≡ Some y)
-some_of None e = absurd cc
-some_of (Some x) e = (x, refl)
 
 pub stands_now : (old new : Cutting) (cut : Cut) → cut ≢ Message → old.limit ≡ message_limit → Cuts old cut new → Stands new
 stands_now old new Message other limit cuts = absurd (other refl)

@@ -8,7 +8,7 @@ use Rattle.dl_bytes.specs.Cutting.{AreCut}
 use Rattle.dl_bytes.specs.Limits.{message_limit}
 use Rattle.dl_bytes.proofs.Cutting.{cut_on, cut_more}
 use Rattle.dl_message.specs.Cut.{IsPiece, IsCut, NoPiece, IsOpen, without_serial, pieces, messages, rest_of, rest_fault}
-use Rattle.dl_message.specs.Cutting.{Cutting, Begins, Cuts, Feeds, unfed}
+use Rattle.dl_message.specs.Cutting.{Cutting, Begins, Cuts, Feeds}
 use Rattle.dl_message.specs.Requests.{asks, requests}
 use Rattle.dl_message.specs.declared.cutter.Cut.{Cut}
 use Rattle.dl_message.specs.declared.cutter.Cut.TheVariants.{Message, NeedMore, Bad}
@@ -16,7 +16,10 @@ use Rattle.dl_message.proofs.Cuts.{one_cut, its_cut, requests-bad}
 use Rattle.dl_message.proofs.Pieces.{bad_no_piece, bad_stays}
 use Rattle.dl_core.specs.Serving.{IsRequest}
 use Rattle.dl_world.specs.Fed.{Waits, IsShut, IsFedBy, Stands, made_whole}
-use Rattle.dl_world.proofs.FedClients.{is_some_of, limit_stays, some_of}
+use Rattle.dl_world.proofs.FedClients.{limit_stays}
+use Rattle.dl_lemmas.proofs.Lists.{empty_of}
+use Rattle.dl_world.proofs.Coming.{fed_nothing}
+use Rattle.dl_lemmas.proofs.Options.{is_some_of, some_of}
 
 -- ---- the one cut of a stream
 
@@ -299,17 +302,6 @@ module _ (bytes : List ℕ) (old new : Cutting) (before after : List (List ℕ))
   pub arrives_asked : (stream : List ℕ) → IsFedBy stream old → after ≡ before ++ made_whole stream bytes
   arrives_asked stream fed = asked_is stream bytes before after (subst (λ (d : List ℕ). HasAsked stream d before after) all_done (so.asked stream fed))
 
-pub nothing_left : (xs : List ℕ) → length xs ≡ 0 → xs ≡ []
-nothing_left [] e = refl
-nothing_left (x ∷ xs) e = absurd (omega arith)
-
 pub some_left : (xs : List ℕ) → (length xs == 0) ≡ false → 0 < length xs
 some_left [] e = absurd cc
 some_left (x ∷ xs) e = omega arith
-
--- a client that sent nothing yet
-pub fed_none : IsFedBy [] (unfed message_limit)
-fed_none = record {
-  limit = refl;
-  stands = inl (record { rest = refl; good = record { good = refl; ends = (its_cut message_limit []).ends }; room = refl; some = omega arith });
-}

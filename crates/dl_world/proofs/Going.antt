@@ -1,9 +1,9 @@
 -- A client that goes, and who is open.
-use Rattle.std.proofs.Common.{◌≡◌, ◌≢◌, ◌⊎◌, inl, inr, ℕ, zero, suc, ◌+◌, ◌-◌, ◌<◌, ◌≤◌, Bool, true, false, cond, eqb, List, [], ◌∷◌, ◌++◌, length, Option, Some, None, refl, sym, ap, subst, ◌∙◌, arith}
-use Rattle.std.specs.Prelude.{IfSome, IsSome, IsSomeAnd, is_some, count_by, slice_set, ◌||◌}
-use Rattle.std.specs.List.{concat, range_with_len, list_any, AllByRecursion}
+use Rattle.std.proofs.Common.{◌≡◌, ◌≢◌, ◌⊎◌, inl, inr, ℕ, ◌+◌, ◌-◌, ◌<◌, ◌≤◌, Bool, true, false, cond, eqb, List, [], ◌∷◌, ◌++◌, length, Option, Some, None, refl, sym, ap, subst, ◌∙◌, arith}
+use Rattle.std.specs.Prelude.{IfSome, IsSome, IsSomeAnd, is_some, count_by, slice_set}
+use Rattle.std.specs.List.{concat, list_any, AllByRecursion}
 use Rattle.std.specs.Option.{option_map_or, option_and_then}
-use Rattle.std.proofs.lemmas.Bool.{cases_lt, ne_eqb}
+use Rattle.std.proofs.lemmas.Bool.{cases_lt}
 use Rattle.std.proofs.lemmas.Bool.Decides.{eqb_tells}
 use Rattle.std.proofs.lemmas.List.{append-nil, length-set}
 use Rattle.std.proofs.lemmas.List.Elements.{filter_map-append}
@@ -43,6 +43,8 @@ use Rattle.dl_world.specs.declared.world.World.{World}
 use Rattle.dl_world.proofs.ByNumber.{at_place, at_zero, at_past}
 use Rattle.dl_world.proofs.Noting.{journal_noted, noted_where, missing}
 use Rattle.dl_world.proofs.Doings.{doing_by, holds_by, the_events, after_quiet_event, nothing_told}
+use Rattle.dl_lemmas.proofs.Bools.{neither, choice_same}
+use Rattle.dl_lemmas.proofs.Lists.{not_in_range}
 
 -- ---- a client's stream, by its link
 
@@ -97,14 +99,6 @@ before_of_after run done world is = record { so_far = is.so_far; behind = λ num
 
 -- ---- who is open
 
-or_none : (a b : Bool) → (a || b) ≡ false → (a ≡ false) × (b ≡ false)
-or_none true b e = absurd cc
-or_none false b e = (refl, e)
-
-choice_same : (b : Bool) → cond b false false ≡ false
-choice_same true = refl
-choice_same false = refl
-
 -- who never came is not there
 never_came : (client : ℕ) (ts : List Traffic) → list_any (λ d. eqb d client) (clients ts) ≡ false → traffic.is_open client ts ≡ false
 never_came client ts = by_end (λ (es : List Traffic). list_any p (clients es) ≡ false → traffic.is_open client es ≡ false) (λ none. refl) (λ es t so none. more es t so none) ts where
@@ -114,10 +108,10 @@ never_came client ts = by_end (λ (es : List Traffic). list_any p (clients es) �
   parts : (es : List Traffic) (t : Traffic) → list_any (λ d. eqb d client) (clients (es ++ t ∷ [])) ≡ false → (list_any (λ d. eqb d client) (clients es) ≡ false) × (list_any (λ d. eqb d client) (clients (t ∷ [])) ≡ false)
   parts es t none =
       let split : list_any (λ d. eqb d client) (clients es ++ clients (t ∷ [])) ≡ false = ap (list_any (λ d. eqb d client)) (sym (filter_map-append comer_of es (t ∷ []))) ∙ none in
-      or_none (list_any (λ d. eqb d client) (clients es)) (list_any (λ d. eqb d client) (clients (t ∷ []))) (sym (list_any-append (λ d. eqb d client) (clients es) (clients (t ∷ []))) ∙ split)
+      neither (list_any (λ d. eqb d client) (clients es)) (list_any (λ d. eqb d client) (clients (t ∷ []))) (sym (list_any-append (λ d. eqb d client) (clients es) (clients (t ∷ []))) ∙ split)
 
   last : (t : Traffic) (was : Bool) → was ≡ false → list_any (λ d. eqb d client) (clients (t ∷ [])) ≡ false → cond (comes_or_goes client t) (is_coming t) was ≡ false
-  last (Connected other) was shut none = ap (λ (b : Bool). cond b true was) (or_none (eqb other client) false none).0 ∙ shut
+  last (Connected other) was shut none = ap (λ (b : Bool). cond b true was) (neither (eqb other client) false none).0 ∙ shut
   last (Closed other) was shut none = ap (cond (eqb other client) false) shut ∙ choice_same (eqb other client)
   last (Admitted frame) was shut none = shut
   last (Reply other frame) was shut none = shut
@@ -125,18 +119,6 @@ never_came client ts = by_end (λ (es : List Traffic). list_any p (clients es) �
   more : (es : List Traffic) (t : Traffic) → (list_any (λ d. eqb d client) (clients es) ≡ false → traffic.is_open client es ≡ false) → list_any (λ d. eqb d client) (clients (es ++ t ∷ [])) ≡ false
       → traffic.is_open client (es ++ t ∷ []) ≡ false
   more es t so none = let its = parts es t none in is_open-one client es t ∙ last t (traffic.is_open client es) (so its.0) its.1
-
-none_of_range : (first n client : ℕ) → (client < first) ⊎ (first + n ≤ client) → list_any (λ d. eqb d client) (range_with_len first n) ≡ false
-none_of_range first zero client out = refl
-none_of_range first (suc n) client out =
-    ap (λ (b : Bool). b || list_any (λ d. eqb d client) (range_with_len (first + 1) n)) (ne_eqb first client (apart out)) ∙ none_of_range (first + 1) n client (later out) where
-      apart : (client < first) ⊎ (first + suc n ≤ client) → first ≡ client → ⊥
-      apart (inl below) e = omega (arith, below, e)
-      apart (inr above) e = omega (arith, above, e)
-
-      later : (client < first) ⊎ (first + suc n ≤ client) → (client < first + 1) ⊎ (first + 1 + n ≤ client)
-      later (inl below) = inl (omega (arith, below))
-      later (inr above) = inr (omega (arith, above))
 
 -- the marks say that a client is open just where the hub has an outbox for it
 pub open_by_hub : (run : Run) (done : List Mark) (world : World) (client : ℕ) → IsAfter run done world → steps.is_open client done ≡ is_some (outbox_of world.core.hub client)
@@ -148,7 +130,7 @@ open_by_hub run done world client is = sym (open_in_journal (source_of run) clie
   h = world.core.hub
 
   nobody : (client < 1) ⊎ (1 + length h.clients ≤ client) → traffic.is_open client ts ≡ false
-  nobody out = never_came client ts (ap (list_any (λ d. eqb d client)) is.so_far.core_so.hub.came ∙ none_of_range 1 (length h.clients) client out)
+  nobody out = never_came client ts (ap (list_any (λ d. eqb d client)) is.so_far.core_so.hub.came ∙ not_in_range 1 (length h.clients) client out)
 
   by_there : 1 ≤ client → (o : Option hub.Client) → client_of h client ≡ o → traffic.is_open client ts ≡ is_some (option_and_then (λ (c : hub.Client). c.outbox) o)
   by_there some None none = elim (cases_lt (length h.clients) client) as (λ _. traffic.is_open client ts ≡ false) [

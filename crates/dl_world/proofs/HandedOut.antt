@@ -1,5 +1,5 @@
 -- An application takes an injection.
-use Rattle.std.proofs.Common.{◌≡◌, ◌<◌, ℕ, Bool, true, false, List, [], ◌∷◌, refl, sym, ap, subst, ◌∙◌, arith}
+use Rattle.std.proofs.Common.{◌≡◌, ◌<◌, ℕ, Bool, false, List, [], ◌∷◌, refl, sym, ap, subst, ◌∙◌}
 use Rattle.std.specs.Prelude.{slice_index, nat_lt}
 use Rattle.dl_model.specs.Marks.{Mark, Handed, injections, journal}
 use Rattle.dl_model.specs.Steps.{just, when, take_injection}
@@ -10,12 +10,10 @@ use Rattle.dl_world.specs.declared.world.World.{World}
 use Rattle.dl_world.proofs.Deeds.{does_none}
 use Rattle.dl_world.proofs.Doings.{ComesTo, doing_by}
 use Rattle.dl_world.proofs.Quiet.{handed_after, journal_same}
+use Rattle.dl_lemmas.proofs.Numbers.{above_zero}
 
 is_some_waiting : (run : Run) (done : List Mark) (app : ℕ) (old : World) → app < 16 → IsAfter run done old → injections app done ≡ slice_index old.injections app
 is_some_waiting run done app old below after = after.so_far.injections_so.each app below
-
-below_tells : (n : ℕ) → 0 < n → nat_lt 0 n ≡ true
-below_tells n some = grind arith
 
 zero_tells : (n : ℕ) → n ≡ 0 → nat_lt 0 n ≡ false
 zero_tells n none = rw none refl
@@ -27,7 +25,7 @@ takes_one app old waiting below some counts =
     doing_by (λ setting. take_injection app) old (record old { injections = waiting }) refl
     (λ run done after is_run.
     let there : take_injection app done ≡ Handed app ∷ [] =
-    ap (λ (b : Bool). when b (just (Handed app)) done) (ap (nat_lt 0) (is_some_waiting run done app old below after) ∙ below_tells (slice_index old.injections app) some) in
+    ap (λ (b : Bool). when b (just (Handed app)) done) (ap (nat_lt 0) (is_some_waiting run done app old below after) ∙ above_zero (slice_index old.injections app) some) in
     subst (λ (more : List Mark). ComesTo run done more old (record old { injections = waiting })) (sym there)
     (record {
       after = handed_after run done old after app waiting (counts done after.so_far.injections_so);

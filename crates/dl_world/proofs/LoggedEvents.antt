@@ -190,7 +190,7 @@ module _ (old new : World) (app count : ℕ) (apid : List ℕ) (core_now : Core)
 
 -- ---- user messages
 
-no_turn_user : (channel : ℕ) (msg : UserMsg) (at : Moment) → IsNoTurn (event.User channel msg at)
+pub no_turn_user : (channel : ℕ) (msg : UserMsg) (at : Moment) → IsNoTurn (event.User channel msg at)
 no_turn_user channel msg at = record { connects = refl; closes = refl; nobody = λ number. refl }
 
 module _ (old new : World) (channel : ℕ) (msg : UserMsg) (core_now : Core) (made kept : Journaled) (told told_now : FolderTold)

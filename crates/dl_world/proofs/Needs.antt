@@ -16,12 +16,12 @@ use Rattle.dl_model.specs.declared.registry.Context.{Context}
 use Rattle.dl_model.specs.declared.registry.Slot.{Slot}
 use Rattle.dl_model.specs.Journal.{registry_of, slots_of}
 use Rattle.dl_model.specs.Registry.{App, Registry, IsInOrder, app_of, context_of, reset}
-use Rattle.dl_model.specs.Reply.{apid_of, asked, ctid_of, injected, reset_requested, need_of}
+use Rattle.dl_model.specs.Reply.{apid_of, asked, ctid_of, injected, reset_requested}
 use Rattle.dl_model.specs.Setting.{Setting}
 use Rattle.dl_model.proofs.Order.{app_of_found, in_order-registry_of}
-use Rattle.dl_services.specs.Wish.{wanted, needed, removes, sends}
+use Rattle.dl_services.specs.Wish.{wanted, removes, sends}
 use Rattle.dl_services.specs.declared.wish.Want.TheVariants as want
-use Rattle.dl_services.proofs.Requests.{reset_needs, inject_needs}
+use Rattle.dl_services.proofs.Requests.{wants-needs}
 
 -- ---- needs
 
@@ -46,14 +46,6 @@ wanted_is setting other events slots registry frame level mode slots_are registr
     wanted_alike setting other (slots_of setting events) (registry_of setting events) (apid_of frame) (ctid_of frame) (asked frame) level mode
     ∙ ap (λ (s : ℕ → Slot). wanted other s (registry_of setting events) (apid_of frame) (ctid_of frame) (asked frame)) (sym slots_are)
     ∙ ap (λ (r : Registry). wanted other slots r (apid_of frame) (ctid_of frame) (asked frame)) (sym registry_is)
-
--- and a run of steps asks for it
-pub needs_are : (setting : Setting) (slots : ℕ → Slot) (registry : Registry) (apid ctid : List ℕ) (request : Result Request RequestFault)
-    → need_of setting slots registry apid ctid request ≡ needed (wanted setting slots registry apid ctid request)
-needs_are setting slots registry apid ctid (Ok Store) = refl
-needs_are setting slots registry apid ctid (Ok Reset) = reset_needs (reset_requested setting slots registry)
-needs_are setting slots registry apid ctid (Ok (Inject service body)) = inject_needs service body (injected setting registry apid ctid)
-needs_are setting slots registry apid ctid _ = refl
 
 -- ---- the application of an injection is one of 16
 

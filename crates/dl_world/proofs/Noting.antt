@@ -34,6 +34,7 @@ use Rattle.dl_world.specs.Follows.{IsAfter, IsBefore, IsBehind, stream_in}
 use Rattle.dl_world.specs.State.{Client, client_at, taken_by}
 use Rattle.dl_world.specs.declared.world.World.{World}
 use Rattle.dl_world.proofs.Quiet.{apps_same, fed_same, heard_same, moment_same, later_same}
+use Rattle.dl_lemmas.proofs.Options.{if_some}
 
 pub journal_noted : (done : List Mark) (e : Event) → journal (done ++ Noted e ∷ []) ≡ journal done ++ e ∷ []
 journal_noted done e = filter_map-append event_of done (Noted e ∷ [])
@@ -126,10 +127,6 @@ Behind frames client (Some outbox) = IsPut client.frames outbox.bytes frames
 is_behind : (run : Run) (done : List Mark) (number : ℕ) (client : Client) (o : Option Waiting) → Behind (stream_in run done number) client o → IsBehind run done number client o
 is_behind run done number client None is = is
 is_behind run done number client (Some outbox) is = is
-
-pub if_some : {A : Type 0} (P Q : A → Type 0) (o : Option A) → ((x : A) → P x → Q x) → IfSome o P → IfSome o Q
-if_some P Q None goes is = is
-if_some P Q (Some x) goes is = goes x is
 
 module _ (run : Run) (events : List Event) (e : Event) (links : List Client) (now : Core) where
   abbrev stream_then : ℕ → List (List ℕ)

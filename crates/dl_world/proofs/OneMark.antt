@@ -20,6 +20,7 @@ use Rattle.dl_core.specs.Follows.{Run}
 use Rattle.dl_world.specs.Follows.{IsAfter, Doing}
 use Rattle.dl_world.specs.declared.world.World.{World}
 use Rattle.dl_world.proofs.Deeds.{quiet_does}
+use Rattle.dl_world.proofs.Quiet.{moment_same, later_same}
 
 -- a moment of these numbers, whatever shows that its micros are below a million
 abbrev pub moment_of : (secs micros : ℕ) → micros < 1000000 → Moment
@@ -35,22 +36,12 @@ clock_says done now =
     ap (λ (ms : List Moment). unwrap_or (last_that (λ _. true) ms) (moment_at 0 0)) (filter_map-append clocked done (Clocked now ∷ []))
     ∙ ap (λ (o : Option Moment). unwrap_or o (moment_at 0 0)) (last_that-one (λ (m : Moment). true) (filter_map clocked done) now)
 
-pub clock_stays : (done more : List Mark) → filter_map clocked more ≡ [] → moment (done ++ more) ≡ moment done
-clock_stays done more none =
-    ap (λ (ms : List Moment). unwrap_or (last_that (λ _. true) ms) (moment_at 0 0))
-    (filter_map-append clocked done more ∙ ap (λ (ms : List Moment). filter_map clocked done ++ ms) none ∙ append-nil (filter_map clocked done))
-
 -- ---- whether Level events wait
 
 pub later_says : (done : List Mark) (later : Bool) → is_later (done ++ LevelsWait later ∷ []) ≡ later
 later_says done later =
     ap (λ (xs : List Bool). unwrap_or (last_that (λ _. true) xs) false) (filter_map-append waits_of done (LevelsWait later ∷ []))
     ∙ ap (λ (o : Option Bool). unwrap_or o false) (last_that-one (λ (b : Bool). true) (filter_map waits_of done) later)
-
-pub later_stays : (done more : List Mark) → filter_map waits_of more ≡ [] → is_later (done ++ more) ≡ is_later done
-later_stays done more none =
-    ap (λ (xs : List Bool). unwrap_or (last_that (λ _. true) xs) false)
-    (filter_map-append waits_of done more ∙ ap (λ (xs : List Bool). filter_map waits_of done ++ xs) none ∙ append-nil (filter_map waits_of done))
 
 -- ---- applications
 
@@ -71,10 +62,10 @@ module _ (run : Run) (done : List Mark) (mark : Mark) (old new : World) (after :
   injections_stay no_injection same = rw same (no-injection-stays done mark old.injections no_injection after.so_far.injections_so)
 
   pub moment_stays : filter_map clocked (mark ∷ []) ≡ [] → new.moment ≡ old.moment → new.moment ≡ moment (done ++ mark ∷ [])
-  moment_stays none same = same ∙ after.so_far.moment_so ∙ sym (clock_stays done (mark ∷ []) none)
+  moment_stays none same = same ∙ after.so_far.moment_so ∙ sym (moment_same done (mark ∷ []) none)
 
   pub later_stays_so : filter_map waits_of (mark ∷ []) ≡ [] → new.later ≡ old.later → new.later ≡ is_later (done ++ mark ∷ [])
-  later_stays_so none same = same ∙ after.so_far.later_so ∙ sym (later_stays done (mark ∷ []) none)
+  later_stays_so none same = same ∙ after.so_far.later_so ∙ sym (later_same done (mark ∷ []) none)
 
 -- ---- the clock is set, and Level events are to wait or not
 

@@ -34,9 +34,9 @@ use Rattle.dl_world.proofs.ByNumber.{at_there, with_long, with_other, with_same}
 use Rattle.dl_world.proofs.Composing.{both, does_both}
 use Rattle.dl_world.proofs.Deeds.{does_as, does_none}
 use Rattle.dl_world.proofs.Doings.{doing_by}
-use Rattle.dl_world.proofs.Noting.{if_some}
 use Rattle.dl_world.proofs.Quiet.{held, goes_on_where, journal_same, apps_same, fed_same, heard_same, moment_same, later_same}
 use Rattle.dl_world.proofs.Turning.{turns-one}
+use Rattle.dl_lemmas.proofs.Options.{if_some}
 
 -- ---- requests in turn
 

@@ -20,7 +20,6 @@ use Rattle.dl_model.specs.Marks.{Mark, Noted, Answered, Injected, event_of, jour
 use Rattle.dl_model.specs.Steps.{request_now, served}
 use Rattle.dl_laws.proofs.Lists.{count_by-append}
 use Rattle.dl_world_calls.proofs.Changing.{no-call-stays}
-use Rattle.dl_world_calls.proofs.Places.{slice_get-end, slice_get-more}
 use Rattle.dl_registry.specs.Kept.{slots}
 use Rattle.dl_hub.specs.State.{Hub, Waiting, HasRoom, outbox_of}
 use Rattle.dl_services.specs.Wish.{needed, wanted}
@@ -36,10 +35,12 @@ use Rattle.dl_world.specs.Follows.{IsAfter, IsBefore, BeginWith, answer_of, answ
 use Rattle.dl_world.specs.State.{taken_by}
 use Rattle.dl_world.specs.Stored.{HoldsStored}
 use Rattle.dl_world.specs.declared.world.World.{World}
-use Rattle.dl_world.proofs.Needs.{needs_are, injection_below, wanted_is}
+use Rattle.dl_world.proofs.Needs.{injection_below, wanted_is}
 use Rattle.dl_world.proofs.Noting.{IsNoTurn, journal_noted, noted_before}
 use Rattle.dl_world.proofs.Quiet.{journal_same, answered_after, injected_after}
 use Rattle.dl_world.proofs.StoredFiles.{request_stored}
+use Rattle.dl_lemmas.proofs.Lists.{get_end, get_more}
+use Rattle.dl_services.proofs.Requests.{wants-needs}
 
 -- ---- the trace alone counts for what the folder holds
 
@@ -119,7 +120,7 @@ pub next_answer : (done : List Mark) (answer : Done) (answers : List Done) → B
     → unwrap_or (slice_get answers (count_by is_answer done)) did.Yes ≡ answer
 next_answer done answer answers begins =
     let there : slice_get ((answers_in done ++ answer ∷ []) ++ begins.0) (length (answers_in done)) ≡ Some answer =
-    slice_get-more (answers_in done ++ answer ∷ []) begins.0 (length (answers_in done)) answer (slice_get-end (answers_in done) answer) in
+    get_more (answers_in done ++ answer ∷ []) begins.0 (length (answers_in done)) answer (get_end (answers_in done) answer) in
     ap (λ (o : Option Done). unwrap_or o did.Yes)
     (ap (λ (n : ℕ). slice_get answers n) (sym (answers_count done)) ∙ ap (λ (xs : List Done). slice_get xs (length (answers_in done))) begins.1 ∙ there)
 
@@ -252,7 +253,7 @@ module _ (client : ℕ) (frame : List ℕ) (answer : Done) (old mid new : World)
 
 pub wanted_by : (frame : List ℕ) (ready : Ready) (old : World) → IsReady old.core ready → ready.frame ≡ frame → IsWanted frame ready.want old
 wanted_by frame ready old is same = record {
-  needs = λ run done after. needs_are run.setting (slots_of run.setting (journal done)) (registry_of run.setting (journal done)) (apid_of frame) (ctid_of frame) (asked frame) ∙ ap needed (what run done after);
+  needs = λ run done after. wants-needs run.setting (slots_of run.setting (journal done)) (registry_of run.setting (journal done)) (apid_of frame) (ctid_of frame) (asked frame) ∙ ap needed (what run done after);
   is_what = what;
   below = λ app injection run done after here.
       injection_below run.setting (seen old.core) (journal done) (slots old.core.registry) old.core.registry.registry (apid_of frame) (ctid_of frame) (asked frame) app injection

@@ -18,6 +18,7 @@ use Rattle.dl_outside.specs.Told.{FolderTold}
 use Rattle.dl_world.specs.Follows.{Does}
 use Rattle.dl_world.specs.declared.world.World.{World}
 use Rattle.dl_world.proofs.Deeds.{does_as, does_none}
+use Rattle.dl_lemmas.proofs.Numbers.{above_zero}
 
 -- ---- what is there
 
@@ -110,15 +111,12 @@ same_note : (setting : Setting) (a b : List Mark → Event) (done : List Mark) �
 same_note setting a b done same =
     ap (λ (e : Event). note_levels setting done ++ ((Noted e ∷ []) ++ in_sequence (note_levels_now setting ∷ []) ((done ++ note_levels setting done) ++ Noted e ∷ []))) same
 
-some_tell : (n : ℕ) → 0 < n → nat_lt 0 n ≡ true
-some_tell n some = grind arith
-
 pub loses_some : (old new : World) (told told_now : FolderTold) (app count : ℕ) → 0 < count → ((done : List Mark) → calls.IsAfter done old.calls → count ≡ pending app done)
     → Does (λ setting answers. note setting (λ now. event.Lost app count (moment now))) old new told told_now → Does (λ setting answers. take_losses setting app) old new told told_now
 loses_some old new told told_now app count some tells does =
     does_as (λ setting answers. note setting (λ now. event.Lost app count (moment now))) (λ setting answers. take_losses setting app) old new told told_now
     (λ run done answers after.
-    let there : nat_lt 0 (pending app done) ≡ true = ap (nat_lt 0) (sym (tells done after.so_far.calls_so)) ∙ some_tell count some in
+    let there : nat_lt 0 (pending app done) ≡ true = ap (nat_lt 0) (sym (tells done after.so_far.calls_so)) ∙ above_zero count some in
     let here = done ++ note_levels run.setting done in
     let later : pending app here ≡ count = sym (tells here (levels_stay old.calls (changes run.setting (journal done)) done after.so_far.calls_so)) in
     ap (λ (b : Bool). when b (note run.setting (λ now. event.Lost app (pending app now) (moment now))) done) there

@@ -18,12 +18,9 @@ use Rattle.dl_world.specs.State.{taken_by}
 use Rattle.dl_world.specs.declared.world.World.{World}
 use Rattle.dl_world.proofs.Doings.{the_events}
 use Rattle.dl_world.proofs.Failing.{Fails}
-use Rattle.dl_world.proofs.LoggedEvents.{IsPutBy, does_event}
-use Rattle.dl_world.proofs.Noting.{IsNoTurn, noted_before}
+use Rattle.dl_world.proofs.LoggedEvents.{IsPutBy, does_event, no_turn_user}
+use Rattle.dl_world.proofs.Noting.{noted_before}
 use Rattle.dl_folders.specs.Files.{KeepsStored}
-
-no_turn_message : (channel : ℕ) (msg : UserMsg) (at : Moment) → IsNoTurn (event.User channel msg at)
-no_turn_message channel msg at = record { connects = refl; closes = refl; nobody = λ number. refl }
 
 module _ (old new : World) (channel : ℕ) (msg : UserMsg) (core_now : Core) (made kept : Journaled) (told told_now : FolderTold) (fit : CanBeTold msg) (made_is : made.events ≡ old.journal.events)
     (adds : Adds (event.User channel msg old.moment ∷ []) (λ run. Unit {0}) old.core core_now told told_now)
@@ -40,7 +37,7 @@ module _ (old new : World) (channel : ℕ) (msg : UserMsg) (core_now : Core) (ma
       let same : event.User channel msg old.moment ≡ e = ap (λ (at : Moment). event.User channel msg at) after.so_far.moment_so in
       let core_noted = adds run (journal done) (taken_by old.clients) tt after.so_far.core_so in
       record {
-        before = noted_before run done e old mid (no_turn_message channel msg (moment done)) after (record {
+        before = noted_before run done e old mid (no_turn_user channel msg (moment done)) after (record {
           core_noted = subst (λ (x : Event). core.IsAfter run (journal done ++ x ∷ []) (taken_by old.clients) core_now) same core_noted.0;
           gives = fit;
           calls_noted = no-call-stays done (Noted e) old.calls refl after.so_far.calls_so;

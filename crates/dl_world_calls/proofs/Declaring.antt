@@ -19,8 +19,9 @@ use Rattle.dl_world_calls.specs.State.{App, Writer, Calls, new_app, new_writer, 
 use Rattle.dl_world_calls.specs.Follows.{no_app, no_writer, writer_at, line_of, is_named, contexts_in, IsOwned, IsWriterAfter, IsAppAfter, IsAfter, Does}
 use Rattle.dl_world_calls.proofs.WriterMarks.{stays}
 use Rattle.dl_world_calls.proofs.AppMarks.{Keeps, IsApart, app-stays}
-use Rattle.dl_world_calls.proofs.Places.{get_or-set, each_set, get_or-push, get_or-past, slice_get-more, position-more, position_to_len, position-map, any_default}
+use Rattle.dl_world_calls.proofs.Places.{get_or-set, each_set, get_or-push, get_or-past, position_to_len, position-map, any_default}
 use Rattle.dl_world_calls.proofs.Following.{apps-same, writers-same, contexts-same, number-same, lines_set, owned_on}
+use Rattle.dl_lemmas.proofs.Lists.{get_more, position-more}
 
 same_of : (a b : List ℕ) → bytes_eq a b ≡ true → a ≡ b
 same_of a b e = elim (bytes_tell a b) as (λ _. a ≡ b) [ inl same ↦ same.1 | inr other ↦ absurd cc ]
@@ -95,7 +96,7 @@ new_writer_keeps ws y at r e = by_test (eqb at.writer 0) e where
   by_writer : (o : Option Writer) → slice_get ws (at.writer - 1) ≡ o → option_and_then (λ (writer : Writer). slice_get writer.records at.place) o ≡ Some r
       → option_and_then (λ (writer : Writer). slice_get writer.records at.place) (slice_get (ws ++ y ∷ []) (at.writer - 1)) ≡ Some r
   by_writer None is e = absurd cc
-  by_writer (Some w) is e = rw (slice_get-more ws (y ∷ []) (at.writer - 1) w is) e
+  by_writer (Some w) is e = rw (get_more ws (y ∷ []) (at.writer - 1) w is) e
 
   by_test : (b : Bool) → cond b None (option_and_then (λ (writer : Writer). slice_get writer.records at.place) (slice_get ws (at.writer - 1))) ≡ Some r
       → cond b None (option_and_then (λ (writer : Writer). slice_get writer.records at.place) (slice_get (ws ++ y ∷ []) (at.writer - 1))) ≡ Some r

@@ -21,7 +21,8 @@ use Rattle.dl_world_calls.specs.State.{App, Writer, Calls, record_at, answered, 
 use Rattle.dl_world_calls.specs.Follows.{no_app, no_writer, writer_at, line_of, is_named, contexts_in, as_queued, IsOwned, IsWriterAfter, IsAppAfter, IsAfter}
 use Rattle.dl_world_calls.proofs.WriterMarks.{stays, one_stage, own_push, own_count, queues, refuses, counts}
 use Rattle.dl_world_calls.proofs.AppMarks.{Keeps, app-stays, app-queues, app-loses}
-use Rattle.dl_world_calls.proofs.Places.{there, alike, apart, get_or-set, writer_at-set, each_set, kept_set, slice_get-set, told_set, slice_get-more, slice_get-end}
+use Rattle.dl_world_calls.proofs.Places.{there, alike, apart, get_or-set, writer_at-set, each_set, kept_set, slice_get-set, told_set}
+use Rattle.dl_lemmas.proofs.Lists.{get_more, get_end}
 
 -- ---- a mark that declares nothing
 
@@ -82,7 +83,7 @@ contexts_set apps a y spec contexts apid =
 pub keeps_more : (ws : List Writer) (p : ℕ) (y : Writer) (more : List Record) → y.records ≡ (get_or ws p no_writer).records ++ more → Keeps ws (set ws p y)
 keeps_more ws p y more e at r there = by_test (eqb at.writer 0) there where
   still : slice_get (get_or ws p no_writer).records at.place ≡ Some r → slice_get y.records at.place ≡ Some r
-  still is = rw e (slice_get-more (get_or ws p no_writer).records more at.place r is)
+  still is = rw e (get_more (get_or ws p no_writer).records more at.place r is)
 
   by_test : (b : Bool) → cond b None (option_and_then (λ (writer : Writer). slice_get writer.records at.place) (slice_get ws (at.writer - 1))) ≡ Some r
       → cond b None (option_and_then (λ (writer : Writer). slice_get writer.records at.place) (slice_get (set ws p y) (at.writer - 1))) ≡ Some r
@@ -162,7 +163,7 @@ module _ (done : List Mark) (calls : Calls) (is : IsAfter done calls) (n : ℕ) 
         let spec : z.spec ≡ (get_or calls.apps a no_app).spec = ap (λ (x : App). x.spec) is_app in
         let contexts : z.contexts ≡ (get_or calls.apps a no_app).contexts = ap (λ (x : App). x.contexts) is_app in
         let same_app : c.item.app ≡ a = its_app ∙ sym its in
-        let found : record_at (set calls.writers (n - 1) y) at ≡ as_queued c = rw (not_zero, slice_get-set calls.writers (n - 1) y below) (slice_get-end old_writer.records (recorded c answers.Queued)) in
+        let found : record_at (set calls.writers (n - 1) y) at ≡ as_queued c = rw (not_zero, slice_get-set calls.writers (n - 1) y below) (get_end old_writer.records (recorded c answers.Queued)) in
         goes_on done (Queued c) calls (record { apps = set calls.apps a z; writers = set calls.writers (n - 1) y }) (record { no_app_line = refl; no_context_line = refl; no_writer_line = refl }) is
         (lines_set calls.apps a z spec) (contexts_set calls.apps a z spec contexts) (names_now y refl)
         (owned_now y (record { app_is = owner.app_is; pushes = tt {0}; counts = tt {0} }))

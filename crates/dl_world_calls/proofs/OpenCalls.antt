@@ -14,7 +14,7 @@ use Rattle.dl_world_calls.specs.declared.writer.Stage.{Stage}
 use Rattle.dl_world_calls.specs.declared.writer.Stage.TheVariants.{Idle, ToPush, ToCount}
 use Rattle.dl_world_calls.specs.State.{Writer, begun}
 use Rattle.dl_world_calls.specs.Stages.{call_of, last_call, open_in, answered_in, push_of, count_of, filled}
-use Rattle.dl_world_calls.proofs.Places.{slice_get-end}
+use Rattle.dl_lemmas.proofs.Lists.{get_end}
 
 -- ---- the last one
 
@@ -55,7 +55,7 @@ module _ (app : ℕ) (apid : List ℕ) (passed : ℕ) (stage : Stage) (old : Lis
   pub begins_passing : passes call.item.severity call.held ≡ true → now.to_push ≡ None → now.to_count ≡ None → seen app apid ((passed + 1) % 256) ToPush new ≡ begun now (call_of call)
   begins_passing lets no_push no_count =
       let idle = idle_now no_push no_count in
-      let last : slice_get (old ++ call ∷ []) (length (old ++ call ∷ []) - 1) ≡ Some call = rw (last_is old call) (slice_get-end old call) in
+      let last : slice_get (old ++ call ∷ []) (length (old ++ call ∷ []) - 1) ≡ Some call = rw (last_is old call) (get_end old call) in
       let before : take (length (old ++ call ∷ []) - 1) (old ++ call ∷ []) ≡ old = rw (last_is old call) (take-append_seam old (call ∷ [])) in
       rw (sym view_is, idle, lets, new_is, last, before) refl
 

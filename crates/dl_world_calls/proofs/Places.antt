@@ -1,13 +1,15 @@
 -- Entries of lists by their places and numbers, where one entry changed or came.
-use Rattle.std.proofs.Common.{◌≡◌, ℕ, zero, suc, ◌+◌, ◌-◌, ◌<◌, inl, inr, Bool, true, false, cond, eqb, ltb, get_or, set, List, [], ◌∷◌, ◌++◌, length, length-append, Option, Some, None, refl, ap, ◌∙◌, arith}
+use Rattle.std.proofs.Common.{◌≡◌, ℕ, zero, suc, ◌+◌, ◌-◌, ◌<◌, inl, inr, Bool, true, false, cond, eqb, ltb, get_or, set, List, [], ◌∷◌, ◌++◌, length, Option, Some, None, refl, ap, arith}
 use Rattle.std.specs.Prelude.{slice_get, map, not}
 use Rattle.std.specs.List.{position, position_or_len, prefix_len}
 use Rattle.std.specs.Option.{option_and_then}
 use Rattle.std.proofs.lemmas.List.{get_or-set_same, get_or-set_other, length-map}
-use Rattle.std.proofs.lemmas.Bool.{lt-ltb, ltb-true}
+use Rattle.std.proofs.lemmas.Bool.{ltb-true}
 use Rattle.std.proofs.lemmas.Bool.Decides.{nat_tests, eqb_tells}
 use Rattle.dl_world_calls.specs.State.{Writer}
 use Rattle.dl_world_calls.specs.Follows.{no_writer, writer_at}
+use Rattle.dl_lemmas.proofs.Lists.{get_more, get_end, prefix_len-more}
+use Rattle.dl_lemmas.proofs.Options.{place_is}
 
 -- ---- numbers that differ
 
@@ -64,15 +66,6 @@ told_set f (x ∷ xs) (suc i) (suc k) y d same = told_set f xs i k y d same
 
 -- ---- one entry more
 
-pub slice_get-more : {A : Type 0} (xs ys : List A) (i : ℕ) (x : A) → slice_get xs i ≡ Some x → slice_get (xs ++ ys) i ≡ Some x
-slice_get-more [] ys i x e = absurd cc
-slice_get-more (y ∷ xs) ys zero x e = e
-slice_get-more (y ∷ xs) ys (suc i) x e = slice_get-more xs ys i x e
-
-pub slice_get-end : {A : Type 0} (xs : List A) (x : A) → slice_get (xs ++ x ∷ []) (length xs) ≡ Some x
-slice_get-end [] x = refl
-slice_get-end (y ∷ xs) x = slice_get-end xs x
-
 -- an entry that is not there yet, and the one that came
 pub get_or-push : {A : Type 0} (xs : List A) (k : ℕ) (y d : A) → get_or (xs ++ y ∷ []) k d ≡ cond (eqb k (length xs)) y (get_or xs k d)
 get_or-push [] zero y d = refl
@@ -88,31 +81,11 @@ get_or-past (x ∷ xs) d = get_or-past xs d
 
 -- ---- places of the first that passes
 
-pub place_is : (b : Bool) (k n : ℕ) → cond b (Some k) None ≡ Some n → (b ≡ true) × (k ≡ n)
-place_is true k n e = (refl, cc)
-place_is false k n e = absurd cc
-
 pub position_to_len : {A : Type 0} (p : A → Bool) (xs : List A) (n : ℕ) → position p xs ≡ Some n → (position_or_len p xs ≡ n) × (n < length xs)
 position_to_len p xs n e =
     let is = place_is (ltb (position_or_len p xs) (length xs)) (position_or_len p xs) n e in
     let lt : position_or_len p xs < length xs = ltb-true (position_or_len p xs) (length xs) is.0 in
     (is.1, omega (arith, lt, is.1))
-
-place_stays : {A : Type 0} (p : A → Bool) (xs ys : List A) → prefix_len p xs < length xs → prefix_len p (xs ++ ys) ≡ prefix_len p xs
-place_stays p [] ys lt = absurd (omega arith)
-place_stays {A = A} p (x ∷ xs) ys lt = by_test (p x) lt (place_stays p xs ys) where
-  by_test : (b : Bool) → cond b (1 + prefix_len p xs) 0 < length (x ∷ xs) → (prefix_len p xs < length xs → prefix_len p (xs ++ ys) ≡ prefix_len p xs) → cond b (1 + prefix_len p (xs ++ ys)) 0 ≡ cond b (1 + prefix_len p xs) 0
-  by_test true le later = ap (λ (n : ℕ). 1 + n) (later (omega arith))
-  by_test false le later = refl
-
-pub position-more : {A : Type 0} (p : A → Bool) (xs ys : List A) (n : ℕ) → position p xs ≡ Some n → position p (xs ++ ys) ≡ Some n
-position-more {A = A} p xs ys n e =
-    let q = λ (x : A). not (p x) in
-    let is = place_is (ltb (prefix_len q xs) (length xs)) (prefix_len q xs) n e in
-    let lt : prefix_len q xs < length xs = ltb-true (prefix_len q xs) (length xs) is.0 in
-    let stays : prefix_len q (xs ++ ys) ≡ prefix_len q xs = place_stays q xs ys lt in
-    let within : prefix_len q (xs ++ ys) < length (xs ++ ys) = omega (arith, stays, lt, length-append xs ys) in
-    ap (λ (b : Bool). cond b (Some (prefix_len q (xs ++ ys))) None) (lt-ltb (prefix_len q (xs ++ ys)) (length (xs ++ ys)) within) ∙ ap Some (stays ∙ is.1)
 
 -- the place among what entries tell
 pub prefix_len-map : {A B : Type 0} (f : A → B) (p : B → Bool) (xs : List A) → prefix_len p (map f xs) ≡ prefix_len (λ x. p (f x)) xs

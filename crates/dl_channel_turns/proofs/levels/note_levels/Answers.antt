@@ -1,7 +1,8 @@
 use Rattle.std.proofs.Common.{refl, arith}
 use Rattle.dl_channel_turns.specs.State.{side}
-use Rattle.dl_channel_turns.proofs.ToldLevels.{levels_next, levels_none, registry_both}
+use Rattle.dl_channel_turns.proofs.ToldLevels.{levels_next, levels_none}
 use Rattle.dl_channel_turns.proofs.levels.note_levels.Goals as goal
+use Rattle.dl_turns.proofs.LevelWords.{registry_both}
 
 pub loop-init : goal.loop-init
 loop-init g c = record { rest = λ folder new all. all; core = refl; room = c.requires.spare }

@@ -4,8 +4,9 @@ use Rattle.dl_bytes.specs.Context.{Context}
 use Rattle.dl_script_lines.specs.declared.line.AppLine.{AppLine}
 use Rattle.dl_desk.specs.Apps.{AppState}
 use Rattle.dl_opening.specs.Scenario.{apps, handles_from, spec_of}
-use Rattle.dl_opening.proofs.Declared.{all_opened, apps_more, few_places, given_is, handles_more, many_opened, none_opened, spec_at, there}
+use Rattle.dl_opening.proofs.Declared.{all_opened, apps_more, few_places, given_is, handles_more, many_opened, none_opened, spec_at}
 use Rattle.dl_opening.proofs.applications.contexts.Goals as goal
+use Rattle.dl_lemmas.proofs.Lists.{there}
 
 pub loop-place-init : goal.loop-place-init
 loop-place-init c = record {

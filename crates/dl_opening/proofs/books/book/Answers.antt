@@ -3,8 +3,9 @@ use Rattle.std.proofs.lemmas.List.{length-map}
 use Rattle.dl_desk.specs.Apps.{AppState}
 use Rattle.dl_opening.specs.Scenario.{apps, count_of, number_in, spec_of}
 use Rattle.dl_opening.proofs.OpenedBooks.{is_app_of, is_book_of}
-use Rattle.dl_opening.proofs.Declared.{all_many, opened_is, set_same, there}
+use Rattle.dl_opening.proofs.Declared.{all_many, opened_is, set_same}
 use Rattle.dl_opening.proofs.books.book.Goals as goal
+use Rattle.dl_lemmas.proofs.Lists.{there}
 
 pub of_mut-requires : goal.of_mut-requires
 of_mut-requires c =

@@ -8,11 +8,12 @@ use Rattle.dl_rounds.specs.Clients.{Clients}
 use Rattle.dl_rounds.specs.Rounds.{seen}
 use Rattle.dl_rounds.specs.Visits.{Closed}
 use Rattle.dl_rounds.proofs.ByPlace.{set_length}
-use Rattle.dl_rounds.proofs.OneClient.{but_stop, same_both}
+use Rattle.dl_rounds.proofs.OneClient.{but_stop}
 use Rattle.dl_rounds.proofs.ReadyAgain.{gone_more, heard_again, limit_for, linked_again, room_for}
 use Rattle.dl_rounds.proofs.Turned.{open_and_gone, open_within, stop_closed}
 use Rattle.dl_rounds.proofs.Visiting.{visited_next, visited_none}
 use Rattle.dl_rounds.proofs.rounds.close_all.Goals as goal
+use Rattle.dl_core.proofs.Admitted.{same_hub-later}
 
 pub close_one-requires-clause-spare : goal.close_one-requires-clause-spare
 close_one-requires-clause-spare g c =
@@ -58,7 +59,7 @@ loop-client-preserved g c =
           c.close_one.ensures.desk;
       gone = gone_more was.core.hub now.core.hub was.last client but so.gone next (stop_closed client heard.why _ _ heard.wound_up);
       room = omega (arith, so.room, c.close_one.ensures.spare);
-      same = same_both _ _ _ so.same but.same;
+      same = same_hub-later _ _ _ so.same but.same;
       same_rest = g.met.D.Post.rest_trans c.args.desk.now was.desk now.desk so.same_rest c.close_one.ensures.rest;
     }
 

@@ -6,11 +6,13 @@ use Rattle.dl_rounds.specs.Clients.{Clients, HaveVisited}
 use Rattle.dl_rounds.specs.Rounds.{seen}
 use Rattle.dl_rounds.specs.Visits.{Heard}
 use Rattle.dl_rounds.proofs.ByPlace.{set_length}
-use Rattle.dl_rounds.proofs.OneClient.{but_turn, same_both}
+use Rattle.dl_rounds.proofs.OneClient.{but_turn}
 use Rattle.dl_rounds.proofs.ReadyAgain.{heard_again, limit_for, linked_again, room_for}
 use Rattle.dl_rounds.proofs.Turned.{open_within}
-use Rattle.dl_rounds.proofs.Visiting.{moved_end, moved_or, visited_next, visited_none}
+use Rattle.dl_rounds.proofs.Visiting.{moved_or, visited_next, visited_none}
 use Rattle.dl_rounds.proofs.rounds.listen_all.Goals as goal
+use Rattle.dl_core.proofs.Admitted.{same_hub-later}
+use Rattle.dl_lemmas.proofs.Bools.{or_false}
 
 pub listen_to-moved-requires-clause-spare : goal.listen_to-moved-requires-clause-spare
 listen_to-moved-requires-clause-spare g c =
@@ -57,7 +59,7 @@ loop-client-preserved g c =
       heard = heard_again client was.listeners listener now.listener was.core now.core _ _ so.heard ear within.0 within.1 but (λ _. c.listen_to-moved.ensures.limit) heard.served
           c.listen_to-moved.ensures.desk;
       room = omega (arith, so.room, c.listen_to-moved.ensures.spare);
-      same = same_both _ _ _ so.same but.same;
+      same = same_hub-later _ _ _ so.same but.same;
       same_rest = g.met.D.Post.rest_trans c.args.desk.now was.desk now.desk so.same_rest c.listen_to-moved.ensures.rest;
     }
 
@@ -67,5 +69,5 @@ returns-clause-visits g c =
     let told = seen g.L.Link.told g.D.Post.told g.J.Journal.events g.F.Folder.told in
     let end : Clients = told was.links was.listeners was.core was.desk was.journal was.folder in
     let none = subst (λ (h : Hub). IsNextOpen h was.last None) c.hub.ensures c.in_default.ensures in
-    subst (λ (b : Bool). HaveVisited Heard 0 b (told c.args.links.now c.args.listeners.now c.args.core.now c.args.desk.now c.args.journal.now c.args.folder.now) end) (moved_end was.moved)
+    subst (λ (b : Bool). HaveVisited Heard 0 b (told c.args.links.now c.args.listeners.now c.args.core.now c.args.desk.now c.args.journal.now c.args.folder.now) end) (or_false was.moved)
     (was.invariant.behind false end (visited_none Heard was.last end none))

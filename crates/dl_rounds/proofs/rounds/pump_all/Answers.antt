@@ -10,13 +10,16 @@ use Rattle.dl_rounds.specs.Clients.{Clients, HaveVisited}
 use Rattle.dl_rounds.specs.Rounds.{seen}
 use Rattle.dl_rounds.specs.Ready.{fresh_listener}
 use Rattle.dl_rounds.specs.Visits.{Pumped}
-use Rattle.dl_rounds.proofs.ByPlace.{set_again, set_length}
-use Rattle.dl_rounds.proofs.OneClient.{but_pump, same_both}
+use Rattle.dl_rounds.proofs.ByPlace.{set_length}
+use Rattle.dl_rounds.proofs.OneClient.{but_pump}
 use Rattle.dl_rounds.proofs.PumpMoves.{some_desk, some_folder}
 use Rattle.dl_rounds.proofs.ReadyAgain.{heard_still, linked_again, room_for}
 use Rattle.dl_rounds.proofs.Turned.{open_within}
-use Rattle.dl_rounds.proofs.Visiting.{moved_end, moved_or, visited_next, visited_none}
+use Rattle.dl_rounds.proofs.Visiting.{moved_or, visited_next, visited_none}
 use Rattle.dl_rounds.proofs.rounds.pump_all.Goals as goal
+use Rattle.dl_lemmas.proofs.Lists.{set_again}
+use Rattle.dl_core.proofs.Admitted.{same_hub-later}
+use Rattle.dl_lemmas.proofs.Bools.{or_false}
 
 pub pump_to-moved-requires-clause-spare : goal.pump_to-moved-requires-clause-spare
 pump_to-moved-requires-clause-spare g c =
@@ -58,7 +61,7 @@ loop-client-preserved g c =
       linked = linked_again client was.links _ was.core now.core _ _ so.linked but (set_length was.links.links (client - 1) now.link) refl settled c.pump_to-moved.ensures.spare;
       heard = λ listeners desk heard. heard_still client listeners was.core now.core desk (so.heard listeners desk heard) but next.1 c.pump_to-moved.ensures.registry c.pump_to-moved.ensures.served;
       room = omega (arith, so.room, c.pump_to-moved.ensures.spare);
-      same = same_both _ _ _ so.same but.same;
+      same = same_hub-later _ _ _ so.same but.same;
       many = set_length was.links.links (client - 1) now.link ∙ so.many;
     }
 
@@ -68,5 +71,5 @@ returns-clause-visits g c = λ desk folder listeners enough.
     let told = seen g.L.Link.told (λ d. d) g.J.Journal.events (λ f. f) in
     let end : Clients = told was.links listeners was.core desk was.journal folder in
     let none = subst (λ (h : Hub). IsNextOpen h was.last None) c.hub.ensures c.in_default.ensures in
-    subst (λ (b : Bool). HaveVisited Pumped 0 b (told c.args.links.now listeners c.args.core.now desk c.args.journal.now folder) end) (moved_end was.moved)
+    subst (λ (b : Bool). HaveVisited Pumped 0 b (told c.args.links.now listeners c.args.core.now desk c.args.journal.now folder) end) (or_false was.moved)
     (was.invariant.behind desk folder listeners (omega (arith, enough, length-map c.args.links.now.links g.L.Link.told)) false end (visited_none Pumped was.last end none))

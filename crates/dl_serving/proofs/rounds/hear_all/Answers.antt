@@ -4,13 +4,14 @@ use Rattle.std.proofs.lemmas.Option.{slice_get-get_or}
 use Rattle.dl_channel.specs.declared.outcome.ChannelEnd.{ChannelEnd}
 use Rattle.dl_outside.specs.Links.{Links}
 use Rattle.dl_rounds.proofs.ByPlace.{set_length}
-use Rattle.dl_rounds.proofs.Visiting.{moved_end, moved_or}
+use Rattle.dl_rounds.proofs.Visiting.{moved_or}
 use Rattle.dl_socket.specs.Channels.{open_in}
 use Rattle.dl_serving.specs.Rounds.{Heard, VisitsEach, place_behind, scene, seen_by}
 use Rattle.dl_serving.proofs.Behind.{next_stands, none_behind}
 use Rattle.dl_serving.proofs.LeftOpen.{heard_leaves}
 use Rattle.dl_serving.proofs.Visiting.{linked_again, low_place, visited_next}
 use Rattle.dl_serving.proofs.rounds.hear_all.Goals as goal
+use Rattle.dl_lemmas.proofs.Bools.{or_false}
 
 pub place_behind-place-requires : goal.place_behind-place-requires
 place_behind-place-requires g c = low_place c.loop-channel.channels c.loop-channel.place c.in-Some.channel c.are_apart.ensures.few (sym c.at.ensures.place ∙ c.in-Some.is)
@@ -62,4 +63,4 @@ returns-clause-hears g c =
     let end = s was.links was.ends was.channels was.core was.journal was.folder in
     let visits = subst (λ (cs : List ℕ). VisitsEach (Heard c.args.moment) cs false end end) (sym none) (refl, refl) in
     subst (λ (b : Bool). VisitsEach (Heard c.args.moment) (open_in c.args.channels.now) b (s c.args.links.now c.args.ends.now c.args.channels.now c.args.core.now c.args.journal.now c.args.folder.now) end)
-    (moved_end was.moved) (was.invariant.behind false end visits)
+    (or_false was.moved) (was.invariant.behind false end visits)

@@ -2,8 +2,9 @@ use Rattle.std.proofs.Common.{eqb, ◌≡◌, ℕ, ◌+◌, ◌<◌, sym, ap, �
 use Rattle.std.specs.Prelude.{slice_get}
 use Rattle.std.specs.List.{find}
 use Rattle.dl_events.specs.declared.record.Record.{Record}
-use Rattle.dl_storage.proofs.Numbering.{found_at, lent_is, none_below}
+use Rattle.dl_storage.proofs.Numbering.{found_at, none_below}
 use Rattle.dl_storage.proofs.calls.at_its_place.Goals as goal
+use Rattle.dl_lemmas.proofs.Lists.{lent_is}
 
 pub returns-in_err-place : goal.returns-in_err-place
 returns-in_err-place c =

@@ -1,8 +1,9 @@
 use Rattle.std.proofs.Common.{◌<◌, ℕ, List, [], length, sym, subst, eqb-true, arith}
 use Rattle.dl_user.specs.Cutter.{Feeds}
-use Rattle.dl_world.proofs.FedStreams.{nothing_left, some_left}
+use Rattle.dl_world.proofs.FedStreams.{some_left}
 use Rattle.dl_world.proofs.HeardChannels.{IsHearing, sets_out, goes_on, stops_there, arrives, arrives_told}
 use Rattle.dl_world.proofs.channels.feed.Goals as goal
+use Rattle.dl_lemmas.proofs.Lists.{empty_of}
 
 pub loop-rest-init : goal.loop-rest-init
 loop-rest-init c = sets_out c.args.bytes.now (λ i. omega (arith, c.type_inv.bytes i)) c.args.cutter.now c.args.messages.now.items
@@ -32,7 +33,7 @@ loop-rest-preserved c =
 all : (c : goal.After-loop-rest) → IsHearing c.args.bytes.now [] c.args.cutter.now c.loop-rest.cutter c.args.messages.now.items c.loop-rest.messages.items
 all c =
     subst (λ (rest : List ℕ). IsHearing c.args.bytes.now rest c.args.cutter.now c.loop-rest.cutter c.args.messages.now.items c.loop-rest.messages.items)
-    (nothing_left c.loop-rest.rest.now (eqb-true (length c.loop-rest.rest.now) 0 (sym c.loop-rest-test.ensures))) c.loop-rest.invariant
+    (empty_of c.loop-rest.rest.now (eqb-true (length c.loop-rest.rest.now) 0 (sym c.loop-rest-test.ensures))) c.loop-rest.invariant
 
 pub returns-clause-heard : goal.returns-clause-heard
 returns-clause-heard c = arrives c.args.bytes.now c.args.cutter.now c.loop-rest.cutter c.args.messages.now.items c.loop-rest.messages.items (all c)

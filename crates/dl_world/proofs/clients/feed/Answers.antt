@@ -1,7 +1,8 @@
 use Rattle.std.proofs.Common.{◌<◌, ℕ, List, [], length, sym, ap, subst, ◌∙◌, eqb-true, arith}
 use Rattle.dl_message.specs.Cutting.{Cutting, Feeds}
-use Rattle.dl_world.proofs.FedStreams.{IsFeeding, sets_out, goes_on, stops, arrives, arrives_asked, nothing_left, some_left}
+use Rattle.dl_world.proofs.FedStreams.{IsFeeding, sets_out, goes_on, stops, arrives, arrives_asked, some_left}
 use Rattle.dl_world.proofs.clients.feed.Goals as goal
+use Rattle.dl_lemmas.proofs.Lists.{empty_of}
 
 pub loop-rest-init : goal.loop-rest-init
 loop-rest-init c = record { limit = c.requires; so = sets_out c.args.bytes.now c.args.cutter.now c.args.requests.now.items }
@@ -37,7 +38,7 @@ cut_whole-requires c = ap (λ (v : Cutting). v.limit) c.feed-taken.ensures.taken
 all : (c : goal.After-loop-rest) → IsFeeding c.args.bytes.now [] c.args.cutter.now c.loop-rest.cutter c.args.requests.now.items c.loop-rest.requests.items
 all c =
     subst (λ (rest : List ℕ). IsFeeding c.args.bytes.now rest c.args.cutter.now c.loop-rest.cutter c.args.requests.now.items c.loop-rest.requests.items)
-    (nothing_left c.loop-rest.rest.now (eqb-true (length c.loop-rest.rest.now) 0 (sym c.loop-rest-test.ensures))) c.loop-rest.invariant.so
+    (empty_of c.loop-rest.rest.now (eqb-true (length c.loop-rest.rest.now) 0 (sym c.loop-rest-test.ensures))) c.loop-rest.invariant.so
 
 pub returns-clause-fed : goal.returns-clause-fed
 returns-clause-fed c = arrives c.args.bytes.now c.args.cutter.now c.loop-rest.cutter c.args.requests.now.items c.loop-rest.requests.items (all c)

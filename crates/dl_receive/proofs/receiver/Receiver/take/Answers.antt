@@ -1,8 +1,9 @@
 use Rattle.std.proofs.Common.{◌≡◌, ℕ, List, [], ◌++◌, length, take, Bool, sym, ap, subst, ◌∙◌, eqb-true}
 use Rattle.std.proofs.lemmas.List.{append-nil, take_rest}
 use Rattle.dl_receive.specs.Receiving.{IsAfter, Stands}
-use Rattle.dl_receive.proofs.Receivers.{takes, whole_piece, bad_piece, nothing_left}
+use Rattle.dl_receive.proofs.Receivers.{takes, whole_piece, bad_piece}
 use Rattle.dl_receive.proofs.receiver.Receiver.take.Goals as goal
+use Rattle.dl_lemmas.proofs.Lists.{empty_of}
 
 pub returns-then-not-branch : goal.returns-then-not-branch
 returns-then-not-branch c = λ stream shown after.
@@ -36,6 +37,6 @@ returns c = λ stream shown after.
     let i = c.loop-rest.invariant in
     let done = i.1.0 in
     let rest = c.loop-rest.rest.now in
-    let empty : rest ≡ [] = nothing_left rest (eqb-true (length rest) 0 (sym c.is_empty.ensures ∙ c.loop-rest-test.false)) in
+    let empty : rest ≡ [] = empty_of rest (eqb-true (length rest) 0 (sym c.is_empty.ensures ∙ c.loop-rest-test.false)) in
     let all : done ≡ c.args.piece.now = sym (append-nil done) ∙ ap (λ (x : List ℕ). done ++ x) (sym empty) ∙ i.1.1 in
     (subst (λ (d : List ℕ). IsAfter (stream ++ d) shown c.loop-rest.self) all (i.1.2 stream shown after), i.0)
