@@ -1,17 +1,13 @@
 //! Rounds of the live daemon: with calls to take and clients that are sent them, and with nothing to do.
 
-ghost use Rattle.std.specs.Prelude.{IfOk, IfSome};
-ghost use Rattle.dl_script.specs.Playable.{IsRunnable};
-ghost use Rattle.dl_trace.specs.Made.{IsMade};
-
 use crate::job::Tally;
 use dl_args::add_text;
-use dl_bytes::{Ctx, Moment, OutOfMemory, Payload, Severity};
+use dl_bytes::{Ctx, OutOfMemory, Payload, Severity};
 use dl_events::Answer;
-use dl_live::{Begun, Players, assemble, begin, set_out};
-use dl_memory::{MemoryFolder, StandingClock};
+use dl_live::Players;
 use dl_memory_net::MemoryNet;
 use dl_outside::{Folder, Link, Net};
+use dl_stage::{folder, go_round, leave, players};
 use dl_writer::Writer;
 use std::alloc::Global;
 use std::collections::VecDeque;
@@ -26,63 +22,6 @@ const MOST: u32 = 15_625;
 /// How many bytes a client is sent at most for a call.
 const FRAME: usize = 64;
 
-/// When all happens.
-const NOW: Moment = Moment {
-    secs: 0,
-    micros: 0,
-    ticks: 0,
-};
-
-/// The clock that tells it.
-const CLOCK: StandingClock = StandingClock { moment: NOW };
-
-/// A folder with this scenario under the name `s`.
-fn folder(alloc: Global, scenario: &str) -> Result<MemoryFolder, OutOfMemory> {
-    let mut folder = MemoryFolder::make(alloc, 4, 10_000)?;
-    let _ = folder.put("s", scenario.as_bytes());
-    Ok(folder)
-}
-
-/// The words of a command line that plays it.
-fn words(alloc: Global) -> Result<Vec<String>, OutOfMemory> {
-    let mut words = Vec::new(alloc);
-    words.push(String::from_str(alloc, "dlt_run")?)?;
-    words.push(String::from_str(alloc, "s")?)?;
-    Ok(words)
-}
-
-/// What a run of the folder's scenario begins with.
-fn begun<F: Folder>(alloc: Global, folder: &mut F) -> Result<Begun, OutOfMemory>
-    ensures runnable { IfOk result (λ begun. IsRunnable begun.scenario) }
-    ensures trace { IfOk result (λ begun. IfSome begun.trace (IsMade begun.conf)) }
-{
-    let words = words(alloc)?;
-    match begin(alloc, &words, folder) {
-        Ok(begun) => Ok(begun),
-        Err(_) => Err(OutOfMemory),
-    }
-}
-
-/// The players of the folder's scenario. The daemon has noted its own applications, and the net has launched the clients.
-fn players<F: Folder, N: Net>(
-    alloc: Global,
-    folder: &mut F,
-    net: &mut N,
-) -> Result<Players<N::L>, OutOfMemory>
-where
-    N::L: Drop,
-{
-    let begun = begun(alloc, folder)?;
-    let mut players: Players<N::L> = assemble(alloc, begun)?;
-    match set_out(&mut players, NOW, folder, net) {
-        Ok(_) => Ok(players),
-        Err(error) => {
-            drop(players);
-            Err(error)
-        }
-    }
-}
-
 /// What is done with a daemon.
 #[derive(Clone, Copy)]
 enum Work {
@@ -92,21 +31,8 @@ enum Work {
     Batches(u32),
 }
 
-/// Goes round once. Tells whether a client came.
-fn go_once<R: Wait, F: Folder, N: Net>(
-    rt: &R,
-    players: &mut Players<N::L>,
-    folder: &mut F,
-    net: &mut N,
-) -> bool
-where
-    N::L: Drop,
-{
-    players.daemon.round(rt, net, &CLOCK, folder).accepted
-}
-
 /// Goes round so often, and counts the clients that came.
-fn go_round<R: Wait, F: Folder, N: Net>(
+fn go_rounds<R: Wait, F: Folder, N: Net>(
     rt: &R,
     players: &mut Players<N::L>,
     folder: &mut F,
@@ -118,7 +44,7 @@ where
 {
     let mut tally = Tally::new();
     for _turn in 0..count {
-        let came = go_once(rt, players, folder, net);
+        let came = go_round(rt, players, folder, net).accepted;
         tally.count(0, u64::from(came));
     }
     tally
@@ -135,8 +61,8 @@ fn go_with_eight<R: Wait, F: Folder, N: Net>(
 where
     N::L: Drop,
 {
-    let came = go_round(rt, players, folder, net, 8);
-    let tally = go_round(rt, players, folder, net, count);
+    let came = go_rounds(rt, players, folder, net, 8);
+    let tally = go_rounds(rt, players, folder, net, count);
     if came.sum == 8 { Some(tally) } else { None }
 }
 
@@ -183,7 +109,7 @@ where
     let mut tally = Tally::new();
     for _batch in 0..batches {
         log_batch(rt, writer, ctx, &payload, &mut tally);
-        let _came = go_once(rt, players, folder, net);
+        let _round = go_round(rt, players, folder, net);
     }
     tally
 }
@@ -253,7 +179,7 @@ where
 {
     let mut players = players(alloc, folder, net)?;
     let tally = do_with(rt, &mut players, folder, net, todo);
-    drop(players);
+    leave(players);
     Ok(tally)
 }
 
@@ -265,7 +191,7 @@ fn work_on<R: Wait>(
     room: usize,
     todo: Work,
 ) -> Option<Tally> {
-    let Ok(mut folder) = folder(alloc, scenario) else {
+    let Ok(mut folder) = folder(alloc, "", scenario) else {
         return None;
     };
     let mut net = MemoryNet::make(alloc, room, VecDeque::new(alloc));

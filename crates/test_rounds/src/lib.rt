@@ -2,6 +2,4 @@
 #![tactic(auto)]
 
 #[cfg(test)]
-mod fixture;
-#[cfg(test)]
 mod rounds;

@@ -1,12 +1,12 @@
 //! What single rounds do.
 
-use crate::fixture::{folder, greets, meets_nobody, players};
 use dl_bytes::{Ctx, OutOfMemory, Payload, Severity};
 use dl_failing::Failing;
 use dl_live::Players;
 use dl_memory::MemoryFolder;
 use dl_memory_net::{Manner, MemoryNet, Sign, Turn, Wanted, WatchedNet};
 use dl_outside::{Folder, Link, Net};
+use dl_stage::{folder, go_round, leave, players};
 use dl_writer::Book;
 use std::alloc::Global;
 use std::collections::VecDeque;
@@ -50,6 +50,32 @@ const NOTHING: Case<'static> = Case {
     scenario: "app LOG1 16\ncontext LOG1 TEST info\nwriter LOG1\ncalls 1 TEST info 1 \"hi\"\nclient\n",
     look: Look::Nothing,
 };
+
+/// One round. Answers whether a link came in it.
+fn greets<R: Wait, N: Net>(
+    rt: &R,
+    players: &mut Players<N::L>,
+    net: &mut N,
+    folder: &mut Files,
+) -> bool
+where
+    N::L: Drop,
+{
+    go_round(rt, players, folder, net).accepted
+}
+
+/// One round. Answers whether nobody waited in it to be accepted.
+fn meets_nobody<R: Wait, N: Net>(
+    rt: &R,
+    players: &mut Players<N::L>,
+    net: &mut N,
+    folder: &mut Files,
+) -> bool
+where
+    N::L: Drop,
+{
+    go_round(rt, players, folder, net).none
+}
 
 /// Whether a client came, and nobody in three rounds behind that, and how often these asked the folder for anything.
 fn rests<R: Wait, N: Net>(
@@ -238,7 +264,7 @@ where
 {
     let mut players = players;
     let found = look_at(rt, look, &mut players, net, folder, reply);
-    drop(players);
+    leave(players);
     found
 }
 

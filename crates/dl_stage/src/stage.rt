@@ -1,4 +1,4 @@
-//! A daemon that is made for a scenario, over a folder and a net in memory.
+//! A daemon that is made for a scenario, its rounds, and its end.
 
 ghost use Rattle.std.specs.Prelude.{IfOk, IfSome};
 ghost use Rattle.dl_script.specs.Playable.{IsRunnable};
@@ -8,7 +8,7 @@ use dl_bytes::{Moment, OutOfMemory};
 use dl_live::{Begun, Players, assemble, begin, set_out};
 use dl_loop::Round;
 use dl_memory::{MemoryFolder, StandingClock};
-use dl_outside::{Folder, Net};
+use dl_outside::{Folder, Link, Net};
 use std::alloc::Global;
 use std::sync::Wait;
 
@@ -50,7 +50,8 @@ fn begun<F: Folder>(alloc: Global, folder: &mut F) -> Result<Begun, OutOfMemory>
     }
 }
 
-/// The players of the folder's scenario. The daemon has noted its own applications, and the net has launched the clients.
+/// The players of the folder's scenario. The daemon has noted its own applications, and the net has launched the clients. Any refusal, of the
+/// configuration or of the scenario as well, is told as want of memory.
 pub fn players<F: Folder, N: Net>(
     alloc: Global,
     folder: &mut F,
@@ -64,18 +65,18 @@ where
     match set_out(&mut players, NOW, folder, net) {
         Ok(_) => Ok(players),
         Err(error) => {
-            drop(players);
+            leave(players);
             Err(error)
         }
     }
 }
 
-/// One round.
-fn round<R: Wait, N: Net, F: Folder>(
+/// One round of the daemon.
+pub fn go_round<R: Wait, F: Folder, N: Net>(
     rt: &R,
     players: &mut Players<N::L>,
-    net: &mut N,
     folder: &mut F,
+    net: &mut N,
 ) -> Round
 where
     N::L: Drop,
@@ -83,28 +84,7 @@ where
     players.daemon.round(rt, net, &CLOCK, folder)
 }
 
-/// One round. Answers whether a link came in it.
-pub fn greets<R: Wait, N: Net, F: Folder>(
-    rt: &R,
-    players: &mut Players<N::L>,
-    net: &mut N,
-    folder: &mut F,
-) -> bool
-where
-    N::L: Drop,
-{
-    round(rt, players, net, folder).accepted
-}
-
-/// One round. Answers whether nobody waited in it to be accepted.
-pub fn meets_nobody<R: Wait, N: Net, F: Folder>(
-    rt: &R,
-    players: &mut Players<N::L>,
-    net: &mut N,
-    folder: &mut F,
-) -> bool
-where
-    N::L: Drop,
-{
-    round(rt, players, net, folder).none
+/// The players go, and all that they hold.
+pub fn leave<L: Link + Drop>(players: Players<L>) {
+    drop(players);
 }
