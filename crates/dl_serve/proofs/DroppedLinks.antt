@@ -106,7 +106,7 @@ no_place hub limit none = elim (cases_lt (length hub.clients) open_client_limit)
 ]
 
 module _ {L : Type 0} (told : L → LinkTold) where
-  one_more : (links : List L) (link : L) → length (map told (links ++ link ∷ [])) ≡ length (map told links) + 1
+  pub one_more : (links : List L) (link : L) → length (map told (links ++ link ∷ [])) ≡ length (map told links) + 1
   one_more links link = omega (arith, length-map (links ++ link ∷ []) told, length-append links (link ∷ []), length-map links told)
 
   module _ (net net_now : NetTold L) (old new : State) (limit : old.core.hub.limit ≡ client_limit) (linked : length old.core.hub.clients ≡ length old.clients) (k : IsKept old) where
@@ -213,15 +213,15 @@ module _ {L : Type 0} (told : L → LinkTold) where
 
 -- ---- visits to clients
 
-heard_many : (moved : Bool) (old new : Clients) → HearsAll moved old new → length new.links ≡ length old.links
+pub heard_many : (moved : Bool) (old new : Clients) → HearsAll moved old new → length new.links ≡ length old.links
 heard_many moved old new hears =
     visits_keep HeardOne (λ (c : Clients). length c.links ≡ length old.links) (λ number here clients was now is heard so. set_length clients.links (number - 1) now.link ∙ so) 0 hears.0 moved old new hears.1 refl
 
-pumped_many : (moved : Bool) (old new : Clients) → VisitsAll Pumped moved old new → length new.links ≡ length old.links
+pub pumped_many : (moved : Bool) (old new : Clients) → VisitsAll Pumped moved old new → length new.links ≡ length old.links
 pumped_many moved old new pumps =
     visits_keep Pumped (λ (c : Clients). length c.links ≡ length old.links) (λ number here clients was now is pumped so. set_length clients.links (number - 1) now.link ∙ so) 0 pumps.0 moved old new pumps.1 refl
 
-closed_many : {Over : Type 0} (old new : Clients) → ClosesAll Over old new → length new.links ≡ length old.links
+pub closed_many : {Over : Type 0} (old new : Clients) → ClosesAll Over old new → length new.links ≡ length old.links
 closed_many {Over} old new closes =
     visits_keep (ClosesOne Over) (λ (c : Clients). length c.links ≡ length old.links) (λ number here clients was now is closed so. set_length clients.links (number - 1) now.link ∙ so) 0 closes.1.0 closes.0 old new
     closes.1.1 refl
@@ -248,7 +248,7 @@ pumped_kept moved old new (inr pumps) k =
 -- ---- visits to channels
 
 -- Of the channels of a scene as many may come; and no fewer have a link, and no more are open.
-record Lasts (old new : Scene) : Type 0 where
+pub record Lasts (old new : Scene) : Type 0 where
   pub links : length new.links ≡ length old.links
   pub at_once : new.channels.at_once ≡ old.channels.at_once
   pub in_all : new.channels.in_all ≡ old.channels.in_all
@@ -307,7 +307,7 @@ lasts_so channel old new link is leaves at_once = record {
 }
 
 module _ (moment : Moment) where
-  heard_one : (channel : ℕ) (moved : Bool) (old new : Scene) → Visited (Heard moment) channel moved old new → Lasts old new
+  pub heard_one : (channel : ℕ) (moved : Bool) (old new : Scene) → Visited (Heard moment) channel moved old new → Lasts old new
   heard_one channel moved old new visited =
       let v = visited.visit in
       let before = seen_by visited.link old.part in
@@ -315,7 +315,7 @@ module _ (moment : Moment) where
       lasts_so channel old new visited.link_now visited.links (heard_leaves channel moment v.end v.end_now before after old.channels new.channels v.hears)
       (heard_limit channel moment v.end v.end_now before after old.channels new.channels v.hears)
 
-  sent_one : (channel : ℕ) (moved : Bool) (old new : Scene) → Visited (Sent moment) channel moved old new → Lasts old new
+  pub sent_one : (channel : ℕ) (moved : Bool) (old new : Scene) → Visited (Sent moment) channel moved old new → Lasts old new
   sent_one channel moved old new visited =
       let v = visited.visit in
       let before = seen_by visited.link old.part in
@@ -323,7 +323,7 @@ module _ (moment : Moment) where
       lasts_so channel old new visited.link_now visited.links (pumped_leaves channel moment v.end v.end_now before after old.channels new.channels v.pumps)
       (pumped_limit channel moment v.end v.end_now before after old.channels new.channels v.pumps)
 
-  stopped_one : (channel : ℕ) (moved : Bool) (old new : Scene) → Visited (Stopped moment true) channel moved old new → Lasts old new
+  pub stopped_one : (channel : ℕ) (moved : Bool) (old new : Scene) → Visited (Stopped moment true) channel moved old new → Lasts old new
   stopped_one channel moved old new visited =
       let v = visited.visit in
       let before = seen_by visited.link old.part in
@@ -333,7 +333,7 @@ module _ (moment : Moment) where
 
 module _ (Visit : ℕ → Bool → List (Option ChannelEnd) → List (Option ChannelEnd) → Sight → Sight → Channels → Channels → Type 0)
     (one : (channel : ℕ) (moved : Bool) (old new : Scene) → Visited Visit channel moved old new → Lasts old new) where
-  each_lasts : (channels : List ℕ) (moved : Bool) (old new : Scene) → VisitsEach Visit channels moved old new → Lasts old new
+  pub each_lasts : (channels : List ℕ) (moved : Bool) (old new : Scene) → VisitsEach Visit channels moved old new → Lasts old new
   each_lasts [] moved old new visits = lasts_same old new visits.1
   each_lasts (channel ∷ others) moved old new visits =
       lasts_both old visits.0 new (one channel visits.1 old visits.0 visits.4) (each_lasts others visits.2 visits.0 new visits.5)
@@ -353,7 +353,7 @@ with_scene old new lasts clients wanted dropped k =
 -- ---- rounds
 
 module _ {L : Type 0} (told : L → LinkTold) where
-  linked_in : (s : State) → IsSeen told kept s → length s.core.hub.clients ≡ length s.clients
+  pub linked_in : (s : State) → IsSeen told kept s → length s.core.hub.clients ≡ length s.clients
   linked_in s is_seen =
       let server = is_seen.server in
       subst (λ (x : State). length x.core.hub.clients ≡ length x.clients) (sym is_seen.is) (is_seen.is_server.linked.many ∙ sym (length-map server.clients.links told))

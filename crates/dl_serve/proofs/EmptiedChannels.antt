@@ -20,11 +20,11 @@ use Rattle.dl_serve.proofs.OtherEntries.{set_apart, set_here}
 use Rattle.dl_serve.proofs.QuietEnds.{pump_empties, pumps_quietly}
 
 -- it is one of these
-abbrev IsAmong : ℕ → List ℕ → Type 0
+abbrev pub IsAmong : ℕ → List ℕ → Type 0
 IsAmong number [] = ⊥
 IsAmong number (other ∷ others) = (number ≡ other) ⊎ IsAmong number others
 
-among_keys : {A : Type 0} (key : ℕ) (es : List (ℕ × A)) → IsSome (lookup (nat_eq key) es) → IsAmong key (keys_of es)
+pub among_keys : {A : Type 0} (key : ℕ) (es : List (ℕ × A)) → IsSome (lookup (nat_eq key) es) → IsAmong key (keys_of es)
 among_keys key [] some = absurd (cc some)
 among_keys {A} key (e ∷ es) some = by (nat_eq key e.0) (eqb_tells key e.0) some (among_keys key es) where
   by : (b : Bool) → ((b ≡ true) × (key ≡ e.0)) ⊎ ((b ≡ false) × (key ≢ e.0)) → IsSome (cond b (Some e.1) (lookup (nat_eq key) es)) → (IsSome (lookup (nat_eq key) es) → IsAmong key (keys_of es)) → IsAmong key (keys_of (e ∷ es))

@@ -79,7 +79,7 @@ stays_some before now x is stays = subst (λ (o : Option _). Stays o now) is sta
 grown_some : (before now : Option (List ℕ)) (had more : List ℕ) → before ≡ Some had → Grows before now more → now ≡ Some (had ++ more)
 grown_some before now had more is grows = subst (λ (o : Option (List ℕ)). Grows o now more) is grows
 
-adds_so : (before now : Option (List Event)) (past more : List Event) → before ≡ Some past → AddsEach before now more → now ≡ Some (past ++ more)
+pub adds_so : (before now : Option (List Event)) (past more : List Event) → before ≡ Some past → AddsEach before now more → now ≡ Some (past ++ more)
 adds_so before now past more is adds = subst (λ (o : Option (List Event)). AddsEach o now more) is adds
 
 stays_itself : {A : Type 0} (o : Option A) → Stays o o

@@ -33,3 +33,10 @@ pub mod WholeClosings
 pub mod WholeServers
 pub mod TookServings
 pub mod DroppedLinks
+pub mod LaterLinks
+pub mod HandedLinks
+pub mod FewFrames
+pub mod GaveClients
+pub mod GavePrograms
+pub mod HandedRounds
+pub mod HandedServings

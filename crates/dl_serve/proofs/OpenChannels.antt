@@ -209,6 +209,17 @@ module _ {L : Type 0} (told : L → LinkTold) where
       let rest = pumps.parts.rest in
       still_open pumps.pumped new (ap (λ (s : State). s.programs) rest) (ap (λ (s : State). s.ends) rest) (ap (λ (s : State). s.channels) rest) pumped
 
+  -- once a client was accepted
+  pub came_open : (net net_now users users_now : NetTold L) (old new : State) (round : IsRound told net net_now users users_now old new) → OpenIn old → OpenIn round.accepts.accepted
+  came_open net net_now users users_now old new round all = client_came round.accepts.came net net_now old round.accepts.accepted round.accepts.accepts all
+
+  -- before its channels are listened to
+  pub served_open : (net net_now users users_now : NetTold L) (old new : State) (round : IsRound told net net_now users users_now old new) → OpenIn old → OpenIn round.hears.served
+  served_open net net_now users users_now old new round all =
+      let one = client_came round.accepts.came net net_now old round.accepts.accepted round.accepts.accepts all in
+      let two = program_came round.accepts.entered users users_now round.accepts.accepted round.accepted round.accepts.enters one in
+      clients_heard round.hears.asked round.accepted round.hears.served round.hears.clients two
+
   -- before its channels are pumped
   pub sent_open : (net net_now users users_now : NetTold L) (old new : State) (round : IsRound told net net_now users users_now old new) → OpenIn old → OpenIn round.pumps.sent
   sent_open net net_now users users_now old new round all =

@@ -164,7 +164,7 @@ module _ (channel : ℕ) (moment : Moment) where
       passes_both (part_of old) (part_of each.1) (part_of new) (one_passes (UnregisterApp apid 0) false old each.1 each.2) (unregisters_pass apids each.1 new each.3)
 
 -- what a visit to a channel sees but its link
-abbrev part_in : Sight → Part
+abbrev pub part_in : Sight → Part
 part_in s = part s.core s.events s.folder
 
 module _ (channel : ℕ) (moment : Moment) where

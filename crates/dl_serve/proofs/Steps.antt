@@ -1,14 +1,15 @@
 -- What serving comes to, step by step.
-use Rattle.std.proofs.Common.{◌≡◌, ℕ, Bool, List, map, Option, Some, None, refl, sym, ap, subst, ◌∙◌}
-use Rattle.std.specs.Prelude.{Err}
+use Rattle.std.proofs.Common.{◌≡◌, ℕ, Bool, true, false, List, map, Option, Some, None, refl, sym, ap, subst, ◌∙◌}
+use Rattle.std.specs.Prelude.{◌||◌, Err, IsSomeAnd}
 use Rattle.dl_bytes.specs.declared.moment.Moment.{Moment}
-use Rattle.dl_ending.specs.Ending.{Finishes}
+use Rattle.dl_ending.specs.Ending.{Finishes, unheard as closed_unheard}
 use Rattle.dl_events.specs.Journal.{Journaled}
 use Rattle.dl_outside.specs.Told.{FolderTold, LinkTold, NetTold}
 use Rattle.dl_outside.specs.Written.{WroteNothing}
 use Rattle.dl_server.specs.State.{State, seen}
 use Rattle.dl_server.specs.declared.server.Server.{Server}
 use Rattle.dl_startup.specs.Unchanged.{IsUnchanged}
+use Rattle.dl_startup.specs.Failures.{unserved}
 use Rattle.dl_startup.specs.declared.failures.Failures.{Failures}
 use Rattle.dl_startup.specs.declared.status.Status.{Status}
 use Rattle.dl_startup.specs.declared.status.Status.TheVariants as status
@@ -19,13 +20,14 @@ use Rattle.dl_serve.specs.declared.faults.Faults.{Faults}
 use Rattle.dl_serve.specs.declared.opened.Opened.{Opened}
 use Rattle.dl_serve.specs.Admitted.{AllAdmitted, TellGiven}
 use Rattle.dl_serve.specs.Begin.{IsStart, Refuses}
-use Rattle.dl_serve.specs.Closed.{HasClosedTo, failures_of, text_of}
+use Rattle.dl_serve.specs.Closed.{HasClosedTo, failures_of, has_wanted, is_short, starved, text_of}
 use Rattle.dl_serve.specs.Comes.{IsComeTo}
 use Rattle.dl_serve.specs.Ends.{EndsEarly, Started}
 use Rattle.dl_serve.specs.Open.{IsHeard, IsOpenedFor, Listen, setting}
 use Rattle.dl_serve.specs.Program.{Ended, EndsBegun, EndsWith, HasOpened, LeavesEarly, counts}
 use Rattle.dl_serve.specs.Rounds.{HasMadeRounds, kept}
 use Rattle.dl_serve.specs.Dropped.{HasDropped}
+use Rattle.dl_serve.specs.Handed.{HasHandedOut, NetsStand}
 use Rattle.dl_serve.specs.Levels.{AllTookLevels}
 use Rattle.dl_loop.specs.Daemon.{TellTaken}
 use Rattle.dl_serve.specs.Shown.{AllShowEnds, TellLeft}
@@ -153,6 +155,13 @@ module _ {L : Type 0} (link_told : L → LinkTold) where
   left_early said old new start status.JournalFull early = absurd early
   left_early said old new start (status.StorageRefused line kind) early = absurd early
 
+  -- where no memory was wanted, none was in the rounds
+  unwanted : (closed : Closed L) → has_wanted closed ≡ false → closed.memory ≡ false
+  unwanted closed none = by closed.memory none where
+    by : (b : Bool) → (b || unserved closed.events.events || closed_unheard closed.events.events || starved closed.ends || is_short closed.state.trace.end) ≡ false → b ≡ false
+    by true none = absurd (let bad : true ≡ false = none in cc bad)
+    by false none = refl
+
   -- they begin what they ask for, and it is served
   pub began : (said : List (List ℕ)) (asked : Serve) (begun : Begun) (old : Told L) (between : FolderTold) (new : Told L) (s : Status) (closed : Option (Closed L))
       → ((full : Bool) (left : Closed L) → HasOpened link_told begun full (record old { folder = between }) new left → IsComeTo link_told (setting begun) begun old.folder new.folder left)
@@ -163,10 +172,12 @@ module _ {L : Type 0} (link_told : L → LinkTold) where
       → ((full : Bool) (left : Closed L) → HasOpened link_told begun full (record old { folder = between }) new left
       → AllTookLevels (TellTaken link_told) (setting begun) left.events.events (map link_told left.users.links) left.ends)
       → ((full : Bool) (left : Closed L) → HasOpened link_told begun full (record old { folder = between }) new left → HasDropped left)
+      → ((full : Bool) (left : Closed L) (has : HasOpened link_told begun full (record old { folder = between }) new left) → full ≡ false → left.memory ≡ false → NetsStand (record old { folder = between }) new
+      → IsSomeAnd has.run.last.events (λ events. HasHandedOut link_told begun.rounds events old.net new.net old.users new.users left))
       → serve_of said ≡ Some asked → IsStart asked old.folder between begun → EndsBegun link_told begun (record old { folder = between }) new s closed → Ended link_told said old new s closed
-  began said asked begun old between new s None comes admits shows went took dropped is start ends =
+  began said asked begun old between new s None comes admits shows went took dropped hands is start ends =
       (left_early said old new (record { asked = asked; is_asked = is; begun = begun; between = between; start = start }) s ends.0, ends.1)
-  began said asked begun old between new s (Some closed) comes admits shows went took dropped is start ends = (
+  began said asked begun old between new s (Some closed) comes admits shows went took dropped hands is start ends = (
     ends.0,
     record {
       it = record { asked = asked; is_asked = is; begun = begun; between = between; start = start };
@@ -177,6 +188,7 @@ module _ {L : Type 0} (link_told : L → LinkTold) where
       went = went ends.0 closed ends.1;
       took = took ends.0 closed ends.1;
       dropped = dropped ends.0 closed ends.1;
+      hands = λ well stand. hands ends.0 closed ends.1 well.room (unwanted closed well.memory) (record { net = stand.net; users = stand.users });
     },
     ends_from closed ends.0 (counts old) (counts (record old { folder = between })) (counts new) old.out new.out s
         (counts_same old.folder between old.net old.net old.users old.users start.quiet.well refl refl) ends.2,

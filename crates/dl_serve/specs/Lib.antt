@@ -12,4 +12,5 @@ pub mod Comes
 pub mod Went
 pub mod Levels
 pub mod Dropped
+pub mod Handed
 pub mod Program

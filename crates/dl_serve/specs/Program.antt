@@ -23,8 +23,9 @@ use Rattle.dl_serve.specs.Admitted.{AllAdmitted, TellGiven}
 use Rattle.dl_serve.specs.Closed.{HasClosedTo, text_of}
 use Rattle.dl_serve.specs.Comes.{IsComeTo}
 use Rattle.dl_serve.specs.Dropped.{HasDropped}
-use Rattle.dl_serve.specs.Ends.{Ends, EndsEarly, Started}
+use Rattle.dl_serve.specs.Ends.{Ends, EndsEarly, HasGoneWell, Started}
 use Rattle.dl_serve.specs.Faults.{counted}
+use Rattle.dl_serve.specs.Handed.{HasHandedOut, NetsStand}
 use Rattle.dl_serve.specs.Levels.{AllTookLevels}
 use Rattle.dl_serve.specs.Open.{HasNotListened, IsHeard, IsOpenedFor, Listens, setting}
 use Rattle.dl_serve.specs.Rounds.{HasMadeRounds, kept}
@@ -55,11 +56,16 @@ pub record HasOpened {L : Type 0} (link_told : L → LinkTold) (begun : Begun) (
   pub net_listens : Listens begun.port old.net new.net
   pub users_listen : Listens begun.users old.users new.users
 
+-- what folder and nets count
+abbrev pub counts : {L : Type 0} → Told L → Faults
+counts told = counted told.folder told.net told.users
+
 -- Serving began, and what was begun was served. What that comes to is what its journal says; of each program's messages there are the events, in their
 -- order, each once, where links tell what they gave; the links of programs show why these ended, and so do those of clients, with the Closes among the events.
 -- Where links tell what they took, each program's took the front of the messages of the levels that were set for the program, and all of them where its
 -- channel is open at the end and the link never had to wait. Links were dropped
--- for a cause.
+-- for a cause. Where all went well, and the count of faults of neither net rose, the nets handed out as many links as there were rounds, or all that
+-- waited, and what these gave is told.
 pub record HasClosed {L : Type 0} (link_told : L → LinkTold) (said : List (List ℕ)) (full : Bool) (old new : Told L) (closed : Closed L) : Type 0 where
   pub it : Started said old.folder
   pub opens : HasOpened link_told it.begun full (record old { folder = it.between }) new closed
@@ -69,10 +75,8 @@ pub record HasClosed {L : Type 0} (link_told : L → LinkTold) (said : List (Lis
   pub went : AllWent link_told (setting it.begun) closed
   pub took : AllTookLevels (TellTaken link_told) (setting it.begun) closed.events.events (map link_told closed.users.links) closed.ends
   pub dropped : HasDropped closed
-
--- what folder and nets count
-abbrev pub counts : {L : Type 0} → Told L → Faults
-counts told = counted told.folder told.net told.users
+  pub hands : HasGoneWell closed full (counts old) (counts new) → NetsStand old new
+      → IsSomeAnd opens.run.last.events (λ events. HasHandedOut link_told it.begun.rounds events old.net new.net old.users new.users closed)
 
 -- Serving ended with this status: the closing was not made, and nothing was written; or it was, and serving ended so.
 abbrev pub Ended : {L : Type 0} → (L → LinkTold) → List (List ℕ) → Told L → Told L → Status → Option (Closed L) → Type 0

@@ -1,6 +1,6 @@
 //! Laws of serving: what it comes to, and what a status says of it.
 
-ghost use Rattle.std.specs.Prelude.{Bool, List, Option, map, ℕ};
+ghost use Rattle.std.specs.Prelude.{◌≡◌, Bool, IsSomeAnd, List, Option, false, map, ℕ};
 ghost use Rattle.dl_loop.specs.Daemon.{TellTaken};
 ghost use Rattle.dl_outside.specs.Told.{FolderTold, SinkTold};
 ghost use Rattle.dl_startup.specs.Setup.{IsBegun};
@@ -11,6 +11,7 @@ ghost use Rattle.dl_serve.specs.declared.closed.Closed.{Closed};
 ghost use Rattle.dl_serve.specs.Admitted.{AllAdmitted, TellGiven};
 ghost use Rattle.dl_serve.specs.Comes.{IsComeTo};
 ghost use Rattle.dl_serve.specs.Dropped.{HasDropped};
+ghost use Rattle.dl_serve.specs.Handed.{HasHandedOut, NetsStand};
 ghost use Rattle.dl_serve.specs.Levels.{AllTookLevels};
 ghost use Rattle.dl_serve.specs.Open.{setting};
 ghost use Rattle.dl_serve.specs.Program.{Ended, HasOpened, IsServing, Says};
@@ -74,6 +75,19 @@ pub fn why_links_were_dropped<L: Link>()
         → HasOpened L.told begun full old new closed → HasDropped closed }
 {
     dl_rounds::laws::a_round_is_its_events::<L>();
+}
+
+/// Where the journal had room for all rounds, memory was not wanting and the count of faults of neither net rose: each net handed out the first of those
+/// that waited, one in each round, or all of them, and each of these came or was dropped. Where none was dropped, each that was not ended before the closing
+/// gave at least as many bytes as there were rounds from its own on, or had nothing to give once.
+pub fn who_was_handed_out<L: Link>()
+    ensures { (begun : Begun) (old new : Told L) (full : Bool) (closed : Closed L) (first : FolderTold) → IsBegun begun.conf first.files begun.trace
+        → (has : HasOpened L.told begun full old new closed) → full ≡ false → closed.memory ≡ false → NetsStand old new
+        → IsSomeAnd has.run.last.events (λ events. HasHandedOut L.told begun.rounds events old.net new.net old.users new.users closed) }
+{
+    dl_rounds::laws::a_round_is_its_events::<L>();
+    dl_rounds::laws::why_clients_stay();
+    dl_well_formed::clients::who_has_an_outbox();
 }
 
 /// What a status says of serving is what is promised of the whole: the words decide first, and where all is of the form and nothing fails, the report was
