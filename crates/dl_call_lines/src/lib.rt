@@ -8,3 +8,4 @@ mod lines;
 mod owners;
 
 pub use call::{CallAt, calls_in};
+pub use owners::owners_in;

@@ -1,5 +1,5 @@
 -- A picture: its head with what the colours mean, its columns and its rows.
-use Rattle.std.specs.Prelude.{ℕ, ◌+◌, ◌-◌, ◌%◌, ◌==◌, List, [], ◌∷◌, ◌++◌, length, map, codes, if◌then◌else◌}
+use Rattle.std.specs.Prelude.{ℕ, ◌+◌, ◌-◌, ◌%◌, ◌==◌, Bool, List, [], ◌∷◌, ◌++◌, length, map, codes, if◌then◌else◌}
 use Rattle.std.specs.Fmt.{decimal}
 use Rattle.dl_picture.specs.declared.chart.Picture.{Picture}
 use Rattle.dl_picture.specs.declared.element.Rect.{Rect}
@@ -16,9 +16,13 @@ height_of rows = 24 + row_top rows
 unfoldable pub key : ℕ → List ℕ → List ℕ → List ℕ
 key x colour words = rect (record { x = x; y = 34; width = 12; height = 12 }) colour ++ label (record { x = x + 18; y = 44 }) [] words
 
+-- what the colour of filtered calls means, where a level can have filtered something
+unfoldable pub filter_key : Bool → List ℕ
+filter_key filters = if filters then key 520 filtered_colour (codes "filtered by a level") else []
+
 -- what the colours mean
-unfoldable pub keys : List ℕ
-keys = key 200 message_colour (codes "messages") ++ key 300 missing_colour (codes "missing") ++ key 400 lost_colour (codes "told as lost") ++ key 520 filtered_colour (codes "filtered by a level")
+unfoldable pub keys : Bool → List ℕ
+keys filters = key 200 message_colour (codes "messages") ++ key 300 missing_colour (codes "missing") ++ key 400 lost_colour (codes "told as lost") ++ filter_key filters
 
 -- what a picture begins with: that it is one, and how wide; then its height, for the second time, and how its letters look
 unfoldable pub open_words : List ℕ
@@ -38,8 +42,8 @@ front height = open_words ++ decimal height ++ view_words ++ decimal height ++ f
 abbrev pub ground : ℕ → Rect
 ground height = record { x = 0; y = 0; width = 1180; height = height }
 
-unfoldable pub head : ℕ → List ℕ → List ℕ
-head height title = front height ++ rect (ground height) (codes "#ffffff") ++ label (record { x = 8; y = 20 }) (codes " font-size='14' font-weight='bold'") title ++ keys
+unfoldable pub head : ℕ → Bool → List ℕ → List ℕ
+head height filters title = front height ++ rect (ground height) (codes "#ffffff") ++ label (record { x = 8; y = 20 }) (codes " font-size='14' font-weight='bold'") title ++ keys filters
 
 -- ---- the columns
 
@@ -58,15 +62,16 @@ marks_from height column (name ∷ names) = mark_at height column name ++ marks_
 
 -- ---- the whole
 
--- what a picture shows: what is said of it, the names of its columns, and its rows
+-- what a picture shows: what is said of it, the names of its columns, its rows, and whether a level can have filtered something
 pub record Chart : Type 0 where
   pub title : List ℕ
   pub columns : List (List ℕ)
   pub rows : List ChartRow
+  pub filters : Bool
 
 -- the chart that this is
 abbrev pub chart_of : Picture → Chart
-chart_of p = record { title = p.title.items; columns = map (λ name. name.items) p.columns.items; rows = map shown p.rows.items }
+chart_of p = record { title = p.title.items; columns = map (λ name. name.items) p.columns.items; rows = map shown p.rows.items; filters = p.filters }
 
 -- the rows from this one on
 abbrev pub rows_from : List (List ℕ) → ℕ → List ChartRow → List ℕ
@@ -76,4 +81,4 @@ rows_from names number (row ∷ rows) = row_text names number row ++ rows_from n
 -- The text of a picture.
 unfoldable pub picture : Chart → List ℕ
 picture chart =
-    head (height_of (length chart.rows)) chart.title ++ rows_from chart.columns 0 chart.rows ++ marks_from (height_of (length chart.rows)) 0 chart.columns ++ codes "</svg>\n"
+    head (height_of (length chart.rows)) chart.filters chart.title ++ rows_from chart.columns 0 chart.rows ++ marks_from (height_of (length chart.rows)) 0 chart.columns ++ codes "</svg>\n"

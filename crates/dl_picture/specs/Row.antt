@@ -43,10 +43,17 @@ is_blank bin = (bin.messages == 0) && (bin.missing == 0) && (bin.lost == 0) && (
 unfoldable pub count_words : List ℕ → ℕ → List ℕ
 count_words words n = if n == 0 then [] else words ++ decimal n
 
--- what is said of a column on hover: its name, and its counts
+-- the lines of a script that count, where they are told
+unfoldable pub line_words : ℕ → ℕ → List ℕ
+line_words first last =
+    if first == 0 then []
+    else if first == last then codes ", line " ++ decimal first
+    else (codes ", lines " ++ decimal first) ++ codes " to " ++ decimal last
+
+-- what is said of a column on hover: its name, its lines, and its counts
 unfoldable pub bin_title : List ℕ → Bin → List ℕ
 bin_title name bin =
-    escaped name ++ count_words (codes ", messages ") bin.messages ++ count_words (codes ", missing ") bin.missing
+    escaped name ++ line_words bin.first_line bin.last_line ++ count_words (codes ", messages ") bin.messages ++ count_words (codes ", missing ") bin.missing
     ++ count_words (codes ", told as lost ") bin.lost ++ count_words (codes ", filtered ") bin.filtered
 
 -- a rectangle, where the count is not 0

@@ -14,6 +14,10 @@ pub struct Bin {
     pub lost: u64,
     /// Calls that a level filtered.
     pub filtered: u64,
+    /// The first line of a script that counts here; 0 where none is told.
+    pub first_line: u64,
+    /// The last one; 0 where none is told.
+    pub last_line: u64,
 }
 
 /// A row of a picture.
@@ -36,4 +40,6 @@ pub struct Picture {
     pub columns: Vec<Vec<u8>>,
     /// Its rows, from top to bottom.
     pub rows: Vec<Row>,
+    /// Whether a level can have filtered something: only then the key names it.
+    pub filters: bool,
 }

@@ -2,7 +2,7 @@
 
 ghost use Rattle.std.specs.Prelude.{◌≡◌, ◌<◌, ◌^◌, ◌++◌, IfOk, OnOk, map};
 ghost use Rattle.dl_picture.specs.Row.{shown};
-ghost use Rattle.dl_picture.specs.Picture.{chart_of, font_words, front, head, height_of, key, keys, mark, mark_at, marks_from, open_words, picture, rows_from, view_words};
+ghost use Rattle.dl_picture.specs.Picture.{chart_of, filter_key, font_words, front, head, height_of, key, keys, mark, mark_at, marks_from, open_words, picture, rows_from, view_words};
 
 use crate::chart::{Picture, Row};
 use crate::element::{Label, Rect, push_label, push_number, push_rect};
@@ -26,15 +26,26 @@ fn push_key(text: &mut Vec<u8>, x: u128, colour: &[u8], words: &[u8]) -> Result<
     push_label(text, Label { x: x + 18, y: 44 }, b"", words)
 }
 
+/// Adds what the colour of filtered calls means, where a level can have filtered something.
+#[tactic(auto, unfolding(crate::specs::Picture::filter_key))]
+fn push_filter_key(text: &mut Vec<u8>, filters: bool) -> Result<(), OutOfMemory>
+    ensures { OnOk result (text.new.items ≡ text.old.items ++ filter_key filters) }
+{
+    if !filters {
+        return Ok(());
+    }
+    push_key(text, 520, FILTERED_COLOUR, b"filtered by a level")
+}
+
 /// Adds what the colours mean.
 #[tactic(auto, unfolding(crate::specs::Picture::keys))]
-fn push_keys(text: &mut Vec<u8>) -> Result<(), OutOfMemory>
-    ensures { OnOk result (text.new.items ≡ text.old.items ++ keys) }
+fn push_keys(text: &mut Vec<u8>, filters: bool) -> Result<(), OutOfMemory>
+    ensures { OnOk result (text.new.items ≡ text.old.items ++ keys filters) }
 {
     push_key(text, 200, MESSAGE_COLOUR, b"messages")?;
     push_key(text, 300, MISSING_COLOUR, b"missing")?;
     push_key(text, 400, LOST_COLOUR, b"told as lost")?;
-    push_key(text, 520, FILTERED_COLOUR, b"filtered by a level")?;
+    push_filter_key(text, filters)?;
     Ok(())
 }
 
@@ -74,8 +85,13 @@ fn push_front(text: &mut Vec<u8>, height: u128) -> Result<(), OutOfMemory>
 
 /// Adds the head of a picture.
 #[tactic(auto, unfolding(crate::specs::Picture::head))]
-fn push_head(text: &mut Vec<u8>, height: u128, title: &[u8]) -> Result<(), OutOfMemory>
-    ensures { OnOk result (text.new.items ≡ text.old.items ++ head height title.now) }
+fn push_head(
+    text: &mut Vec<u8>,
+    height: u128,
+    filters: bool,
+    title: &[u8],
+) -> Result<(), OutOfMemory>
+    ensures { OnOk result (text.new.items ≡ text.old.items ++ head height filters title.now) }
 {
     let ground = Rect {
         x: 0,
@@ -91,7 +107,7 @@ fn push_head(text: &mut Vec<u8>, height: u128, title: &[u8]) -> Result<(), OutOf
         b" font-size='14' font-weight='bold'",
         title,
     )?;
-    push_keys(text)?;
+    push_keys(text, filters)?;
     Ok(())
 }
 
@@ -160,7 +176,7 @@ pub fn draw(alloc: Global, value: &Picture) -> Result<Vec<u8>, OutOfMemory>
 {
     let height = 24 + (84 + 56 * value.rows.len() as u128);
     let mut text = Vec::new(alloc);
-    push_head(&mut text, height, &value.title)?;
+    push_head(&mut text, height, value.filters, &value.title)?;
     push_rows(&mut text, &value.columns, &value.rows)?;
     push_marks(&mut text, height, &value.columns)?;
     text.extend_from_slice(b"</svg>\n")?;

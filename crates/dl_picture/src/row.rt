@@ -1,7 +1,7 @@
 //! A row of a picture: the name of what it shows, and its columns.
 
 ghost use Rattle.std.specs.Prelude.{◌≡◌, ◌≤◌, ◌<◌, ◌+◌, ◌^◌, ◌++◌, OnOk, map};
-ghost use Rattle.dl_picture.specs.Row.{bar, bin_text, bin_title, bins_from, block, blocks, cell, count_words, greatest_of, is_blank, name_of, row_head, row_text, shown};
+ghost use Rattle.dl_picture.specs.Row.{bar, bin_text, bin_title, bins_from, block, blocks, cell, count_words, greatest_of, is_blank, line_words, name_of, row_head, row_text, shown};
 
 use crate::chart::{Bin, Row};
 use crate::element::{Label, Rect, push_escaped, push_label, push_number, push_rect};
@@ -76,12 +76,28 @@ fn push_count(text: &mut Vec<u8>, words: &[u8], count: u64) -> Result<(), OutOfM
     push_number(text, words, count)
 }
 
+/// Adds the lines of a script that count, where they are told.
+#[tactic(auto, unfolding(crate::specs::Row::line_words))]
+fn push_lines(text: &mut Vec<u8>, first: u64, last: u64) -> Result<(), OutOfMemory>
+    ensures { OnOk result (text.new.items ≡ text.old.items ++ line_words first last) }
+{
+    if first == 0 {
+        return Ok(());
+    }
+    if first == last {
+        return push_number(text, b", line ", first);
+    }
+    push_number(text, b", lines ", first)?;
+    push_number(text, b" to ", last)
+}
+
 /// Adds what is said of a column on hover.
 #[tactic(auto, unfolding(crate::specs::Row::bin_title))]
 fn push_title(text: &mut Vec<u8>, name: &[u8], bin: &Bin) -> Result<(), OutOfMemory>
     ensures { OnOk result (text.new.items ≡ text.old.items ++ bin_title name.now bin.now) }
 {
     push_escaped(text, name)?;
+    push_lines(text, bin.first_line, bin.last_line)?;
     push_count(text, b", messages ", bin.messages)?;
     push_count(text, b", missing ", bin.missing)?;
     push_count(text, b", told as lost ", bin.lost)?;

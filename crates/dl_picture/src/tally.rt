@@ -2,7 +2,7 @@
 
 ghost use Rattle.std.specs.Prelude.{◌≡◌, ◌++◌, ◌∷◌, [], List, IfOk, OnOk, unwrap_or};
 ghost use Rattle.std.specs.HashMap as hash;
-ghost use Rattle.dl_picture.specs.Tally.{Keeps, bin_of, bins_of, joined, no_bin, same_cell};
+ghost use Rattle.dl_picture.specs.Tally.{Keeps, bin_of, bins_of, first_of, joined, no_bin, same_cell};
 ghost use Rattle.dl_picture.specs.declared.tally.Mark.{Mark};
 
 use crate::chart::{Bin, COLUMNS};
@@ -44,10 +44,25 @@ pub fn no_bin() -> Bin
         missing: 0,
         lost: 0,
         filtered: 0,
+        first_line: 0,
+        last_line: 0,
     }
 }
 
-/// Two counts in one. A count stops at the greatest number of 64 bits.
+/// The first of two lines, where 0 is none.
+fn first_of(a: u64, b: u64) -> u64
+    ensures { result ≡ first_of a b }
+{
+    if a == 0 {
+        b
+    } else if b == 0 {
+        a
+    } else {
+        a.min(b)
+    }
+}
+
+/// Two counts in one, and the lines of both. A count stops at the greatest number of 64 bits.
 pub fn joined(a: &Bin, b: &Bin) -> Bin
     ensures { result ≡ joined a.now b.now }
 {
@@ -56,6 +71,8 @@ pub fn joined(a: &Bin, b: &Bin) -> Bin
         missing: a.missing.saturating_add(b.missing),
         lost: a.lost.saturating_add(b.lost),
         filtered: a.filtered.saturating_add(b.filtered),
+        first_line: first_of(a.first_line, b.first_line),
+        last_line: a.last_line.max(b.last_line),
     }
 }
 

@@ -1,5 +1,5 @@
 -- The timeline of a stream: for each session, what each column of time has.
-use Rattle.std.specs.Prelude.{◌≡◌, ℕ, ◌+◌, ◌-◌, ◌^◌, ◌==◌, ◌&&◌, min, max, Bool, List, [], ◌∷◌, ◌++◌, codes, fold, map, unwrap_or, if◌then◌else◌}
+use Rattle.std.specs.Prelude.{◌≡◌, ℕ, ◌+◌, ◌-◌, ◌^◌, ◌==◌, ◌&&◌, min, max, Bool, false, List, [], ◌∷◌, ◌++◌, codes, fold, map, unwrap_or, if◌then◌else◌}
 use Rattle.std.specs.HashMap as hash
 use Rattle.std.specs.List.{flat_map, range_with_len}
 use Rattle.std.specs.Fmt.{decimal}
@@ -129,6 +129,7 @@ timeline stream = record {
   title = codes "Messages by time, in seconds";
   columns = map (column_name (axis_of stream)) (range_with_len 0 120);
   rows = map (row_of stream) (sessions (entries stream));
+  filters = false;
 }
 
 -- ---- what is kept

@@ -140,9 +140,7 @@ fn add_message(spots: &mut HashMap<Spot, Bin>, axis: Axis, told: &Told) -> Resul
     };
     let bin = Bin {
         messages: 1,
-        missing: 0,
-        lost: 0,
-        filtered: 0,
+        ..no_bin()
     };
     add_mark(spots, SpotMark { spot, bin })
 }
@@ -173,10 +171,8 @@ fn hole_mark(axis: Axis, account: &Account, hole: &Hole) -> SpotMark
             column: axis.column(hole.entry.ticks as u64),
         },
         bin: Bin {
-            messages: 0,
             missing: missing_here(&totals, hole) as u64,
-            lost: 0,
-            filtered: 0,
+            ..no_bin()
         },
     }
 }
@@ -213,10 +209,8 @@ fn note_report(
         column,
     };
     let bin = Bin {
-        messages: 0,
-        missing: 0,
         lost: lost.count as u64,
-        filtered: 0,
+        ..no_bin()
     };
     add_report(reports, Report { spot, bin })
 }
@@ -386,5 +380,6 @@ pub fn timeline_of(
         title,
         columns: column_names(alloc, timeline.axis)?,
         rows: timeline.rows(alloc, account)?,
+        filters: false,
     })
 }

@@ -2,6 +2,7 @@ pub mod Following
 pub mod Finding
 pub mod Counts
 pub mod RowLines
+pub mod CaseLists
 pub mod Lawful
 pub mod Scripts
 pub mod Explaining

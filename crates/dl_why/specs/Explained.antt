@@ -1,14 +1,18 @@
--- What is printed of a run of steps.
+-- What is printed of a run of steps, and what its picture shows.
 use Rattle.std.specs.Prelude.{ℕ, false, List, [], ◌++◌, None}
 use Rattle.dl_bytes.specs.declared.outcome.TraceState.{TraceState}
 use Rattle.dl_script_lines.specs.declared.step.Step.{Step}
 use Rattle.dl_call_lines.specs.Calls.{calls_in}
+use Rattle.dl_call_lines.specs.Told.{owners_in}
+use Rattle.dl_call_timeline.specs.Timeline.{timeline}
 use Rattle.dl_model.specs.Marks.{Mark, journal, records}
 use Rattle.dl_model.specs.Replay.{report_of, specs_of}
 use Rattle.dl_model.specs.Setting.{Setting}
 use Rattle.dl_model.specs.Steps.{run}
 use Rattle.dl_model.specs.TraceFiles.{StoredFile}
 use Rattle.dl_model.specs.WholeAccounts.{source_of_records}
+use Rattle.dl_picture.specs.Picture.{picture}
+use Rattle.dl_why.specs.Cases.{cases_of}
 use Rattle.dl_why.specs.Rows.{rows_of, storage_words}
 
 -- the run stores nothing itself, so its report tells nothing of a trace
@@ -25,3 +29,13 @@ explained_of setting stood text steps done =
 -- the same of the run of these steps, in which each Store and each Reset is served
 abbrev pub explained : Setting → List StoredFile → List ℕ → List Step → List ℕ
 explained setting stood text steps = explained_of setting stood text steps (run setting [] steps)
+
+-- the picture of a run whose script is this text: a row for each writer that these steps declare
+abbrev pub drawn_of : Setting → List ℕ → List Step → List Mark → List ℕ
+drawn_of setting text steps done =
+    let source = source_of_records setting (records done) (specs_of done) in
+    picture (timeline setting.ecu (owners_in steps) (cases_of source setting.buffer (records done) (journal done) (calls_in text steps)))
+
+-- the same of the run of these steps, in which each Store and each Reset is served
+abbrev pub drawn : Setting → List ℕ → List Step → List ℕ
+drawn setting text steps = drawn_of setting text steps (run setting [] steps)

@@ -2,5 +2,8 @@ pub mod Rows
 pub mod Followed
 pub mod Found
 pub mod Written
+pub mod Cases
 pub mod Explained
+pub mod StepsStatus
+pub mod Drawing
 pub mod Program

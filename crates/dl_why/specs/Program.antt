@@ -21,15 +21,20 @@ use Rattle.dl_stored_in.specs.declared.calls.Rotation.{Rotation}
 use Rattle.dl_trace.specs.Stands.{HasFiles}
 use Rattle.dl_trace_files.specs.Files.{files_asked}
 use Rattle.dl_trace_why.specs.Account as trace
+use Rattle.dl_trace_why.specs.Account.{Spares}
 use Rattle.dl_why_words.specs.Words as given_words
 use Rattle.dl_why_words.specs.Words.{Asked, AsksSteps, AsksTrace, AsksStream, said}
 use Rattle.dl_why_words.specs.declared.parse.WhyFault.{WhyFault}
 use Rattle.dl_why_words.specs.declared.parse.WhyFault.TheVariants as fault
 use Rattle.dl_why_words.specs.declared.words.WhyWords.{WhyWords}
-use Rattle.dl_why.specs.Explained.{explained}
+use Rattle.dl_why.specs.Drawing.{Draws, Keeps}
+use Rattle.dl_why.specs.Explained.{drawn, explained}
+use Rattle.dl_why.specs.StepsStatus.{number}
 use Rattle.dl_why.specs.Written.{IsRotating}
 use Rattle.dl_why.specs.declared.program.Start.{Start}
 use Rattle.dl_why.specs.declared.script.Script.{Script}
+use Rattle.dl_why.specs.declared.steps_status.StepsStatus.{StepsStatus}
+use Rattle.dl_why.specs.declared.steps_status.StepsStatus.TheVariants.{Plain, PictureFault}
 
 -- ---- the script
 
@@ -44,6 +49,10 @@ ReadsScript old new (Err _) = ⊥
 -- what is printed of a script where these configurations are set and these trace files stand
 abbrev pub text_of : Setup → List StoredFile → Script → List ℕ
 text_of setup stood script = explained (setting_of setup.conf setup.stored 0) stood script.text.items script.steps
+
+-- its picture
+abbrev pub drawing_of : Setup → Script → List ℕ
+drawing_of setup script = drawn (setting_of setup.conf setup.stored 0) script.text.items script.steps
 
 -- ---- outcomes
 
@@ -66,26 +75,28 @@ pub record IsSaid (old new : Told) (setup : Setup) (stood : List StoredFile) (sc
   pub stand : AreStanding setup stood old.folder.files
   pub script_is : ReadsScript old.input new.input (Ok script)
 
--- a script was explained, if this is so of its text
-abbrev pub Explains : Told → Told → (List ℕ → Type 0) → Type 0
-Explains old new P = (setup : Setup) × (stood : List StoredFile) × (script : Script) × IsSaid old new setup stood script × P (text_of setup stood script)
+-- a script was explained, if this is so of its text and of its picture
+abbrev pub Explains : Told → Told → (text picture : List ℕ → Type 0) → Type 0
+Explains old new text picture =
+    (setup : Setup) × (stood : List StoredFile) × (script : Script) × IsSaid old new setup stood script × text (text_of setup stood script) × picture (drawing_of setup script)
 
--- What each status says: the text was written, a front of it, or nothing.
-abbrev pub Outcome : Told → Told → Status → Type 0
-Outcome old new end.Ok = Explains old new (WroteAll old.out new.out)
-Outcome old new end.WriteFault = Explains old new (WroteFront old.out new.out)
-Outcome old new (end.ConfRefused line kind) = IfSome old.folder.files (λ files. conf_in conf_name files ≡ Err (line, kind)) × WroteNothing old.out new.out
-Outcome old new (end.StoredRefused line kind) = IfSome old.folder.files (λ files. IsOk (conf_in conf_name files) × (stored_in files ≡ Err (line, kind))) × WroteNothing old.out new.out
-Outcome old new (end.ScriptRefused line kind) = ReadsScript old.input new.input (Err (end.ScriptRefused line kind)) × WroteNothing old.out new.out
-Outcome old new end.ReadFault = ReadsScript old.input new.input (Err end.ReadFault) × WroteNothing old.out new.out
-Outcome old new end.FolderFault = HasRisen old.folder.faults new.folder.faults × WroteNothing old.out new.out
-Outcome old new end.OutOfMemory = WroteNothing old.out new.out
-Outcome old new _ = ⊥
+-- nothing was written, and no file was to change
+abbrev pub IsSilent : Told → Told → Type 0
+IsSilent old new = WroteNothing old.out new.out × IsUnchanged old.folder new.folder
 
--- no file is to change, and none does
-pub record Ends (old new : Told) (status : Status) : Type 0 where
-  pub outcome : Outcome old new status
-  pub unchanged : IsUnchanged old.folder new.folder
+-- What each status says, where a picture goes into the file of this name, or none is wanted: the text was written, a front of it, or nothing; and the
+-- picture was drawn, or not.
+abbrev pub Ends : Option (List ℕ) → Told → Told → StepsStatus → Type 0
+Ends drawn old new (Plain end.Ok) = Explains old new (WroteAll old.out new.out) (λ picture. Draws drawn picture old.folder new.folder)
+Ends drawn old new (Plain end.WriteFault) = Explains old new (WroteFront old.out new.out) (λ picture. Draws drawn picture old.folder new.folder)
+Ends drawn old new (Plain (end.ConfRefused line kind)) = IfSome old.folder.files (λ files. conf_in conf_name files ≡ Err (line, kind)) × IsSilent old new
+Ends drawn old new (Plain (end.StoredRefused line kind)) = IfSome old.folder.files (λ files. IsOk (conf_in conf_name files) × (stored_in files ≡ Err (line, kind))) × IsSilent old new
+Ends drawn old new (Plain (end.ScriptRefused line kind)) = ReadsScript old.input new.input (Err (end.ScriptRefused line kind)) × IsSilent old new
+Ends drawn old new (Plain end.ReadFault) = ReadsScript old.input new.input (Err end.ReadFault) × IsSilent old new
+Ends drawn old new (Plain end.FolderFault) = HasRisen old.folder.faults new.folder.faults × IsSilent old new
+Ends drawn old new (Plain end.OutOfMemory) = WroteNothing old.out new.out × Keeps drawn old.folder new.folder
+Ends drawn old new (Plain _) = ⊥
+Ends drawn old new PictureFault = HasRisen old.folder.faults new.folder.faults × WroteNothing old.out new.out × Spares drawn old.folder new.folder
 
 -- ---- for inner functions
 
@@ -110,17 +121,25 @@ pub record Standing (conf : Conf) (rotation : Option Rotation) (told : Option Fi
 
 -- the trace files were looked at; or why they were not. No file is to change.
 abbrev pub LooksAt : Conf → FolderTold → FolderTold → Result (Option Rotation) Status → Type 0
-LooksAt conf folder folder_now (Ok rotation) = Standing conf rotation folder.files × IsUnchanged folder folder_now
+LooksAt conf folder folder_now (Ok rotation) = Standing conf rotation folder.files × IsQuiet folder folder_now
 LooksAt conf folder folder_now (Err end.FolderFault) = HasRisen folder.faults folder_now.faults × IsUnchanged folder folder_now
 LooksAt conf folder folder_now (Err end.OutOfMemory) = IsUnchanged folder folder_now
 LooksAt conf folder folder_now (Err _) = ⊥
 
--- the explanation was written, or a front of it, or nothing for want of memory; these trace files stood
-abbrev pub Writes : Start → List StoredFile → SinkTold → SinkTold → Status → Type 0
-Writes start stood old new end.Ok = WroteAll old new (text_of start.setup stood start.script)
-Writes start stood old new end.WriteFault = WroteFront old new (text_of start.setup stood start.script)
-Writes start stood old new end.OutOfMemory = WroteNothing old new
-Writes start stood old new _ = ⊥
+-- a text was written, or its front
+abbrev pub Prints : List ℕ → SinkTold → SinkTold → StepsStatus → Type 0
+Prints text old new (Plain end.Ok) = WroteAll old new text
+Prints text old new (Plain end.WriteFault) = WroteFront old new text
+Prints text old new _ = ⊥
+
+-- the explanation was written, and drawn where a picture is wanted; or why not. These trace files stood.
+abbrev pub Writes : Start → List StoredFile → Option (List ℕ) → FolderTold → FolderTold → SinkTold → SinkTold → StepsStatus → Type 0
+Writes start stood drawn folder folder_now old new (Plain end.Ok) = WroteAll old new (text_of start.setup stood start.script) × Draws drawn (drawing_of start.setup start.script) folder folder_now
+Writes start stood drawn folder folder_now old new (Plain end.WriteFault) =
+    WroteFront old new (text_of start.setup stood start.script) × Draws drawn (drawing_of start.setup start.script) folder folder_now
+Writes start stood drawn folder folder_now old new (Plain end.OutOfMemory) = WroteNothing old new × Keeps drawn folder folder_now
+Writes start stood drawn folder folder_now old new (Plain _) = ⊥
+Writes start stood drawn folder folder_now old new PictureFault = HasRisen folder.faults folder_now.faults × WroteNothing old new × Spares drawn folder folder_now
 
 -- ---- the program
 
@@ -128,22 +147,31 @@ abbrev pub program : List ℕ
 program = codes "dlt_why"
 
 abbrev pub usage : List ℕ
-usage = codes "dlt_why steps, trace [--picture FILE] [FOLDER|FILE].. or stream [--picture FILE] FILE"
+usage = codes "dlt_why steps [--picture FILE], trace [--picture FILE] [FOLDER|FILE].. or stream [--picture FILE] FILE"
 
 abbrev pub line_of : Status → List ℕ
 line_of status = startup.line_of program usage status
+
+-- the line of a picture that could not be written, as accounts of traces say it
+abbrev pub picture_fault : List ℕ
+picture_fault = codes "dlt_why: picture fault\n"
 
 -- what is said on standard error: nothing where all went well, else the line of the status, or its front
 abbrev pub Says : Status → SinkTold → SinkTold → Type 0
 Says end.Ok old new = WroteNothing old new
 Says status old new = Wrote old new (line_of status)
 
--- what `steps` comes to
-pub record RunsSteps (old new : Told) (err err_now : SinkTold) (answer : ℕ) : Type 0 where
-  pub status : Status
-  pub number_is : answer ≡ startup.number status
-  pub ends : Ends old new status
-  pub said : Says status err err_now
+-- the same of how the explanation of a script ended
+abbrev pub SaysSteps : StepsStatus → SinkTold → SinkTold → Type 0
+SaysSteps (Plain status) old new = Says status old new
+SaysSteps PictureFault old new = Wrote old new picture_fault
+
+-- what `steps` comes to, with a picture in the file of this name where one is wanted
+pub record RunsSteps (drawn : Option (List ℕ)) (old new : Told) (err err_now : SinkTold) (answer : ℕ) : Type 0 where
+  pub status : StepsStatus
+  pub number_is : answer ≡ number status
+  pub ends : Ends drawn old new status
+  pub said : SaysSteps status err err_now
 
 -- what `trace` and `stream` come to: the input is left alone
 abbrev pub RunsAccount : (Files → List (List ℕ)) → Option (List ℕ) → Told → Told → SinkTold → SinkTold → ℕ → Type 0
@@ -152,7 +180,7 @@ RunsAccount names picture old new err err_now answer =
 
 -- what a run comes to by what is asked for
 abbrev pub RunsAsked : Asked → Told → Told → SinkTold → SinkTold → ℕ → Type 0
-RunsAsked AsksSteps old new err err_now answer = RunsSteps old new err err_now answer
+RunsAsked (AsksSteps picture) old new err err_now answer = RunsSteps picture old new err err_now answer
 RunsAsked (AsksTrace names picture) old new err err_now answer = RunsAccount (λ files. files_asked files names) picture old new err err_now answer
 RunsAsked (AsksStream name picture) old new err err_now answer = RunsAccount (λ files. name ∷ []) picture old new err err_now answer
 
@@ -160,7 +188,7 @@ RunsAsked (AsksStream name picture) old new err err_now answer = RunsAccount (λ
 
 -- what the program says of itself
 unfoldable pub help : List ℕ
-help = codes "Says why messages are missing.\n\nUsage: dlt_why steps < SCRIPT\n       dlt_why trace [--picture FILE] [FOLDER|FILE]..\n       dlt_why stream [--picture FILE] FILE\n\nTasks:\n  steps   what became of each log call of a step script\n  trace   what is missing of traces; without a name of those in this folder\n  stream  what is missing of a stream as a client recorded it\n\nOptions:\n      --picture <FILE>  draws the sessions into this file, as SVG\n  -h, --help            Print help\n"
+help = codes "Says why messages are missing.\n\nUsage: dlt_why steps [--picture FILE] < SCRIPT\n       dlt_why trace [--picture FILE] [FOLDER|FILE]..\n       dlt_why stream [--picture FILE] FILE\n\nTasks:\n  steps   what became of each log call of a step script\n  trace   what is missing of traces; without a name of those in this folder\n  stream  what is missing of a stream as a client recorded it\n\nOptions:\n      --picture <FILE>  draws the calls or the sessions into this file, as SVG\n  -h, --help            Print help\n"
 
 -- it was written, or its front
 abbrev pub Helps : SinkTold → SinkTold → Status → Type 0

@@ -23,7 +23,7 @@ use dl_stored_in::{Rotation, StoredCalls, find_stored};
 use std::alloc::Global;
 
 /// No client has this number.
-const NOBODY: u32 = 0;
+pub const NOBODY: u32 = 0;
 
 /// How many clients came; more than 32 bits count are refused for want of memory.
 fn came(events: &[Event]) -> Result<u32, OutOfMemory>
@@ -42,7 +42,7 @@ fn came(events: &[Event]) -> Result<u32, OutOfMemory>
 }
 
 /// How many lost calls a journal tells, where 64 bits count them.
-fn told_losses(events: &[Event]) -> Result<u64, OutOfMemory>
+pub fn told_losses(events: &[Event]) -> Result<u64, OutOfMemory>
     ensures { IfOk result (λ count. count ≡ told events.now) }
 {
     let mut sum: u64 = 0;

@@ -11,11 +11,13 @@ ghost use Rattle.dl_startup.specs.Setup.{IsBegun, conf_name};
 ghost use Rattle.dl_trace_files.specs.Files.{files_asked};
 ghost use Rattle.dl_trace_why.specs.Account.{Runs, sides};
 ghost use Rattle.dl_why_words.specs.Words.{said};
-ghost use Rattle.dl_why.specs.Program.{AnswersFault, Begins, Ends, Helps, LooksAt, RunsAsked, RunsNot, RunsSteps, Standing, TellsWhy, Writes, help, told};
+ghost use Rattle.dl_why.specs.Program.{AnswersFault, Begins, Ends, Helps, LooksAt, Prints, RunsAsked, RunsNot, RunsSteps, SaysSteps, Standing, TellsWhy, Writes, help, told};
 ghost use Rattle.dl_why.specs.Written.{IsRotating};
 
+use crate::drawing::put_where_wanted;
 use crate::explanation::explain;
 use crate::script::{Script, read_script};
+use crate::steps_status::StepsStatus;
 use dl_bytes::Conf;
 use dl_outside::{Folder, Sink, Source, write_text};
 use dl_startup::{CONF_NAME, Setup, Status, set_up, trace_over};
@@ -30,7 +32,10 @@ const PROGRAM: &[u8] = b"dlt_why";
 
 /// The words that it takes, as the line says it that refuses others.
 const USAGE: &[u8] =
-    b"dlt_why steps, trace [--picture FILE] [FOLDER|FILE].. or stream [--picture FILE] FILE";
+    b"dlt_why steps [--picture FILE], trace [--picture FILE] [FOLDER|FILE].. or stream [--picture FILE] FILE";
+
+/// What it says where the picture of a script can't be written.
+const PICTURE_FAULT: &[u8] = b"dlt_why: picture fault\n";
 
 /// What it says of itself.
 #[tactic(auto, unfolding(crate::specs::Program::help))]
@@ -39,7 +44,7 @@ fn help() -> &'static [u8]
 {
     b"Says why messages are missing.
 
-Usage: dlt_why steps < SCRIPT
+Usage: dlt_why steps [--picture FILE] < SCRIPT
        dlt_why trace [--picture FILE] [FOLDER|FILE]..
        dlt_why stream [--picture FILE] FILE
 
@@ -49,7 +54,7 @@ Tasks:
   stream  what is missing of a stream as a client recorded it
 
 Options:
-      --picture <FILE>  draws the sessions into this file, as SVG
+      --picture <FILE>  draws the calls or the sessions into this file, as SVG
   -h, --help            Print help
 "
 }
@@ -111,58 +116,86 @@ fn look_at_trace<F: Folder>(
     }
 }
 
-/// Writes the explanation of a script's run.
-fn write_explanation<O: Sink>(
+/// Writes a text to the output.
+fn print<O: Sink>(out: &mut O, text: &[u8]) -> StepsStatus
+    ensures { Prints text.now (O.told out.old) (O.told out.new) result }
+{
+    match write_text(out, text) {
+        Ok(()) => StepsStatus::Plain(Status::Ok),
+        Err(_) => StepsStatus::Plain(Status::WriteFault),
+    }
+}
+
+/// Writes the explanation of a script's run, and draws it where a picture is wanted.
+fn write_explanation<F: Folder, O: Sink>(
     alloc: Global,
     start: Start,
     rotation: Option<Rotation>,
+    picture: Option<&str>,
+    folder: &mut F,
     out: &mut O,
-) -> Status
+) -> StepsStatus
     requires { IsPlayable start.script.steps }
     ensures { (stood : List StoredFile) → IsRotating (setting_of start.setup.conf start.setup.stored 0) stood start.setup.conf.directory rotation
-        → Writes start stood (O.told out.old) (O.told out.new) result }
+        → Writes start stood (option_map (λ name. name.now) picture.entry) (F.told folder.old) (F.told folder.new) (O.told out.old) (O.told out.new) result }
 {
     let Start { setup, script } = start;
-    let Ok(text) = explain(alloc, setup, rotation, &script) else {
-        return Status::OutOfMemory;
+    let Ok(explained) = explain(alloc, setup, rotation, &script, picture.is_some()) else {
+        return StepsStatus::Plain(Status::OutOfMemory);
     };
-    match write_text(out, &text) {
-        Ok(()) => Status::Ok,
-        Err(_) => Status::WriteFault,
+    match put_where_wanted(folder, picture, &explained.picture) {
+        Ok(()) => print(out, &explained.text),
+        Err(status) => status,
     }
 }
 
 /// Explains the script of the input.
 fn explain_steps<F: Folder, I: Source, O: Sink>(
     alloc: Global,
+    picture: Option<&str>,
     input: &mut I,
     folder: &mut F,
     out: &mut O,
-) -> Status
-    ensures { Ends (told (I.told input.old) (F.told folder.old) (O.told out.old)) (told (I.told input.new) (F.told folder.new) (O.told out.new)) result }
+) -> StepsStatus
+    ensures { Ends (option_map (λ name. name.now) picture.entry) (told (I.told input.old) (F.told folder.old) (O.told out.old))
+        (told (I.told input.new) (F.told folder.new) (O.told out.new)) result }
 {
     let start = match begin(alloc, input, folder) {
         Ok(start) => start,
-        Err(status) => return status,
+        Err(status) => return StepsStatus::Plain(status),
     };
     match look_at_trace(alloc, folder, &start.setup.conf) {
-        Ok(rotation) => write_explanation(alloc, start, rotation, out),
-        Err(status) => status,
+        Ok(rotation) => write_explanation(alloc, start, rotation, picture, folder, out),
+        Err(status) => StepsStatus::Plain(status),
+    }
+}
+
+/// Says how the explanation of a script ended, in one line.
+fn say_steps<E: Sink>(status: StepsStatus, err: &mut E)
+    ensures { SaysSteps status (E.told err.old) (E.told err.new) }
+{
+    match status {
+        StepsStatus::Plain(status) => status.say(PROGRAM, USAGE, err),
+        StepsStatus::PictureFault => {
+            let _ = write_text(err, PICTURE_FAULT);
+        }
     }
 }
 
 /// Explains the script of the input, and says how that ended.
 fn run_steps<F: Folder, I: Source, O: Sink, E: Sink>(
     alloc: Global,
+    picture: Option<&str>,
     input: &mut I,
     folder: &mut F,
     out: &mut O,
     err: &mut E,
 ) -> u8
-    ensures { RunsSteps (told (I.told input.old) (F.told folder.old) (O.told out.old)) (told (I.told input.new) (F.told folder.new) (O.told out.new)) (E.told err.old) (E.told err.new) result }
+    ensures { RunsSteps (option_map (λ name. name.now) picture.entry) (told (I.told input.old) (F.told folder.old) (O.told out.old))
+        (told (I.told input.new) (F.told folder.new) (O.told out.new)) (E.told err.old) (E.told err.new) result }
 {
-    let status = explain_steps(alloc, input, folder, out);
-    status.say(PROGRAM, USAGE, err);
+    let status = explain_steps(alloc, picture, input, folder, out);
+    say_steps(status, err);
     status.number()
 }
 
@@ -241,7 +274,7 @@ fn run_asked<F: Folder, I: Source, O: Sink, E: Sink>(
         (told (I.told input.new) (F.told folder.new) (O.told out.new)) (E.told err.old) (E.told err.new) result }
 {
     match asked {
-        WhyWords::Steps => run_steps(alloc, input, folder, out, err),
+        WhyWords::Steps { picture } => run_steps(alloc, picture, input, folder, out, err),
         WhyWords::Trace { names, picture } => {
             run_traces(alloc, &names, picture, folder, out, err)
         }

@@ -100,7 +100,7 @@ fn capacity_in(specs: &[AppSpec], app: u8) -> u16
 }
 
 /// What was found of a call, for a client.
-fn fate_in(fates: &Fates, record: &Record) -> Fate
+pub fn fate_in(fates: &Fates, record: &Record) -> Fate
     ensures { said result ≡ fate_in fates.now record.now }
 {
     let name = CallName {
@@ -325,7 +325,7 @@ fn count_so_far(counts: &HashMap<WriterName, u64>, writer: &WriterName) -> u64
 }
 
 /// Counts a call of a writer, and gives its number among the writer's calls.
-fn count_call(counts: &mut HashMap<WriterName, u64>, at: &CallAt) -> Result<u64, OutOfMemory>
+pub fn count_call(counts: &mut HashMap<WriterName, u64>, at: &CallAt) -> Result<u64, OutOfMemory>
     ensures { (before : List CallAt) → KeepsCounts counts.old before
         → IfOk result (λ number. (number ≡ 1 + count_by (is_by at.now.writer) before) × KeepsCounts counts.new (before ++ at.now ∷ [])) }
 {

@@ -13,9 +13,9 @@ files = record (new_rule (codes "FILE")) { action = Some Append }
 abbrev pub file : Rule
 file = record (new_rule (codes "FILE")) { required = true }
 
--- `steps`
+-- `steps [--picture FILE]`
 abbrev pub steps_command : App
-steps_command = new_app (codes "steps")
+steps_command = with_rule (new_app (codes "steps")) (option (codes "picture"))
 
 -- `trace [--picture FILE] [FILE]..`
 abbrev pub trace_command : App

@@ -16,13 +16,13 @@ use Rattle.dl_why_words.specs.declared.words.WhyWords.TheVariants as words
 -- what is asked for: what became of a script's calls, what is missing of the files that names stand for, or what is missing of one file's
 -- stream; with the name of a picture, where one is wanted
 pub data Asked : Type 0 where
-  AsksSteps : Asked
+  AsksSteps : (picture : Option Text) → Asked
   AsksTrace : (names : List Text) → (picture : Option Text) → Asked
   AsksStream : (name : Text) → (picture : Option Text) → Asked
 
 -- by what was found
 abbrev pub steps_in : List Row → Asked
-steps_in rows = AsksSteps
+steps_in rows = AsksSteps (first_of (codes "picture") rows)
 
 abbrev pub trace_in : List Row → Asked
 trace_in rows = AsksTrace (texts_in (codes "FILE") rows) (first_of (codes "picture") rows)
@@ -32,7 +32,7 @@ stream_in rows = AsksStream (text_in (codes "FILE") rows) (first_of (codes "pict
 
 -- what was read of the words, in these terms
 abbrev pub said : WhyWords → Asked
-said words.Steps = AsksSteps
+said (words.Steps picture) = AsksSteps (option_map (λ name. name.now) picture)
 said (words.Trace names picture) = AsksTrace (map (λ name. name.now) names.items) (option_map (λ name. name.now) picture)
 said (words.Stream name picture) = AsksStream name.now (option_map (λ name. name.now) picture)
 

@@ -33,10 +33,10 @@ fn file<'a>(alloc: Global) -> Arg<'a>
 }
 
 /// The command `steps`.
-pub fn steps_command<'a>(alloc: Global) -> Command<'a>
-    ensures { app_of result ≡ steps_command }
+pub fn steps_command<'a>(alloc: Global) -> Result<Command<'a>, AllocError>
+    ensures { IfOk result (λ command. app_of command ≡ steps_command) }
 {
-    Command::new(alloc, "steps")
+    Command::new(alloc, "steps").arg(picture(alloc))
 }
 
 /// The command `trace`.

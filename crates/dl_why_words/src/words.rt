@@ -12,8 +12,11 @@ use std::alloc::Global;
 /// What the words ask for.
 #[derive(Drop)]
 pub enum WhyWords<'a> {
-    /// `steps`: what became of each log call of a script.
-    Steps,
+    /// `steps [--picture FILE]`: what became of each log call of a script.
+    Steps {
+        /// The name of the file that a picture goes into, where one is wanted.
+        picture: Option<&'a str>,
+    },
     /// `trace [--picture FILE] [FILE]..`: what is missing of traces.
     Trace {
         /// The names of files and of folders.
@@ -30,15 +33,20 @@ pub enum WhyWords<'a> {
     },
 }
 
-/// What the words from `steps` on ask for: nothing more.
+/// What the words from `steps` on ask for.
 fn steps_words<'a>(alloc: Global, words: &'a [String]) -> Result<WhyWords<'a>, WhyFault>
     ensures { Finds steps_command steps_in (map string_bytes words.entry.now) result }
 {
-    let _found = match parse(steps_command(alloc), words) {
-        Ok(found) => found,
+    let Ok(command) = steps_command(alloc) else {
+        return Err(WhyFault::OutOfMemory);
+    };
+    let matches = match parse(command, words) {
+        Ok(matches) => matches,
         Err(fault) => return Err(fault),
     };
-    Ok(WhyWords::Steps)
+    Ok(WhyWords::Steps {
+        picture: given(&matches, "picture"),
+    })
 }
 
 /// What the words from `trace` on ask for.

@@ -16,4 +16,4 @@ returns c =
     let b = rect (ground c.args.height) (codes "#ffffff") in
     let title = label (record { x = 8; y = 20 }) (codes " font-size='14' font-weight='bold'") c.args.title.now in
     let t0 = c.args.text.now.items in
-    behind t0 t3 t4 (a ++ b ++ title) keys (behind t0 t2 t3 (a ++ b) title (behind t0 t1 t2 a b c.in_ok-push_front.ensures c.in_ok-push_rect.ensures) c.in_ok-push_label.ensures) c.in_ok-push_keys.ensures
+    behind t0 t3 t4 (a ++ b ++ title) (keys c.args.filters) (behind t0 t2 t3 (a ++ b) title (behind t0 t1 t2 a b c.in_ok-push_front.ensures c.in_ok-push_rect.ensures) c.in_ok-push_label.ensures) c.in_ok-push_keys.ensures
