@@ -10,3 +10,4 @@ pub mod Conf
 pub mod Limits
 pub mod Cutting
 pub mod Bytes
+pub mod Claim

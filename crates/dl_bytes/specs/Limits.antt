@@ -15,6 +15,10 @@ args_limit = 255
 abbrev pub text_limit : ℕ
 text_limit = 255
 
+-- the most bytes of the description of a context that a writer claims
+abbrev pub claim_text_limit : ℕ
+claim_text_limit = 48
+
 -- the most bytes of a log message that the daemon takes
 abbrev pub frame_limit : ℕ
 frame_limit = 1984

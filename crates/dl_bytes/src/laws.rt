@@ -4,9 +4,9 @@ ghost use Rattle.std.specs.Prelude.{◌≡◌};
 ghost use Rattle.dl_bytes.specs.Limits as limit;
 
 use crate::limits::{
-    ADMITTED_LIMIT, APP_LIMIT, ARGS_LIMIT, CALL_LIMIT, CLIENT_LIMIT, CONTEXT_LIMIT, FRAME_LIMIT,
-    INJECTION_LIMIT, LAST_VERSION, MESSAGE_LIMIT, OPEN_CLIENT_LIMIT, PAYLOAD_LIMIT, REQUEST_LIMIT,
-    RING_LIMIT, TEXT_LIMIT, WRITER_CALL_LIMIT, WRITER_LIMIT,
+    ADMITTED_LIMIT, APP_LIMIT, ARGS_LIMIT, CALL_LIMIT, CLAIM_TEXT_LIMIT, CLIENT_LIMIT,
+    CONTEXT_LIMIT, FRAME_LIMIT, INJECTION_LIMIT, LAST_VERSION, MESSAGE_LIMIT, OPEN_CLIENT_LIMIT,
+    PAYLOAD_LIMIT, REQUEST_LIMIT, RING_LIMIT, TEXT_LIMIT, WRITER_CALL_LIMIT, WRITER_LIMIT,
 };
 
 /// The constants are the limits that the definitions name.
@@ -15,6 +15,7 @@ pub fn constants_are_the_limits()
     ensures app { APP_LIMIT ≡ limit.app_limit }
     ensures args { ARGS_LIMIT ≡ limit.args_limit }
     ensures call { CALL_LIMIT ≡ limit.call_limit }
+    ensures claim_text { CLAIM_TEXT_LIMIT ≡ limit.claim_text_limit }
     ensures client { CLIENT_LIMIT ≡ limit.client_limit }
     ensures context { CONTEXT_LIMIT ≡ limit.context_limit }
     ensures frame { FRAME_LIMIT ≡ limit.frame_limit }

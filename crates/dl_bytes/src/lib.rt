@@ -2,6 +2,7 @@
 #![tactic(auto)]
 
 mod buffer;
+mod claim;
 mod conf;
 mod context;
 mod cursor;
@@ -19,6 +20,7 @@ mod payload;
 mod user;
 
 pub use buffer::Buffer;
+pub use claim::{Claim, ClaimText};
 pub use conf::{AppSpec, Conf, DIRECTORY_LIMIT, Stored, StoredLevel};
 pub use context::Ctx;
 pub use cursor::{Cursor, Order};
@@ -28,9 +30,9 @@ pub use id::{Id, IdFault};
 pub use item::{Injection, Item};
 pub use level::{Level, OwnLevel, Severity};
 pub use limits::{
-    ADMITTED_LIMIT, APP_LIMIT, ARGS_LIMIT, CALL_LIMIT, CLIENT_LIMIT, CONTEXT_LIMIT, FRAME_LIMIT,
-    INJECTION_LIMIT, LAST_VERSION, MESSAGE_LIMIT, OPEN_CLIENT_LIMIT, PAYLOAD_LIMIT, REQUEST_LIMIT,
-    RING_LIMIT, TEXT_LIMIT, WRITER_CALL_LIMIT, WRITER_LIMIT,
+    ADMITTED_LIMIT, APP_LIMIT, ARGS_LIMIT, CALL_LIMIT, CLAIM_TEXT_LIMIT, CLIENT_LIMIT,
+    CONTEXT_LIMIT, FRAME_LIMIT, INJECTION_LIMIT, LAST_VERSION, MESSAGE_LIMIT, OPEN_CLIENT_LIMIT,
+    PAYLOAD_LIMIT, REQUEST_LIMIT, RING_LIMIT, TEXT_LIMIT, WRITER_CALL_LIMIT, WRITER_LIMIT,
 };
 pub use list::{Bytes, Sequence};
 pub use moment::Moment;

@@ -9,6 +9,9 @@ pub const ARGS_LIMIT: u8 = 255;
 /// The most bytes of the description of an application or a context.
 pub const TEXT_LIMIT: usize = 255;
 
+/// The most bytes of the description of a context that a writer claims.
+pub const CLAIM_TEXT_LIMIT: usize = 48;
+
 /// The most bytes of an admitted message.
 pub const FRAME_LIMIT: usize = 1984;
 

@@ -9,18 +9,19 @@ use Rattle.std.proofs.lemmas.List.{append-nil}
 use Rattle.std.proofs.lemmas.List.Folds.{list_any-append}
 use Rattle.dl_bytes.specs.declared.outcome.Done.{Done}
 use Rattle.dl_script_lines.specs.declared.line.CallLine.{CallLine}
+use Rattle.dl_script_lines.specs.declared.line.ClaimLine.{ClaimLine}
 use Rattle.dl_script_lines.specs.declared.step.Step.{Step}
 use Rattle.dl_script_lines.specs.declared.step.Step.TheVariants as line
 use Rattle.dl_model.specs.Along.{last_that}
 use Rattle.dl_model.specs.Setting.{Setting}
 use Rattle.dl_model.specs.Marks.{Call, Mark, Counted, Passed, Queued, Refused, app_of_writer, is_counted_of, is_full, is_step_of, number_of, passed, pending, refused, to_count, to_push}
-use Rattle.dl_model.specs.Steps.{Act, act_of, begin_call, count, finish, for_some, in_sequence, just, load, on_app, push, take_log, whole_call}
+use Rattle.dl_model.specs.Steps.{Act, act_of, announce, announce_all, begin_call, claim, count, finish, for_some, in_sequence, just, load, on_app, push, take_log, whole_call}
 use Rattle.dl_laws.proofs.Lists.{last_that-one}
 use Rattle.dl_laws.proofs.Founded.{last_step, passed_is, refused_is}
 use Rattle.dl_promises.proofs.Relations.{AreAll, holds_on, second_part}
 use Rattle.dl_call_lines.specs.Lines.{StepAt}
 use Rattle.dl_call_lines.specs.Noted.{has_counted, is_counted_by, is_refused, is_refused_next, lost_behind_count, next_lost}
-use Rattle.dl_call_lines.specs.Told.{begins, counts, pushes, told_in, told_loaded, told_refused}
+use Rattle.dl_call_lines.specs.Told.{counts, finishes, pushes, told_in, told_loaded, told_refused}
 use Rattle.dl_call_lines.proofs.Silent.{NoLoss, NoStep, TakesNone, line_silent, line_still}
 use Rattle.dl_call_lines.proofs.Telling.{declared, pending_more, still, told}
 use Rattle.dl_call_lines.proofs.Walks.{counts_own, pushes_own}
@@ -180,29 +181,51 @@ module _ (setting : Setting) (answers : List Done) (writer : ℕ) (apid : List �
       let takes : Act = λ d. for_some (app_of_writer call.writer d) (λ id. on_app id (take_log setting)) d in
       more (whole_call setting call done) (in_sequence (takes ∷ []) (done ++ whole_call setting call done)) (in_whole P more call done holds)
 
+  -- and of a line that claims or announces for it
+  in_claimed : (P : List Mark → Type 0) → GoesOn P → (asked : ClaimLine) (done : List Mark) → P (finish asked.writer done) → P (act_of setting answers (line.Claim asked) done)
+  in_claimed P more asked done holds = more (finish asked.writer done) (in_sequence (claim asked ∷ []) (done ++ finish asked.writer done)) holds
+
+  in_announced : (P : List Mark → Type 0) → GoesOn P → (other : ℕ) (done : List Mark) → P (finish other done) → P (act_of setting answers (line.Announce other) done)
+  in_announced P more other done holds = more (finish other done) (in_sequence (announce other ∷ []) (done ++ finish other done)) holds
+
+  in_registered : (P : List Mark → Type 0) → GoesOn P → (asked : ClaimLine) (done : List Mark) → P (finish asked.writer done) → P (act_of setting answers (line.Register asked) done)
+  in_registered P more asked done holds = more (finish asked.writer done) (in_sequence (claim asked ∷ announce_all asked.writer ∷ []) (done ++ finish asked.writer done)) holds
+
   -- a line counts the call that was refused, or moves no call of the writer
   abbrev Counts : Bool → Call → Step → List Mark → Type 0
   Counts test c step done =
       ((test ≡ true) × Has (Counted c) (act_of setting answers step done) × TakesNone step)
       ⊎ ((test ≡ false) × AreAll (NoStep writer) done (act_of setting answers step done))
 
-  finishes : (other : ℕ) (done : List Mark) (c : Call) → eqb other writer ≡ true → to_count writer done ≡ Some c → Has (Counted c) (finish other done)
-  finishes other done c same opened =
+  is_finished : (other : ℕ) (done : List Mark) (c : Call) → eqb other writer ≡ true → to_count writer done ≡ Some c → Has (Counted c) (finish other done)
+  is_finished other done c same opened =
       first (Counted c) (finish other done) [] (finish_is other done c (subst (λ (w : ℕ). to_count w done ≡ Some c) (sym (same_writer other writer same)) opened))
 
-  refused_line : (step : Step) (done : List Mark) (c : Call) → to_count writer done ≡ Some c → Counts (begins writer step || counts writer step) c step done
+  refused_line : (step : Step) (done : List Mark) (c : Call) → to_count writer done ≡ Some c → Counts (finishes writer step || counts writer step) c step done
   refused_line (line.Load call) done c opened = by_test (eqb call.writer writer) refl where
     by_test : (b : Bool) → eqb call.writer writer ≡ b → Counts (b || false) c (line.Load call) done
-    by_test true same = inl (refl, in_begun (Has (Counted c)) (and_more (Counted c)) call done (finishes call.writer done c same opened), tt)
+    by_test true same = inl (refl, in_begun (Has (Counted c)) (and_more (Counted c)) call done (is_finished call.writer done c same opened), tt)
     by_test false apart = inr (refl, line_still writer setting answers (line.Load call) apart done)
   refused_line (line.Call call) done c opened = by_test (eqb call.writer writer) refl where
     by_test : (b : Bool) → eqb call.writer writer ≡ b → Counts (b || false) c (line.Call call) done
-    by_test true same = inl (refl, in_whole (Has (Counted c)) (and_more (Counted c)) call done (finishes call.writer done c same opened), tt)
+    by_test true same = inl (refl, in_whole (Has (Counted c)) (and_more (Counted c)) call done (is_finished call.writer done c same opened), tt)
     by_test false apart = inr (refl, line_still writer setting answers (line.Call call) apart done)
   refused_line (line.Log call) done c opened = by_test (eqb call.writer writer) refl where
     by_test : (b : Bool) → eqb call.writer writer ≡ b → Counts (b || false) c (line.Log call) done
-    by_test true same = inl (refl, in_log (Has (Counted c)) (and_more (Counted c)) call done (finishes call.writer done c same opened), tt)
+    by_test true same = inl (refl, in_log (Has (Counted c)) (and_more (Counted c)) call done (is_finished call.writer done c same opened), tt)
     by_test false apart = inr (refl, line_still writer setting answers (line.Log call) apart done)
+  refused_line (line.Claim asked) done c opened = by_test (eqb asked.writer writer) refl where
+    by_test : (b : Bool) → eqb asked.writer writer ≡ b → Counts (b || false) c (line.Claim asked) done
+    by_test true same = inl (refl, in_claimed (Has (Counted c)) (and_more (Counted c)) asked done (is_finished asked.writer done c same opened), tt)
+    by_test false apart = inr (refl, line_still writer setting answers (line.Claim asked) apart done)
+  refused_line (line.Announce other) done c opened = by_test (eqb other writer) refl where
+    by_test : (b : Bool) → eqb other writer ≡ b → Counts (b || false) c (line.Announce other) done
+    by_test true same = inl (refl, in_announced (Has (Counted c)) (and_more (Counted c)) other done (is_finished other done c same opened), tt)
+    by_test false apart = inr (refl, line_still writer setting answers (line.Announce other) apart done)
+  refused_line (line.Register asked) done c opened = by_test (eqb asked.writer writer) refl where
+    by_test : (b : Bool) → eqb asked.writer writer ≡ b → Counts (b || false) c (line.Register asked) done
+    by_test true same = inl (refl, in_registered (Has (Counted c)) (and_more (Counted c)) asked done (is_finished asked.writer done c same opened), tt)
+    by_test false apart = inr (refl, line_still writer setting answers (line.Register asked) apart done)
   refused_line (line.Count other) done c opened = by_test (eqb other writer) refl where
     by_test : (b : Bool) → eqb other writer ≡ b → Counts b c (line.Count other) done
     by_test true same =
@@ -252,7 +275,7 @@ module _ (setting : Setting) (answers : List Done) (writer : ℕ) (apid : List �
   finish_starts : (other : ℕ) (done : List Mark) (c : Call) → to_push other done ≡ Some c → Starts (pushed c done) (finish other done)
   finish_starts other done c opened = record { after = count other (done ++ pushed c done ∷ []) ++ []; there = finish_pushes other done c opened }
 
-  loaded_line : (step : Step) (done : List Mark) (c : Call) → to_push writer done ≡ Some c → Pushes (begins writer step) (pushes writer step) c step done
+  loaded_line : (step : Step) (done : List Mark) (c : Call) → to_push writer done ≡ Some c → Pushes (finishes writer step) (pushes writer step) c step done
   loaded_line (line.Load call) done c opened = by_test (eqb call.writer writer) refl where
     by_test : (b : Bool) → eqb call.writer writer ≡ b → Pushes b false c (line.Load call) done
     by_test true same =
@@ -286,6 +309,39 @@ module _ (setting : Setting) (answers : List Done) (writer : ℕ) (apid : List �
           tt,
         )
     by_test false apart = inr (refl, inr (refl, line_still writer setting answers (line.Log call) apart done))
+  loaded_line (line.Claim asked) done c opened = by_test (eqb asked.writer writer) refl where
+    by_test : (b : Bool) → eqb asked.writer writer ≡ b → Pushes b false c (line.Claim asked) done
+    by_test true same =
+        let open_so = opened_by asked.writer done c same opened in
+        inl (
+          refl,
+          in_claimed (Starts (pushed c done)) (start_more (pushed c done)) asked done (finish_starts asked.writer done c open_so),
+          (λ full. in_claimed (Has (Counted c)) (and_more (Counted c)) asked done (finish_counts asked.writer done c open_so full)),
+          tt,
+        )
+    by_test false apart = inr (refl, inr (refl, line_still writer setting answers (line.Claim asked) apart done))
+  loaded_line (line.Announce other) done c opened = by_test (eqb other writer) refl where
+    by_test : (b : Bool) → eqb other writer ≡ b → Pushes b false c (line.Announce other) done
+    by_test true same =
+        let open_so = opened_by other done c same opened in
+        inl (
+          refl,
+          in_announced (Starts (pushed c done)) (start_more (pushed c done)) other done (finish_starts other done c open_so),
+          (λ full. in_announced (Has (Counted c)) (and_more (Counted c)) other done (finish_counts other done c open_so full)),
+          tt,
+        )
+    by_test false apart = inr (refl, inr (refl, line_still writer setting answers (line.Announce other) apart done))
+  loaded_line (line.Register asked) done c opened = by_test (eqb asked.writer writer) refl where
+    by_test : (b : Bool) → eqb asked.writer writer ≡ b → Pushes b false c (line.Register asked) done
+    by_test true same =
+        let open_so = opened_by asked.writer done c same opened in
+        inl (
+          refl,
+          in_registered (Starts (pushed c done)) (start_more (pushed c done)) asked done (finish_starts asked.writer done c open_so),
+          (λ full. in_registered (Has (Counted c)) (and_more (Counted c)) asked done (finish_counts asked.writer done c open_so full)),
+          tt,
+        )
+    by_test false apart = inr (refl, inr (refl, line_still writer setting answers (line.Register asked) apart done))
   loaded_line (line.Push other) done c opened = inr (refl, by_test (eqb other writer) refl) where
     by_test : (b : Bool) → eqb other writer ≡ b → ((b ≡ true) × (push other done ≡ pushed c done ∷ [])) ⊎ ((b ≡ false) × AreAll (NoStep writer) done (push other done))
     by_test true same = inl (refl, push_is other done c (opened_by other done c same opened))

@@ -6,7 +6,7 @@ use Rattle.dl_events.specs.declared.event.Event.TheVariants as event
 use Rattle.dl_script_lines.specs.declared.step.Step.{Step}
 use Rattle.dl_script_lines.specs.declared.step.Step.TheVariants as line
 use Rattle.dl_model.specs.Setting.{Setting}
-use Rattle.dl_model.specs.Marks.{Call, Mark, Counted, Filtered, Noted, Passed, Queued, Refused, is_lost_of, is_step_of, number_of}
+use Rattle.dl_model.specs.Marks.{Mark, Counted, Filtered, Noted, Passed, Queued, Refused, is_lost_of, is_step_of, number_of}
 use Rattle.dl_model.specs.Steps.{act_of, take_losses}
 use Rattle.dl_promises.proofs.Relations.{Keeps, asked_for}
 use Rattle.dl_call_lines.proofs.Walks.{Suits, is_plain, line_walk, losses_walk}
@@ -71,6 +71,9 @@ MovesNone writer (line.Push other) = eqb other writer ≡ false
 MovesNone writer (line.Count other) = eqb other writer ≡ false
 MovesNone writer (line.Call call) = eqb call.writer writer ≡ false
 MovesNone writer (line.Log call) = eqb call.writer writer ≡ false
+MovesNone writer (line.Claim asked) = eqb asked.writer writer ≡ false
+MovesNone writer (line.Announce other) = eqb other writer ≡ false
+MovesNone writer (line.Register asked) = eqb asked.writer writer ≡ false
 MovesNone writer _ = Unit {0}
 
 pub line_still : (writer : ℕ) (setting : Setting) (answers : List Done) (step : Step) → MovesNone writer step → Keeps (NoStep writer) (act_of setting answers step)
@@ -82,4 +85,7 @@ line_still writer setting answers (line.Push other) so = line_walk (NoStep write
 line_still writer setting answers (line.Count other) so = line_walk (NoStep writer) (plain_no_step writer) (λ other. eqb other writer ≡ false) (step_no_step writer) setting answers (line.Count other) so
 line_still writer setting answers (line.Call call) so = line_walk (NoStep writer) (plain_no_step writer) (λ other. eqb other writer ≡ false) (step_no_step writer) setting answers (line.Call call) so
 line_still writer setting answers (line.Log call) so = line_walk (NoStep writer) (plain_no_step writer) (λ other. eqb other writer ≡ false) (step_no_step writer) setting answers (line.Log call) so
+line_still writer setting answers (line.Claim asked) so = line_walk (NoStep writer) (plain_no_step writer) (λ other. eqb other writer ≡ false) (step_no_step writer) setting answers (line.Claim asked) so
+line_still writer setting answers (line.Announce other) so = line_walk (NoStep writer) (plain_no_step writer) (λ other. eqb other writer ≡ false) (step_no_step writer) setting answers (line.Announce other) so
+line_still writer setting answers (line.Register asked) so = line_walk (NoStep writer) (plain_no_step writer) (λ other. eqb other writer ≡ false) (step_no_step writer) setting answers (line.Register asked) so
 line_still writer setting answers step so = line_walk (NoStep writer) (plain_no_step writer) (λ other. eqb other writer ≡ false) (step_no_step writer) setting answers step tt

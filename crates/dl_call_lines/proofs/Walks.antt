@@ -2,6 +2,7 @@
 use Rattle.std.proofs.Common.{◌≡◌, ℕ, ◌+◌, Bool, true, false, cond, eqb, ltb, List, [], ◌∷◌, ◌++◌, Option, Some, None, refl, subst, arith}
 use Rattle.std.proofs.lemmas.Bool.Decides.{nat_tests}
 use Rattle.std.specs.Prelude.{map, count_by, slice_get, take, unwrap_or, is_some, negsuc, reverse, ◌&&◌, ◌%◌}
+use Rattle.dl_bytes.specs.Claim.{Claimed}
 use Rattle.dl_bytes.specs.Limits.{message_limit}
 use Rattle.dl_bytes.specs.Level.{passes}
 use Rattle.dl_bytes.specs.declared.outcome.Done.{Done}
@@ -15,6 +16,7 @@ use Rattle.dl_events.specs.declared.event.Event.TheVariants as event
 use Rattle.dl_events.specs.declared.event.Why.{Why}
 use Rattle.dl_events.specs.declared.event.Why.TheVariants as why
 use Rattle.dl_script_lines.specs.declared.line.CallLine.{CallLine}
+use Rattle.dl_script_lines.specs.declared.line.ClaimLine.{ClaimLine}
 use Rattle.dl_script_lines.specs.declared.step.LevelEvents.TheVariants as levels
 use Rattle.dl_script_lines.specs.declared.step.Step.{Step}
 use Rattle.dl_script_lines.specs.declared.step.Step.TheVariants as line
@@ -24,11 +26,11 @@ use Rattle.dl_model.specs.Reply.{Need, Nothing, Folder, Queue}
 use Rattle.dl_model.specs.Along.{last_that}
 use Rattle.dl_model.specs.Registry.{slot_of}
 use Rattle.dl_model.specs.Journal.{slots_of, is_connect, is_close, is_request_of, need_after}
-use Rattle.dl_model.specs.Marks.{Call, Mark, HasApp, HasContext, HasWriter, Filtered, Passed, Queued, Refused, Counted, Noted, Clocked, LevelsWait, Fed, Heard, Answered, Injected, Handed, calls_of, passed_of, passed, refused, is_step_of, place_of, journal, number_of, app_of_writer, to_push, to_count, queued, taken, is_full, is_later, pending, moment_at, moment, is_answer, injections, fed}
-use Rattle.dl_model.specs.Steps.{Act, in_sequence, just, for_some, when, changes, level_noted, note_levels, note_levels_now, note, loaded, load, push, count, finish, begin_call, whole_call, take_log, take_losses, is_open, close, close_malformed, connect, served, request_now, ask, new_requests, receive, new_messages, tell, hear, take_injection, on_app, act_of}
+use Rattle.dl_model.specs.Marks.{Call, Mark, HasApp, HasContext, HasWriter, Filtered, Passed, Queued, Refused, Counted, HasClaim, Announced, HeldBack, Noted, Clocked, LevelsWait, Fed, Heard, Answered, Injected, Handed, calls_of, passed_of, passed, refused, is_step_of, named_place, journal, number_of, app_of_writer, to_push, to_count, to_announce, unannounced, Pushed, OfCall, OfClaim, pushes, taken, is_full, is_later, pending, moment_at, moment, is_answer, injections, fed}
+use Rattle.dl_model.specs.Steps.{Act, in_sequence, just, for_some, when, changes, level_noted, note_levels, note_levels_now, note, loaded, load, push, count, finish, begin_call, whole_call, claim_made, claim, announce, announce_all, event_taken, take_log, take_losses, is_open, close, close_malformed, connect, served, request_now, ask, new_requests, receive, new_messages, tell, hear, take_injection, on_app, act_of}
 use Rattle.dl_laws.proofs.Lists.{find-passes}
 use Rattle.dl_laws.proofs.Founded.{last_step, passed_is, refused_is}
-use Rattle.dl_promises.proofs.Relations.{AreAll, Keeps, turns, each, and_one, asked_for, where_so}
+use Rattle.dl_promises.proofs.Relations.{AreAll, Keeps, turns, each, and_one, asked_for, where_so, announced}
 
 -- a mark that is neither a step of a call nor a Lost event
 abbrev pub is_plain : Mark → Bool
@@ -72,11 +74,11 @@ loaded_writer setting call done c e = by_writer (app_of_writer call.writer done)
   by_place apid app None e = absurd cc
   by_place apid app (Some place) e = subst (λ (x : Call). x.item.writer ≡ call.writer) (some_call (made apid app place) c e) refl
 
-  by_app : (apid : List ℕ) (o : Option ℕ) → (o >>= λ app. place_of apid call.ctid done >>= λ place. Some (made apid app place)) ≡ Some c → c.item.writer ≡ call.writer
+  by_app : (apid : List ℕ) (o : Option ℕ) → (o >>= λ app. named_place call.writer apid call.ctid done >>= λ place. Some (made apid app place)) ≡ Some c → c.item.writer ≡ call.writer
   by_app apid None e = absurd cc
-  by_app apid (Some app) e = by_place apid app (place_of apid call.ctid done) e
+  by_app apid (Some app) e = by_place apid app (named_place call.writer apid call.ctid done) e
 
-  by_writer : (o : Option (List ℕ)) → (o >>= λ apid. number_of apid done >>= λ app. place_of apid call.ctid done >>= λ place. Some (made apid app place)) ≡ Some c → c.item.writer ≡ call.writer
+  by_writer : (o : Option (List ℕ)) → (o >>= λ apid. number_of apid done >>= λ app. named_place call.writer apid call.ctid done >>= λ place. Some (made apid app place)) ≡ Some c → c.item.writer ≡ call.writer
   by_writer None e = absurd cc
   by_writer (Some apid) e = by_app apid (number_of apid done) e
 
@@ -99,6 +101,9 @@ Suits suits (line.Push writer) = suits writer
 Suits suits (line.Count writer) = suits writer
 Suits suits (line.Call call) = suits call.writer
 Suits suits (line.Log call) = suits call.writer
+Suits suits (line.Claim asked) = suits asked.writer
+Suits suits (line.Announce writer) = suits writer
+Suits suits (line.Register asked) = suits asked.writer
 Suits suits (line.Losses apid) = ⊥
 Suits suits _ = Unit {0}
 
@@ -149,10 +154,25 @@ module _ (R : List Mark → Mark → Type 0) (plain : (done : List Mark) (mark :
   whole_walk : (setting : Setting) (call : CallLine) → suits call.writer → Keeps R (whole_call setting call)
   whole_walk setting call so = turns R (begin_call setting call ∷ finish call.writer ∷ []) (begin_walk setting call so, (finish_walk call.writer so, tt))
 
+  claim_walk : (asked : ClaimLine) → Keeps R (claim asked)
+  claim_walk asked done = asked_for R (claim_made asked done) (λ c. just (HasClaim c)) done (λ c e. (plain done (HasClaim c) refl, tt))
+
+  announce_walk : (writer : ℕ) → Keeps R (announce writer)
+  announce_walk writer done =
+      asked_for R (to_announce writer done) (λ c. just (cond (is_full c.app done) (HeldBack c) (Announced c))) done (λ c e. (by_test c (is_full c.app done), tt)) where
+        by_test : (c : Claimed) (b : Bool) → R done (cond b (HeldBack c) (Announced c))
+        by_test c true = plain done (HeldBack c) refl
+        by_test c false = plain done (Announced c) refl
+
+  announce_all_walk : (writer : ℕ) → Keeps R (announce_all writer)
+  announce_all_walk writer done = announced R writer (announce_walk writer) (unannounced writer done) done
+
   take_log_walk : (setting : Setting) (app : ℕ) → Keeps R (take_log setting app)
   take_log_walk setting app done =
-      asked_for R (slice_get (queued app done) (taken app done)) (λ c. note setting (λ now. event.Log app c.item.writer c.item.call (moment now))) done
-      (λ c e. note_walk setting (λ now. event.Log app c.item.writer c.item.call (moment now)) (λ d. plain d (Noted (event.Log app c.item.writer c.item.call (moment d))) refl) done)
+      asked_for R (slice_get (pushes app done) (taken app done)) (λ what. note setting (event_taken app what)) done (λ what e. note_walk setting (event_taken app what) (is_so what) done) where
+        is_so : (what : Pushed) (d : List Mark) → R d (Noted (event_taken app what d))
+        is_so (OfCall c) d = plain d (Noted (event_taken app (OfCall c) d)) refl
+        is_so (OfClaim c) d = plain d (Noted (event_taken app (OfClaim c) d)) refl
 
   pub losses_walk : (setting : Setting) (app : ℕ) → ((done : List Mark) → R done (Noted (event.Lost app (pending app done) (moment done)))) → Keeps R (take_losses setting app)
   losses_walk setting app so done =
@@ -237,6 +257,10 @@ module _ (R : List Mark → Mark → Type 0) (plain : (done : List Mark) (mark :
           tt,
         ),
       )
+  line_walk setting answers (line.Claim asked) so = turns R (finish asked.writer ∷ claim asked ∷ []) (finish_walk asked.writer so, (claim_walk asked, tt))
+  line_walk setting answers (line.Announce writer) so = turns R (finish writer ∷ announce writer ∷ []) (finish_walk writer so, (announce_walk writer, tt))
+  line_walk setting answers (line.Register asked) so =
+      turns R (finish asked.writer ∷ claim asked ∷ announce_all asked.writer ∷ []) (finish_walk asked.writer so, (claim_walk asked, (announce_all_walk asked.writer, tt)))
   line_walk setting answers (line.Take apid) so = on_app_walk apid (take_log setting) (take_log_walk setting)
   line_walk setting answers (line.Losses apid) so = absurd so
   line_walk setting answers (line.Levels levels.Later) so = λ d. (plain d (LevelsWait true) refl, tt)

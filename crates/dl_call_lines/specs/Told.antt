@@ -9,12 +9,15 @@ use Rattle.dl_call_lines.specs.Lines.{StepAt}
 
 -- ---- what a step is for a writer, and for an application
 
--- it begins a call of the writer; the open one is finished first
-abbrev pub begins : ℕ → Step → Bool
-begins writer (step.Load call) = call.writer == writer
-begins writer (step.Call call) = call.writer == writer
-begins writer (step.Log call) = call.writer == writer
-begins writer _ = false
+-- it finishes the writer's open call first: it begins the writer's next one, or claims or announces for it
+abbrev pub finishes : ℕ → Step → Bool
+finishes writer (step.Load call) = call.writer == writer
+finishes writer (step.Call call) = call.writer == writer
+finishes writer (step.Log call) = call.writer == writer
+finishes writer (step.Claim asked) = asked.writer == writer
+finishes writer (step.Announce other) = other == writer
+finishes writer (step.Register asked) = asked.writer == writer
+finishes writer _ = false
 
 -- it pushes the writer's open call
 abbrev pub pushes : ℕ → Step → Bool
@@ -54,15 +57,15 @@ told_in apid (at ∷ steps) = if takes_losses apid at.step then Some at.line els
 abbrev pub told_counted : Option (List ℕ) → List StepAt → Option ℕ
 told_counted owner steps = option_and_then (λ apid. told_in apid steps) owner
 
--- a call that was refused: the writer's `count`, or its next call, counts it
+-- a call that was refused: the writer's `count` counts it, or its next line that finishes it
 abbrev pub told_refused : Option (List ℕ) → ℕ → List StepAt → Option ℕ
 told_refused owner writer [] = None
-told_refused owner writer (at ∷ steps) = if begins writer at.step || counts writer at.step then told_counted owner steps else told_refused owner writer steps
+told_refused owner writer (at ∷ steps) = if finishes writer at.step || counts writer at.step then told_counted owner steps else told_refused owner writer steps
 
--- a call that was loaded: the writer's `push`, or its next call, which also counts it, pushes it
+-- a call that was loaded: the writer's `push` pushes it, or its next line that finishes it, which also counts it
 abbrev pub told_loaded : Option (List ℕ) → ℕ → List StepAt → Option ℕ
 told_loaded owner writer [] = None
 told_loaded owner writer (at ∷ steps) =
-    if begins writer at.step then told_counted owner steps
+    if finishes writer at.step then told_counted owner steps
     else if pushes writer at.step then told_refused owner writer steps
     else told_loaded owner writer steps

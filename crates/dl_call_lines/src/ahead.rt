@@ -5,7 +5,7 @@ ghost use Rattle.std.specs.HashMap as hash;
 ghost use Rattle.std.specs.Option.{option_map_or, option_and_then};
 ghost use Rattle.std.specs.Str.{bytes_eq};
 ghost use Rattle.dl_call_lines.specs.Lines.{StepAt};
-ghost use Rattle.dl_call_lines.specs.Told.{begins, counts};
+ghost use Rattle.dl_call_lines.specs.Told.{counts, finishes, pushes};
 ghost use Rattle.dl_call_lines.specs.Ahead.{Foretells, KeepsLoaded, KeepsLosses, KeepsRefused, line_at};
 ghost use Rattle.dl_call_lines.specs.declared.ahead.WriterName.{WriterName};
 
@@ -33,14 +33,25 @@ pub struct Ahead {
     pub loaded: HashMap<WriterName, Option<u64>>,
 }
 
-/// The writer whose refused call a step counts: by a `count`, or by its next call.
-fn counted_by(step: &Step) -> Option<u8>
-    ensures { (writer : ℕ) → (begins writer step.now || counts writer step.now) ≡ option_map_or (λ other. other == writer) result false }
+/// The writer whose open call a step finishes: by its next call, or by a line that claims or announces for it.
+fn finished_by(step: &Step) -> Option<u8>
+    ensures { (writer : ℕ) → finishes writer step.now ≡ option_map_or (λ other. other == writer) result false }
 {
     match step {
         Step::Load(call) | Step::Call(call) | Step::Log(call) => Some(call.writer),
-        Step::Count { writer } => Some(*writer),
+        Step::Claim(asked) | Step::Register(asked) => Some(asked.writer),
+        Step::Announce { writer } => Some(*writer),
         _ => None,
+    }
+}
+
+/// The writer whose refused call a step counts: by a `count`, or as it finishes the call.
+fn counted_by(step: &Step) -> Option<u8>
+    ensures { (writer : ℕ) → (finishes writer step.now || counts writer step.now) ≡ option_map_or (λ other. other == writer) result false }
+{
+    match step {
+        Step::Count { writer } => Some(*writer),
+        _ => finished_by(step),
     }
 }
 
@@ -104,6 +115,20 @@ fn note_refused(
     }
 }
 
+/// Notes a line that pushes the loaded call of a writer.
+fn note_pushed(
+    loaded: &mut HashMap<WriterName, Option<u64>>,
+    refused: &HashMap<WriterName, Option<u64>>,
+    step: &Step,
+) -> Result<(), OutOfMemory>
+    ensures { OnOk result ((other : WriterName) → line_at loaded.new other ≡ (if pushes other.number step.now then line_at refused.now other else line_at loaded.old other)) }
+{
+    match step {
+        Step::Push { writer } => keep(loaded, *writer, line_at(refused, *writer)),
+        _ => Ok(()),
+    }
+}
+
 /// Notes a line that pushes the loaded call of a writer, or finishes it.
 fn note_loaded(
     loaded: &mut HashMap<WriterName, Option<u64>>,
@@ -115,13 +140,13 @@ fn note_loaded(
     ensures { (line : ℕ) (steps : List StepAt) → KeepsLosses losses.now steps → KeepsRefused owners.now refused.now steps → KeepsLoaded owners.now loaded.old steps
         → OnOk result (KeepsLoaded owners.now loaded.new (record { line = line; step = step.now } ∷ steps)) }
 {
-    match step {
-        Step::Load(call) | Step::Call(call) | Step::Log(call) => {
-            let told = told_counted(losses, owner_of(owners, call.writer));
-            keep(loaded, call.writer, told)
-        }
-        Step::Push { writer } => keep(loaded, *writer, line_at(refused, *writer)),
-        _ => Ok(()),
+    match finished_by(step) {
+        Some(writer) => keep(
+            loaded,
+            writer,
+            told_counted(losses, owner_of(owners, writer)),
+        ),
+        None => note_pushed(loaded, refused, step),
     }
 }
 

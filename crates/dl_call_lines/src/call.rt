@@ -54,7 +54,7 @@ fn push_call(calls: &mut Vec<CallAt>, call: Option<CallAt>) -> Result<(), OutOfM
 }
 
 /// The number of the line at a place.
-fn number_at(numbers: &[u64], place: usize) -> u64
+pub fn number_at(numbers: &[u64], place: usize) -> u64
     requires { place < length numbers.now }
     ensures { result ≡ get_or numbers.now place 0 }
 {
@@ -62,7 +62,7 @@ fn number_at(numbers: &[u64], place: usize) -> u64
 }
 
 /// How many lines say a step.
-fn count_of(numbers: &[u64], steps: &[Step]) -> usize
+pub fn count_of(numbers: &[u64], steps: &[Step]) -> usize
     ensures { result ≡ min (length numbers.now) (length steps.now) }
 {
     numbers.len().min(steps.len())

@@ -24,6 +24,7 @@ answers_one : (source : FrameSource) (client : ℕ) (before : List Event) (e : E
 answers_one source client before (event.Log app writer call moment) = none_admitted client (frames_of source (event.Log app writer call moment))
 answers_one source client before (event.Lost app count moment) = none_admitted client (frames_of source (event.Lost app count moment))
 answers_one source client before (event.User channel msg moment) = none_admitted client (frames_of source (event.User channel msg moment))
+answers_one source client before (event.Claim claim moment) = none_admitted client (frames_of source (event.Claim claim moment))
 answers_one source client before (event.Level slot level) = none_admitted client (frames_of source (event.Level slot level))
 answers_one source client before (event.Connect other) = refl
 answers_one source client before (event.Request other frame done) =

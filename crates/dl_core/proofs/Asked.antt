@@ -1,12 +1,10 @@
--- Requests by their kind: what they owe, what their replies are, and where their ids stand.
+-- Requests by their kind: what their replies are, and where their ids stand.
 use Rattle.std.proofs.Common.{◌≡◌, ℕ, suc, ◌+◌, ◌≤◌, Bool, true, false, cond, eqb, List, [], ◌∷◌, ◌++◌, length, take, drop, Option, Some, None, Result, Ok, Err, refl, sym, ap, subst, ◌∙◌, append_assoc, length-append, is_some, arith}
 use Rattle.std.specs.Prelude.{◌<◌, ◌||◌, not, unwrap_or, IfOk, IfSome, OnErr, if◌then◌else◌}
-use Rattle.std.specs.List.{cons_option, filter_map}
-use Rattle.std.specs.Option.{option_map, option_and_then, option_or}
+use Rattle.std.specs.Option.{option_map, option_and_then}
 use Rattle.std.specs.Result.{result_ok}
 use Rattle.std.proofs.lemmas.Bool.{ltb-false}
 use Rattle.std.proofs.lemmas.List.{take_at, drop_at}
-use Rattle.std.proofs.lemmas.List.FromFn.{length-range_with_len}
 use Rattle.byteorder.specs.Endian.{big_bytes}
 use Rattle.dl_bytes.specs.Htyp.{htyp_of, standard_len}
 use Rattle.dl_bytes.specs.declared.outcome.Done.{Done}
@@ -20,23 +18,21 @@ use Rattle.dl_headers.specs.declared.header.Standard.{Standard}
 use Rattle.dl_headers.specs.declared.header.Extended.{Extended}
 use Rattle.dl_headers.specs.Header.{standard_header, extended_header, optional, IsStandard, IsExtended}
 use Rattle.dl_headers.specs.Message.{Message, IsMessage}
-use Rattle.dl_model.specs.declared.registry.LevelChange.{LevelChange}
 use Rattle.dl_model.specs.declared.registry.Slot.{Slot}
-use Rattle.dl_model.specs.Registry.{Registry, all_slots, app_of, change_at, context_of, first_change, matching, reset}
+use Rattle.dl_model.specs.Registry.{Registry, app_of, context_of, matching, reset}
 use Rattle.dl_model.specs.Traffic as traffic
 use Rattle.dl_hub.specs.Follows as hub
 use Rattle.dl_hub.specs.State.{Hub}
 use Rattle.dl_control.specs.Reply.{control_reply}
-use Rattle.dl_model.specs.Reply.{apid_of, asked, bare, ctid_of, info_body, info_reply, inject_status, is_too_long, now_stored, reply_to, reset_status, served, where_done}
+use Rattle.dl_model.specs.Reply.{apid_of, asked, bare, ctid_of, info_body, info_reply, inject_status, is_too_long, reply_to, reset_status, served, where_done}
 use Rattle.dl_model.specs.Setting.{Setting}
-use Rattle.dl_registry.specs.Kept.{Kept, slots, owed_change, with_registry}
+use Rattle.dl_registry.specs.Kept.{Kept, slots}
 use Rattle.dl_services.specs.Service.{Replies, HasBody}
 use Rattle.dl_services.specs.Wish.{wanted}
 use Rattle.dl_services.specs.declared.wish.Want.TheVariants as want
-use Rattle.dl_core.specs.Serving.{has_body, changes_of, reply_now}
+use Rattle.dl_core.specs.Serving.{has_body, reply_now}
 use Rattle.dl_core.specs.Settings.{seen}
 use Rattle.dl_core.specs.State.{Core}
-use Rattle.dl_core.specs.Waiting.{waiting}
 
 -- ---- what a request sees of the configuration
 
@@ -100,61 +96,6 @@ body_same setting slots registry apid ctid (Ok (SetLogLevel app context level)) 
 body_same setting slots registry apid ctid (Ok (SetDefault level)) one other is = absurd (cc is)
 body_same setting slots registry apid ctid (Ok (Other service)) one other is = absurd (cc is)
 body_same setting slots registry apid ctid (Err fault) one other is = absurd (cc is)
-
--- ---- how many Level events it owes
-
--- at most one for each slot
-one_longer : (o : Option LevelChange) (changes : List LevelChange) → length (cons_option o changes) ≤ 1 + length changes
-one_longer None changes = omega arith
-one_longer (Some x) changes = omega arith
-
-filtered_most : (owes : ℕ → Option LevelChange) (at : List ℕ) → length (filter_map owes at) ≤ length at
-filtered_most owes [] = omega arith
-filtered_most owes (slot ∷ more) = omega (arith, one_longer (owes slot) (filter_map owes more), filtered_most owes more)
-
-waiting_most : (kept : Kept) → waiting kept ≤ 1024
-unfolding waiting
-waiting_most kept =
-    let most = filtered_most (change_at (slots kept) kept.registry) all_slots in
-    let size : length all_slots ≡ 1024 = length-range_with_len 0 1024 in
-    omega (arith, most, size)
-
--- where none is owed, none waits
-none_first : (s : ℕ → Slot) (registry : Registry) (at : List ℕ) → first_change s registry at ≡ None → length (filter_map (change_at s registry) at) ≡ 0
-none_first s registry [] none = refl
-none_first s registry (slot ∷ more) none = by (change_at s registry slot) none (none_first s registry more) where
-  by : (o : Option LevelChange) → option_or o (first_change s registry more) ≡ None
-      → (first_change s registry more ≡ None → length (filter_map (change_at s registry) more) ≡ 0)
-      → length (cons_option o (filter_map (change_at s registry) more)) ≡ 0
-  by None none rest = rest none
-  by (Some change) none rest = absurd (cc none)
-
-none_waits : (kept : Kept) → owed_change kept ≡ None → waiting kept ≡ 0
-unfolding owed_change waiting
-none_waits kept none = none_first (slots kept) kept.registry all_slots none
-
--- what is stored makes no difference to it
-stored_same : (s : ℕ → Slot) (registry : Registry) (at : List ℕ) → length (filter_map (change_at s (now_stored registry)) at) ≡ length (filter_map (change_at s registry) at)
-stored_same s registry at = refl
-
-stored_waits : (kept : Kept) → waiting (with_registry kept (now_stored kept.registry)) ≡ waiting kept
-unfolding waiting
-stored_waits kept = stored_same (slots kept) kept.registry all_slots
-
-none_more : (kept : Kept) → owed_change kept ≡ None → waiting kept ≤ 0
-none_more kept none = omega (arith, none_waits kept none)
-
-pub owes_most : (setting : Setting) (kept : Kept) (request : Result Request RequestFault) (answer : Done) → owed_change kept ≡ None
-    → waiting (with_registry kept (served setting (slots kept) kept.registry request answer)) ≤ changes_of request
-owes_most setting kept (Ok (SetLogLevel apid ctid level)) answer none =
-    waiting_most (with_registry kept (served setting (slots kept) kept.registry (Ok (SetLogLevel apid ctid level)) answer))
-owes_most setting kept (Ok (SetDefault level)) answer none =
-    waiting_most (with_registry kept (served setting (slots kept) kept.registry (Ok (SetDefault level)) answer))
-owes_most setting kept (Ok Reset) answer none = waiting_most (with_registry kept (served setting (slots kept) kept.registry (Ok Reset) answer))
-owes_most setting kept (Ok Store) done.Yes none = omega (arith, stored_waits kept, none_waits kept none)
-owes_most setting kept (Ok Store) done.Failed none = none_more kept none
-owes_most setting kept (Ok Store) done.NoMemory none = none_more kept none
-owes_most setting kept _ answer none = none_more kept none
 
 -- ---- the ids of a request's message
 

@@ -1,32 +1,36 @@
--- How many Level events wait: one fewer after each that is noted, and at most one after a user message.
-use Rattle.std.proofs.Common.{◌≡◌, ◌≢◌, ◌⊎◌, inl, inr, ℕ, zero, suc, ◌+◌, ◌/◌, ◌%◌, ◌<◌, ◌≤◌, Bool, true, false, not, cond, leb-false, List, [], ◌∷◌, ◌++◌, length, Option, Some, None, Result, Ok, Err, IfOk, refl, sym, ap, subst, ◌∙◌, arith}
-use Rattle.std.specs.Prelude.{nat_eq, nat_le, ◌==◌, ◌||◌, if◌then◌else◌}
-use Rattle.std.specs.List.{AllByRecursion, IsDistinct, cons_option, filter, filter_map, range_with_len}
+-- How many Level events wait: one fewer after each that is noted, and at most one after a user message or a claim.
+use Rattle.std.proofs.Common.{◌≡◌, ◌≢◌, ◌⊎◌, inl, inr, ℕ, zero, suc, ◌+◌, ◌/◌, ◌%◌, ◌<◌, ◌≤◌, Bool, true, false, not, cond, leb-false, List, [], ◌∷◌, ◌++◌, length, Option, Some, None, Result, Ok, Err, IfOk, refl, sym, ap, subst, ◌∙◌, true≢false, arith}
+use Rattle.std.specs.Prelude.{nat_eq, nat_le, ◌==◌, ◌||◌, if◌then◌else◌, unwrap_or, IfSome}
+use Rattle.std.specs.List.{AllByRecursion, IsDistinct, cons_option, filter, filter_map, list_any, range_with_len}
 use Rattle.std.specs.Map.{lookup}
 use Rattle.std.specs.Option.{option_and_then, option_map, option_or}
 use Rattle.std.specs.Str.{bytes_eq}
 use Rattle.std.proofs.lemmas.Bool.{cases_lt}
 use Rattle.std.proofs.lemmas.Bool.Decides.{eqb_tells}
-use Rattle.std.proofs.lemmas.List.{get_or-set_same, get_or-set_other, length-map}
+use Rattle.std.proofs.lemmas.List.{get_or-set_same, get_or-set_other}
 use Rattle.std.proofs.lemmas.Map.Keys.{IsDistinct-head, IsDistinct-tail}
+use Rattle.dl_bytes.specs.Claim.{Claimed}
 use Rattle.dl_bytes.specs.Id.{zero_id}
 use Rattle.dl_bytes.specs.declared.user.UserMsg.{UserMsg}
 use Rattle.dl_bytes.specs.declared.user.UserMsg.TheVariants.{RegisterApp, UnregisterApp, RegisterContext, UnregisterContext}
-use Rattle.dl_model.specs.declared.registry.Context.{Context}
+use Rattle.dl_model.specs.declared.context.Context.{Context}
 use Rattle.dl_model.specs.declared.registry.LevelChange.{LevelChange}
 use Rattle.dl_model.specs.declared.registry.RegistryFault.{RegistryFault}
 use Rattle.dl_model.specs.declared.registry.RegistryFault.TheVariants as fault
 use Rattle.dl_model.specs.declared.registry.Slot.{Slot}
 use Rattle.dl_bytes.specs.Limits.{last_version}
-use Rattle.dl_model.specs.Registry.{App, Registry, IsInOrder, app_of, context_of, effective, least_free, numbers, places, slot_of, stored_level, with_app, with_new_app, with_context, with_new_context, without, app_registered, app_unregistered, context_registered, context_unregistered, for_app, applied, change_at, first_change, level_at}
+use Rattle.dl_model.specs.Registry.{App, Registry, IsInOrder, IsNumbered, app_of, apid_numbered, context_of, effective, is_free, least_free, numbers, places, places_of, slot_of, stored_level, with_app, with_new_app, with_context, with_new_context, without, app_registered, app_unregistered, context_registered, context_unregistered, for_app, applied, with_claim, context_claimed, claimed, change_at, first_change, level_at}
 use Rattle.dl_model.proofs.Numbered.{AllByRecursion-map_filter, least_free-le-length, least_free-is_free}
 use Rattle.dl_model.proofs.Order.{app_of_found, placed_of_found}
+use Rattle.dl_model.proofs.Placed.{Free, apart-right, free_tells, numbered-among, places-further, places-same}
 use Rattle.dl_registry.proofs.Finding.{valued, valued-absent, valued-set_value, numbers_of}
-use Rattle.dl_registry.proofs.Fitting.{level_of, level_at-found, level_at-same, level_at-one, level_at-new_app, level_of-told, level_of-new, place_of}
+use Rattle.dl_registry.proofs.Placing.{all_of, not_both, placed, placed-free}
+use Rattle.dl_registry.specs.Change.{placed_again}
+use Rattle.dl_registry.proofs.Fitting.{level_of, level_at-found, level_at-places, level_at-same, level_at-new_app, level_of-further, level_of-told, level_of-new}
 use Rattle.dl_registry.proofs.Following.{change_is_level, change_follows}
 use Rattle.dl_events.specs.declared.event.Event.TheVariants as event
 use Rattle.dl_registry.specs.Kept as registry
-use Rattle.dl_registry.specs.Kept.{Kept, Applies, slots, owed_change, with_change, with_registry}
+use Rattle.dl_registry.specs.Kept.{Kept, Applies, Claims, slots, owed_change, with_change, with_registry}
 use Rattle.dl_slots.specs.Table.{raised, unset}
 use Rattle.dl_core.specs.State.{Core}
 use Rattle.dl_core.specs.Follows.{AddsAlone}
@@ -37,7 +41,7 @@ use Rattle.dl_core.proofs.Journals.{quiet_event}
 -- ---- what waits at one slot
 
 -- the level that a slot is owed, by the level of its context
-abbrev owed_at : Slot → ℕ → Option ℕ → Option LevelChange
+abbrev pub owed_at : Slot → ℕ → Option ℕ → Option LevelChange
 owed_at held slot wanted = option_and_then (λ level. if held.level == level then None else Some (let c : LevelChange = record { slot = slot; level = level } in c)) wanted
 
 owed_where : (held : Slot) (slot : ℕ) (wanted : Option ℕ) (change : LevelChange) → owed_at held slot wanted ≡ Some change → (slot ≡ change.slot) × (wanted ≡ Some change.level)
@@ -56,7 +60,7 @@ none_owed held slot level same = elim (eqb_tells held.level level) [
 
 -- ---- what waits at some slots
 
-abbrev count : (ℕ → Option LevelChange) → ℕ → ℕ → ℕ
+abbrev pub count : (ℕ → Option LevelChange) → ℕ → ℕ → ℕ
 count owed a n = length (filter_map owed (range_with_len a n))
 
 longer : (o : Option LevelChange) (xs : List LevelChange) → o ≡ None → length (cons_option o xs) ≡ length xs
@@ -100,7 +104,7 @@ above : (m a : ℕ) → a ≤ m → m ≢ a → a + 1 ≤ m
 above m a after apart = elim (cases_lt a m) [ inl less ↦ omega (arith, less) | inr at_most ↦ absurd (apart (omega (arith, after, at_most))) ]
 
 -- where no change is found first, none waits
-none_first : (s : ℕ → Slot) (r : Registry) (a n : ℕ) → first_change s r (range_with_len a n) ≡ None → (m : ℕ) → a ≤ m → m < a + n → change_at s r m ≡ None
+pub none_first : (s : ℕ → Slot) (r : Registry) (a n : ℕ) → first_change s r (range_with_len a n) ≡ None → (m : ℕ) → a ≤ m → m < a + n → change_at s r m ≡ None
 none_first s r a zero is m after before = absurd (omega (arith, after, before))
 none_first s r a (suc n) is m after before = by (change_at s r a) refl is (λ later above. none_first s r (a + 1) n later m above (omega (arith, before))) where
   by : (o : Option LevelChange) → change_at s r a ≡ o → option_or o (first_change s r (range_with_len (a + 1) n)) ≡ None
@@ -221,6 +225,44 @@ module _ {A : Type 0} (f : A → ℕ) where
     by true rest = found (f e.1 == n) rest
     by false rest = gone rest
 
+-- the same where each has several numbers
+module _ {A : Type 0} (g : A → List ℕ) where
+  none_left : (n : ℕ) (p : List ℕ × A → Bool) (es : List (List ℕ × A)) → placed g n es ≡ None → placed g n (filter p es) ≡ None
+  none_left n p [] none = refl
+  none_left n p (e ∷ es) none = by (list_any (nat_eq n) (g e.1)) refl none (none_left n p es) where
+    by : (b : Bool) → list_any (nat_eq n) (g e.1) ≡ b → cond b (Some e.1) (placed g n es) ≡ None → (placed g n es ≡ None → placed g n (filter p es) ≡ None)
+        → placed g n (cond (p e) (e ∷ filter p es) (filter p es)) ≡ None
+    by true has none rest = absurd (cc none)
+    by false has none rest = kept (p e) (rest none) where
+      kept : (k : Bool) → placed g n (filter p es) ≡ None → placed g n (cond k (e ∷ filter p es) (filter p es)) ≡ None
+      kept true rest = ap (λ b. cond b (Some e.1) (placed g n (filter p es))) has ∙ rest
+      kept false rest = rest
+
+  placed_left : (n : ℕ) (p : List ℕ × A → Bool) (es : List (List ℕ × A)) → IsDistinct nat_eq (all_of g es) → (placed g n (filter p es) ≡ placed g n es) ⊎ (placed g n (filter p es) ≡ None)
+  placed_left n p [] apart = inl refl
+  placed_left n p (e ∷ es) apart = by (p e) (placed_left n p es (apart-right (g e.1) (all_of g es) apart)) where
+    found : (b : Bool) → (placed g n (filter p es) ≡ placed g n es) ⊎ (placed g n (filter p es) ≡ None)
+        → (cond b (Some e.1) (placed g n (filter p es)) ≡ cond b (Some e.1) (placed g n es)) ⊎ (cond b (Some e.1) (placed g n (filter p es)) ≡ None)
+    found true rest = inl refl
+    found false rest = rest
+
+    -- the number of one that goes is none of the others'
+    others : list_any (nat_eq n) (g e.1) ≡ true → placed g n es ≡ None
+    others here = at (list_any (nat_eq n) (all_of g es)) refl where
+      at : (b : Bool) → list_any (nat_eq n) (all_of g es) ≡ b → placed g n es ≡ None
+      at true there = absurd (true≢false (sym here ∙ not_both n (g e.1) (all_of g es) apart there))
+      at false free = placed-free g n es free
+
+    gone : (b : Bool) → list_any (nat_eq n) (g e.1) ≡ b → (placed g n (filter p es) ≡ placed g n es) ⊎ (placed g n (filter p es) ≡ None)
+        → (placed g n (filter p es) ≡ cond b (Some e.1) (placed g n es)) ⊎ (placed g n (filter p es) ≡ None)
+    gone true here rest = inr (none_left n p es (others here))
+    gone false other rest = rest
+
+    by : (b : Bool) → (placed g n (filter p es) ≡ placed g n es) ⊎ (placed g n (filter p es) ≡ None)
+        → (placed g n (cond b (e ∷ filter p es) (filter p es)) ≡ placed g n (e ∷ es)) ⊎ (placed g n (cond b (e ∷ filter p es) (filter p es)) ≡ None)
+    by true rest = found (list_any (nat_eq n) (g e.1)) rest
+    by false rest = gone (list_any (nat_eq n) (g e.1)) refl rest
+
 abbrev number_of : App → ℕ
 number_of app = app.number
 
@@ -242,7 +284,7 @@ context_gone r apid ctid app is found slot =
           let new : level_at (with_app r apid left) slot ≡ level_of r.level (Some left) slot =
           replaced ∙ ap (λ b. level_of r.level (cond b (Some left) (valued number_of (slot / 64) r.apps)) slot) here.0 in
           let old : level_at r slot ≡ level_of r.level (Some app) slot = level_at-found r apid app app is found refl slot here.1 in
-          elim (valued_left place_of (slot % 64) (λ e. not (bytes_eq ctid e.0)) app.contexts (placed_of_found r apid app is found).apart) [
+          elim (placed_left places_of (slot % 64) (λ e. not (bytes_eq ctid e.0)) app.contexts (placed_of_found r apid app is found).apart) [
             | inl same ↦ inl (new ∙ (ap (option_map (effective r.level)) same ∙ sym old))
             | inr none ↦ inr (new ∙ ap (option_map (effective r.level)) none)
           ]
@@ -281,34 +323,53 @@ context_leaves : (r : Registry) (apid ctid : List ℕ) (app : App) (o : Option C
 context_leaves r apid ctid app None is found = tt
 context_leaves r apid ctid app (Some context) is found = context_gone r apid ctid app is found
 
+-- one place of an application gets a level
+place_changes : (r : Registry) (apid : List ℕ) (old new : App) (place : ℕ) (level : Option ℕ) → IsInOrder r → lookup (bytes_eq apid) r.apps ≡ Some old → new.number ≡ old.number → place < 64
+    → ((slot : ℕ) → level_of r.level (Some new) slot ≡ cond (list_any (nat_eq (slot % 64)) (place ∷ [])) level (level_of r.level (Some old) slot))
+    → ChangesOne r (with_app r apid new)
+place_changes r apid old new place level is found same below levels = (
+  slot_of old.number place,
+  λ slot apart. inl (other slot apart (level_at-places r apid old new is found same (place ∷ []) level (below, tt) levels slot)),
+)
+  where
+    other : (slot : ℕ) → slot ≢ slot_of old.number place
+        → level_at (with_app r apid new) slot ≡ cond (list_any (λ n. slot == slot_of old.number n) (place ∷ [])) level (level_at r slot)
+        → level_at (with_app r apid new) slot ≡ level_at r slot
+    other slot apart is = elim (eqb_tells slot (slot_of old.number place)) [
+      | inl here ↦ absurd (apart here.1)
+      | inr apart ↦ is ∙ ap (λ b. cond (b || false) level (level_at r slot)) apart.0
+    ]
+
+-- a context comes, at a place that was free
+new_at : (r : Registry) (apid ctid : List ℕ) (app : App) (new : Context) → IsInOrder r → lookup (bytes_eq apid) r.apps ≡ Some app → new.further ≡ [] → new.place < 64
+    → list_any (nat_eq new.place) (places app.contexts) ≡ false → ChangesOne r (with_app r apid (with_new_context app ctid new))
+new_at r apid ctid app new is found alone below free =
+    place_changes r apid app (with_new_context app ctid new) new.place (Some (effective r.level new)) is found refl below (level_of-new r.level app ctid new alone free)
+
 context_comes : (s : ℕ → Slot) (r : Registry) (apid ctid : List ℕ) (position : ℕ) (own : Option ℕ) (text : List ℕ) (app : App) (o : Option Context) → context_of app ctid ≡ o → IsInOrder r → lookup (bytes_eq apid) r.apps ≡ Some app
     → IfOk (context_registered s r apid ctid position own text app o) (ChangesOne r)
 context_comes s r apid ctid position own text app (Some context) there is found =
-    one_of r (with_app r apid (with_context app ctid (record context { position = position; text = text })))
-    (stays r (with_app r apid (with_context app ctid (record context { position = position; text = text })))
-    (level_at-same r apid app (with_context app ctid (record context { position = position; text = text })) is found refl
-    (level_of-told r.level app ctid context position text (placed_of_found r apid app is found) there)))
+    one_of r (with_app r apid (with_context app ctid told))
+    (stays r (with_app r apid (with_context app ctid told))
+    (level_at-same r apid app (with_context app ctid told) is found refl
+    (level_of-told r.level app ctid context position text all
+    (subst (IsNumbered 64) (sym (places-same (bytes_eq ctid) app.contexts context told there refl)) all) there)))
+  where
+    told : Context
+    told = record context { position = position; text = text }
+
+    all : IsNumbered 64 (places app.contexts)
+    all = placed_of_found r apid app is found
 context_comes s r apid ctid position own text app None there is found =
-    ifok_if (ChangesOne r) (nat_le 64 (length app.contexts)) fault.ContextsFull _ (λ room.
-    ifok_if (ChangesOne r) ((s (slot_of app.number (least_free (places app.contexts)))).version == last_version) fault.Worn _ (λ fresh. (
-      slot_of app.number (least_free (places app.contexts)),
-      λ slot apart. inl (other slot apart (level_at-one r apid app (with_new_context app ctid new) is found refl (least_free (places app.contexts)) (Some (effective r.level new)) (below room)
-          (level_of-new r.level app ctid new (least_free-is_free (places app.contexts))) slot)),
-    )))
+    ifok_if (ChangesOne r) (nat_le 64 (length (places app.contexts))) fault.ContextsFull _ (λ room.
+    ifok_if (ChangesOne r) ((s (slot_of app.number new.place)).version == last_version) fault.Worn _ (λ fresh.
+    new_at r apid ctid app new is found refl (below room) (least_free-is_free (places app.contexts))))
   where
     new : Context
-    new = record { place = least_free (places app.contexts); own = option_or (stored_level r.stored apid ctid) own; position = position; text = text }
+    new = record { place = least_free (places app.contexts); further = []; own = option_or (stored_level r.stored apid ctid) own; position = position; text = text }
 
-    below : nat_le 64 (length app.contexts) ≡ false → least_free (places app.contexts) < 64
-    below room = omega (arith, least_free-le-length (places app.contexts), length-map app.contexts (λ (e : List ℕ × Context). e.1.place), leb-false 64 (length app.contexts) room)
-
-    other : (slot : ℕ) → slot ≢ slot_of app.number (least_free (places app.contexts))
-        → level_at (with_app r apid (with_new_context app ctid new)) slot ≡ cond (slot == slot_of app.number (least_free (places app.contexts))) (Some (effective r.level new)) (level_at r slot)
-        → level_at (with_app r apid (with_new_context app ctid new)) slot ≡ level_at r slot
-    other slot apart is = elim (eqb_tells slot (slot_of app.number (least_free (places app.contexts)))) [
-      | inl here ↦ absurd (apart here.1)
-      | inr apart ↦ is ∙ ap (λ b. cond b (Some (effective r.level new)) (level_at r slot)) apart.0
-    ]
+    below : nat_le 64 (length (places app.contexts)) ≡ false → least_free (places app.contexts) < 64
+    below room = omega (arith, least_free-le-length (places app.contexts), leb-false 64 (length (places app.contexts)) room)
 
 for_app_found : (P : Registry → Type 0) (r : Registry) (apid : List ℕ) (channel : ℕ) (o : Option App) (next : App → Result Registry RegistryFault) → app_of r channel apid ≡ o
     → ((app : App) → lookup (bytes_eq apid) r.apps ≡ Some app → IfOk (next app) P) → IfOk (for_app o next) P
@@ -326,9 +387,46 @@ applied_changes s r channel (UnregisterContext apid ctid pid) is =
     for_app_found (ChangesNone r) r apid channel (app_of r channel apid) _ refl (λ app found. context_leaves r apid ctid app (context_of app ctid) is found)
 applied_changes s r channel _ is = λ slot. inl refl
 
+-- ---- what a claim leaves
+
+if_some : {A : Type 0} (P : A → Type 0) (b : Bool) (o : Option A) → (b ≡ false → IfSome o P) → IfSome (cond b None o) P
+if_some P true o ok = tt
+if_some P false o ok = ok refl
+
+with_claim_changes : (r : Registry) (apid : List ℕ) (claim : Claimed) (app : App) (o : Option Context) → context_of app claim.ctid ≡ o → IsInOrder r → lookup (bytes_eq apid) r.apps ≡ Some app
+    → Free claim.place app.contexts → ChangesOne r (with_app r apid (with_claim r.stored apid claim app o))
+with_claim_changes r apid claim app (Some context) there is found free =
+    place_changes r apid app (with_context app claim.ctid (placed_again claim.place context)) claim.place (Some (effective r.level context)) is found refl free.below
+    (level_of-further r.level app claim.ctid context claim.place all
+    (numbered-among 64 claim.place (places app.contexts) _ (places-further (bytes_eq claim.ctid) app.contexts context claim.place there) all free.unused free.below) there)
+  where
+    all : IsNumbered 64 (places app.contexts)
+    all = placed_of_found r apid app is found
+with_claim_changes r apid claim app None there is found free =
+    new_at r apid claim.ctid app (record { place = claim.place; further = []; own = option_or (stored_level r.stored apid claim.ctid) claim.level; position = 0; text = claim.text })
+    is found refl free.below free.unused
+
+context_claim_changes : (s : ℕ → Slot) (r : Registry) (apid : List ℕ) (claim : Claimed) (app : App) → IsInOrder r → lookup (bytes_eq apid) r.apps ≡ Some app
+    → IfSome (context_claimed s r apid claim app) (ChangesOne r)
+context_claim_changes s r apid claim app is found =
+    if_some (ChangesOne r) (not (is_free claim.place app.contexts)) _ (λ free.
+    if_some (ChangesOne r) ((s (slot_of app.number claim.place)).version == last_version) _ (λ fresh.
+    with_claim_changes r apid claim app (context_of app claim.ctid) refl is found (free_tells claim.place app.contexts free)))
+
+app_claim_changes : (s : ℕ → Slot) (r : Registry) (apid : List ℕ) (claim : Claimed) (o : Option App) → app_of r 0 apid ≡ o → IsInOrder r
+    → IfSome (option_and_then (context_claimed s r apid claim) o) (ChangesOne r)
+app_claim_changes s r apid claim None found is = tt
+app_claim_changes s r apid claim (Some app) found is = context_claim_changes s r apid claim app is (app_of_found r 0 apid app found)
+
+claimed_changes : (s : ℕ → Slot) (r : Registry) (claim : Claimed) → IsInOrder r → IfSome (claimed s r claim) (ChangesOne r)
+claimed_changes s r claim is = by (apid_numbered r claim.app) where
+  by : (o : Option (List ℕ)) → IfSome (option_and_then (λ apid. option_and_then (context_claimed s r apid claim) (app_of r 0 apid)) o) (ChangesOne r)
+  by None = tt
+  by (Some apid) = app_claim_changes s r apid claim (app_of r 0 apid) refl is
+
 -- ---- what waits then
 
-settled_waits : (kept : Kept) (left : Registry) (n : ℕ) → owed_change kept ≡ None → ChangesAsMany n kept.registry left → n ≤ 1 → waiting (with_registry kept left) ≤ n
+pub settled_waits : (kept : Kept) (left : Registry) (n : ℕ) → owed_change kept ≡ None → ChangesAsMany n kept.registry left → n ≤ 1 → waiting (with_registry kept left) ≤ n
 unfolding owed_change waiting
 settled_waits kept left zero settled changes below =
     let none = count_none (change_at (slots kept) left) 0 1024 (λ m after before.
@@ -365,3 +463,12 @@ message_waits {A} channel msg old new result order settled call = by result call
   by (Err fault.AppsFull) call = stayed call.1
   by (Err fault.ContextsFull) call = stayed call.1
   by (Err fault.Worn) call = stayed call.1
+
+-- ---- a claim that the registry was handed
+
+-- at most one level waits after it
+pub claim_waits : (claim : Claimed) (old new : Kept) → IsInOrder old.registry → owed_change old ≡ None → Claims claim old new → waiting new ≤ 1
+claim_waits claim old new order settled call = subst (λ (k : Kept). waiting k ≤ 1) (sym call) (by (claimed (slots old) old.registry claim) (claimed_changes (slots old) old.registry claim order)) where
+  by : (o : Option Registry) → IfSome o (ChangesOne old.registry) → waiting (with_registry old (unwrap_or o old.registry)) ≤ 1
+  by None none = settled_waits old old.registry 1 settled (one_of old.registry old.registry (λ slot. inl refl)) (omega arith)
+  by (Some left) changes = settled_waits old left 1 settled changes (omega arith)

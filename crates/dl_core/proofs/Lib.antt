@@ -7,6 +7,8 @@ pub mod GatheredMessages
 pub mod Noted
 pub mod Beginnings
 pub mod Leveled
+pub mod Claimed
+pub mod Owing
 pub mod Messaged
 pub mod BatchedMessages
 pub mod Sizes

@@ -21,8 +21,9 @@ use Rattle.dl_outside.specs.Told.{FolderTold}
 use Rattle.dl_hub.specs.Follows as hub
 use Rattle.dl_hub.specs.State.{Hub, HasRoom, IsSameHub, changed, with_reply}
 use Rattle.dl_core.specs.Serving.{Answers, Serves}
-use Rattle.dl_core.proofs.Asked.{owes_most, reply_asked}
+use Rattle.dl_core.proofs.Asked.{reply_asked}
 use Rattle.dl_core.proofs.Journals.{IsSameCore}
+use Rattle.dl_core.proofs.Owing.{owes_most}
 use Rattle.dl_core.proofs.Requested.{answers_keep, request_follows}
 
 -- ---- getting ready
@@ -74,12 +75,12 @@ made_ready core before client frame request target wants reply same is asks ids 
 
 -- there is room for the request's event, and for the Level events that it owes
 pub reserved : (core : Core) (frame : List ℕ) (request : Result Request RequestFault) (spare changes more now : ℕ)
-    → request ≡ asked frame → owed_change core.registry ≡ None → changes ≡ changes_of request → more ≡ spare + (1 + changes) → more ≤ now
+    → request ≡ asked frame → owed_change core.registry ≡ None → changes ≡ changes_of core.level core.registry request → more ≡ spare + (1 + changes) → more ≤ now
     → (answer : Done) → spare + 1 + waiting (served_now core frame answer) ≤ now
 reserved core frame request spare changes more now asks settled bound sum room answer =
     let owes = owes_most (seen core) core.registry (asked frame) answer settled in
-    let most : changes ≡ changes_of (asked frame) = bound ∙ ap changes_of asks in
-    within spare changes more now (changes_of (asked frame)) (waiting (served_now core frame answer)) owes most sum room where
+    let most : changes ≡ changes_of core.level core.registry (asked frame) = bound ∙ ap (changes_of core.level core.registry) asks in
+    within spare changes more now (changes_of core.level core.registry (asked frame)) (waiting (served_now core frame answer)) owes most sum room where
       within : (spare changes more now most waits : ℕ) → waits ≤ most → changes ≡ most → more ≡ spare + (1 + changes) → more ≤ now → spare + 1 + waits ≤ now
       within spare changes more now most waits owes same sum room = omega (arith, owes, same, sum, room)
 

@@ -1,5 +1,6 @@
--- What the calls leave that admit frames, of the hub and the trace, and of the core with its journal.
+-- What the calls leave that admit frames, of the hub and the trace, and of the core with its journal; and what a claim leaves.
 use Rattle.std.specs.Prelude.{◌≡◌, ℕ, ◌+◌, List, [], ◌∷◌, length, map, Option}
+use Rattle.dl_bytes.specs.Claim.{Claimed}
 use Rattle.dl_bytes.specs.declared.item.Item.{Item}
 use Rattle.dl_bytes.specs.declared.moment.Moment.{Moment}
 use Rattle.dl_bytes.specs.declared.user.UserMsg.{UserMsg}
@@ -68,3 +69,8 @@ abbrev pub NotesMessages : Moment → ℕ → List UserMsg → Core → Core →
 NotesMessages moment channel msgs old =
     Notes (map (user_event moment channel) msgs) (λ run. Unit {0}) (length (message_frames old.ecu msgs))
     (StoresIn (map (stored old.ecu moment) (message_frames old.ecu msgs))) old
+
+-- a claim of a writer of this process: no frame is admitted for it, and no folder is asked
+abbrev pub NotesClaim : Moment → Claimed → Core → Core → Option (List Event) → Option (List Event) → Type 0
+NotesClaim moment claim old new past present =
+    (folder : FolderTold) → Notes (event.Claim claim moment ∷ []) (λ run. Unit {0}) 0 (StoresEach []) old new folder folder past present

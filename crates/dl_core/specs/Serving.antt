@@ -1,5 +1,7 @@
 -- Requests: what is got ready for one, and what it leaves.
-use Rattle.std.specs.Prelude.{◌≡◌, ◌≤◌, ℕ, Bool, true, false, List, [], ◌∷◌, length, codes, Option, Some, None, is_some, IfSome, Result, Ok, Err, if◌then◌else◌}
+use Rattle.std.specs.Prelude.{◌≡◌, ◌≤◌, ℕ, Bool, true, false, List, [], ◌∷◌, length, codes, nat_le, Option, Some, None, is_some, unwrap_or, IfSome, Result, Ok, Err, if◌then◌else◌}
+use Rattle.std.specs.Option.{option_map, option_map_or}
+use Rattle.dl_bytes.specs.Level.{own_level_of}
 use Rattle.dl_bytes.specs.Limits.{message_limit}
 use Rattle.dl_bytes.specs.declared.item.Injection.{Injection}
 use Rattle.dl_bytes.specs.declared.outcome.Done.{Done}
@@ -14,6 +16,7 @@ use Rattle.dl_events.specs.declared.event.Event.{Event}
 use Rattle.dl_events.specs.declared.event.Event.TheVariants as event
 use Rattle.dl_control.specs.Reply.{control_reply}
 use Rattle.dl_control.specs.declared.reply.Reply.{Reply}
+use Rattle.dl_model.specs.Registry.{Registry}
 use Rattle.dl_model.specs.Reply.{apid_of, asked, ctid_of, reply_frame_to, reply_to, served}
 use Rattle.dl_outside.specs.Folder.{HasCause, Puts, Removes}
 use Rattle.dl_outside.specs.Outside.{one_more}
@@ -28,6 +31,7 @@ use Rattle.dl_hub.specs.State.{changed, with_reply}
 use Rattle.dl_core.specs.State.{Core}
 use Rattle.dl_core.specs.Follows.{Adds}
 use Rattle.dl_core.specs.Settings.{seen}
+use Rattle.dl_core.specs.Waiting.{others}
 
 -- a message that asks for something: a whole one within the limit of clients, with a request's MSIN
 pub record IsRequest (frame : List ℕ) : Type 0 where
@@ -80,12 +84,16 @@ has_body (Ok GetDefault) = true
 has_body (Ok Version) = true
 has_body request = false
 
--- how many Level events it can owe at most: one for each of 1024 slots, where it sets levels
-abbrev pub changes_of : Result Request RequestFault → ℕ
-changes_of (Ok (SetLogLevel apid ctid level)) = 1024
-changes_of (Ok (SetDefault level)) = 1024
-changes_of (Ok Reset) = 1024
-changes_of request = 0
+-- the level that it gives contexts, where it sets levels: with no own level they follow the default level
+abbrev pub level_set : ℕ → Registry → Result Request RequestFault → Option ℕ
+level_set level registry (Ok (SetLogLevel apid ctid own)) = option_map (λ own. unwrap_or own registry.level) (own_level_of own)
+level_set level registry (Ok (SetDefault default)) = if nat_le default 6 then Some default else None
+level_set level registry (Ok Reset) = Some level
+level_set level registry request = None
+
+-- how many Level events it can owe at most: one for each slot whose context has another level
+abbrev pub changes_of : ℕ → Kept → Result Request RequestFault → ℕ
+changes_of level kept request = option_map_or (λ to. others to kept) (level_set level kept.registry request) 0
 
 -- ---- what is got ready
 

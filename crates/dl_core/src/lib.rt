@@ -7,6 +7,7 @@
 
 mod admission;
 mod admitting;
+mod claims;
 mod clients;
 mod daemon;
 pub mod laws;

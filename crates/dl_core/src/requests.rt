@@ -12,11 +12,11 @@ ghost use Rattle.dl_registry.specs.Kept.{owed_change};
 ghost use Rattle.dl_hub.specs.State.{changed, client_of, outbox_of, with_reply, HasRoom};
 ghost use Rattle.dl_core.specs.Serving.{Answers, Asks, Serves, IsReady, IsReplyFor, IsRequest, injection_in};
 ghost use Rattle.dl_core.specs.Serving.{frame_for, reply_for, reply_now, served_for, served_now, wanted_for};
-ghost use Rattle.dl_core.specs.Waiting.{waiting};
+ghost use Rattle.dl_core.specs.Waiting.{other_at, others, waiting};
 ghost use Rattle.dl_core.specs.Serving as serving;
 
 use crate::daemon::Core;
-use dl_bytes::{Bytes, Done, Frame, Htyp, Id, Injection, Order, OutOfMemory};
+use dl_bytes::{Bytes, Done, Frame, Htyp, Id, Injection, Level, Order, OutOfMemory, OwnLevel};
 use dl_control::{
     DAEMON_APID, DAEMON_CTID, Reply, Request, RequestFault, read_request, write_reply,
 };
@@ -39,8 +39,8 @@ const DEFAULT_REPLY: u64 = BARE_REPLY + 1;
 
 const VERSION_REPLY: u64 = BARE_REPLY + 13;
 
-/// How many contexts there can be: so many Level events a request can owe at most.
-const SLOTS: u64 = 1024;
+/// How many contexts there can be, each with a slot.
+const SLOTS: u16 = 1024;
 
 /// A request for which all memory was taken.
 #[derive(Drop)]
@@ -109,7 +109,7 @@ impl Core {
             self.level,
         )?;
         let reply = self.long_reply(&request, (apid, ctid))?;
-        let Some(spare) = journal.spare().checked_add(1 + changes_of(&request)) else {
+        let Some(spare) = journal.spare().checked_add(1 + self.changes_of(&request)) else {
             return Err(OutOfMemory);
         };
         journal.reserve(spare)?;
@@ -121,6 +121,56 @@ impl Core {
             want,
             reply,
         })
+    }
+
+    /// How many Level events a request can owe at most.
+    fn changes_of(&self, request: &Result<Request, RequestFault>) -> u64
+        ensures value { result ≡ serving.changes_of self.now.level self.now.registry request.now }
+        ensures limit { result ≤ 1024 }
+    {
+        match self.level_set(request) {
+            Some(level) => self.others(level),
+            None => 0,
+        }
+    }
+
+    /// The level that a request gives contexts, where it sets levels: with no own level they follow the default level.
+    fn level_set(&self, request: &Result<Request, RequestFault>) -> Option<Level>
+        ensures { result ≡ serving.level_set self.now.level self.now.registry.registry request.now }
+    {
+        match request {
+            Ok(Request::SetLogLevel { level, .. }) => {
+                let own = OwnLevel::of(*level)?;
+                Some(own.effective(self.registry.default_level()))
+            }
+            Ok(Request::SetDefault { level }) => Level::of(*level),
+            Ok(Request::Reset) => Some(self.level),
+            _ => None,
+        }
+    }
+
+    /// How many slots' contexts have another level than this.
+    fn others(&self, level: Level) -> u64
+        ensures value { result ≡ others level self.now.registry }
+        ensures limit { result ≤ 1024 }
+    {
+        let mut count = 0;
+        for slot in 0..SLOTS {
+            if self.is_other(slot, level) {
+                count += 1;
+            }
+        }
+        count
+    }
+
+    /// Whether a slot's context has another level than this.
+    fn is_other(&self, slot: u16, level: Level) -> bool
+        ensures { result ≡ is_some (other_at level self.now.registry.registry slot) }
+    {
+        match self.registry.effective(slot) {
+            Some(found) => found != level,
+            None => false,
+        }
     }
 
     /// Serves a request that was got ready: the folder is asked for what it wants, the event is noted, and the reply is put into the
@@ -346,16 +396,6 @@ fn has_body(request: &Result<Request, RequestFault>) -> bool
         request,
         Ok(Request::GetLogInfo { .. } | Request::GetDefault | Request::Version)
     )
-}
-
-/// How many Level events a request can owe at most.
-fn changes_of(request: &Result<Request, RequestFault>) -> u64
-    ensures { result ≡ serving.changes_of request.now }
-{
-    match request {
-        Ok(Request::SetLogLevel { .. } | Request::SetDefault { .. } | Request::Reset) => SLOTS,
-        _ => 0,
-    }
 }
 
 /// Has the folder do what a request wants of it, and tells what came of it.

@@ -1,5 +1,5 @@
 -- How a run of threads ends: what is written of its account, and its status.
-use Rattle.std.specs.Prelude.{◌≡◌, ℕ, ◌^◌, ◌<◌, ◌⊎◌, ◌||◌, Bool, true, false, List, length, map, None}
+use Rattle.std.specs.Prelude.{◌≡◌, ℕ, ◌^◌, ◌<◌, ◌⊎◌, ◌||◌, Bool, true, false, List, [], length, map, None}
 use Rattle.std.specs.List.{flat_map, list_any}
 use Rattle.dl_bytes.specs.declared.conf.Conf.{Conf}
 use Rattle.dl_events.specs.declared.event.Event.{Event}
@@ -35,7 +35,7 @@ source_of setting account = source_of_records setting (records_of account) accou
 -- its journal is well-formed, and its records account for it, with no loss pending
 pub record IsAccountIn (setting : Setting) (account : AccountState) : Type 0 where
   pub formed : IsWellFormed setting (source_of setting account) account.events
-  pub accounted : IsAccounted setting.first account.events (λ app. 0) (refusals_of account.books) (records_of account)
+  pub accounted : IsAccounted setting.first account.events (λ app. 0) (refusals_of account.books) [] (records_of account)
 
 -- the text that is printed of it, with the backlog that is left
 abbrev pub text_of : Setting → AccountState → List ℕ

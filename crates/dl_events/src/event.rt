@@ -1,6 +1,6 @@
 //! One thing that the daemon did.
 
-use dl_bytes::{Bytes, Done, Level, Moment, UserMsg};
+use dl_bytes::{Bytes, Claim, Done, Level, Moment, UserMsg};
 
 /// Why a client's connection ended.
 #[derive(Clone, Copy, Debug, PartialEq, Eq)]
@@ -60,6 +60,13 @@ pub enum Event {
         channel: u16,
         /// The message.
         msg: UserMsg,
+        /// When.
+        moment: Moment,
+    },
+    /// It took a writer's claim from an application's ring: a context came, or got a further place.
+    Claim {
+        /// The claim.
+        claim: Claim,
         /// When.
         moment: Moment,
     },

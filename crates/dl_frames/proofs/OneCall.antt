@@ -8,7 +8,7 @@ use Rattle.std.proofs.lemmas.List.Folds.{find-append}
 use Rattle.dl_message.specs.Frames.{log_message}
 use Rattle.dl_model.specs.Along.{last_that}
 use Rattle.dl_model.specs.Setting.{Setting}
-use Rattle.dl_model.specs.Marks.{Call, Mark, Filtered, Passed, Queued, Refused, Counted, call_of, is_step_of, is_load, calls_of, passed, refused, to_push, to_count, queued, queued_of, taken}
+use Rattle.dl_model.specs.Marks.{Call, Mark, Filtered, Passed, Queued, Refused, Counted, call_of, is_step_of, is_load, calls_of, passed, refused, to_push, to_count, Announced, Pushed, OfCall, OfClaim, call_in, pushed_of, pushes, taken}
 use Rattle.dl_model.specs.Runs.{IsLoaded, IsNext, RestsOn, AreFounded}
 use Rattle.dl_model.specs.Replay.{is_call, frame_of_call}
 use Rattle.dl_laws.proofs.Lists.{count_by-append}
@@ -134,6 +134,9 @@ all_known setting done founded = holds_after setting AllKnown (known_goes_on set
 same_call : (a b : Call) → ◌≡◌ {A = Option Call} (Some a) (Some b) → a ≡ b
 same_call a b e = cc
 
+same_pushed : (a b : Pushed) → ◌≡◌ {A = Option Pushed} (Some a) (Some b) → a ≡ b
+same_pushed a b e = cc
+
 pub one_call : (setting : Setting) (done : List Mark) → AreFounded setting [] done →
     AllByRecursion (λ (a : Call). AllByRecursion (λ (b : Call). a.item.writer ≡ b.item.writer → a.item.call ≡ b.item.call → a ≡ b) (calls done)) (calls done)
 one_call setting done founded =
@@ -156,13 +159,20 @@ pub frames_later : (setting : Setting) (done more : List Mark) → AreFounded se
 frames_later setting done more founded =
     all_map (Known done) (HasItsFrame setting (done ++ more)) (framed setting done more) (calls done) (known_calls done (all_known setting done founded))
 
--- a call that a ring took is the call of its mark
-queued_call : (app : ℕ) (mark : Mark) (c : Call) → queued_of app mark ≡ Some c → call_of mark ≡ Some c
-queued_call app (Queued d) c e = by_test (eqb d.item.app app) e where
-  by_test : (b : Bool) → cond b (Some d) None ≡ Some c → ◌≡◌ {A = Option Call} (Some d) (Some c)
-  by_test true e = e
+-- what a ring took, of a mark
+abbrev Taken : (Call → Type 0) → Pushed → Type 0
+Taken P what = IfSome (call_in what) P
+
+pushed_call : (P : Call → Type 0) (app : ℕ) (mark : Mark) (what : Pushed) → pushed_of app mark ≡ Some what → IfSome (call_of mark) P → Taken P what
+pushed_call P app (Queued c) what e holds = by_test (eqb c.item.app app) e where
+  by_test : (b : Bool) → cond b (Some (OfCall c)) None ≡ Some what → Taken P what
+  by_test true e = subst (Taken P) (same_pushed (OfCall c) what e) holds
   by_test false e = absurd cc
-queued_call app _ c e = absurd cc
+pushed_call P app (Announced claim) what e holds = by_test (eqb claim.app app) e where
+  by_test : (b : Bool) → cond b (Some (OfClaim claim)) None ≡ Some what → Taken P what
+  by_test true e = subst (Taken P) (same_pushed (OfClaim claim) what e) tt
+  by_test false e = absurd cc
+pushed_call P app _ what e holds = absurd cc
 
 -- what holds of each call holds of the call of each mark, and so of those that a ring took
 marks_of_calls : (P : Call → Type 0) (done : List Mark) → AllByRecursion P (calls done) → AllByRecursion (λ mark. IfSome (call_of mark) P) done
@@ -173,24 +183,22 @@ marks_of_calls P (mark ∷ done) all = by_call (call_of mark) all (marks_of_call
   by_call None all later = (tt, later all)
   by_call (Some c) all later = (all.0, later all.1)
 
-all_queued : (P : Call → Type 0) (app : ℕ) (done : List Mark) → AllByRecursion P (calls done) → AllByRecursion P (queued app done)
-all_queued P app done all =
-    all_given P (λ mark. IfSome (call_of mark) P) (queued_of app) (λ mark c e holds. subst (λ o. IfSome o P) (queued_call app mark c e) holds) done (marks_of_calls P done all)
+all_pushed : (P : Call → Type 0) (app : ℕ) (done : List Mark) → AllByRecursion P (calls done) → AllByRecursion (Taken P) (pushes app done)
+all_pushed P app done all = all_given (Taken P) (λ mark. IfSome (call_of mark) P) (pushed_of app) (pushed_call P app) done (marks_of_calls P done all)
+
+taken_call : (P : Call → Type 0) (app : ℕ) (done : List Mark) → AllByRecursion P (calls done) → (place : ℕ) (c : Call) → slice_get (pushes app done) place ≡ Some (OfCall c) → P c
+taken_call P app done all place c e = all_at (Taken P) (pushes app done) place (OfCall c) (all_pushed P app done all) e
 
 pub given_in_rings : (ecu : List ℕ) (frame : ℕ → ℕ → List ℕ) (done : List Mark) → AllByRecursion (λ (c : Call). frame c.item.writer c.item.call ≡ log_message ecu c.item) (filter_map call_of done) →
-    (app place : ℕ) (c : Call) → slice_get (queued app done) place ≡ Some c → frame c.item.writer c.item.call ≡ log_message ecu c.item
-given_in_rings ecu frame done all app place c e =
-    let P = λ (d : Call). frame d.item.writer d.item.call ≡ log_message ecu d.item in
-    all_at P (queued app done) place c (all_queued P app done all) e
+    (app place : ℕ) (c : Call) → slice_get (pushes app done) place ≡ Some (OfCall c) → frame c.item.writer c.item.call ≡ log_message ecu c.item
+given_in_rings ecu frame done all = λ app place c e. taken_call (λ (d : Call). frame d.item.writer d.item.call ≡ log_message ecu d.item) app done all place c e
 
-pub frame_of_queued : (setting : Setting) (done more : List Mark) → AreFounded setting [] done → (app place : ℕ) (c : Call) → slice_get (queued app done) place ≡ Some c →
+pub frame_of_pushed : (setting : Setting) (done more : List Mark) → AreFounded setting [] done → (app place : ℕ) (c : Call) → slice_get (pushes app done) place ≡ Some (OfCall c) →
     HasItsFrame setting (done ++ more) c
-frame_of_queued setting done more founded app place c e =
-    let P = HasItsFrame setting (done ++ more) in
-    all_at P (queued app done) place c (all_queued P app done (frames_later setting done more founded)) e
+frame_of_pushed setting done more founded app place c e = taken_call (HasItsFrame setting (done ++ more)) app done (frames_later setting done more founded) place c e
 
 pub frame_of_taken : (setting : Setting) (done more : List Mark) → AreFounded setting [] done → (app writer number : ℕ) (next : IsNext app writer number done) →
     frame_of_call setting (done ++ more) writer number ≡ log_message setting.ecu next.call.item
 frame_of_taken setting done more founded app writer number next =
     sym (ap (λ (w : ℕ). frame_of_call setting (done ++ more) w next.call.item.call) next.writer_is ∙ ap (frame_of_call setting (done ++ more) writer) next.number_is)
-    ∙ frame_of_queued setting done more founded app (taken app done) next.call next.first
+    ∙ frame_of_pushed setting done more founded app (taken app done) next.call next.first

@@ -57,6 +57,7 @@ event_quiet : (source : FrameSource) (client : ℕ) (before : List Event) (e : E
 event_quiet source client before (event.Connect other) none = ap (λ (b : Bool). b || false) none
 event_quiet source client before (event.Close other why) none = ap (λ (b : Bool). b || false) none
 event_quiet source client before (event.Request other frame done) none = refl
+event_quiet source client before (event.Claim claim moment) none = refl
 event_quiet source client before (event.Level slot level) none = refl
 event_quiet source client before (event.Log app writer call moment) none = refl
 event_quiet source client before (event.Lost app count moment) none = admits_nobody client (frames_of source (event.Lost app count moment))
@@ -145,6 +146,7 @@ open_by : (source : FrameSource) (client : ℕ) (events : List Event) (e : Event
 open_by source client events (event.Connect other) so = is_open-one client (traffic source events) (Connected other) ∙ ap (cond (eqb other client) true) so
 open_by source client events (event.Close other why) so = is_open-one client (traffic source events) (Closed other) ∙ ap (cond (eqb other client) false) so
 open_by source client events (event.Request other frame done) so = is_open-one client (traffic source events) (Reply other (source.reply events frame done)) ∙ so
+open_by source client events (event.Claim claim moment) so = ap (is_open client) (append-nil (traffic source events)) ∙ so
 open_by source client events (event.Level slot level) so = ap (is_open client) (append-nil (traffic source events)) ∙ so
 open_by source client events (event.Log app writer call moment) so = admits_open client (traffic source events) (frames_of source (event.Log app writer call moment)) ∙ so
 open_by source client events (event.Lost app count moment) so = admits_open client (traffic source events) (frames_of source (event.Lost app count moment)) ∙ so
@@ -178,6 +180,7 @@ shut_after source buffer client events (event.Connect other) shut = by_test (eqb
       absurd cc
   by_test false none = shut_other source buffer client events (event.Connect other) none shut
 shut_after source buffer client events (event.Request other frame done) shut = shut_other source buffer client events (event.Request other frame done) refl shut
+shut_after source buffer client events (event.Claim claim moment) shut = shut_other source buffer client events (event.Claim claim moment) refl shut
 shut_after source buffer client events (event.Level slot level) shut = shut_other source buffer client events (event.Level slot level) refl shut
 shut_after source buffer client events (event.Log app writer call moment) shut = shut_other source buffer client events (event.Log app writer call moment) refl shut
 shut_after source buffer client events (event.Lost app count moment) shut = shut_other source buffer client events (event.Lost app count moment) refl shut
@@ -193,6 +196,7 @@ came_by : (source : FrameSource) (events : List Event) (e : Event) → length (c
 came_by source events (event.Connect other) = refl
 came_by source events (event.Close other why) = refl
 came_by source events (event.Request other frame done) = refl
+came_by source events (event.Claim claim moment) = refl
 came_by source events (event.Level slot level) = refl
 came_by source events (event.Log app writer call moment) = refl
 came_by source events (event.Lost app count moment) = ap length (admits_none (frames_of source (event.Lost app count moment)))

@@ -87,6 +87,7 @@ pub event_tells : (source : FrameSource) (before : List Event) (e : Event) → l
 event_tells source before (event.Connect client) ecu_long gives = (tt, tt)
 event_tells source before (event.Request client frame done) ecu_long gives = (gives, tt)
 event_tells source before (event.Close client why) ecu_long gives = (tt, tt)
+event_tells source before (event.Claim claim moment) ecu_long gives = tt
 event_tells source before (event.Level slot level) ecu_long gives = tt
 event_tells source before (event.Log app writer call moment) ecu_long gives = (gives, tt)
 event_tells source before (event.Lost app count moment) ecu_long gives =

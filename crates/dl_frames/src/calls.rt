@@ -7,7 +7,7 @@ ghost use Rattle.dl_script_lines.specs.declared.line.AppLine.{AppLine};
 ghost use Rattle.dl_script_lines.specs.declared.step.Step.{Step};
 ghost use Rattle.dl_message.specs.Frames.{log_message};
 ghost use Rattle.dl_model.specs.Setting.{Setting};
-ghost use Rattle.dl_model.specs.Marks.{Call, Mark, apid_of, apps, call_of, number_of, queued};
+ghost use Rattle.dl_model.specs.Marks.{Call, Mark, OfCall, apid_of, apps, call_of, number_of, pushes};
 ghost use Rattle.dl_model.specs.Runs.{AreFounded, IsNext};
 ghost use Rattle.dl_model.specs.Replay.{frame_of_call};
 ghost use Rattle.dl_model.specs.Steps.{after_lines, run};
@@ -27,8 +27,8 @@ pub fn calls_have_their_frames()
         AllByRecursion (HasItsFrame setting done) (filter_map call_of done) }
     ensures later { (setting : Setting) (done more : List Mark) → AreFounded setting [] done →
         AllByRecursion (HasItsFrame setting (done ++ more)) (filter_map call_of done) }
-    ensures queued { (setting : Setting) (done more : List Mark) → AreFounded setting [] done → (app place : ℕ) (call : Call) →
-        slice_get (queued app done) place ≡ Some call → HasItsFrame setting (done ++ more) call }
+    ensures pushed { (setting : Setting) (done more : List Mark) → AreFounded setting [] done → (app place : ℕ) (call : Call) →
+        slice_get (pushes app done) place ≡ Some (OfCall call) → HasItsFrame setting (done ++ more) call }
     ensures taken { (setting : Setting) (done more : List Mark) → AreFounded setting [] done → (app writer number : ℕ) →
         (next : IsNext app writer number done) →
         frame_of_call setting (done ++ more) writer number ≡ log_message setting.ecu next.call.item }
@@ -46,7 +46,7 @@ pub fn runs_have_their_frames()
 pub fn rings_have_their_frames()
     ensures { (ecu : List ℕ) (frame : ℕ → ℕ → List ℕ) (done : List Mark) →
         AllByRecursion (λ (call : Call). frame call.item.writer call.item.call ≡ log_message ecu call.item) (filter_map call_of done) →
-        (app place : ℕ) (call : Call) → slice_get (queued app done) place ≡ Some call →
+        (app place : ℕ) (call : Call) → slice_get (pushes app done) place ≡ Some (OfCall call) →
         frame call.item.writer call.item.call ≡ log_message ecu call.item }
 {}
 

@@ -70,7 +70,12 @@ impl Ring {
         ensures { self.new ≡ record { bytes = drop count self.old.bytes; capacity = self.old.capacity } }
     {
         let left = self.inner.len() - count;
-        self.inner.truncate_front(left);
+        if left == 0 {
+            // what comes next is put where these bytes stood, and not behind them
+            self.inner.clear();
+        } else {
+            self.inner.truncate_front(left);
+        }
     }
 
     /// Takes all bytes.

@@ -207,6 +207,7 @@ admits_of source before (event.Connect client) = refl
 admits_of source before (event.Request client frame done) = refl
 admits_of source before (event.Close client why) = refl
 admits_of source before (event.Level slot level) = refl
+admits_of source before (event.Claim claim moment) = refl
 admits_of source before (event.Log app writer call moment) = refl
 admits_of source before (event.Lost app count moment) = admits_all (frames_of source (event.Lost app count moment))
 admits_of source before (event.User channel msg moment) = admits_all (frames_of source (event.User channel msg moment))

@@ -1,11 +1,12 @@
 -- Each mark of a run rests on those before it.
 use Rattle.std.proofs.Common.{◌≡◌, ℕ, zero, suc, ◌+◌, ◌%◌, ◌<◌, Bool, true, false, cond, eqb, ltb, List, [], ◌∷◌, ◌++◌, Option, Some, None, refl, sym, ap, subst, ◌∙◌, append_assoc, arith}
-use Rattle.std.specs.Prelude.{slice_get, count_by, map, reverse, length, replicate, is_some, ◌&&◌, negsuc, take}
-use Rattle.std.specs.List.{AllByRecursion, after_last, range_with_len}
+use Rattle.std.specs.Prelude.{IfSome, slice_get, count_by, map, reverse, length, replicate, is_some, ◌&&◌, negsuc, take}
+use Rattle.std.specs.List.{AllByRecursion, after_last, cons_option, filter, filter_map, range_with_len}
 use Rattle.std.specs.Option.{option_and_then}
 use Rattle.std.proofs.lemmas.List.{append-nil}
 use Rattle.std.proofs.lemmas.List.Elements.{filter_map-append}
 use Rattle.std.proofs.lemmas.Bool.Decides.{nat_tests}
+use Rattle.dl_bytes.specs.Claim.{Claimed}
 use Rattle.dl_bytes.specs.Limits.{message_limit}
 use Rattle.dl_bytes.specs.Level.{passes}
 use Rattle.dl_events.specs.declared.event.Event.{Event}
@@ -13,10 +14,11 @@ use Rattle.dl_events.specs.declared.event.Event.TheVariants as event
 use Rattle.dl_model.specs.declared.registry.LevelChange.{LevelChange}
 use Rattle.dl_model.specs.Along.{last_that}
 use Rattle.dl_model.specs.Setting.{Setting}
-use Rattle.dl_model.specs.Marks.{HasApp, HasContext, Fed, Heard, Injected, Handed, injections, fed, held_by, writer_numbers, apps, Call, Mark, Filtered, Counted, app_of_writer, number_of, place_of, calls_of, passed_of, moment, Passed, Refused, Queued, Noted, journal, event_of, is_step_of, passed, refused, to_push, to_count, queued, queued_of, taken, is_log_of, is_full, is_later, pending, is_lost_of, is_counted_of}
-use Rattle.dl_model.specs.Runs.{IsLoaded, EventRestsOn, RestsOn, AreFounded}
+use Rattle.dl_model.specs.Marks.{HasApp, HasContext, HasClaim, Announced, HeldBack, Fed, Heard, Injected, Handed, injections, fed, held_by, writer_numbers, apps, Call, Mark, Filtered, Counted, app_of_writer, number_of, named_place, next_place, claim_of, announced_by, to_announce, unannounced, calls_of, passed_of, moment, Passed, Refused, Queued, Noted, journal, event_of, is_step_of, passed, refused, to_push, to_count, Pushed, OfCall, OfClaim, pushes, pushed_of, taken, is_taken_of, is_full, is_later, pending, is_lost_of, is_counted_of}
+use Rattle.dl_model.specs.Runs.{IsLoaded, IsClaimed, EventRestsOn, RestsOn, AreFounded}
 use Rattle.dl_bytes.specs.Number.{◌>>=◌}
 use Rattle.dl_script_lines.specs.declared.line.CallLine.{CallLine}
+use Rattle.dl_script_lines.specs.declared.line.ClaimLine.{ClaimLine}
 use Rattle.dl_model.specs.declared.registry.Slot.{Slot}
 use Rattle.dl_model.specs.Registry.{slot_of}
 use Rattle.dl_model.specs.Journal.{slots_of, is_connect, is_close, is_request_of, need_after}
@@ -31,7 +33,7 @@ use Rattle.dl_script_lines.specs.declared.step.LevelEvents.TheVariants as levels
 use Rattle.dl_script_lines.specs.declared.step.Step.{Step}
 use Rattle.dl_script_lines.specs.declared.step.Step.TheVariants as line
 use Rattle.dl_model.specs.Reply.{Need, Nothing, Folder, Queue}
-use Rattle.dl_model.specs.Steps.{is_open, close, connect, served, request_now, ask, close_malformed, new_requests, receive, new_messages, tell, hear, on_app, take_injection, act_of, drain, end_of, after_lines, run, loaded, load, push, count, finish, begin_call, whole_call, take_log, take_losses, Act, in_sequence, just, for_some, when, level_noted, note_levels, note_levels_now, changes, note}
+use Rattle.dl_model.specs.Steps.{is_open, close, connect, served, request_now, ask, close_malformed, new_requests, receive, new_messages, tell, hear, on_app, take_injection, act_of, drain, end_of, after_lines, run, loaded, load, push, count, finish, begin_call, whole_call, claim_made, claim, announce, is_held_back, announce_upto, announce_all, event_taken, take_log, take_losses, Act, in_sequence, just, for_some, when, level_noted, note_levels, note_levels_now, changes, note}
 use Rattle.dl_laws.proofs.Lists.{last_that-one, after_last-one, count_by-append, find-passes}
 
 -- ---- acts in turn
@@ -83,14 +85,14 @@ journal-levels : (done : List Mark) (cs : List LevelChange) (app : ℕ) → take
 journal-levels done [] app = ap (taken app) (append-nil done)
 journal-levels done (c ∷ cs) app =
     ap (taken app) (sym (append_assoc done (level_noted c ∷ []) (map level_noted cs))) ∙ journal-levels (done ++ level_noted c ∷ []) cs app
-    ∙ ap (count_by (is_log_of app)) (filter_map-append event_of done (level_noted c ∷ []))
-    ∙ count_by-append (is_log_of app) (journal done) (event.Level c.slot c.level ∷ []) ∙ omega arith
+    ∙ ap (count_by (is_taken_of app)) (filter_map-append event_of done (level_noted c ∷ []))
+    ∙ count_by-append (is_taken_of app) (journal done) (event.Level c.slot c.level ∷ []) ∙ omega arith
 
-queued-levels : (done : List Mark) (cs : List LevelChange) (app : ℕ) → queued app (done ++ map level_noted cs) ≡ queued app done
-queued-levels done [] app = ap (queued app) (append-nil done)
-queued-levels done (c ∷ cs) app =
-    ap (queued app) (sym (append_assoc done (level_noted c ∷ []) (map level_noted cs))) ∙ queued-levels (done ++ level_noted c ∷ []) cs app
-    ∙ filter_map-append (queued_of app) done (level_noted c ∷ []) ∙ append-nil (queued app done)
+pushes-levels : (done : List Mark) (cs : List LevelChange) (app : ℕ) → pushes app (done ++ map level_noted cs) ≡ pushes app done
+pushes-levels done [] app = ap (pushes app) (append-nil done)
+pushes-levels done (c ∷ cs) app =
+    ap (pushes app) (sym (append_assoc done (level_noted c ∷ []) (map level_noted cs))) ∙ pushes-levels (done ++ level_noted c ∷ []) cs app
+    ∙ filter_map-append (pushed_of app) done (level_noted c ∷ []) ∙ append-nil (pushes app done)
 
 pending-levels : (done : List Mark) (cs : List LevelChange) (app : ℕ) → pending app (done ++ map level_noted cs) ≡ pending app done
 pending-levels done [] app = ap (pending app) (append-nil done)
@@ -189,11 +191,11 @@ loaded_founded setting call done c no_push no_count e = by_writer (app_of_writer
   by_place apid app (Some place) e =
       subst (λ x. IsLoaded setting x done) (some_is (made apid app place) c e) (record { none_to_push = no_push; none_to_count = no_count; number = refl; counter = refl; version = refl; held = refl })
 
-  by_app : (apid : List ℕ) (o : Option ℕ) → (o >>= λ app. place_of apid call.ctid done >>= λ place. Some (made apid app place)) ≡ Some c → IsLoaded setting c done
+  by_app : (apid : List ℕ) (o : Option ℕ) → (o >>= λ app. named_place call.writer apid call.ctid done >>= λ place. Some (made apid app place)) ≡ Some c → IsLoaded setting c done
   by_app apid None e = none_some c e
-  by_app apid (Some app) e = by_place apid app (place_of apid call.ctid done) e
+  by_app apid (Some app) e = by_place apid app (named_place call.writer apid call.ctid done) e
 
-  by_writer : (o : Option (List ℕ)) → (o >>= λ apid. number_of apid done >>= λ app. place_of apid call.ctid done >>= λ place. Some (made apid app place)) ≡ Some c → IsLoaded setting c done
+  by_writer : (o : Option (List ℕ)) → (o >>= λ apid. number_of apid done >>= λ app. named_place call.writer apid call.ctid done >>= λ place. Some (made apid app place)) ≡ Some c → IsLoaded setting c done
   by_writer None e = none_some c e
   by_writer (Some apid) e = by_app apid (number_of apid done) e
 
@@ -250,17 +252,107 @@ begin_call_founded setting call done =
 whole_call_founded : (setting : Setting) (call : CallLine) → IsFounded setting (whole_call setting call)
 whole_call_founded setting call = turns setting (begin_call setting call ∷ finish call.writer ∷ []) (begin_call_founded setting call, (finish_founded setting call.writer, tt))
 
+-- ---- claims
+
+claimed_founded : (asked : ClaimLine) (done : List Mark) (c : Claimed) → to_push asked.writer done ≡ None → to_count asked.writer done ≡ None → claim_made asked done ≡ Some c → IsClaimed c done
+claimed_founded asked done c no_push no_count e = by_writer (app_of_writer asked.writer done) refl e where
+  made : List ℕ → ℕ → Claimed
+  made apid app = record { app = app; writer = asked.writer; place = next_place apid app done; ctid = asked.ctid; level = asked.level; text = asked.text }
+
+  by_app : (apid : List ℕ) → app_of_writer asked.writer done ≡ Some apid → (o : Option ℕ) → number_of apid done ≡ o → (o >>= λ app. Some (made apid app)) ≡ Some c → IsClaimed c done
+  by_app apid owner None is e = none_some c e
+  by_app apid owner (Some app) is e =
+      subst (λ (x : Claimed). IsClaimed x done) (some_is (made apid app) c e)
+      (record { none_to_push = no_push; none_to_count = no_count; apid = apid; owner = owner; number = is; place = refl })
+
+  by_writer : (o : Option (List ℕ)) → app_of_writer asked.writer done ≡ o → (o >>= λ apid. number_of apid done >>= λ app. Some (made apid app)) ≡ Some c → IsClaimed c done
+  by_writer None is e = none_some c e
+  by_writer (Some apid) is e = by_app apid is (number_of apid done) refl e
+
+claim_founded : (setting : Setting) (asked : ClaimLine) (done : List Mark) → to_push asked.writer done ≡ None → to_count asked.writer done ≡ None → AreFounded setting done (claim asked done)
+claim_founded setting asked done no_push no_count =
+    asked_for setting (claim_made asked done) (λ c. just (HasClaim c)) done (λ c e. (claimed_founded asked done c no_push no_count e, tt))
+
+-- a claim, and then another act
+claim_then_founded : (setting : Setting) (asked : ClaimLine) (acts : List Act) → AllByRecursion (IsFounded setting) acts → IsFounded setting (in_sequence (finish asked.writer ∷ claim asked ∷ acts))
+claim_then_founded setting asked acts all done =
+    let now = done ++ finish asked.writer done in
+    let is = finished asked.writer done in
+    both setting done (finish asked.writer done) (in_sequence (claim asked ∷ acts) now) (finish_founded setting asked.writer done)
+    (both setting now (claim asked now) (in_sequence acts (now ++ claim asked now)) (claim_founded setting asked now is.0 is.1) (turns setting acts all (now ++ claim asked now)))
+
+-- what is left of a list by a test passes it
+pub kept-passes : {A : Type 0} (p : A → Bool) (xs : List A) (i : ℕ) (x : A) → slice_get (filter p xs) i ≡ Some x → p x ≡ true
+kept-passes p [] i x e = none_some x e
+kept-passes {A = A} p (y ∷ xs) i x e = by_test (p y) refl (λ k. kept-passes p xs k x) i e where
+  by_test : (b : Bool) → p y ≡ b → ((k : ℕ) → slice_get (filter p xs) k ≡ Some x → p x ≡ true) → (k : ℕ) → slice_get (cond b (y ∷ filter p xs) (filter p xs)) k ≡ Some x → p x ≡ true
+  by_test true is later zero e = subst (λ (z : A). p z ≡ true) (some_is y x e) is
+  by_test true is later (suc k) e = later k e
+  by_test false is later k e = later k e
+
+announces_own : (writer : ℕ) (done : List Mark) (c : Claimed) → to_announce writer done ≡ Some c → c.writer ≡ writer
+announces_own writer done c e =
+    same_by c.writer writer (kept-passes (λ (claim : Claimed). eqb claim.writer writer) (filter_map claim_of done) (length (announced_by writer done)) c e)
+
+announce_founded : (setting : Setting) (writer : ℕ) → IsFounded setting (announce writer)
+announce_founded setting writer done =
+    asked_for setting (to_announce writer done) (λ c. just (cond (is_full c.app done) (HeldBack c) (Announced c))) done
+    (λ c e. (by_test c (is_full c.app done) refl (subst (λ w. to_announce w done ≡ Some c) (sym (announces_own writer done c e)) e), tt)) where
+      by_test : (c : Claimed) (b : Bool) → is_full c.app done ≡ b → to_announce c.writer done ≡ Some c → RestsOn setting done (cond b (HeldBack c) (Announced c))
+      by_test c true full is = (is, full)
+      by_test c false full is = (is, full)
+
+unless_so : (setting : Setting) (b : Bool) (before marks : List Mark) → AreFounded setting before marks → AreFounded setting before (cond b [] marks)
+unless_so setting true before marks are = tt
+unless_so setting false before marks are = are
+
+announce_upto_founded : (setting : Setting) (more writer : ℕ) → IsFounded setting (announce_upto more writer)
+announce_upto_founded setting zero writer done = tt
+announce_upto_founded setting (suc more) writer done =
+    let step = announce writer done in
+    both setting done step (cond (is_held_back step) [] (announce_upto more writer (done ++ step))) (announce_founded setting writer done)
+    (unless_so setting (is_held_back step) (done ++ step) (announce_upto more writer (done ++ step)) (announce_upto_founded setting more writer (done ++ step)))
+
+announce_all_founded : (setting : Setting) (writer : ℕ) → IsFounded setting (announce_all writer)
+announce_all_founded setting writer done = announce_upto_founded setting (unannounced writer done) writer done
+
 -- ---- what the daemon takes
+
+-- a call or a claim of this application
+abbrev pub IsOf : ℕ → Pushed → Type 0
+IsOf app (OfCall c) = c.item.app ≡ app
+IsOf app (OfClaim c) = c.app ≡ app
+
+own_push : (app : ℕ) (mark : Mark) → IfSome (pushed_of app mark) (IsOf app)
+own_push app (Queued c) = by_test (eqb c.item.app app) refl where
+  by_test : (b : Bool) → eqb c.item.app app ≡ b → IfSome (cond b (Some (OfCall c)) None) (IsOf app)
+  by_test true e = same_by c.item.app app e
+  by_test false e = tt
+own_push app (Announced c) = by_test (eqb c.app app) refl where
+  by_test : (b : Bool) → eqb c.app app ≡ b → IfSome (cond b (Some (OfClaim c)) None) (IsOf app)
+  by_test true e = same_by c.app app e
+  by_test false e = tt
+own_push app _ = tt
+
+pub pushed-own : (app : ℕ) (done : List Mark) (i : ℕ) (what : Pushed) → slice_get (pushes app done) i ≡ Some what → IsOf app what
+pushed-own app [] i what e = none_some what e
+pushed-own app (mark ∷ done) i what e = by_push (pushed_of app mark) (own_push app mark) (λ k. pushed-own app done k what) i e where
+  by_push : (o : Option Pushed) → IfSome o (IsOf app) → ((k : ℕ) → slice_get (pushes app done) k ≡ Some what → IsOf app what) → (k : ℕ) → slice_get (cons_option o (pushes app done)) k ≡ Some what → IsOf app what
+  by_push None own later k e = later k e
+  by_push (Some first) own later zero e = subst (IsOf app) (some_is first what e) own
+  by_push (Some first) own later (suc k) e = later k e
+
+-- the event of what is first in a ring
+event_founded : (app : ℕ) (now : List Mark) (what : Pushed) → slice_get (pushes app now) (taken app now) ≡ Some what → EventRestsOn now (event_taken app what now)
+event_founded app now (OfCall c) e = record { call = c; first = e; writer_is = refl; number_is = refl }
+event_founded app now (OfClaim c) e =
+    subst (λ (a : ℕ). slice_get (pushes a now) (taken a now) ≡ Some (OfClaim c)) (sym (pushed-own app now (taken app now) (OfClaim c) e)) e
 
 take_log_founded : (setting : Setting) (app : ℕ) → IsFounded setting (take_log setting app)
 take_log_founded setting app done =
-    asked_for setting (slice_get (queued app done) (taken app done)) (λ c. note setting (λ now. event.Log app c.item.writer c.item.call (moment now))) done
-    (λ c e. note_founded setting (λ now. event.Log app c.item.writer c.item.call (moment now)) done (record {
-      call = c;
-      first = rw (queued-levels done (changes setting (journal done)) app, journal-levels done (changes setting (journal done)) app) e;
-      writer_is = refl;
-      number_is = refl;
-    }))
+    asked_for setting (slice_get (pushes app done) (taken app done)) (λ what. note setting (event_taken app what)) done
+    (λ what e. note_founded setting (event_taken app what) done (event_founded app (ready setting done) what
+    (rw (pushes-levels done (changes setting (journal done)) app, journal-levels done (changes setting (journal done)) app) e)))
 
 take_losses_founded : (setting : Setting) (app : ℕ) → IsFounded setting (take_losses setting app)
 take_losses_founded setting app done =
@@ -368,6 +460,9 @@ line_founded setting answers (line.Log call) =
         tt,
       ),
     )
+line_founded setting answers (line.Claim asked) = claim_then_founded setting asked [] tt
+line_founded setting answers (line.Announce writer) = turns setting (finish writer ∷ announce writer ∷ []) (finish_founded setting writer, (announce_founded setting writer, tt))
+line_founded setting answers (line.Register asked) = claim_then_founded setting asked (announce_all asked.writer ∷ []) (announce_all_founded setting asked.writer, tt)
 line_founded setting answers (line.Take apid) = on_app_founded setting apid (take_log setting) (take_log_founded setting)
 line_founded setting answers (line.Losses apid) = on_app_founded setting apid (take_losses setting) (take_losses_founded setting)
 line_founded setting answers (line.Levels levels.Later) = λ _. (tt, tt)

@@ -5,5 +5,6 @@ pub mod Rotation
 pub mod Founded
 pub mod RunLaws
 pub mod Calls
+pub mod Announcing
 pub mod Owed
 pub mod SlotChanges

@@ -1,22 +1,26 @@
 -- What holds of every list of marks that rest on those before them.
 use Rattle.std.proofs.Common.{◌≡◌, ℕ, zero, suc, length-append, ◌+◌, ◌-◌, ◌≤◌, Bool, true, false, cond, eqb, List, [], ◌∷◌, ◌++◌, length, take, Option, Some, None, refl, sym, ap, subst, ◌∙◌, append_assoc, arith}
 use Rattle.std.specs.Prelude.{IfSome, unwrap_or, count_by, sum_by, map, slice_get, not, find, reverse}
-use Rattle.std.specs.List.{filter_map, after_last, last_or, AllByRecursion}
+use Rattle.std.specs.List.{cons_option, filter_map, after_last, last_or, AllByRecursion}
+use Rattle.std.specs.Option.{option_and_then}
 use Rattle.std.proofs.lemmas.List.{append-nil, take-append-le, reverse-append, map-append}
 use Rattle.std.proofs.lemmas.List.Elements.{filter_map-append}
 use Rattle.std.proofs.lemmas.List.Sums.{sum_by-append}
 use Rattle.std.proofs.lemmas.Bool.Decides.{nat_tests}
+use Rattle.dl_bytes.specs.Claim.{Claimed}
 use Rattle.dl_bytes.specs.Level.{passes}
 use Rattle.dl_events.specs.declared.event.Event.{Event}
 use Rattle.dl_events.specs.declared.event.Event.TheVariants as event
 use Rattle.dl_model.specs.Setting.{Setting}
-use Rattle.dl_model.specs.Marks.{call_of, record_of, is_step_of, passed, refused, to_push, to_count, taken, is_log_of, queued, queued_of, Call, Mark, Filtered, Passed, Queued, Refused, Counted, Noted, journal, event_of, pending, is_lost_of, is_counted_of}
+use Rattle.dl_model.specs.Marks.{call_of, record_of, is_step_of, passed, refused, to_push, to_count, taken, is_taken_of, queued, queued_of, Pushed, OfCall, OfClaim, call_in, claim_in, pushes, pushed_of, Call, Mark, Filtered, Passed, Queued, Refused, Counted, Announced, Noted, journal, event_of, pending, is_lost_of, is_counted_of}
 use Rattle.dl_model.specs.Runs.{IsLoaded, RestsOn, AreFounded}
 use Rattle.std.proofs.lemmas.Option.{slice_get_within}
 use Rattle.dl_model.specs.History.{history, level_for}
 use Rattle.dl_model.specs.Along.{last_that}
-use Rattle.dl_model.specs.Accounts.{IsExact, order, logged_of, name_of}
+use Rattle.dl_model.specs.Accounts.{IsExact, Took, TookCall, TookClaim, took_of, takes, order, logged_of, claims, name_of}
+use Rattle.dl_model.specs.Accounts.{claim_of as event_claim}
 use Rattle.dl_model.specs.Report.{reported, lost_of}
+use Rattle.dl_laws.specs.Takes.{as_took}
 use Rattle.dl_laws.proofs.Founded.{passed_is, refused_is, last_step}
 use Rattle.dl_laws.proofs.Lists.{after_last-one, count_by-append}
 
@@ -80,70 +84,160 @@ take_next {A = A} (y ∷ xs) (suc i) x e =
     let count : suc i + 1 ≡ suc (i + 1) = omega arith in
     ap (λ n. take n (y ∷ xs)) count ∙ ap (λ (zs : List A). y ∷ zs) (take_next xs i x e)
 
--- the calls taken so far are the first that were queued
-abbrev IsFront : List (ℕ × ℕ) → ℕ → List Call → Type 0
-IsFront names count calls = (names ≡ map (λ (c : Call). name_of c.item) (take count calls)) × (count ≤ length calls)
+-- what was taken so far is the first that was pushed
+abbrev IsFront : List Took → ℕ → List Pushed → Type 0
+IsFront took count whats = (took ≡ map as_took (take count whats)) × (count ≤ length whats)
 
-still_front : (names : List (ℕ × ℕ)) (count : ℕ) (calls more : List Call) → IsFront names count calls → IsFront (names ++ []) (count + 0) (calls ++ more)
-still_front names count calls more front =
+still_front : (took : List Took) (count : ℕ) (whats more : List Pushed) → IsFront took count whats → IsFront (took ++ []) (count + 0) (whats ++ more)
+still_front took count whats more front =
     let same : count + 0 ≡ count = omega arith in (
-      append-nil names ∙ front.0 ∙ ap (map (λ (c : Call). name_of c.item)) (sym (take-append-le count calls more front.1) ∙ ap (λ n. take n (calls ++ more)) (sym same)),
-      omega (arith, front.1, length-append calls more),
+      append-nil took ∙ front.0 ∙ ap (map as_took) (sym (take-append-le count whats more front.1) ∙ ap (λ n. take n (whats ++ more)) (sym same)),
+      omega (arith, front.1, length-append whats more),
     )
 
-next_front : (names : List (ℕ × ℕ)) (count : ℕ) (calls : List Call) (c : Call) → IsFront names count calls → slice_get calls count ≡ Some c → IsFront (names ++ name_of c.item ∷ []) (count + 1) (calls ++ [])
-next_front names count calls c front is = (
-  ap (λ (ns : List (ℕ × ℕ)). ns ++ name_of c.item ∷ []) front.0 ∙ sym (map-append (λ (c : Call). name_of c.item) (take count calls) (c ∷ []))
-      ∙ ap (map (λ (c : Call). name_of c.item)) (sym (take_next calls count c is) ∙ ap (take (count + 1)) (sym (append-nil calls))),
-  omega (arith, slice_get_within calls count c is, length-append calls []),
+next_front : (took : List Took) (count : ℕ) (whats : List Pushed) (what : Pushed) → IsFront took count whats → slice_get whats count ≡ Some what → IsFront (took ++ as_took what ∷ []) (count + 1) (whats ++ [])
+next_front took count whats what front is = (
+  ap (λ (ts : List Took). ts ++ as_took what ∷ []) front.0 ∙ sym (map-append as_took (take count whats) (what ∷ []))
+      ∙ ap (map as_took) (sym (take_next whats count what is) ∙ ap (take (count + 1)) (sym (append-nil whats))),
+  omega (arith, slice_get_within whats count what is, length-append whats []),
 )
 
 abbrev InOrder : List Mark → Type 0
-InOrder done = (app : ℕ) → IsFront (order app (journal done)) (taken app done) (queued app done)
+InOrder done = (app : ℕ) → IsFront (takes app (journal done)) (taken app done) (pushes app done)
 
--- what a mark adds to the calls taken of an application, to their number, and to those queued
-abbrev logs_in : ℕ → Mark → List (ℕ × ℕ)
-logs_in app mark = filter_map (logged_of app) (filter_map event_of (mark ∷ []))
+-- what a mark adds to what was taken of an application, to its number, and to what was pushed
+abbrev took_in : ℕ → Mark → List Took
+took_in app mark = filter_map (took_of app) (filter_map event_of (mark ∷ []))
 
 abbrev takes_in : ℕ → Mark → ℕ
-takes_in app mark = count_by (is_log_of app) (filter_map event_of (mark ∷ []))
+takes_in app mark = count_by (is_taken_of app) (filter_map event_of (mark ∷ []))
 
-abbrev queues_in : ℕ → Mark → List Call
-queues_in app mark = filter_map (queued_of app) (mark ∷ [])
+abbrev pushes_in : ℕ → Mark → List Pushed
+pushes_in app mark = filter_map (pushed_of app) (mark ∷ [])
 
-front_by : (setting : Setting) (app : ℕ) (done : List Mark) (mark : Mark) → RestsOn setting done mark → IsFront (order app (journal done)) (taken app done) (queued app done) →
-    IsFront (order app (journal done) ++ logs_in app mark) (taken app done + takes_in app mark) (queued app done ++ queues_in app mark)
-front_by setting app done (Queued c) rests front = still_front (order app (journal done)) (taken app done) (queued app done) (queues_in app (Queued c)) front
+front_by : (setting : Setting) (app : ℕ) (done : List Mark) (mark : Mark) → RestsOn setting done mark → IsFront (takes app (journal done)) (taken app done) (pushes app done) →
+    IsFront (takes app (journal done) ++ took_in app mark) (taken app done + takes_in app mark) (pushes app done ++ pushes_in app mark)
+front_by setting app done (Queued c) rests front = still_front (takes app (journal done)) (taken app done) (pushes app done) (pushes_in app (Queued c)) front
+front_by setting app done (Announced c) rests front = still_front (takes app (journal done)) (taken app done) (pushes app done) (pushes_in app (Announced c)) front
 front_by setting app done (Noted (event.Log other writer call moment)) rests front = by_test (eqb other app) refl where
-  here : eqb other app ≡ true → IsFront (order app (journal done) ++ (writer, call) ∷ []) (taken app done + 1) (queued app done ++ [])
+  here : eqb other app ≡ true → IsFront (takes app (journal done) ++ TookCall writer call ∷ []) (taken app done + 1) (pushes app done ++ [])
   here e =
-      let first : slice_get (queued app done) (taken app done) ≡ Some rests.call = subst (λ a. slice_get (queued a done) (taken a done) ≡ Some rests.call) (same_app other app e) rests.first in
-      let is = next_front (order app (journal done)) (taken app done) (queued app done) rests.call front first in
-      subst (λ w. IsFront (order app (journal done) ++ (w, call) ∷ []) (taken app done + 1) (queued app done ++ [])) rests.writer_is
-      (subst (λ n. IsFront (order app (journal done) ++ (rests.call.item.writer, n) ∷ []) (taken app done + 1) (queued app done ++ [])) rests.number_is is)
+      let first : slice_get (pushes app done) (taken app done) ≡ Some (OfCall rests.call) =
+      subst (λ a. slice_get (pushes a done) (taken a done) ≡ Some (OfCall rests.call)) (same_app other app e) rests.first in
+      let is = next_front (takes app (journal done)) (taken app done) (pushes app done) (OfCall rests.call) front first in
+      subst (λ w. IsFront (takes app (journal done) ++ TookCall w call ∷ []) (taken app done + 1) (pushes app done ++ [])) rests.writer_is
+      (subst (λ n. IsFront (takes app (journal done) ++ TookCall rests.call.item.writer n ∷ []) (taken app done + 1) (pushes app done ++ [])) rests.number_is is)
 
   by_test : (b : Bool) → eqb other app ≡ b →
-      IsFront (order app (journal done) ++ filter_map (λ (o : Option (ℕ × ℕ)). o) (cond b (Some (writer, call)) None ∷ [])) (taken app done + (0 + cond b 1 0)) (queued app done ++ [])
+      IsFront (takes app (journal done) ++ filter_map (λ (o : Option Took). o) (cond b (Some (TookCall writer call)) None ∷ [])) (taken app done + (0 + cond b 1 0)) (pushes app done ++ [])
   by_test true e = here e
-  by_test false e = still_front (order app (journal done)) (taken app done) (queued app done) [] front
-front_by setting app done _ rests front = still_front (order app (journal done)) (taken app done) (queued app done) [] front
+  by_test false e = still_front (takes app (journal done)) (taken app done) (pushes app done) [] front
+front_by setting app done (Noted (event.Claim c moment)) rests front = by_test (eqb c.app app) refl where
+  here : eqb c.app app ≡ true → IsFront (takes app (journal done) ++ TookClaim c ∷ []) (taken app done + 1) (pushes app done ++ [])
+  here e =
+      next_front (takes app (journal done)) (taken app done) (pushes app done) (OfClaim c) front
+      (subst (λ a. slice_get (pushes a done) (taken a done) ≡ Some (OfClaim c)) (same_app c.app app e) rests)
+
+  by_test : (b : Bool) → eqb c.app app ≡ b →
+      IsFront (takes app (journal done) ++ filter_map (λ (o : Option Took). o) (cond b (Some (TookClaim c)) None ∷ [])) (taken app done + (0 + cond b 1 0)) (pushes app done ++ [])
+  by_test true e = here e
+  by_test false e = still_front (takes app (journal done)) (taken app done) (pushes app done) [] front
+front_by setting app done _ rests front = still_front (takes app (journal done)) (taken app done) (pushes app done) [] front
 
 in_order_goes_on : (setting : Setting) (done : List Mark) (mark : Mark) → InOrder done → RestsOn setting done mark → InOrder (done ++ mark ∷ [])
 in_order_goes_on setting done mark ordered rests app =
     let journal_more = filter_map-append event_of done (mark ∷ []) in
-    let names : order app (journal (done ++ mark ∷ [])) ≡ order app (journal done) ++ logs_in app mark =
-    ap (filter_map (logged_of app)) journal_more ∙ filter_map-append (logged_of app) (journal done) (filter_map event_of (mark ∷ [])) in
+    let names : takes app (journal (done ++ mark ∷ [])) ≡ takes app (journal done) ++ took_in app mark =
+    ap (filter_map (took_of app)) journal_more ∙ filter_map-append (took_of app) (journal done) (filter_map event_of (mark ∷ [])) in
     let count : taken app (done ++ mark ∷ []) ≡ taken app done + takes_in app mark =
-    ap (count_by (is_log_of app)) journal_more ∙ count_by-append (is_log_of app) (journal done) (filter_map event_of (mark ∷ [])) in
-    let calls : queued app (done ++ mark ∷ []) ≡ queued app done ++ queues_in app mark = filter_map-append (queued_of app) done (mark ∷ []) in
-    subst (λ ns. IsFront ns (taken app (done ++ mark ∷ [])) (queued app (done ++ mark ∷ []))) (sym names)
-    (subst (λ n. IsFront (order app (journal done) ++ logs_in app mark) n (queued app (done ++ mark ∷ []))) (sym count)
-    (subst (λ cs. IsFront (order app (journal done) ++ logs_in app mark) (taken app done + takes_in app mark) cs) (sym calls)
+    ap (count_by (is_taken_of app)) journal_more ∙ count_by-append (is_taken_of app) (journal done) (filter_map event_of (mark ∷ [])) in
+    let whats : pushes app (done ++ mark ∷ []) ≡ pushes app done ++ pushes_in app mark = filter_map-append (pushed_of app) done (mark ∷ []) in
+    subst (λ ts. IsFront ts (taken app (done ++ mark ∷ [])) (pushes app (done ++ mark ∷ []))) (sym names)
+    (subst (λ n. IsFront (takes app (journal done) ++ took_in app mark) n (pushes app (done ++ mark ∷ []))) (sym count)
+    (subst (λ ps. IsFront (takes app (journal done) ++ took_in app mark) (taken app done + takes_in app mark) ps) (sym whats)
     (front_by setting app done mark rests (ordered app))))
 
 pub admitted_in_order : (setting : Setting) (marks : List Mark) → AreFounded setting [] marks → (app : ℕ) →
-    (order app (journal marks) ≡ map (λ (c : Call). name_of c.item) (take (taken app marks) (queued app marks))) × (taken app marks ≤ length (queued app marks))
+    (takes app (journal marks) ≡ map as_took (take (taken app marks) (pushes app marks))) × (taken app marks ≤ length (pushes app marks))
 admitted_in_order setting marks founded = holds_after setting InOrder (in_order_goes_on setting) [] marks (λ app. (refl, omega arith)) founded
+
+-- ---- calls and claims among them
+
+abbrev call_took : Took → Option (ℕ × ℕ)
+call_took (TookCall writer call) = Some (writer, call)
+call_took (TookClaim c) = None
+
+abbrev claim_took : Took → Option Claimed
+claim_took (TookCall writer call) = None
+claim_took (TookClaim c) = Some c
+
+-- what one function gives of entries is what another one gives of what a third gives of them
+given_twice : {X Y Z : Type 0} (f : X → Option Z) (g : X → Option Y) (h : Y → Option Z) → ((x : X) → f x ≡ option_and_then h (g x)) → (xs : List X) → filter_map f xs ≡ filter_map h (filter_map g xs)
+given_twice f g h is [] = refl
+given_twice {Y = Y} {Z = Z} f g h is (x ∷ xs) = ap (λ (o : Option Z). cons_option o (filter_map f xs)) (is x) ∙ by_entry (g x) (given_twice f g h is xs) where
+  by_entry : (o : Option Y) → filter_map f xs ≡ filter_map h (filter_map g xs) → cons_option (option_and_then h o) (filter_map f xs) ≡ filter_map h (cons_option o (filter_map g xs))
+  by_entry None others = others
+  by_entry (Some y) others = ap (cons_option (h y)) others
+
+logged_among : (app : ℕ) (e : Event) → logged_of app e ≡ option_and_then call_took (took_of app e)
+logged_among app (event.Log other writer call moment) = by_test (eqb other app) where
+  by_test : (b : Bool) → cond b (Some (writer, call)) None ≡ option_and_then call_took (cond b (Some (TookCall writer call)) None)
+  by_test true = refl
+  by_test false = refl
+logged_among app (event.Claim c moment) = by_test (eqb c.app app) where
+  by_test : (b : Bool) → None ≡ option_and_then call_took (cond b (Some (TookClaim c)) None)
+  by_test true = refl
+  by_test false = refl
+logged_among app _ = refl
+
+claimed_among : (app : ℕ) (e : Event) → event_claim app e ≡ option_and_then claim_took (took_of app e)
+claimed_among app (event.Log other writer call moment) = by_test (eqb other app) where
+  by_test : (b : Bool) → None ≡ option_and_then claim_took (cond b (Some (TookCall writer call)) None)
+  by_test true = refl
+  by_test false = refl
+claimed_among app (event.Claim c moment) = by_test (eqb c.app app) where
+  by_test : (b : Bool) → cond b (Some c) None ≡ option_and_then claim_took (cond b (Some (TookClaim c)) None)
+  by_test true = refl
+  by_test false = refl
+claimed_among app _ = refl
+
+queued_among : (app : ℕ) (mark : Mark) → queued_of app mark ≡ option_and_then call_in (pushed_of app mark)
+queued_among app (Queued c) = by_test (eqb c.item.app app) where
+  by_test : (b : Bool) → cond b (Some c) None ≡ option_and_then call_in (cond b (Some (OfCall c)) None)
+  by_test true = refl
+  by_test false = refl
+queued_among app (Announced c) = by_test (eqb c.app app) where
+  by_test : (b : Bool) → None ≡ option_and_then call_in (cond b (Some (OfClaim c)) None)
+  by_test true = refl
+  by_test false = refl
+queued_among app _ = refl
+
+-- the calls that an application's ring took are those among all that it took
+pub queued_in_ring : (app : ℕ) (marks : List Mark) → queued app marks ≡ filter_map call_in (pushes app marks)
+queued_in_ring app marks = given_twice (queued_of app) (pushed_of app) call_in (queued_among app) marks
+
+calls_of_takes : (whats : List Pushed) → filter_map call_took (map as_took whats) ≡ map (λ (c : Call). name_of c.item) (filter_map call_in whats)
+calls_of_takes [] = refl
+calls_of_takes (OfCall c ∷ whats) = ap (λ (ns : List (ℕ × ℕ)). name_of c.item ∷ ns) (calls_of_takes whats)
+calls_of_takes (OfClaim c ∷ whats) = calls_of_takes whats
+
+claims_of_takes : (whats : List Pushed) → filter_map claim_took (map as_took whats) ≡ filter_map claim_in whats
+claims_of_takes [] = refl
+claims_of_takes (OfCall c ∷ whats) = claims_of_takes whats
+claims_of_takes (OfClaim c ∷ whats) = ap (λ (cs : List Claimed). c ∷ cs) (claims_of_takes whats)
+
+-- the calls that were logged, and the claims that were noted, are those among the first that the ring took
+pub calls_in_order : (setting : Setting) (marks : List Mark) → AreFounded setting [] marks → (app : ℕ) →
+    order app (journal marks) ≡ map (λ (c : Call). name_of c.item) (filter_map call_in (take (taken app marks) (pushes app marks)))
+calls_in_order setting marks founded app =
+    given_twice (logged_of app) (took_of app) call_took (logged_among app) (journal marks)
+    ∙ ap (filter_map call_took) (admitted_in_order setting marks founded app).0 ∙ calls_of_takes (take (taken app marks) (pushes app marks))
+
+pub claims_in_order : (setting : Setting) (marks : List Mark) → AreFounded setting [] marks → (app : ℕ) →
+    claims app (journal marks) ≡ filter_map claim_in (take (taken app marks) (pushes app marks))
+claims_in_order setting marks founded app =
+    given_twice (event_claim app) (took_of app) claim_took (claimed_among app) (journal marks)
+    ∙ ap (filter_map claim_took) (admitted_in_order setting marks founded app).0 ∙ claims_of_takes (take (taken app marks) (pushes app marks))
 
 -- ---- filtered exactly
 

@@ -10,7 +10,7 @@ use Rattle.dl_events.specs.declared.record.Answer.{Answer}
 use Rattle.dl_script_lines.specs.declared.line.CallLine.{CallLine}
 use Rattle.dl_script_lines.specs.declared.step.LevelEvents.TheVariants.{Later}
 use Rattle.dl_script_lines.specs.declared.step.Step.{Step}
-use Rattle.dl_script_lines.specs.declared.step.Step.TheVariants.{App, Clock, Context, Levels, Writer, Call, Log, Load, Push, Take, Connect, Bytes}
+use Rattle.dl_script_lines.specs.declared.step.Step.TheVariants.{Announce, App, Clock, Context, Levels, Writer, Call, Log, Load, Push, Register, Take, Connect, Bytes}
 use Rattle.dl_model.specs.Marks.{Mark, Passed}
 use Rattle.dl_model.specs.Marks as marks
 use Rattle.dl_model.specs.Setting.{Setting}
@@ -121,6 +121,32 @@ two_levels_script =
 -- a call whose take has a moment
 abbrev pub clocked_script : List Step
 clocked_script = one_writer 16 ++ Clock 1 258 ∷ log_info 1 (codes "a") ∷ []
+
+-- a writer claims a place for a context, and announces it
+abbrev pub register : ℕ → List ℕ → ℕ → List ℕ → Step
+register writer ctid level text = Register (record { writer = writer; ctid = ctid; level = Some level; text = text })
+
+-- a call of a writer under a context
+abbrev pub call_under : ℕ → List ℕ → Severity → ℕ → List ℕ → CallLine
+call_under writer ctid severity at letters = record { writer = writer; ctid = ctid; severity = severity; at = at; payload = text letters }
+
+-- a context that is claimed: the call before the claim is taken is filtered, and the one after it passes
+abbrev pub claimed_script : List Step
+claimed_script =
+    one_writer 16 ++ register 1 (codes "CTX2") 5 (codes "c") ∷ Connect ∷ Load (call_under 1 (codes "CTX2") Info 1 (codes "a")) ∷ Take (id (codes "LOG1"))
+    ∷ Log (call_under 1 (codes "CTX2") Debug 2 (codes "b")) ∷ []
+
+-- two writers claim places for one context
+abbrev pub same_context_script : List Step
+same_context_script =
+    app (codes "LOG1") 16 ∷ writer (codes "LOG1") ∷ writer (codes "LOG1") ∷ register 1 (codes "SAME") 4 [] ∷ register 2 (codes "SAME") 5 []
+    ∷ Take (id (codes "LOG1")) ∷ Take (id (codes "LOG1")) ∷ Log (call_under 1 (codes "SAME") Info 1 (codes "a")) ∷ Log (call_under 2 (codes "SAME") Info 2 (codes "b")) ∷ []
+
+-- a ring that holds one claim, and a second claim that waits until it is announced again
+abbrev pub waiting_claim_script : List Step
+waiting_claim_script =
+    app (codes "LOG1") 1 ∷ writer (codes "LOG1") ∷ register 1 (codes "AAAA") 4 [] ∷ register 1 (codes "BBBB") 4 []
+    ∷ Take (id (codes "LOG1")) ∷ Announce 1 ∷ Take (id (codes "LOG1")) ∷ []
 
 -- a call of writer 1 that passed its level
 abbrev pub passed_call : marks.Call

@@ -9,6 +9,7 @@ ghost use Rattle.dl_bytes.specs.declared.user.UserMsg.TheVariants.{Overflow};
 ghost use Rattle.dl_events.specs.declared.event.Event.TheVariants as event;
 ghost use Rattle.dl_script_lines.specs.declared.step.Step.TheVariants.{Call, Connect, Close, Level, Levels, Bytes, User, Inject};
 ghost use Rattle.dl_script_lines.specs.declared.step.LevelEvents.TheVariants.{Later, Now};
+ghost use Rattle.dl_model.specs.Accounts.{claims};
 ghost use Rattle.dl_model.specs.RegistryExamples.{hex, defaults, query, store, reset_all, id};
 ghost use Rattle.dl_model.specs.Journal.{is_connect};
 ghost use Rattle.dl_model.specs.Steps.{loaded, run};
@@ -18,7 +19,7 @@ ghost use Rattle.dl_model.specs.Overflow.{counters};
 ghost use Rattle.dl_model.specs.Marks.{records_of, journal};
 ghost use Rattle.dl_bytes.specs.declared.outcome.Done.TheVariants.{Yes, Failed};
 ghost use Rattle.dl_events.specs.declared.record.Answer.TheVariants.{Filtered, Queued, Lost};
-ghost use Rattle.dl_laws.specs.Scripts.{log_info, one_writer, log_filled, small_files, file_four, version, injection, injections_script, ask, call_info, later_script, two_clients_script, full_ring_script, between_script, with_level, loaded_level, text, call_line, two_levels_script, calls_that_passed, clocked_script};
+ghost use Rattle.dl_laws.specs.Scripts.{log_info, one_writer, log_filled, small_files, file_four, version, injection, injections_script, ask, call_info, later_script, two_clients_script, full_ring_script, between_script, with_level, loaded_level, text, call_line, two_levels_script, calls_that_passed, clocked_script, claimed_script, same_context_script, waiting_claim_script};
 
 /// A client that is there hears a call, and leaves.
 pub fn one_call()
@@ -135,6 +136,29 @@ pub fn two_levels_of_one_application()
 pub fn before_the_first_level()
     ensures { map loaded_level (records_of 1 (run defaults [] (Levels Later ∷ one_writer 16 ++ Call (call_line Fatal 1 (text [])) ∷ Level ∷ call_info 1 [] ∷ [])))
         ≡ with_level Filtered 0 0 ∷ with_level Queued 1 4 ∷ [] }
+{}
+
+/// A context that a writer claims: until the daemon has taken the claim its slot has level 0, and its calls are filtered. Then it has the
+/// level that it asked for.
+pub fn a_claimed_context()
+    ensures levels { map loaded_level (records_of 1 (run defaults [] claimed_script)) ≡ with_level Filtered 0 0 ∷ with_level Queued 1 5 ∷ [] }
+    ensures slots { map (λ r. r.slot) (records_of 1 (run defaults [] claimed_script)) ≡ 1 ∷ 1 ∷ [] }
+    ensures report { printed defaults [] [] true claimed_script
+        ≡ codes "client 1 stopped 1 34 complete\n3D 00 00 22 45 43 55 31 00 00 00 01 00 00 00 02 51 01 4C 4F 47 31 43 54 58 32 00 82 00 00 02 00 62 00\napp LOG1 calls 2 queued 1 filtered 1 lost 0 reported 0\n" }
+{}
+
+/// Two writers claim places for one context: both places get the level of the first claim.
+pub fn two_claims_of_one_context()
+    ensures first { map loaded_level (records_of 1 (run defaults [] same_context_script)) ≡ with_level Queued 1 4 ∷ [] }
+    ensures second { map loaded_level (records_of 2 (run defaults [] same_context_script)) ≡ with_level Queued 1 4 ∷ [] }
+    ensures places { map (λ claim. claim.place) (claims 0 (journal (run defaults [] same_context_script))) ≡ 0 ∷ 1 ∷ [] }
+    ensures report { printed defaults [] [] false same_context_script
+        ≡ codes "backlog 2 68 0\napp LOG1 calls 2 queued 2 filtered 0 lost 0 reported 0\n" }
+{}
+
+/// A claim that the ring refuses waits, and is the first when the writer announces again.
+pub fn a_claim_waits()
+    ensures { map (λ claim. claim.ctid) (claims 0 (journal (run defaults [] waiting_claim_script))) ≡ id (codes "AAAA") ∷ id (codes "BBBB") ∷ [] }
 {}
 
 /// The message counter of a call has one byte: behind 256 calls that passed their level it is 0 again, and the call's number is 257.

@@ -56,6 +56,8 @@ waits_on source events (event.Connect client) comes goes = absurd cc
 waits_on source events (event.Close client why) comes goes = absurd cc
 waits_on source events (event.Request client frame done) comes goes =
     one_event source events (event.Request client frame done) ∙ waiting-reply client (source.reply events frame done) (traffic source events) ∙ as_before source events
+waits_on source events (event.Claim claim moment) comes goes =
+    one_event source events (event.Claim claim moment) ∙ ap waiting (append-nil (traffic source events)) ∙ as_before source events
 waits_on source events (event.Level slot level) comes goes =
     one_event source events (event.Level slot level) ∙ ap waiting (append-nil (traffic source events)) ∙ as_before source events
 waits_on source events (event.Log app writer call moment) comes goes =

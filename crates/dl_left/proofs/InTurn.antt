@@ -15,6 +15,7 @@ formed_turns setting source events formed before after e parts = by_kind e (subs
   by_kind (event.Close client why) formed =
       (second_speak [] before (event.Close client why ∷ after) (all_speak setting source [] (before ++ event.Close client why ∷ after) formed)).0
   by_kind (event.Request client frame done) formed = tt
+  by_kind (event.Claim claim moment) formed = tt
   by_kind (event.Level slot level) formed = tt
   by_kind (event.Log app writer call moment) formed = tt
   by_kind (event.Lost app count moment) formed = tt

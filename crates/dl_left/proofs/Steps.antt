@@ -55,6 +55,7 @@ says_nothing : (e : Event) → is_connect e ≡ false → is_close e ≡ false �
 says_nothing (event.Connect other) comes goes client = absurd cc
 says_nothing (event.Close other why) comes goes client = absurd cc
 says_nothing (event.Request other frame done) comes goes client = refl
+says_nothing (event.Claim claim moment) comes goes client = refl
 says_nothing (event.Level slot level) comes goes client = refl
 says_nothing (event.Log app writer call moment) comes goes client = refl
 says_nothing (event.Lost app count moment) comes goes client = refl
@@ -95,6 +96,7 @@ pub may_note : (sources : Sources) (events : List Event) (e : Event) (now : Wait
 may_note sources events (event.Connect client) now short few may is = omega (arith, is.few, short)
 may_note sources events (event.Close client why) now short few may is = may_go now.clients client events is.open_now may
 may_note sources events (event.Request client frame done) now short few may is = (is.within, omega (arith, is.short, short, few))
+may_note sources events (event.Claim claim moment) now short few may is = (is.within, omega (arith, is.short, short, few))
 may_note sources events (event.Level slot level) now short few may is = (is.within, omega (arith, is.short, short, few))
 may_note sources events (event.Log app writer call moment) now short few may is = (is.within, omega (arith, is.short, short, few))
 may_note sources events (event.Lost app count moment) now short few may is = (is.within, omega (arith, is.short, short, few))
@@ -104,6 +106,7 @@ pub may_admit : (e : Event) (now : Waiting) → is_connect e ≡ false → is_cl
 may_admit (event.Connect client) now comes goes may = absurd cc
 may_admit (event.Close client why) now comes goes may = absurd cc
 may_admit (event.Request client frame done) now comes goes may = may
+may_admit (event.Claim claim moment) now comes goes may = may
 may_admit (event.Level slot level) now comes goes may = may
 may_admit (event.Log app writer call moment) now comes goes may = may
 may_admit (event.Lost app count moment) now comes goes may = may

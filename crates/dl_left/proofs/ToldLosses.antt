@@ -5,6 +5,7 @@ use Rattle.std.specs.List.{filter, flat_map, range_with_len, AllByRecursion}
 use Rattle.std.proofs.lemmas.List.Elements.{filter-append}
 use Rattle.std.proofs.lemmas.List.Filters.{length-filter_both}
 use Rattle.std.proofs.lemmas.List.Sums.{sum_by-cons, sum_by-append}
+use Rattle.dl_bytes.specs.Claim.{Claimed}
 use Rattle.dl_events.specs.declared.event.Event.{Event}
 use Rattle.dl_events.specs.declared.event.Event.TheVariants as event
 use Rattle.dl_events.specs.declared.record.Record.{Record}
@@ -45,6 +46,7 @@ own_losses app (e ∷ events) = by_kind e (own_losses app events) where
   by_kind (event.Connect client) later = nothing (event.Connect client) refl refl later
   by_kind (event.Close client why) later = nothing (event.Close client why) refl refl later
   by_kind (event.Request client frame done) later = nothing (event.Request client frame done) refl refl later
+  by_kind (event.Claim claim moment) later = nothing (event.Claim claim moment) refl refl later
   by_kind (event.Level slot level) later = nothing (event.Level slot level) refl refl later
   by_kind (event.Log other writer call moment) later = nothing (event.Log other writer call moment) refl refl later
   by_kind (event.User channel msg moment) later = nothing (event.User channel msg moment) refl refl later
@@ -62,8 +64,8 @@ more_lost xs ys = ap length (filter-append (λ (r : Record). is_answer answer.Lo
 few_lost : (records : List Record) → length (with_answer answer.Lost records) ≤ length records
 few_lost records = omega (arith, length-filter_both (λ (r : Record). is_answer answer.Lost r.answer) (λ (r : Record). not (is_answer answer.Lost r.answer)) (λ r. refl) records)
 
-pub told_have_records : (first : ℕ) (events : List Event) (pending refusals : ℕ → ℕ) (records : List (List Record)) → IsAccounted first events pending refusals records → told events ≤ length (all_records records)
-told_have_records first events pending refusals records are =
+pub told_have_records : (first : ℕ) (events : List Event) (pending refusals : ℕ → ℕ) (pushed : List (List Claimed)) (records : List (List Record)) → IsAccounted first events pending refusals pushed records → told events ≤ length (all_records records)
+told_have_records first events pending refusals pushed records are =
     let all = all_records records in
     let of_events = below app_of events in
     let of_records = below (λ (r : Record). r.item.app) all in

@@ -136,7 +136,10 @@ pub fn admitted_by(sources: &Sources<'_, '_>, event: &Event) -> Batch
             reports(sources.ecu, apid_len(sources.specs, *app), *count)
         }
         Event::User { msg, .. } => of_message(sources.ecu, msg),
-        Event::Level { .. } | Event::Connect { .. } | Event::Request { .. } | Event::Close { .. } =>
-            { NONE }
+        Event::Claim { .. }
+        | Event::Level { .. }
+        | Event::Connect { .. }
+        | Event::Request { .. }
+        | Event::Close { .. } => NONE,
     }
 }

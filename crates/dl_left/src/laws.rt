@@ -2,6 +2,7 @@
 
 ghost use Rattle.std.specs.Prelude.{◌≤◌, ℕ, List, length};
 ghost use Rattle.std.specs.List.{flat_map};
+ghost use Rattle.dl_bytes.specs.Claim.{Claimed};
 ghost use Rattle.dl_events.specs.declared.event.Event.{Event};
 ghost use Rattle.dl_events.specs.declared.record.Record.{Record};
 ghost use Rattle.dl_model.specs.Accounts.{AreNumbered};
@@ -20,8 +21,8 @@ pub fn clients_come_and_go()
 /// Where records account for a journal, the calls of each writer are numbered from 1 on, and the lost calls that the journal tells
 /// have their records.
 pub fn records_account_for_a_journal()
-    ensures numbered { (first : ℕ) (events : List Event) (pending refusals : ℕ → ℕ) (records : List (List Record)) →
-        IsAccounted first events pending refusals records → (writer : ℕ) → AreNumbered (records_by writer records) }
-    ensures told { (first : ℕ) (events : List Event) (pending refusals : ℕ → ℕ) (records : List (List Record)) →
-        IsAccounted first events pending refusals records → told events ≤ length (flat_map (λ (rs : List Record). rs) records) }
+    ensures numbered { (first : ℕ) (events : List Event) (pending refusals : ℕ → ℕ) (pushed : List (List Claimed)) (records : List (List Record)) →
+        IsAccounted first events pending refusals pushed records → (writer : ℕ) → AreNumbered (records_by writer records) }
+    ensures told { (first : ℕ) (events : List Event) (pending refusals : ℕ → ℕ) (pushed : List (List Claimed)) (records : List (List Record)) →
+        IsAccounted first events pending refusals pushed records → told events ≤ length (flat_map (λ (rs : List Record). rs) records) }
 {}

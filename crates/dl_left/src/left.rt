@@ -29,6 +29,7 @@ pub fn note(waiting: &mut Waiting, sources: &Sources<'_, '_>, event: &Event)
         Event::Log { .. }
         | Event::Lost { .. }
         | Event::User { .. }
+        | Event::Claim { .. }
         | Event::Level { .. }
         | Event::Request { .. } => waiting.admit(admitted_by(sources, event)),
     }

@@ -1,18 +1,19 @@
 -- The account of all writers, in the words that runs of steps have for it.
 use Rattle.std.proofs.Common.{◌≡◌, ℕ, zero, suc, ◌+◌, ◌-◌, ◌<◌, ◌≤◌, ◌==◌, Bool, true, false, cond, eqb, List, [], ◌∷◌, ◌++◌, length, map, drop, get_or, slice_get, Option, Some, None, refl, sym, ap, ◌∙◌, subst, eq-eqb, arith, inl, inr}
-use Rattle.std.specs.Prelude.{All, unwrap_or, ◌⊎◌}
-use Rattle.std.specs.List.{filter, flat_map, range_with_len, AllByRecursion}
+use Rattle.std.specs.Prelude.{All, nat_eq, unwrap_or, ◌⊎◌}
+use Rattle.std.specs.List.{filter, flat_map, range_with_len, AllByRecursion, IsDistinct}
 use Rattle.std.specs.Option.{option_map, option_map_or}
 use Rattle.std.proofs.lemmas.Bool.{cases_eq, cases_lt, eqb-true, ne_eqb}
 use Rattle.std.proofs.lemmas.List.Concat.{flat_map-cons}
 use Rattle.std.proofs.lemmas.List.Elements.{All-head, All-tail, filter-append}
 use Rattle.std.proofs.lemmas.Option.{slice_get_cases, slice_get_past, slice_get_within, slice_get-map}
+use Rattle.dl_bytes.specs.Claim.{Claimed}
 use Rattle.dl_events.specs.declared.event.Event.{Event}
 use Rattle.dl_events.specs.declared.record.Answer.TheVariants as answer
 use Rattle.dl_events.specs.declared.record.Record.{Record}
-use Rattle.dl_model.specs.Accounts.{WriterAccount, of_writer, order, with_answer, AreTold}
-use Rattle.dl_model.specs.Report.{records_of_app, reported}
-use Rattle.dl_model.specs.WholeAccounts.{BelongsTo, IsAccounted, IsOwned, records_by}
+use Rattle.dl_model.specs.Accounts.{WriterAccount, claims, claimed_by, of_writer, order, with_answer, AreTold}
+use Rattle.dl_model.specs.Report.{records_of_app}
+use Rattle.dl_model.specs.WholeAccounts.{ArePlacesApart, IsAccounted, IsOwned, claims_by, records_by}
 use Rattle.dl_thread_rules.specs.Views.{bit, times}
 use Rattle.dl_writer.specs.Records.{IsOf, TellAll}
 use Rattle.dl_writer.specs.State.{BookState, IsWhole, WriterState, numbers}
@@ -121,43 +122,68 @@ module _ (events : List Event) (s : AccountState) (is : IsSettled s) (whole : Al
   abbrev records : List (List Record)
   records = map (λ (b : BookState). b.records) s.books
 
-  nobody : (writer : ℕ) → records_by writer records ≡ [] → ((b : BookState) → 1 ≤ writer → slice_get s.books (writer - 1) ≡ Some b → ⊥) → IsOwned s.handles.levels.first events writer (refusals_of s.books writer) (records_by writer records)
-  nobody writer none nowhere = subst (IsOwned s.handles.levels.first events writer (refusals_of s.books writer)) (sym none) (record {
+  -- nothing was claimed
+  none_claimed : (writer app : ℕ) → filter (claimed_by writer) (claims app events) ≡ []
+  none_claimed writer app = ap (filter (claimed_by writer)) (j.unclaimed app)
+
+  none_pushed : (writer : ℕ) → claims_by writer [] ≡ []
+  none_pushed writer = by (writer == 0) where
+    none : ◌≡◌ {A = Option (List Claimed)} (slice_get [] (writer - 1)) None
+    none = slice_get_past [] (writer - 1) (omega arith)
+
+    by : (b : Bool) → ◌≡◌ {A = List Claimed} (cond {A = List Claimed} b [] (unwrap_or (slice_get [] (writer - 1)) [])) []
+    by true = refl
+    by false = ap (λ (o : Option (List Claimed)). unwrap_or o []) none
+
+  places_apart : ArePlacesApart events
+  unfolding IsDistinct
+  places_apart app = subst (λ (cs : List Claimed). IsDistinct nat_eq (map (λ claim. claim.place) cs)) (sym (j.unclaimed app)) tt
+
+  nobody : (writer : ℕ) → records_by writer records ≡ [] → ((b : BookState) → 1 ≤ writer → slice_get s.books (writer - 1) ≡ Some b → ⊥) → IsOwned s.handles.levels.first events writer (refusals_of s.books writer) (claims_by writer []) (records_by writer records)
+  nobody writer none nowhere = subst (IsOwned s.handles.levels.first events writer (refusals_of s.books writer) (claims_by writer [])) (sym none) (record {
     app = 0;
-    belongs = record { own = tt; by_writer = tt; alone = λ other apart. none_admitted writer other (λ b least found same. nowhere b least found) };
+    belongs = record {
+      own = tt;
+      by_writer = tt;
+      alone = λ other apart. none_admitted writer other (λ b least found same. nowhere b least found);
+      claims_alone = λ other apart. none_claimed writer other;
+    };
     account = record {
       numbered = refl;
       counted = tt;
       exact = tt;
       never_fall = tt;
       in_order = none_admitted writer 0 (λ b least found same. nowhere b least found);
+      claimed = none_claimed writer 0 ∙ sym (none_pushed writer);
       refused = omega arith;
     };
   })
 
-  somebody : (writer : ℕ) (b : BookState) → (writer ≡ 0 → ⊥) → slice_get s.books (writer - 1) ≡ Some b → IsOwned s.handles.levels.first events writer (refusals_of s.books writer) (records_by writer records)
+  somebody : (writer : ℕ) (b : BookState) → (writer ≡ 0 → ⊥) → slice_get s.books (writer - 1) ≡ Some b → IsOwned s.handles.levels.first events writer (refusals_of s.books writer) (claims_by writer []) (records_by writer records)
   somebody writer b apart found =
       let lt = slice_get_within s.books (writer - 1) b found in
       let number : b.writer.push.number ≡ writer = omega (arith, number_at 1 (writer - 1) s.books b is.numbered found, apart) in
       let at : get_or s.books (writer - 1) b ≡ b = get_there s.books (writer - 1) b found in
       let mine : TellAll b.writer b.records = subst (λ (x : BookState). TellAll x.writer x.records) at (told (writer - 1) b lt) in
-      let its = subst (λ (x : BookState). WriterAccount s.handles.levels.first events x.writer.app x.writer.push.number x.writer.push.refusals x.records) at (account.each (writer - 1) b lt) in
+      let its = subst (λ (x : BookState). WriterAccount s.handles.levels.first events x.writer.app x.writer.push.number x.writer.push.refusals [] x.records) at (account.each (writer - 1) b lt) in
       let refusals : b.writer.push.refusals ≡ refusals_of s.books writer =
       sym (ap (λ (t : Bool). cond t 0 (option_map_or (λ (b : BookState). b.writer.push.refusals) (slice_get s.books (writer - 1)) 0)) (ne_eqb writer 0 apart)
       ∙ ap (λ (o : Option BookState). option_map_or (λ (b : BookState). b.writer.push.refusals) o 0) found) in
       let records_are : b.records ≡ records_by writer records =
       sym (ap (λ (t : Bool). cond t [] (unwrap_or (slice_get records (writer - 1)) [])) (ne_eqb writer 0 apart)
       ∙ ap (λ (o : Option (List Record)). unwrap_or o []) (slice_get-map (λ (b : BookState). b.records) s.books (writer - 1) ∙ ap (option_map (λ (b : BookState). b.records)) found)) in
-      subst (IsOwned s.handles.levels.first events writer (refusals_of s.books writer)) records_are
-      (subst (λ (n : ℕ). IsOwned s.handles.levels.first events writer n b.records) refusals (record {
+      subst (IsOwned s.handles.levels.first events writer (refusals_of s.books writer) (claims_by writer [])) records_are
+      (subst (λ (cs : List Claimed). IsOwned s.handles.levels.first events writer (refusals_of s.books writer) cs b.records) (sym (none_pushed writer))
+      (subst (λ (n : ℕ). IsOwned s.handles.levels.first events writer n [] b.records) refusals (record {
         app = b.writer.app;
         belongs = record {
           own = all_along (IsOf b.writer) (λ (r : Record). r.item.app ≡ b.writer.app) (λ r own. own.0) b.records mine.own;
           by_writer = all_along (IsOf b.writer) (λ (r : Record). r.item.writer ≡ writer) (λ r own. own.1 ∙ number) b.records mine.own;
           alone = λ other differs. none_admitted writer other (λ x least there same. differs (sym same ∙ ap (λ (y : BookState). y.writer.app) (same_book x b (sym there ∙ found))));
+          claims_alone = λ other differs. none_claimed writer other;
         };
-        account = subst (λ (w : ℕ). WriterAccount s.handles.levels.first events b.writer.app w b.writer.push.refusals b.records) number its;
-      })) where
+        account = subst (λ (w : ℕ). WriterAccount s.handles.levels.first events b.writer.app w b.writer.push.refusals [] b.records) number its;
+      }))) where
         get_there : (books : List BookState) (k : ℕ) (b : BookState) → slice_get books k ≡ Some b → get_or books k b ≡ b
         get_there books k b is_there = by_cases (slice_get_cases books k).1 where
           by_cases : ((x : BookState) × (k < length books) × (slice_get books k ≡ Some x) × (get_or books k x ≡ x)) ⊎ ((length books ≤ k) × (slice_get books k ≡ None)) → get_or books k b ≡ b
@@ -173,19 +199,19 @@ module _ (events : List Event) (s : AccountState) (is : IsSettled s) (whole : Al
         omega (arith, silent, ap (λ (rs : List Record). length (with_answer answer.Lost rs)) none)
   ]
 
-  owned : (writer : ℕ) → IsOwned s.handles.levels.first events writer (refusals_of s.books writer) (records_by writer records)
+  owned : (writer : ℕ) → IsOwned s.handles.levels.first events writer (refusals_of s.books writer) (claims_by writer []) (records_by writer records)
   owned writer = elim (cases_eq writer 0) [
     | inl same ↦ nobody writer (ap (λ (t : Bool). cond t [] (unwrap_or (slice_get records (writer - 1)) [])) (eq-eqb writer 0 same)) (λ b least found. omega (arith, same, least))
     | inr apart ↦ by_cases apart (slice_get_cases s.books (writer - 1)).1
   ]
     where
       by_cases : (writer ≡ 0 → ⊥) → ((x : BookState) × (writer - 1 < length s.books) × (slice_get s.books (writer - 1) ≡ Some x) × (get_or s.books (writer - 1) x ≡ x)) ⊎ ((length s.books ≤ writer - 1) × (slice_get s.books (writer - 1) ≡ None)) →
-          IsOwned s.handles.levels.first events writer (refusals_of s.books writer) (records_by writer records)
+          IsOwned s.handles.levels.first events writer (refusals_of s.books writer) (claims_by writer []) (records_by writer records)
       by_cases apart (inl there) = somebody writer there.0 apart there.2
       by_cases apart (inr none) =
           nobody writer (ap (λ (t : Bool). cond t [] (unwrap_or (slice_get records (writer - 1)) [])) (ne_eqb writer 0 apart)
           ∙ ap (λ (o : Option (List Record)). unwrap_or o []) (slice_get-map (λ (b : BookState). b.records) s.books (writer - 1) ∙ ap (option_map (λ (b : BookState). b.records)) none.1))
           (λ b least found. absurd cc)
 
-  pub accounted : IsAccounted s.handles.levels.first events (λ app. 0) (refusals_of s.books) records
-  accounted = record { writers = owned; told = told_of }
+  pub accounted : IsAccounted s.handles.levels.first events (λ app. 0) (refusals_of s.books) [] records
+  accounted = record { writers = owned; places = places_apart; told = told_of }

@@ -15,7 +15,7 @@ use Rattle.dl_events.specs.declared.record.Record.{Record}
 use Rattle.dl_levels.specs.declared.history.Read.{Read}
 use Rattle.dl_levels.specs.History as levels
 use Rattle.dl_losses.specs.Losses.{counted_of, reported_of}
-use Rattle.dl_model.specs.Accounts.{order, of_writer, name_of, with_answer}
+use Rattle.dl_model.specs.Accounts.{order, of_writer, claimed_by, name_of, with_answer}
 use Rattle.dl_model.specs.Report.{is_answer}
 use Rattle.dl_ring.specs.Order.{of}
 use Rattle.dl_writer.specs.Records.{IsHeld, IsOf, TellAll}
@@ -128,8 +128,9 @@ module _ (s : AccountState) (is : IsSettled s) (whole : All IsWhole s.books) whe
     is_account = record {
       each = λ k d lt.
           (let b : BookState = get_or s.books k d in
-          account s.handles.levels.first events b.writer b.records (told k d lt) (held k d lt)
-          (admitted b.writer.app b.writer.push.number (is.owned k d lt) ∙ ap (map name_of) (taken_pushed k d lt)));
+          account s.handles.levels.first events b.writer [] b.records (told k d lt) (held k d lt)
+          (admitted b.writer.app b.writer.push.number (is.owned k d lt) ∙ ap (map name_of) (taken_pushed k d lt))
+          (ap (filter (claimed_by b.writer.push.number)) (j.unclaimed b.writer.app)));
       no_others = λ app writer within none. admitted app writer within ∙ ap (map name_of) ((is.taken app within).no_others writer none);
       told = λ app within. (let a = j.losses app within in let l = losses_told app within in omega (arith, a, l));
     }

@@ -7,7 +7,7 @@ use Rattle.dl_events.specs.declared.event.Event.{Event}
 use Rattle.dl_events.specs.declared.record.Answer.TheVariants as answer
 use Rattle.dl_levels.specs.History as levels
 use Rattle.dl_losses.specs.Losses.{reported_of}
-use Rattle.dl_model.specs.Accounts.{order, of_writer, name_of, with_answer, AreTold, WriterAccount}
+use Rattle.dl_model.specs.Accounts.{order, of_writer, claims, name_of, with_answer, AreTold, WriterAccount}
 use Rattle.dl_model.specs.History as journal
 use Rattle.dl_model.specs.Report.{reported}
 use Rattle.dl_thread_rules.specs.Views.{times}
@@ -45,17 +45,18 @@ abbrev pub TellsQueued : AccountState → BookState → Type 0
 TellsQueued s b = filter (λ item. item.writer == b.writer.push.number) (taken_of s.handles b.writer.app) ≡ map (λ r. r.item) (with_answer answer.Queued b.records)
 
 -- A journal says what the daemon did: the levels that it gives each slot are those that were set; it admits the calls that
--- were taken, in their order; it tells the losses that were reported; and it speaks of no other application.
+-- were taken, in their order; it tells the losses that were reported; it speaks of no other application; and no claim is in it.
 pub record IsJournalOf (events : List Event) (s : AccountState) : Type 0 where
   pub set : (slot : ℕ) → journal.history events slot ≡ levels.history slot s.handles.levels.sets
   pub admitted : (app : ℕ) → app < length s.apps → order app events ≡ map name_of (taken_of s.handles app)
   pub losses : (app : ℕ) → app < length s.apps → reported app events ≡ reported_of app s.handles.losses.reported
   pub alone : (app : ℕ) → length s.apps ≤ app → (order app events ≡ []) × (reported app events ≡ 0)
+  pub unclaimed : (app : ℕ) → claims app events ≡ []
 
 -- The records and such a journal are the account of all writers: of each of its own calls, and of each application of its
 -- losses. No others are admitted.
 pub record IsAccountOf (events : List Event) (s : AccountState) : Type 0 where
-  pub each : All (λ b. WriterAccount s.handles.levels.first events b.writer.app b.writer.push.number b.writer.push.refusals b.records) s.books
+  pub each : All (λ b. WriterAccount s.handles.levels.first events b.writer.app b.writer.push.number b.writer.push.refusals [] b.records) s.books
   pub no_others : (app writer : ℕ) → app < length s.apps → times writer (numbers (books_of app s.books)) ≡ 0 → filter (of_writer writer) (order app events) ≡ []
   pub told : (app : ℕ) → app < length s.apps → AreTold app events 0 (records_of app s.books)
 

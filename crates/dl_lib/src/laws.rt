@@ -1,6 +1,6 @@
 //! Laws on an account.
 
-ghost use Rattle.std.specs.Prelude.{◌≡◌, ℕ, List, length, map, All};
+ghost use Rattle.std.specs.Prelude.{◌≡◌, ℕ, List, [], length, map, All};
 ghost use Rattle.std.specs.List.{range_with_len};
 ghost use Rattle.dl_bytes.specs.declared.item.Injection.{Injection};
 ghost use Rattle.dl_events.specs.declared.event.Event.{Event};
@@ -26,7 +26,7 @@ pub fn records_are_an_account()
 /// So these records and such a journal are accounted, with no loss pending, in the words that runs of steps have for it.
 pub fn an_account_is_accounted()
     ensures { (events : List Event) (s : AccountState) → IsSettled s → All IsWhole s.books → IsJournalOf events s →
-        IsAccounted s.handles.levels.first events (λ app. 0) (refusals_of s.books) (map (λ b. b.records) s.books) }
+        IsAccounted s.handles.levels.first events (λ app. 0) (refusals_of s.books) [] (map (λ b. b.records) s.books) }
 {}
 
 /// The books in the order of their numbers are whole where all books are.

@@ -52,6 +52,7 @@ no_messages_in_rounds : (events : List Event) → AllByRecursion IsOfRound event
 no_messages_in_rounds [] are = refl
 no_messages_in_rounds (event.User channel msg moment ∷ events) are = absurd are.0
 no_messages_in_rounds (event.Log app writer call moment ∷ events) are = no_messages_in_rounds events are.1
+no_messages_in_rounds (event.Claim claim moment ∷ events) are = no_messages_in_rounds events are.1
 no_messages_in_rounds (event.Lost app count moment ∷ events) are = no_messages_in_rounds events are.1
 no_messages_in_rounds (event.Level slot level ∷ events) are = no_messages_in_rounds events are.1
 no_messages_in_rounds (event.Connect client ∷ events) are = no_messages_in_rounds events are.1
@@ -62,6 +63,7 @@ no_messages_at_the_stop : (events : List Event) → AllByRecursion IsOfStop even
 no_messages_at_the_stop [] are = refl
 no_messages_at_the_stop (event.User channel msg moment ∷ events) are = absurd are.0
 no_messages_at_the_stop (event.Log app writer call moment ∷ events) are = no_messages_at_the_stop events are.1
+no_messages_at_the_stop (event.Claim claim moment ∷ events) are = no_messages_at_the_stop events are.1
 no_messages_at_the_stop (event.Lost app count moment ∷ events) are = no_messages_at_the_stop events are.1
 no_messages_at_the_stop (event.Level slot level ∷ events) are = no_messages_at_the_stop events are.1
 no_messages_at_the_stop (event.Connect client ∷ events) are = absurd are.0
@@ -72,6 +74,7 @@ none_connects_at_the_stop : (events : List Event) → AllByRecursion IsOfStop ev
 none_connects_at_the_stop [] are = refl
 none_connects_at_the_stop (event.User channel msg moment ∷ events) are = absurd are.0
 none_connects_at_the_stop (event.Log app writer call moment ∷ events) are = none_connects_at_the_stop events are.1
+none_connects_at_the_stop (event.Claim claim moment ∷ events) are = none_connects_at_the_stop events are.1
 none_connects_at_the_stop (event.Lost app count moment ∷ events) are = none_connects_at_the_stop events are.1
 none_connects_at_the_stop (event.Level slot level ∷ events) are = none_connects_at_the_stop events are.1
 none_connects_at_the_stop (event.Connect client ∷ events) are = absurd are.0
@@ -83,6 +86,7 @@ none_connects_greeting [] are = refl
 none_connects_greeting (event.User channel msg moment ∷ events) are = none_connects_greeting events are.1
 none_connects_greeting (event.Level slot level ∷ events) are = none_connects_greeting events are.1
 none_connects_greeting (event.Log app writer call moment ∷ events) are = absurd are.0
+none_connects_greeting (event.Claim claim moment ∷ events) are = absurd are.0
 none_connects_greeting (event.Lost app count moment ∷ events) are = absurd are.0
 none_connects_greeting (event.Connect client ∷ events) are = absurd are.0
 none_connects_greeting (event.Request client frame answer ∷ events) are = absurd are.0
@@ -200,10 +204,10 @@ module _ {L : Type 0} (told : L → LinkTold) (begun : Begun) (p : Players L) (w
     }
 
     -- what the account is
-    pub is_account : IsAccounted account.handles.levels.first account.events (λ app. 0) (refusals_of account.books) (map (λ b. b.records) account.books) → IsAccountIn (setting begun) account
+    pub is_account : IsAccounted account.handles.levels.first account.events (λ app. 0) (refusals_of account.books) [] (map (λ b. b.records) account.books) → IsAccountIn (setting begun) account
     is_account accounted = record {
       formed = (been.stops.stopped.runs run gives).formed;
-      accounted = subst (λ (n : ℕ). IsAccounted n account.events (λ app. 0) (refusals_of account.books) (map (λ b. b.records) account.books)) been.stops.stopped.told_by.first accounted;
+      accounted = subst (λ (n : ℕ). IsAccounted n account.events (λ app. 0) (refusals_of account.books) [] (map (λ b. b.records) account.books)) been.stops.stopped.told_by.first accounted;
     }
 
     first_all : {A : Type 0} (P : A → Type 0) (xs ys : List A) → AllByRecursion P (xs ++ ys) → AllByRecursion P xs

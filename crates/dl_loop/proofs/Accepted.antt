@@ -96,7 +96,7 @@ module _ {L : Type 0} (told : L → LinkTold) (old : DaemonState L) (is : IsDaem
       record {
         told_by = subst (λ es. IsToldBy es (length old.desk.apps) old.desk.handles) (sym events)
             (told_more old.journal.events (event.Connect number ∷ []) (length old.desk.apps) old.desk.handles old.desk.handles is.told_by
-            (λ app. sym (append-nil _)) (λ app. omega arith) (λ app beyond. (refl, refl)) refl (sym (append-nil _)));
+            (λ app. sym (append-nil _)) (λ app. omega arith) (λ app beyond. (refl, refl)) (λ app. refl) refl (sym (append-nil _)));
         linked = linked;
         heard = heard;
         room = record {

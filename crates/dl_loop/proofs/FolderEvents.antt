@@ -21,6 +21,7 @@ use Rattle.dl_settling.proofs.NoRequests.{AsksNothing}
 failed_none : (setting : Setting) (before events : List Event) → AllByRecursion AsksNothing events → failed_in setting before events ≡ []
 failed_none setting before [] none = refl
 failed_none setting before (event.Log app writer call moment ∷ events) none = failed_none setting (before ++ event.Log app writer call moment ∷ []) events none.1
+failed_none setting before (event.Claim claim moment ∷ events) none = failed_none setting (before ++ event.Claim claim moment ∷ []) events none.1
 failed_none setting before (event.Lost app count moment ∷ events) none = failed_none setting (before ++ event.Lost app count moment ∷ []) events none.1
 failed_none setting before (event.User channel msg moment ∷ events) none = failed_none setting (before ++ event.User channel msg moment ∷ []) events none.1
 failed_none setting before (event.Level slot level ∷ events) none = failed_none setting (before ++ event.Level slot level ∷ []) events none.1

@@ -24,7 +24,6 @@ use Rattle.dl_core.specs.State.{Core}
 use Rattle.dl_folders.specs.Later.{IsFolderLater}
 use Rattle.dl_folders.proofs.LaterFolders.{folder_both, folder_none}
 use Rattle.dl_folders.proofs.LeftFiles.{leaves_alone, leaves_both}
-use Rattle.dl_trace.specs.State.{Trace}
 use Rattle.dl_admission.specs.Kept.{end_of}
 use Rattle.dl_admission.specs.Admission.{Entry}
 use Rattle.dl_admission.specs.Telling.{IsTaken}
@@ -159,6 +158,7 @@ clients_of_round (event.Request client frame answer ∷ more) are = let rest = c
 clients_of_round (event.Level slot level ∷ more) are = let rest = clients_of_round more are.1 in record { kinds = (tt, rest.kinds); none_come = rest.none_come }
 clients_of_round (event.Close client cause ∷ more) are = let rest = clients_of_round more are.1 in record { kinds = (tt, rest.kinds); none_come = rest.none_come }
 clients_of_round (event.Log app writer call moment ∷ more) are = absurd are.0
+clients_of_round (event.Claim claim moment ∷ more) are = absurd are.0
 clients_of_round (event.Lost app count moment ∷ more) are = absurd are.0
 clients_of_round (event.User channel msg moment ∷ more) are = absurd are.0
 clients_of_round (event.Connect client ∷ more) are = absurd are.0
@@ -168,6 +168,7 @@ taken_of_round [] are = record { kinds = tt; none_come = refl }
 taken_of_round (event.Log app writer call moment ∷ more) are = let rest = taken_of_round more are.1 in record { kinds = (tt, rest.kinds); none_come = rest.none_come }
 taken_of_round (event.Lost app count moment ∷ more) are = let rest = taken_of_round more are.1 in record { kinds = (tt, rest.kinds); none_come = rest.none_come }
 taken_of_round (event.Close client cause ∷ more) are = let rest = taken_of_round more are.1 in record { kinds = (tt, rest.kinds); none_come = rest.none_come }
+taken_of_round (event.Claim claim moment ∷ more) are = absurd are.0
 taken_of_round (event.User channel msg moment ∷ more) are = absurd are.0
 taken_of_round (event.Level slot level ∷ more) are = absurd are.0
 taken_of_round (event.Connect client ∷ more) are = absurd are.0

@@ -12,7 +12,7 @@ use Rattle.dl_events.specs.declared.event.Event.{Event}
 use Rattle.dl_events.specs.declared.event.Event.TheVariants as event
 use Rattle.dl_losses.specs.Losses.{reported_of}
 use Rattle.dl_losses.specs.declared.keeper.Report.{Report}
-use Rattle.dl_model.specs.Accounts.{name_of, order}
+use Rattle.dl_model.specs.Accounts.{claims, name_of, order}
 use Rattle.dl_model.specs.Frames.{stored, user_frames}
 use Rattle.dl_model.specs.Journal.{IsRunning, IsWellFormed, is_stop, is_connect}
 use Rattle.dl_model.specs.Report.{reported}
@@ -82,6 +82,7 @@ none_stops [] are = refl
 none_stops (event.User channel msg moment ∷ more) are = none_stops more are.1
 none_stops (event.Level slot level ∷ more) are = none_stops more are.1
 none_stops (event.Log app writer call moment ∷ more) are = absurd are.0
+none_stops (event.Claim claim moment ∷ more) are = absurd are.0
 none_stops (event.Lost app count moment ∷ more) are = absurd are.0
 none_stops (event.Connect client ∷ more) are = absurd are.0
 none_stops (event.Request client frame answer ∷ more) are = absurd are.0
@@ -196,15 +197,17 @@ leads_each moment (msg ∷ msgs) old new settled are all =
 record SaysNothing (more : List Event) : Type 0 where
   calls : (app : ℕ) → order app more ≡ []
   losses : (app : ℕ) → reported app more ≡ 0
+  unclaimed : (app : ℕ) → claims app more ≡ []
   noted : count_by is_noted more ≡ 0
   asks : AllByRecursion AsksNothing more
   none_come : count_by is_connect more ≡ 0
 
 says_nothing : (more : List Event) → AllByRecursion IsOfGreeting more → SaysNothing more
-says_nothing [] are = record { calls = λ app. refl; losses = λ app. refl; noted = refl; asks = tt; none_come = refl }
-says_nothing (event.User channel msg moment ∷ more) are = let rest = says_nothing more are.1 in record { calls = rest.calls; losses = rest.losses; noted = rest.noted; asks = (tt, rest.asks); none_come = rest.none_come }
-says_nothing (event.Level slot level ∷ more) are = let rest = says_nothing more are.1 in record { calls = rest.calls; losses = rest.losses; noted = rest.noted; asks = (tt, rest.asks); none_come = rest.none_come }
+says_nothing [] are = record { calls = λ app. refl; losses = λ app. refl; unclaimed = λ app. refl; noted = refl; asks = tt; none_come = refl }
+says_nothing (event.User channel msg moment ∷ more) are = let rest = says_nothing more are.1 in record { calls = rest.calls; losses = rest.losses; unclaimed = rest.unclaimed; noted = rest.noted; asks = (tt, rest.asks); none_come = rest.none_come }
+says_nothing (event.Level slot level ∷ more) are = let rest = says_nothing more are.1 in record { calls = rest.calls; losses = rest.losses; unclaimed = rest.unclaimed; noted = rest.noted; asks = (tt, rest.asks); none_come = rest.none_come }
 says_nothing (event.Log app writer call moment ∷ more) are = absurd are.0
+says_nothing (event.Claim claim moment ∷ more) are = absurd are.0
 says_nothing (event.Lost app count moment ∷ more) are = absurd are.0
 says_nothing (event.Connect client ∷ more) are = absurd are.0
 says_nothing (event.Request client frame answer ∷ more) are = absurd are.0
@@ -291,7 +294,7 @@ module _ {L : Type 0} (told : L → LinkTold) (moment : Moment) (msgs : List Use
             ∙ sym (ap (λ xs. map name_of (taken_of old.daemon.desk.handles app) ++ xs) (none.calls app) ∙ append-nil _))
             (λ app. ap (reported_of app) (same_reported old.daemon.desk new.daemon.desk same)
             ∙ sym (ap (λ n. reported_of app old.daemon.desk.handles.losses.reported + n) (none.losses app) ∙ add_none _))
-            (λ app beyond. (none.calls app, none.losses app)) led.1.desk.first led.1.desk.sets));
+            (λ app beyond. (none.calls app, none.losses app)) none.unclaimed led.1.desk.first led.1.desk.sets));
         linked = record {
           many = came ∙ sym had ∙ is.linked.many;
           few = omega (arith, came);

@@ -10,7 +10,7 @@ use Rattle.dl_events.specs.declared.event.Event.TheVariants as event
 use Rattle.dl_bytes.specs.declared.conf.AppSpec.{AppSpec}
 use Rattle.dl_losses.specs.Losses.{reported_of}
 use Rattle.dl_losses.specs.declared.keeper.Report.{Report}
-use Rattle.dl_model.specs.Accounts.{name_of, order}
+use Rattle.dl_model.specs.Accounts.{claims, name_of, order}
 use Rattle.dl_model.specs.Journal.{IsRunning}
 use Rattle.dl_model.specs.Report.{reported}
 use Rattle.dl_outside.specs.Links.{Links}
@@ -50,17 +50,19 @@ use Rattle.dl_lemmas.proofs.Lists.{there_too}
 record TakesNothing (more : List Event) : Type 0 where
   pub calls : (app : ℕ) → order app more ≡ []
   pub losses : (app : ℕ) → reported app more ≡ 0
+  pub unclaimed : (app : ℕ) → claims app more ≡ []
   pub noted : count_by is_noted more ≡ 0
 
 of_clients_take_nothing : (more : List Event) → AllByRecursion IsOfClients more → TakesNothing more
-of_clients_take_nothing [] is = record { calls = λ app. refl; losses = λ app. refl; noted = refl }
+of_clients_take_nothing [] is = record { calls = λ app. refl; losses = λ app. refl; unclaimed = λ app. refl; noted = refl }
 of_clients_take_nothing (event.Request other frame answer ∷ more) is =
-    let rest = of_clients_take_nothing more is.1 in record { calls = rest.calls; losses = rest.losses; noted = rest.noted }
+    let rest = of_clients_take_nothing more is.1 in record { calls = rest.calls; losses = rest.losses; unclaimed = rest.unclaimed; noted = rest.noted }
 of_clients_take_nothing (event.Level slot level ∷ more) is =
-    let rest = of_clients_take_nothing more is.1 in record { calls = rest.calls; losses = rest.losses; noted = rest.noted }
+    let rest = of_clients_take_nothing more is.1 in record { calls = rest.calls; losses = rest.losses; unclaimed = rest.unclaimed; noted = rest.noted }
 of_clients_take_nothing (event.Close client cause ∷ more) is =
-    let rest = of_clients_take_nothing more is.1 in record { calls = rest.calls; losses = rest.losses; noted = rest.noted }
+    let rest = of_clients_take_nothing more is.1 in record { calls = rest.calls; losses = rest.losses; unclaimed = rest.unclaimed; noted = rest.noted }
 of_clients_take_nothing (event.Log app writer call moment ∷ more) is = absurd is.0
+of_clients_take_nothing (event.Claim claim moment ∷ more) is = absurd is.0
 of_clients_take_nothing (event.Lost app count moment ∷ more) is = absurd is.0
 of_clients_take_nothing (event.User channel msg moment ∷ more) is = absurd is.0
 of_clients_take_nothing (event.Connect client ∷ more) is = absurd is.0
@@ -126,7 +128,7 @@ module _ {L : Type 0} (told : L → LinkTold) (old : DaemonState L) (is : IsDaem
             (told_more old.journal.events later.more (length old.desk.apps) old.desk.handles desk.handles is.told_by
             (λ app. ap (map name_of) (same_taken old.desk desk same app) ∙ sym (ap (λ xs. map name_of (taken_of old.desk.handles app) ++ xs) (none.calls app) ∙ append-nil _))
             (λ app. ap (reported_of app) (same_reported old.desk desk same) ∙ sym (ap (λ n. reported_of app old.desk.handles.losses.reported + n) (none.losses app) ∙ add_none _))
-            (λ app beyond. (none.calls app, none.losses app)) later.desk.first later.desk.sets));
+            (λ app beyond. (none.calls app, none.losses app)) none.unclaimed later.desk.first later.desk.sets));
         linked = linked;
         heard = heard;
         room = record {

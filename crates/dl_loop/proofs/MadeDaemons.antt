@@ -111,6 +111,7 @@ made_daemon told core desk journal links listeners calls begins untouched events
         admitted = λ app. sym (ap (map name_of) (untouched.taken app));
         losses = λ app. sym (ap (reported_of app) untouched.reported);
         alone = λ app beyond. (refl, refl);
+        unclaimed = λ app. refl;
         first = untouched.first;
         levels = untouched.sets;
       });

@@ -195,6 +195,7 @@ noted_connected run events took old new number c links listeners link next clien
 of_drain : (e : Event) → is_noted e ≡ true → IsOfDrain e
 of_drain (event.Log app writer call moment) is = tt
 of_drain (event.Lost app count moment) is = tt
+of_drain (event.Claim claim moment) is = absurd cc
 of_drain (event.User channel msg moment) is = absurd cc
 of_drain (event.Level slot level) is = absurd cc
 of_drain (event.Connect client) is = absurd cc

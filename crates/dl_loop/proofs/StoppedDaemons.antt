@@ -122,7 +122,7 @@ module _ {L : Type 0} (told : L → LinkTold) (d : DaemonState L) (books : List 
 
   tells : TellAllTaken account.events (account_took account)
   tells = subst (λ (es : List Event). TellAllTaken es (account_took account)) (sym stop.events)
-      (stop.tells d.journal.events (subst (TellAllTaken d.journal.events) (sym took_so) (record { admitted = is.told_by.admitted; losses = is.told_by.losses })))
+      (stop.tells d.journal.events (subst (TellAllTaken d.journal.events) (sym took_so) (record { admitted = is.told_by.admitted; losses = is.told_by.losses; unclaimed = is.told_by.unclaimed })))
 
   told_by_so : IsToldBy account.events (length account.apps) account.handles
   told_by_so = record {
@@ -134,6 +134,7 @@ module _ {L : Type 0} (told : L → LinkTold) (d : DaemonState L) (books : List 
           tells.admitted app ∙ ap (map name_of) (other.0 ∙ ap (λ (t : Took). t.taken app) took_so) ∙ sym (is.told_by.admitted app) ∙ before.0,
           tells.losses app ∙ other.1 ∙ ap (λ (t : Took). reported_of app t.reported) took_so ∙ sym (is.told_by.losses app) ∙ before.1,
         );
+    unclaimed = tells.unclaimed;
     first = stop.first ∙ made.kept.first ∙ is.told_by.first;
     levels = stop.sets ∙ ap (λ (cs : List Change). cs ++ filter_map level_in stop.more) (made.kept.sets ∙ is.told_by.levels) ∙ sym (filter_map-append level_in d.journal.events stop.more)
         ∙ ap (filter_map level_in) (sym stop.events);

@@ -2,7 +2,6 @@
 use Rattle.std.proofs.Common.{◌≡◌, ℕ, List, [], ◌∷◌, ◌++◌, Option, Some, None, refl, sym, ap, subst, ◌∙◌, append_assoc}
 use Rattle.std.specs.List.{AllByRecursion}
 use Rattle.dl_bytes.specs.declared.conf.AppSpec.{AppSpec}
-use Rattle.dl_bytes.specs.declared.outcome.Ends.{Ends}
 use Rattle.dl_bytes.specs.declared.outcome.TraceEnd.{TraceEnd}
 use Rattle.dl_events.specs.declared.event.Event.{Event}
 use Rattle.dl_events.specs.declared.event.Event.TheVariants as event
@@ -54,6 +53,7 @@ drained_asks [] is = tt
 drained_asks (event.Log app writer call moment ∷ more) is = (tt, drained_asks more is.1)
 drained_asks (event.Lost app count moment ∷ more) is = (tt, drained_asks more is.1)
 drained_asks (event.Close client cause ∷ more) is = (tt, drained_asks more is.1)
+drained_asks (event.Claim claim moment ∷ more) is = absurd is.0
 drained_asks (event.User channel msg moment ∷ more) is = absurd is.0
 drained_asks (event.Level slot level ∷ more) is = absurd is.0
 drained_asks (event.Connect client ∷ more) is = absurd is.0

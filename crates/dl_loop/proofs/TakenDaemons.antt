@@ -134,6 +134,7 @@ module _ {L : Type 0} (told : L → LinkTold) (old : DaemonState L) (is : IsDaem
           admitted = took.tells.admitted;
           losses = took.tells.losses;
           alone = alone_told;
+          unclaimed = took.tells.unclaimed;
           first = ap (λ (p : PostTold). p.first) took.told_same ∙ is.told_by.first;
           levels = ap (λ (p : PostTold). p.sets) took.told_same ∙ is.told_by.levels ∙ sym (append-nil (filter_map level_in old.journal.events))
               ∙ ap (λ (cs : List Change). filter_map level_in old.journal.events ++ cs) (sym nothing.levels) ∙ sym (filter_map-append level_in old.journal.events more);

@@ -36,6 +36,7 @@ taken_set_nothing [] are = record { levels = refl; asks = tt }
 taken_set_nothing (event.Log app writer call moment ∷ more) are = let rest = taken_set_nothing more are.1 in record { levels = rest.levels; asks = (tt, rest.asks) }
 taken_set_nothing (event.Lost app count moment ∷ more) are = let rest = taken_set_nothing more are.1 in record { levels = rest.levels; asks = (tt, rest.asks) }
 taken_set_nothing (event.Close client cause ∷ more) are = let rest = taken_set_nothing more are.1 in record { levels = rest.levels; asks = (tt, rest.asks) }
+taken_set_nothing (event.Claim claim moment ∷ more) are = absurd are.0
 taken_set_nothing (event.User channel msg moment ∷ more) are = absurd are.0
 taken_set_nothing (event.Level slot level ∷ more) are = absurd are.0
 taken_set_nothing (event.Connect client ∷ more) are = absurd are.0

@@ -39,7 +39,7 @@ own_frames app run (item ∷ items) gives = (gives.0, own_frames app run items g
 
 -- what the journal told so far
 told_so_far : {L : Type 0} (told : L → LinkTold) (d : DaemonState L) → IsDaemon told d → TellAllTaken d.journal.events (took_by d.desk.handles)
-told_so_far told d is = record { admitted = is.told_by.admitted; losses = is.told_by.losses }
+told_so_far told d is = record { admitted = is.told_by.admitted; losses = is.told_by.losses; unclaimed = is.told_by.unclaimed }
 
 module _ {L : Type 0} (told : L → LinkTold) (app count : ℕ) (old new : Scene L) (is : IsDaemon told old.daemon) (within : app < length old.daemon.desk.apps) where
   -- another number is that of no application

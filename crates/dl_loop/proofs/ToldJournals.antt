@@ -3,12 +3,13 @@ use Rattle.std.proofs.Common.{◌≡◌, ℕ, ◌+◌, ◌==◌, ◌≤◌, Bool
 use Rattle.std.proofs.lemmas.List.Elements.{filter_map-append}
 use Rattle.std.proofs.lemmas.List.Sums.{sum_by-append}
 use Rattle.std.specs.List.{filter_map}
+use Rattle.dl_bytes.specs.Claim.{Claimed}
 use Rattle.dl_events.specs.declared.event.Event.{Event}
 use Rattle.dl_events.specs.declared.event.Event.TheVariants as event
 use Rattle.dl_levels.specs.History.{levels_set}
 use Rattle.dl_model.specs.History.{level_for}
 use Rattle.dl_losses.specs.Losses.{reported_of}
-use Rattle.dl_model.specs.Accounts.{logged_of, name_of, order}
+use Rattle.dl_model.specs.Accounts.{claim_of, claims, logged_of, name_of, order}
 use Rattle.dl_model.specs.Report.{lost_of, reported}
 use Rattle.dl_desk.specs.Handles.{HandlesState}
 use Rattle.dl_lib.specs.Known.{taken_of}
@@ -28,6 +29,7 @@ one_level slot other level events false is alike = rw is alike
 set_alike : (slot : ℕ) (events : List Event) → filter_map (level_for slot) events ≡ levels_set slot (filter_map level_in events)
 set_alike slot [] = refl
 set_alike slot (event.Log app writer call moment ∷ events) = set_alike slot events
+set_alike slot (event.Claim claim moment ∷ events) = set_alike slot events
 set_alike slot (event.Lost app count moment ∷ events) = set_alike slot events
 set_alike slot (event.User channel msg moment ∷ events) = set_alike slot events
 set_alike slot (event.Level other level ∷ events) = one_level slot other level events (other == slot) refl (set_alike slot events)
@@ -41,6 +43,7 @@ told_journal events s told = record {
   admitted = λ app within. told.admitted app;
   losses = λ app within. told.losses app;
   alone = told.alone;
+  unclaimed = told.unclaimed;
 }
 
 -- what a journal tells goes on with more events: with the calls that they admit, the losses that they tell and the levels that they set
@@ -48,15 +51,17 @@ pub told_more : (events more : List Event) (apps : ℕ) (old new : HandlesState)
     → ((app : ℕ) → map name_of (taken_of new app) ≡ map name_of (taken_of old app) ++ order app more)
     → ((app : ℕ) → reported_of app new.losses.reported ≡ reported_of app old.losses.reported + reported app more)
     → ((app : ℕ) → apps ≤ app → (order app more ≡ []) × (reported app more ≡ 0))
+    → ((app : ℕ) → claims app more ≡ [])
     → new.levels.first ≡ old.levels.first → new.levels.sets ≡ old.levels.sets ++ filter_map level_in more
     → IsToldBy (events ++ more) apps new
-told_more events more apps old new told taken losses alone first sets = record {
+told_more events more apps old new told taken losses alone unclaimed first sets = record {
   admitted = λ app. filter_map-append (logged_of app) events more ∙ ap (λ xs. xs ++ order app more) (told.admitted app) ∙ sym (taken app);
   losses = λ app. sum_by-append (lost_of app) events more ∙ ap (λ n. n + reported app more) (told.losses app) ∙ sym (losses app);
   alone = λ app beyond. (
     filter_map-append (logged_of app) events more ∙ ap (λ xs. xs ++ order app more) (told.alone app beyond).0 ∙ (alone app beyond).0,
     sum_by-append (lost_of app) events more ∙ ap (λ n. n + reported app more) (told.alone app beyond).1 ∙ ap (λ n. 0 + n) (alone app beyond).1,
   );
+  unclaimed = λ app. filter_map-append (claim_of app) events more ∙ ap (λ (cs : List Claimed). cs ++ claims app more) (told.unclaimed app) ∙ unclaimed app;
   first = first ∙ told.first;
   levels = sets ∙ ap (λ xs. xs ++ filter_map level_in more) told.levels ∙ sym (filter_map-append level_in events more);
 }

@@ -128,6 +128,7 @@ calm_runs client [] later is none = none
 calm_runs client (event.Request other frame answer ∷ calm) later is none = calm_runs client calm later is.1 none
 calm_runs client (event.Level slot level ∷ calm) later is none = calm_runs client calm later is.1 none
 calm_runs client (event.Log app writer call moment ∷ calm) later is none = absurd is.0
+calm_runs client (event.Claim claim moment ∷ calm) later is none = absurd is.0
 calm_runs client (event.Lost app count moment ∷ calm) later is none = absurd is.0
 calm_runs client (event.User channel msg moment ∷ calm) later is none = absurd is.0
 calm_runs client (event.Connect other ∷ calm) later is none = absurd is.0

@@ -1,11 +1,12 @@
 -- An application is there where it registered and did not leave since.
-use Rattle.std.proofs.Common.{◌≡◌, ℕ, inl, inr, Bool, true, false, cond, List, [], ◌∷◌, ◌++◌, length, map, Option, Some, None, Result, Ok, Err, refl, sym, ap, subst, ◌∙◌, append-nil, append_assoc, unwrap_or, IfOk}
+use Rattle.std.proofs.Common.{◌≡◌, ℕ, inl, inr, Bool, true, false, cond, List, [], ◌∷◌, ◌++◌, length, map, Option, Some, None, Result, Ok, Err, refl, sym, ap, subst, ◌∙◌, append-nil, append_assoc, unwrap_or, IfOk, IfSome, not}
 use Rattle.std.specs.Prelude.{nat_le, ◌==◌, ◌&&◌, ◌||◌, if◌then◌else◌}
 use Rattle.std.specs.Map.{lookup, set_value}
-use Rattle.std.specs.Option.{option_and_then, option_or, is_some}
+use Rattle.std.specs.Option.{option_and_then, option_map_or, option_or, is_some}
 use Rattle.std.specs.Result.{is_ok, result_unwrap_or, result_ok}
 use Rattle.std.specs.Str.{bytes_eq}
 use Rattle.std.proofs.lemmas.Bool.Decides.{eqb_tells}
+use Rattle.dl_bytes.specs.Claim.{Claimed}
 use Rattle.dl_bytes.specs.Id.{zero_id}
 use Rattle.dl_bytes.specs.Level.{own_level_of}
 use Rattle.dl_bytes.specs.declared.outcome.Done.{Done}
@@ -17,7 +18,7 @@ use Rattle.dl_control.specs.declared.request.Request.TheVariants.{SetLogLevel, G
 use Rattle.dl_control.specs.declared.request.RequestFault.{RequestFault}
 use Rattle.dl_events.specs.declared.event.Event.{Event}
 use Rattle.dl_events.specs.declared.event.Event.TheVariants as event
-use Rattle.dl_model.specs.declared.registry.Context.{Context}
+use Rattle.dl_model.specs.declared.context.Context.{Context}
 use Rattle.dl_model.specs.declared.registry.Slot.{Slot}
 use Rattle.dl_model.specs.declared.registry.RegistryFault.{RegistryFault}
 use Rattle.dl_model.specs.declared.registry.RegistryFault.TheVariants as fault
@@ -26,7 +27,7 @@ use Rattle.dl_model.specs.declared.registry.SetFault.TheVariants as set
 use Rattle.dl_model.specs.Along.{along_from}
 use Rattle.dl_bytes.specs.Limits.{last_version}
 use Rattle.dl_model.specs.Journal.{Told, step, registry_of, slots_of, accepted_at, accepted}
-use Rattle.dl_model.specs.Registry.{App, Registry, of_channel, app_of, context_of, numbers, places, least_free, slot_of, stored_level, with_app, with_new_app, with_context, with_new_context, without, app_registered, app_unregistered, context_registered, context_unregistered, for_app, applied, Relevel, set_matching, keep_own, no_own, wears, unless_worn, matching, own_set, default_set, nothing_stored, releveled_app, releveled}
+use Rattle.dl_model.specs.Registry.{App, Registry, of_channel, app_of, context_of, numbers, places, least_free, is_free, slot_of, stored_level, with_app, with_new_app, with_context, with_new_context, without, app_registered, app_unregistered, context_registered, context_unregistered, for_app, applied, apid_numbered, with_claim, context_claimed, claimed, registration, registrations, Relevel, set_matching, keep_own, no_own, wears, unless_worn, matching, own_set, default_set, nothing_stored, releveled_app, releveled}
 use Rattle.dl_model.specs.Reply.{asked, reset_requested, now_stored, where_done, served}
 use Rattle.dl_model.specs.Setting.{Setting}
 use Rattle.dl_model.specs.Stays.{names_app, drops_app, registers, unregisters, is_app_there, stays}
@@ -92,6 +93,10 @@ goes false n t is same = ap (λ u. u || false) (sym same)
 ifok_if : {A E : Type 0} (P : A → Type 0) (b : Bool) (e : E) (r : Result A E) → IfOk r P → IfOk (cond b (Err e) r) P
 ifok_if P true e r ok = tt
 ifok_if P false e r ok = ok
+
+pub ifsome_if : {A : Type 0} (P : A → Type 0) (b : Bool) (o : Option A) → IfSome o P → IfSome (cond b None o) P
+ifsome_if P true o ok = tt
+ifsome_if P false o ok = ok
 
 -- ---- one message
 
@@ -182,12 +187,12 @@ module _ (r : Registry) (c : ℕ) (a : List ℕ) (ch : ℕ) where
       kept_there msg (with_app r apid (with_context app ctid (record context { position = position; text = text }))) dropped named
       (same_there apid app (with_context app ctid (record context { position = position; text = text })) found refl)
   context_registered-step slots apid ctid position own text msg app None dropped named found =
-      ifok_if (AppStep r c a ch msg) (nat_le 64 (length app.contexts)) fault.ContextsFull _
+      ifok_if (AppStep r c a ch msg) (nat_le 64 (length (places app.contexts))) fault.ContextsFull _
       (ifok_if (AppStep r c a ch msg) ((slots (slot_of app.number (least_free (places app.contexts)))).version == last_version) fault.Worn _
       (kept_there msg (with_app r apid (with_new_context app ctid new)) dropped named (same_there apid app (with_new_context app ctid new) found refl)))
     where
       new : Context
-      new = record { place = least_free (places app.contexts); own = option_or (stored_level r.stored apid ctid) own; position = position; text = text }
+      new = record { place = least_free (places app.contexts); further = []; own = option_or (stored_level r.stored apid ctid) own; position = position; text = text }
 
   context_unregistered-step : (apid ctid : List ℕ) (msg : UserMsg) (app : App) (o : Option Context)
       → drops_app a msg ≡ false → names_app a msg ≡ false → lookup (bytes_eq apid) r.apps ≡ Some app
@@ -217,6 +222,21 @@ module _ (r : Registry) (c : ℕ) (a : List ℕ) (ch : ℕ) where
   applied-step slots (LogLevel level trace position) = nothing (ch == c) (app_there r c a)
   applied-step slots (Injection position service body) = nothing (ch == c) (app_there r c a)
   applied-step slots (Overflow counter apid) = nothing (ch == c) (app_there r c a)
+
+  -- a claim changes the contexts of an application
+  with_claim-step : (apid : List ℕ) (claim : Claimed) (app : App) (o : Option Context) → lookup (bytes_eq apid) r.apps ≡ Some app → AppStep r c a ch (registration apid claim) (with_app r apid (with_claim r.stored apid claim app o))
+  with_claim-step apid claim app (Some context) found =
+      kept_there (registration apid claim) (with_app r apid (with_claim r.stored apid claim app (Some context))) refl refl (same_there apid app (with_claim r.stored apid claim app (Some context)) found refl)
+  with_claim-step apid claim app None found =
+      kept_there (registration apid claim) (with_app r apid (with_claim r.stored apid claim app None)) refl refl (same_there apid app (with_claim r.stored apid claim app None) found refl)
+
+  claimed-step : (slots : ℕ → Slot) (apid : List ℕ) (claim : Claimed) (o : Option App) → app_of r ch apid ≡ o
+      → IfSome (option_and_then (context_claimed slots r apid claim) o) (AppStep r c a ch (registration apid claim))
+  claimed-step slots apid claim None found = tt
+  claimed-step slots apid claim (Some app) found =
+      ifsome_if (AppStep r c a ch (registration apid claim)) (not (is_free claim.place app.contexts)) _
+      (ifsome_if (AppStep r c a ch (registration apid claim)) ((slots (slot_of app.number claim.place)).version == last_version) _
+      (with_claim-step apid claim app (context_of app claim.ctid) (app_of_found r ch apid app found)))
 
 -- ---- requests leave everybody where they are
 
@@ -284,6 +304,25 @@ says_user c a r told ch msg (Err fault) stepped says = says ∙ ap (stays (regis
 says_same : (c : ℕ) (a : List ℕ) (r new : Registry) (told : List Told) → Same c a r new → Says c a r told → Says c a new (told ++ [])
 says_same c a r new told same says = same ∙ says ∙ ap (stays (registers c a) (unregisters c a)) (sym (append-nil told))
 
+-- a claim that changes something is a registration on channel 0
+says_claim : (c : ℕ) (a : List ℕ) (r : Registry) (told : List Told) (apid : List ℕ) (claim : Claimed) (o : Option Registry) → IfSome o (AppStep r c a 0 (registration apid claim)) → Says c a r told
+    → Says c a (unwrap_or o r) (told ++ map (λ msg. record { channel = 0; msg = msg }) (if is_some o then registration apid claim ∷ [] else []))
+says_claim c a r told apid claim (Some new) stepped says =
+    stepped ∙ ap (λ t. cond ((0 == c) && false) false (t || ((0 == c) && false))) says
+    ∙ sym (stays-push (registers c a) (unregisters c a) told (record { channel = 0; msg = registration apid claim }))
+says_claim c a r told apid claim None stepped says = says ∙ ap (stays (registers c a) (unregisters c a)) (sym (append-nil told))
+
+says_claims : (c : ℕ) (a : List ℕ) (slots : ℕ → Slot) (r : Registry) (told : List Told) (claim : Claimed) → Says c a r told
+    → Says c a (unwrap_or (claimed slots r claim) r) (told ++ map (λ msg. record { channel = 0; msg = msg }) (registrations slots r claim))
+says_claims c a slots r told claim says = by (apid_numbered r claim.app) where
+  leaves : Option (List ℕ) → Option Registry
+  leaves o = option_and_then (λ apid. option_and_then (context_claimed slots r apid claim) (app_of r 0 apid)) o
+
+  by : (o : Option (List ℕ))
+      → Says c a (unwrap_or (leaves o) r) (told ++ map (λ msg. record { channel = 0; msg = msg }) (if is_some (leaves o) then option_map_or (λ apid. registration apid claim ∷ []) o [] else []))
+  by None = says_same c a r r told refl says
+  by (Some apid) = says_claim c a r told apid claim (option_and_then (context_claimed slots r apid claim) (app_of r 0 apid)) (claimed-step r c a 0 slots apid claim (app_of r 0 apid) refl) says
+
 -- the messages accepted from a registry on, which is that of the events before
 says_event : (s : Setting) (c : ℕ) (a : List ℕ) (before : List Event) (told : List Told) (e : Event) → Says c a (registry_of s before) told
     → Says c a (step s (slots_of s before) (registry_of s before) e) (told ++ accepted_at s before e)
@@ -291,6 +330,7 @@ says_event s c a before told (event.User ch msg moment) says =
     says_user c a (registry_of s before) told ch msg (applied (slots_of s before) (registry_of s before) ch msg) (applied-step (registry_of s before) c a ch (slots_of s before) msg) says
 says_event s c a before told (event.Request client frame answer) says =
     says_same c a (registry_of s before) (served s (slots_of s before) (registry_of s before) (asked frame) answer) told (served_same c a s (slots_of s before) (registry_of s before) (asked frame) answer) says
+says_event s c a before told (event.Claim claim moment) says = says_claims c a (slots_of s before) (registry_of s before) told claim says
 says_event s c a before told (event.Log app writer call moment) says = says_same c a (registry_of s before) (registry_of s before) told refl says
 says_event s c a before told (event.Lost app count moment) says = says_same c a (registry_of s before) (registry_of s before) told refl says
 says_event s c a before told (event.Level slot level) says = says_same c a (registry_of s before) (registry_of s before) told refl says

@@ -1,10 +1,11 @@
 -- A context is there where it registered, and neither it nor its application left since.
-use Rattle.std.proofs.Common.{◌≡◌, ◌⊎◌, ℕ, inl, inr, Bool, true, false, cond, List, [], ◌∷◌, ◌++◌, length, map, Option, Some, None, Result, Ok, Err, refl, sym, ap, subst, ◌∙◌, append-nil, append_assoc, unwrap_or, IfOk}
+use Rattle.std.proofs.Common.{◌≡◌, ◌⊎◌, ℕ, inl, inr, Bool, true, false, cond, List, [], ◌∷◌, ◌++◌, length, map, Option, Some, None, Result, Ok, Err, refl, sym, ap, subst, ◌∙◌, append-nil, append_assoc, unwrap_or, IfOk, IfSome, not}
 use Rattle.std.specs.Prelude.{nat_le, ◌==◌, ◌&&◌, ◌||◌, if◌then◌else◌}
 use Rattle.std.specs.Map.{lookup, set_value}
-use Rattle.std.specs.Option.{option_and_then, option_or, is_some}
+use Rattle.std.specs.Option.{option_and_then, option_map_or, option_or, is_some}
 use Rattle.std.specs.Result.{is_ok, result_unwrap_or, result_ok}
 use Rattle.std.specs.Str.{bytes_eq}
+use Rattle.dl_bytes.specs.Claim.{Claimed}
 use Rattle.dl_bytes.specs.Id.{zero_id}
 use Rattle.dl_bytes.specs.Level.{own_level_of}
 use Rattle.dl_bytes.specs.declared.outcome.Done.{Done}
@@ -16,7 +17,7 @@ use Rattle.dl_control.specs.declared.request.Request.TheVariants.{SetLogLevel, G
 use Rattle.dl_control.specs.declared.request.RequestFault.{RequestFault}
 use Rattle.dl_events.specs.declared.event.Event.{Event}
 use Rattle.dl_events.specs.declared.event.Event.TheVariants as event
-use Rattle.dl_model.specs.declared.registry.Context.{Context}
+use Rattle.dl_model.specs.declared.context.Context.{Context}
 use Rattle.dl_model.specs.declared.registry.Slot.{Slot}
 use Rattle.dl_model.specs.declared.registry.RegistryFault.{RegistryFault}
 use Rattle.dl_model.specs.declared.registry.RegistryFault.TheVariants as fault
@@ -25,14 +26,14 @@ use Rattle.dl_model.specs.declared.registry.SetFault.TheVariants as set
 use Rattle.dl_model.specs.Along.{along_from}
 use Rattle.dl_bytes.specs.Limits.{last_version}
 use Rattle.dl_model.specs.Journal.{Told, step, registry_of, slots_of, accepted_at, accepted}
-use Rattle.dl_model.specs.Registry.{App, Registry, of_channel, app_of, context_of, numbers, places, least_free, slot_of, stored_level, with_app, with_new_app, with_context, with_new_context, without, app_registered, app_unregistered, context_registered, context_unregistered, for_app, applied, Relevel, set_matching, keep_own, no_own, wears, unless_worn, matching, own_set, default_set, nothing_stored, releveled_context, releveled_app, releveled}
+use Rattle.dl_model.specs.Registry.{App, Registry, of_channel, app_of, context_of, numbers, places, least_free, is_free, slot_of, stored_level, with_app, with_new_app, with_context, with_new_context, without, app_registered, app_unregistered, context_registered, context_unregistered, for_app, applied, apid_numbered, with_claim, context_claimed, claimed, registration, registrations, Relevel, set_matching, keep_own, no_own, wears, unless_worn, matching, own_set, default_set, nothing_stored, releveled_context, releveled_app, releveled}
 use Rattle.dl_model.specs.Reply.{asked, reset_requested, now_stored, where_done, served}
 use Rattle.dl_model.specs.Setting.{Setting}
 use Rattle.dl_model.specs.Stays.{drops_app, stays}
 use Rattle.dl_model.proofs.OneMore.{registry-one}
 use Rattle.dl_model.proofs.Presence.{stays-push, bytes_tell, bytes_same, bytes_differ, lookup-set_same, lookup-set_other, lookup-push, lookup-without_same, lookup-without_other}
 use Rattle.dl_model.specs.Stays.{names_context, drops_context, registers_context, ends_context, is_context_there}
-use Rattle.dl_model.proofs.AppPresence.{found_own}
+use Rattle.dl_model.proofs.AppPresence.{found_own, ifsome_if}
 
 -- a context of an application that belongs to the channel
 abbrev pub ctx_there : ℕ → List ℕ → Option App → Bool
@@ -176,11 +177,10 @@ module _ (r : Registry) (c : ℕ) (a k : List ℕ) (ch : ℕ) where
         (ap (ctx_there c k) (lookup-without_other a apid r.apps other.1))
   ]
 
-  -- a registration of a context, by the application of the channel
-  context_registered-ctx : (slots : ℕ → Slot) (apid ctid : List ℕ) (position : ℕ) (own : Option ℕ) (text : List ℕ) (app : App) (o : Option Context)
-      → lookup (bytes_eq apid) r.apps ≡ Some app → app.channel ≡ ch → context_of app ctid ≡ o
-      → IfOk (context_registered slots r apid ctid position own text app o) (λ new. After (ch == c) false (bytes_eq apid a && bytes_eq ctid k) false (context_there r c a k) (context_there new c a k))
-  context_registered-ctx slots apid ctid position own text app (Some context) found channel there = elim (changed_app apid app new found refl) [
+  -- a context that is there is changed, by the application of the channel
+  context_told-ctx : (apid ctid : List ℕ) (app : App) (context told : Context) → lookup (bytes_eq apid) r.apps ≡ Some app → app.channel ≡ ch → context_of app ctid ≡ Some context
+      → After (ch == c) false (bytes_eq apid a && bytes_eq ctid k) false (context_there r c a k) (context_there (with_app r apid (with_context app ctid told)) c a k)
+  context_told-ctx apid ctid app context told found channel there = elim (changed_app apid app new found refl) [
     | inl here ↦
         let before : context_there r c a k ≡ ((ch == c) && is_some (context_of app k)) = here.1 ∙ ap (λ n. (n == c) && is_some (context_of app k)) channel in
         let now : context_there (with_app r apid new) c a k ≡ ((ch == c) && is_some (context_of new k)) = here.2 ∙ ap (λ n. (n == c) && is_some (context_of new k)) channel in
@@ -198,47 +198,71 @@ module _ (r : Registry) (c : ℕ) (a k : List ℕ) (ch : ℕ) where
     | inr other ↦ unsaid (ch == c) false (bytes_eq apid a && bytes_eq ctid k) false (context_there r c a k) (context_there (with_app r apid new) c a k) refl (both_false (bytes_eq apid a) (bytes_eq ctid k) other.0) refl other.1
   ]
     where
-      told : Context
-      told = record context { position = position; text = text }
-
       new : App
       new = with_context app ctid told
+
+  -- one that is not there comes
+  context_new-ctx : (apid ctid : List ℕ) (app : App) (context : Context) → lookup (bytes_eq apid) r.apps ≡ Some app → app.channel ≡ ch → context_of app ctid ≡ None
+      → After (ch == c) false (bytes_eq apid a && bytes_eq ctid k) false (context_there r c a k) (context_there (with_app r apid (with_new_context app ctid context)) c a k)
+  context_new-ctx apid ctid app context found channel there = comes_now where
+    new : App
+    new = with_new_context app ctid context
+
+    comes_now : After (ch == c) false (bytes_eq apid a && bytes_eq ctid k) false (context_there r c a k) (context_there (with_app r apid new) c a k)
+    comes_now = elim (changed_app apid app new found refl) [
+      | inl here ↦
+          let before : context_there r c a k ≡ ((ch == c) && is_some (context_of app k)) = here.1 ∙ ap (λ n. (n == c) && is_some (context_of app k)) channel in
+          let now : context_there (with_app r apid new) c a k ≡ ((ch == c) && is_some (context_of new k)) = here.2 ∙ ap (λ n. (n == c) && is_some (context_of new k)) channel in
+          elim (bytes_tell ctid k) [
+            | inl is ↦
+                let mine : bytes_eq k ctid ≡ true = ap (λ q. bytes_eq k q) is.1 ∙ bytes_same k in
+                let none : lookup (bytes_eq k) app.contexts ≡ None = subst (λ q. lookup (bytes_eq q) app.contexts ≡ None) is.1 there in
+                let it : context_of new k ≡ Some context =
+                lookup-push (bytes_eq k) app.contexts ctid context ∙ ap (λ o. option_or o (cond (bytes_eq k ctid) (Some context) None)) none ∙ ap (λ b. cond b (Some context) None) mine in
+                subst (λ n. After (ch == c) false n false (context_there r c a k) (context_there (with_app r apid new) c a k)) (sym (both_true (bytes_eq apid a) (bytes_eq ctid k) (ap (λ q. bytes_eq q a) here.0 ∙ bytes_same a) is.0))
+                (came (ch == c) false false (is_some (context_of app k)) (context_there r c a k) (context_there (with_app r apid new) c a k) refl refl before
+                (now ∙ and_true (ch == c) (is_some (context_of new k)) (ap is_some it)))
+            | inr other ↦
+                let not_mine : bytes_eq k ctid ≡ false = bytes_differ k ctid (λ same. other.1 (sym same)) in
+                let same : context_of new k ≡ context_of app k =
+                lookup-push (bytes_eq k) app.contexts ctid context ∙ ap (λ b. option_or (lookup (bytes_eq k) app.contexts) (cond b (Some context) None)) not_mine ∙ or_none (lookup (bytes_eq k) app.contexts) in
+                unsaid (ch == c) false (bytes_eq apid a && bytes_eq ctid k) false (context_there r c a k) (context_there (with_app r apid new) c a k) refl (second_false (bytes_eq apid a) (bytes_eq ctid k) other.0) refl
+                (now ∙ ap (λ o. (ch == c) && is_some o) same ∙ sym before)
+          ]
+      | inr other ↦ unsaid (ch == c) false (bytes_eq apid a && bytes_eq ctid k) false (context_there r c a k) (context_there (with_app r apid new) c a k) refl (both_false (bytes_eq apid a) (bytes_eq ctid k) other.0) refl other.1
+    ]
+
+  -- a registration of a context
+  context_registered-ctx : (slots : ℕ → Slot) (apid ctid : List ℕ) (position : ℕ) (own : Option ℕ) (text : List ℕ) (app : App) (o : Option Context)
+      → lookup (bytes_eq apid) r.apps ≡ Some app → app.channel ≡ ch → context_of app ctid ≡ o
+      → IfOk (context_registered slots r apid ctid position own text app o) (λ new. After (ch == c) false (bytes_eq apid a && bytes_eq ctid k) false (context_there r c a k) (context_there new c a k))
+  context_registered-ctx slots apid ctid position own text app (Some context) found channel there =
+      context_told-ctx apid ctid app context (record context { position = position; text = text }) found channel there
   context_registered-ctx slots apid ctid position own text app None found channel there =
-      ifok_if2 Step (nat_le 64 (length app.contexts)) fault.ContextsFull _
-      (ifok_if2 Step ((slots (slot_of app.number (least_free (places app.contexts)))).version == last_version) fault.Worn (Ok (with_app r apid new)) comes_now)
+      ifok_if2 Step (nat_le 64 (length (places app.contexts))) fault.ContextsFull _
+      (ifok_if2 Step ((slots (slot_of app.number (least_free (places app.contexts)))).version == last_version) fault.Worn _
+      (context_new-ctx apid ctid app (record { place = least_free (places app.contexts); further = []; own = option_or (stored_level r.stored apid ctid) own; position = position; text = text }) found channel there))
     where
-      context : Context
-      context = record { place = least_free (places app.contexts); own = option_or (stored_level r.stored apid ctid) own; position = position; text = text }
-
-      new : App
-      new = with_new_context app ctid context
-
       Step : Registry → Type 0
       Step after = After (ch == c) false (bytes_eq apid a && bytes_eq ctid k) false (context_there r c a k) (context_there after c a k)
 
-      comes_now : After (ch == c) false (bytes_eq apid a && bytes_eq ctid k) false (context_there r c a k) (context_there (with_app r apid new) c a k)
-      comes_now = elim (changed_app apid app new found refl) [
-        | inl here ↦
-            let before : context_there r c a k ≡ ((ch == c) && is_some (context_of app k)) = here.1 ∙ ap (λ n. (n == c) && is_some (context_of app k)) channel in
-            let now : context_there (with_app r apid new) c a k ≡ ((ch == c) && is_some (context_of new k)) = here.2 ∙ ap (λ n. (n == c) && is_some (context_of new k)) channel in
-            elim (bytes_tell ctid k) [
-              | inl is ↦
-                  let mine : bytes_eq k ctid ≡ true = ap (λ q. bytes_eq k q) is.1 ∙ bytes_same k in
-                  let none : lookup (bytes_eq k) app.contexts ≡ None = subst (λ q. lookup (bytes_eq q) app.contexts ≡ None) is.1 there in
-                  let it : context_of new k ≡ Some context =
-                  lookup-push (bytes_eq k) app.contexts ctid context ∙ ap (λ o. option_or o (cond (bytes_eq k ctid) (Some context) None)) none ∙ ap (λ b. cond b (Some context) None) mine in
-                  subst (λ n. After (ch == c) false n false (context_there r c a k) (context_there (with_app r apid new) c a k)) (sym (both_true (bytes_eq apid a) (bytes_eq ctid k) (ap (λ q. bytes_eq q a) here.0 ∙ bytes_same a) is.0))
-                  (came (ch == c) false false (is_some (context_of app k)) (context_there r c a k) (context_there (with_app r apid new) c a k) refl refl before
-                  (now ∙ and_true (ch == c) (is_some (context_of new k)) (ap is_some it)))
-              | inr other ↦
-                  let not_mine : bytes_eq k ctid ≡ false = bytes_differ k ctid (λ same. other.1 (sym same)) in
-                  let same : context_of new k ≡ context_of app k =
-                  lookup-push (bytes_eq k) app.contexts ctid context ∙ ap (λ b. option_or (lookup (bytes_eq k) app.contexts) (cond b (Some context) None)) not_mine ∙ or_none (lookup (bytes_eq k) app.contexts) in
-                  unsaid (ch == c) false (bytes_eq apid a && bytes_eq ctid k) false (context_there r c a k) (context_there (with_app r apid new) c a k) refl (second_false (bytes_eq apid a) (bytes_eq ctid k) other.0) refl
-                  (now ∙ ap (λ o. (ch == c) && is_some o) same ∙ sym before)
-            ]
-        | inr other ↦ unsaid (ch == c) false (bytes_eq apid a && bytes_eq ctid k) false (context_there r c a k) (context_there (with_app r apid new) c a k) refl (both_false (bytes_eq apid a) (bytes_eq ctid k) other.0) refl other.1
-      ]
+  -- a claim
+  with_claim-ctx : (apid : List ℕ) (claim : Claimed) (app : App) (o : Option Context) → lookup (bytes_eq apid) r.apps ≡ Some app → app.channel ≡ ch → context_of app claim.ctid ≡ o
+      → ContextStep r c a k ch (registration apid claim) (with_app r apid (with_claim r.stored apid claim app o))
+  unfolding ContextStep
+  with_claim-ctx apid claim app (Some context) found channel there =
+      context_told-ctx apid claim.ctid app context (record context { further = context.further ++ claim.place ∷ [] }) found channel there
+  with_claim-ctx apid claim app None found channel there =
+      context_new-ctx apid claim.ctid app (record { place = claim.place; further = []; own = option_or (stored_level r.stored apid claim.ctid) claim.level; position = 0; text = claim.text }) found channel there
+
+  claimed-ctx : (slots : ℕ → Slot) (apid : List ℕ) (claim : Claimed) (o : Option App) → app_of r ch apid ≡ o
+      → IfSome (option_and_then (context_claimed slots r apid claim) o) (ContextStep r c a k ch (registration apid claim))
+  claimed-ctx slots apid claim None found = tt
+  claimed-ctx slots apid claim (Some app) found =
+      let own : (lookup (bytes_eq apid) r.apps ≡ Some app) × (app.channel ≡ ch) = found_own r c a ch apid (lookup (bytes_eq apid) r.apps) app found in
+      ifsome_if (ContextStep r c a k ch (registration apid claim)) (not (is_free claim.place app.contexts)) _
+      (ifsome_if (ContextStep r c a k ch (registration apid claim)) ((slots (slot_of app.number claim.place)).version == last_version) _
+      (with_claim-ctx apid claim app (context_of app claim.ctid) own.0 own.1 refl))
 
   context_unregistered-ctx : (apid ctid : List ℕ) (app : App) (o : Option Context) → lookup (bytes_eq apid) r.apps ≡ Some app → app.channel ≡ ch
       → IfOk (context_unregistered r apid ctid app o) (λ new. After (ch == c) false false (bytes_eq apid a && bytes_eq ctid k) (context_there r c a k) (context_there new c a k))
@@ -364,12 +388,33 @@ says_same : (c : ℕ) (a k : List ℕ) (r new : Registry) (told : List Told) →
 unfolding Says
 says_same c a k r new told same says = same ∙ says ∙ ap (stays (registers_context c a k) (ends_context c a k)) (sym (append-nil told))
 
+-- a claim that changes something is a registration on channel 0
+says_claim : (c : ℕ) (a k : List ℕ) (r : Registry) (told : List Told) (apid : List ℕ) (claim : Claimed) (o : Option Registry) → IfSome o (ContextStep r c a k 0 (registration apid claim)) → Says c a k r told
+    → Says c a k (unwrap_or o r) (told ++ map (λ msg. record { channel = 0; msg = msg }) (if is_some o then registration apid claim ∷ [] else []))
+unfolding Says ContextStep
+says_claim c a k r told apid claim (Some new) stepped says =
+    stepped ∙ ap (λ t. cond (((0 == c) && false) || ((0 == c) && false)) false (t || ((0 == c) && (bytes_eq apid a && bytes_eq claim.ctid k)))) says
+    ∙ sym (stays-push (registers_context c a k) (ends_context c a k) told (record { channel = 0; msg = registration apid claim }))
+says_claim c a k r told apid claim None stepped says = says ∙ ap (stays (registers_context c a k) (ends_context c a k)) (sym (append-nil told))
+
+says_claims : (c : ℕ) (a k : List ℕ) (slots : ℕ → Slot) (r : Registry) (told : List Told) (claim : Claimed) → Says c a k r told
+    → Says c a k (unwrap_or (claimed slots r claim) r) (told ++ map (λ msg. record { channel = 0; msg = msg }) (registrations slots r claim))
+says_claims c a k slots r told claim says = by (apid_numbered r claim.app) where
+  leaves : Option (List ℕ) → Option Registry
+  leaves o = option_and_then (λ apid. option_and_then (context_claimed slots r apid claim) (app_of r 0 apid)) o
+
+  by : (o : Option (List ℕ))
+      → Says c a k (unwrap_or (leaves o) r) (told ++ map (λ msg. record { channel = 0; msg = msg }) (if is_some (leaves o) then option_map_or (λ apid. registration apid claim ∷ []) o [] else []))
+  by None = says_same c a k r r told refl says
+  by (Some apid) = says_claim c a k r told apid claim (option_and_then (context_claimed slots r apid claim) (app_of r 0 apid)) (claimed-ctx r c a k 0 slots apid claim (app_of r 0 apid) refl) says
+
 says_event : (s : Setting) (c : ℕ) (a k : List ℕ) (before : List Event) (told : List Told) (e : Event) → Says c a k (registry_of s before) told
     → Says c a k (step s (slots_of s before) (registry_of s before) e) (told ++ accepted_at s before e)
 says_event s c a k before told (event.User ch msg moment) says =
     says_user c a k (registry_of s before) told ch msg (applied (slots_of s before) (registry_of s before) ch msg) (applied-ctx (registry_of s before) c a k ch (slots_of s before) msg) says
 says_event s c a k before told (event.Request client frame answer) says =
     says_same c a k (registry_of s before) (served s (slots_of s before) (registry_of s before) (asked frame) answer) told (served_same c a k s (slots_of s before) (registry_of s before) (asked frame) answer) says
+says_event s c a k before told (event.Claim claim moment) says = says_claims c a k (slots_of s before) (registry_of s before) told claim says
 says_event s c a k before told (event.Log app writer call moment) says = says_same c a k (registry_of s before) (registry_of s before) told refl says
 says_event s c a k before told (event.Lost app count moment) says = says_same c a k (registry_of s before) (registry_of s before) told refl says
 says_event s c a k before told (event.Level slot level) says = says_same c a k (registry_of s before) (registry_of s before) told refl says

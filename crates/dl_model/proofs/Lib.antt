@@ -1,4 +1,5 @@
 pub mod Numbered
+pub mod Placed
 pub mod OneMore
 pub mod Order
 pub mod Presence

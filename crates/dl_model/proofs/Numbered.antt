@@ -47,11 +47,15 @@ AllByRecursion-push : (P : ℕ → Type 0) (xs : List ℕ) (y : ℕ) → AllByRe
 AllByRecursion-push P [] y all here = (here, tt)
 AllByRecursion-push P (x ∷ xs) y all here = (all.0, AllByRecursion-push P xs y all.1 here)
 
-pub IsNumbered-push : (limit : ℕ) (used : List ℕ) → IsNumbered limit used → length used < limit → IsNumbered limit (used ++ least_free used ∷ [])
-IsNumbered-push limit used is room = record {
-  apart = IsDistinct-push nat_eq_equiv used (least_free used) is.apart (least_free-is_free used);
-  below = AllByRecursion-push (λ n. n < limit) used (least_free used) is.below (omega (arith, least_free-le-length used));
+-- a number that is free is added
+pub IsNumbered-add : (limit : ℕ) (used : List ℕ) (n : ℕ) → IsNumbered limit used → list_any (nat_eq n) used ≡ false → n < limit → IsNumbered limit (used ++ n ∷ [])
+IsNumbered-add limit used n is free below = record {
+  apart = IsDistinct-push nat_eq_equiv used n is.apart free;
+  below = AllByRecursion-push (λ m. m < limit) used n is.below below;
 }
+
+pub IsNumbered-push : (limit : ℕ) (used : List ℕ) → IsNumbered limit used → length used < limit → IsNumbered limit (used ++ least_free used ∷ [])
+IsNumbered-push limit used is room = IsNumbered-add limit used (least_free used) is (least_free-is_free used) (omega (arith, least_free-le-length used))
 
 AllByRecursion-kept : {A : Type 0} (f : A → ℕ) (P : ℕ → Type 0) (b : Bool) (x : A) (xs : List A) → P (f x) → AllByRecursion P (map f xs) → AllByRecursion P (map f (cond b (x ∷ xs) xs))
 AllByRecursion-kept f P true x xs here all = (here, all)

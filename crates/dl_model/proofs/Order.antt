@@ -7,6 +7,7 @@ use Rattle.std.specs.Option.{option_and_then, option_or}
 use Rattle.std.specs.Result.{result_unwrap_or, result_ok}
 use Rattle.std.specs.Str.{bytes_eq}
 use Rattle.std.proofs.lemmas.List.{length-map, map-append}
+use Rattle.dl_bytes.specs.Claim.{Claimed}
 use Rattle.dl_bytes.specs.Id.{zero_id}
 use Rattle.dl_bytes.specs.Level.{own_level_of}
 use Rattle.dl_bytes.specs.declared.outcome.Done.{Done}
@@ -17,8 +18,8 @@ use Rattle.dl_control.specs.declared.request.Request.{Request}
 use Rattle.dl_control.specs.declared.request.Request.TheVariants.{SetLogLevel, GetLogInfo, GetDefault, Store, Reset, SetDefault, Version, Inject, Other}
 use Rattle.dl_control.specs.declared.request.RequestFault.{RequestFault}
 use Rattle.dl_events.specs.declared.event.Event.{Event}
-use Rattle.dl_events.specs.declared.event.Event.TheVariants.{Log, Lost, User, Level, Connect, Request as RequestEvent, Close}
-use Rattle.dl_model.specs.declared.registry.Context.{Context}
+use Rattle.dl_events.specs.declared.event.Event.TheVariants.{Log, Lost, User, Claim, Level, Connect, Request as RequestEvent, Close}
+use Rattle.dl_model.specs.declared.context.Context.{Context}
 use Rattle.dl_model.specs.declared.registry.SetFault.{SetFault}
 use Rattle.dl_model.specs.declared.registry.SetFault.TheVariants as set
 use Rattle.dl_model.specs.declared.registry.Slot.{Slot}
@@ -29,8 +30,9 @@ use Rattle.dl_model.specs.History.{slot_after}
 use Rattle.dl_model.specs.Journal.{start, step, after, registry_of}
 use Rattle.dl_model.specs.Reply.{asked, own_requested, default_requested, reset_requested, now_stored, where_done, served}
 use Rattle.dl_model.specs.Setting.{Setting}
-use Rattle.dl_model.specs.Registry.{App, Registry, of_channel, app_of, context_of, numbers, places, least_free, IsNumbered, slot_of, stored_level, with_app, with_new_app, with_context, with_new_context, without, app_registered, app_unregistered, context_registered, context_unregistered, for_app, applied, Relevel, set_matching, keep_own, no_own, wears, unless_worn, matching, own_set, default_set, nothing_stored, releveled_context, releveled_app, releveled, ArePlaced, IsInOrder}
-use Rattle.dl_model.proofs.Numbered.{IsNumbered-push, IsNumbered-filter, IsNumbered-none, map-set_value}
+use Rattle.dl_model.specs.Registry.{App, Registry, of_channel, app_of, context_of, numbers, places_of, places, least_free, is_free, IsNumbered, slot_of, stored_level, with_app, with_new_app, with_context, with_new_context, without, app_registered, app_unregistered, context_registered, context_unregistered, for_app, applied, with_claim, context_claimed, apid_numbered, claimed, Relevel, set_matching, keep_own, no_own, wears, unless_worn, matching, own_set, default_set, nothing_stored, releveled_context, releveled_app, releveled, ArePlaced, IsInOrder}
+use Rattle.dl_model.proofs.Numbered.{IsNumbered-push, IsNumbered-add, IsNumbered-filter, IsNumbered-none, map-set_value}
+use Rattle.dl_model.proofs.Placed.{IsNumbered-kept, places-push, places-same, places-further, numbered-among, releveled_places, Free, free_tells}
 
 -- ---- places
 
@@ -115,24 +117,24 @@ pub context_registered-order : (slots : ℕ → Slot) (r : Registry) (apid ctid 
     → lookup (bytes_eq apid) r.apps ≡ Some app → context_of app ctid ≡ o → IsInOrder r → IfOk (context_registered slots r apid ctid position own text app o) IsInOrder
 context_registered-order slots r apid ctid position own text app (Some context) found there is =
     in_order-with_app r apid app (with_context app ctid (record context { position = position; text = text })) is found refl
-    (subst (IsNumbered 64) (sym (map-set_value (λ e. e.1.place) (bytes_eq ctid) app.contexts context (record context { position = position; text = text }) there (λ k. refl))) (placed_of_found r apid app is found))
+    (subst (IsNumbered 64) (sym (places-same (bytes_eq ctid) app.contexts context (record context { position = position; text = text }) there refl)) (placed_of_found r apid app is found))
 context_registered-order slots r apid ctid position own text app None found there is =
-    ifok_if IsInOrder (nat_le 64 (length app.contexts)) fault.ContextsFull _ (λ room.
+    ifok_if IsInOrder (nat_le 64 (length (places app.contexts))) fault.ContextsFull _ (λ room.
     ifok_if IsInOrder ((slots (slot_of app.number (least_free (places app.contexts)))).version == last_version) fault.Worn _ (λ fresh.
     in_order-with_app r apid app (with_new_context app ctid new) is found refl (more room)))
   where
     new : Context
-    new = record { place = least_free (places app.contexts); own = option_or (stored_level r.stored apid ctid) own; position = position; text = text }
+    new = record { place = least_free (places app.contexts); further = []; own = option_or (stored_level r.stored apid ctid) own; position = position; text = text }
 
-    more : nat_le 64 (length app.contexts) ≡ false → IsNumbered 64 (places (app.contexts ++ (ctid, new) ∷ []))
-    more room = subst (IsNumbered 64) (sym (map-append (λ e. e.1.place) app.contexts ((ctid, new) ∷ [])))
-        (IsNumbered-push 64 (places app.contexts) (placed_of_found r apid app is found)
-        (omega (arith, length-map app.contexts (λ (e : List ℕ × Context). e.1.place), leb-false 64 (length app.contexts) room)))
+    more : nat_le 64 (length (places app.contexts)) ≡ false → IsNumbered 64 (places (app.contexts ++ (ctid, new) ∷ []))
+    more room =
+        subst (IsNumbered 64) (sym (places-push app.contexts ctid new refl))
+        (IsNumbered-push 64 (places app.contexts) (placed_of_found r apid app is found) (leb-false 64 (length (places app.contexts)) room))
 
 pub context_unregistered-order : (r : Registry) (apid ctid : List ℕ) (app : App) (o : Option Context) → lookup (bytes_eq apid) r.apps ≡ Some app → IsInOrder r → IfOk (context_unregistered r apid ctid app o) IsInOrder
 context_unregistered-order r apid ctid app (Some context) found is =
     in_order-with_app r apid app (record app { contexts = without ctid app.contexts }) is found refl
-    (IsNumbered-filter 64 (λ e. e.1.place) (λ e. not (bytes_eq ctid e.0)) app.contexts (placed_of_found r apid app is found))
+    (IsNumbered-kept (λ e. places_of e.1) (λ e. not (bytes_eq ctid e.0)) 64 app.contexts (placed_of_found r apid app is found))
 context_unregistered-order r apid ctid app None found is = tt
 
 pub in_order-without : (r : Registry) (apid : List ℕ) → IsInOrder r → IsInOrder (record r { apps = without apid r.apps })
@@ -161,11 +163,42 @@ applied-order slots r channel (UnregisterContext apid ctid pid) is =
     for_app-order r apid channel (app_of r channel apid) _ refl (λ app found. context_unregistered-order r apid ctid app (context_of app ctid) found is)
 applied-order slots r channel _ is = is
 
--- ---- levels
+-- ---- claims
 
-releveled_places : (relevel : Relevel) (apid : List ℕ) (cs : List (List ℕ × Context)) → places (map (releveled_context relevel apid) cs) ≡ places cs
-releveled_places relevel apid [] = refl
-releveled_places relevel apid (c ∷ cs) = ap (λ t. c.1.place ∷ t) (releveled_places relevel apid cs)
+ifsome_if : {A : Type 0} (P : A → Type 0) (b : Bool) (o : Option A) → (b ≡ false → IfSome o P) → IfSome (cond b None o) P
+ifsome_if P true o ok = tt
+ifsome_if P false o ok = ok refl
+
+-- a context that is there has one place more, or one comes at that place
+with_claim-order : (r : Registry) (apid : List ℕ) (claim : Claimed) (app : App) (o : Option Context) → lookup (bytes_eq apid) r.apps ≡ Some app → context_of app claim.ctid ≡ o → Free claim.place app.contexts → IsInOrder r
+    → IsInOrder (with_app r apid (with_claim r.stored apid claim app o))
+with_claim-order r apid claim app (Some context) found there free is =
+    in_order-with_app r apid app (with_claim r.stored apid claim app (Some context)) is found refl
+    (numbered-among 64 claim.place (places app.contexts) _ (places-further (bytes_eq claim.ctid) app.contexts context claim.place there) (placed_of_found r apid app is found) free.unused free.below)
+with_claim-order r apid claim app None found there free is =
+    in_order-with_app r apid app (with_claim r.stored apid claim app None) is found refl
+    (subst (IsNumbered 64) (sym (places-push app.contexts claim.ctid new refl)) (IsNumbered-add 64 (places app.contexts) claim.place (placed_of_found r apid app is found) free.unused free.below))
+  where
+    new : Context
+    new = record { place = claim.place; further = []; own = option_or (stored_level r.stored apid claim.ctid) claim.level; position = 0; text = claim.text }
+
+pub context_claimed-order : (slots : ℕ → Slot) (r : Registry) (apid : List ℕ) (claim : Claimed) (app : App) → lookup (bytes_eq apid) r.apps ≡ Some app → IsInOrder r → IfSome (context_claimed slots r apid claim app) IsInOrder
+context_claimed-order slots r apid claim app found is =
+    ifsome_if IsInOrder (not (is_free claim.place app.contexts)) _ (λ free.
+    ifsome_if IsInOrder ((slots (slot_of app.number claim.place)).version == last_version) _ (λ fresh.
+    with_claim-order r apid claim app (context_of app claim.ctid) found refl (free_tells claim.place app.contexts free) is))
+
+claimed-order : (slots : ℕ → Slot) (r : Registry) (claim : Claimed) → IsInOrder r → IfSome (claimed slots r claim) IsInOrder
+claimed-order slots r claim is = by (apid_numbered r claim.app) where
+  in_app : (apid : List ℕ) (o : Option App) → app_of r 0 apid ≡ o → IfSome (option_and_then (context_claimed slots r apid claim) o) IsInOrder
+  in_app apid None found = tt
+  in_app apid (Some app) found = context_claimed-order slots r apid claim app (app_of_found r 0 apid app found) is
+
+  by : (o : Option (List ℕ)) → IfSome (option_and_then (λ apid. option_and_then (context_claimed slots r apid claim) (app_of r 0 apid)) o) IsInOrder
+  by None = tt
+  by (Some apid) = in_app apid (app_of r 0 apid) refl
+
+-- ---- levels
 
 releveled_numbers : (relevel : Relevel) (es : List (List ℕ × App)) → numbers (map (releveled_app relevel) es) ≡ numbers es
 releveled_numbers relevel [] = refl
@@ -232,6 +265,7 @@ ok_or (Err e) r found is = is
 step-order : (s : Setting) (slots : ℕ → Slot) (r : Registry) (event : Event) → IsInOrder r → IsInOrder (step s slots r event)
 step-order s slots r (User channel msg moment) is = ok_or (applied slots r channel msg) r (applied-order slots r channel msg is) is
 step-order s slots r (RequestEvent client frame answer) is = served-order s slots r (asked frame) answer is
+step-order s slots r (Claim claim moment) is = some_or (claimed slots r claim) r (claimed-order slots r claim is) is
 step-order s slots r (Log app writer call moment) is = is
 step-order s slots r (Lost app count moment) is = is
 step-order s slots r (Level slot level) is = is

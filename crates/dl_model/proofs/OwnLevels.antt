@@ -1,11 +1,12 @@
 -- A context's own level is what was given last.
-use Rattle.std.proofs.Common.{◌≡◌, ◌≢◌, ℕ, ◌⊎◌, inl, inr, Bool, true, false, cond, List, [], ◌∷◌, ◌++◌, length, map, Option, Some, None, Result, Ok, Err, refl, sym, ap, subst, ◌∙◌, append-nil, append_assoc, unwrap_or, IfOk, IfSome}
+use Rattle.std.proofs.Common.{◌≡◌, ◌≢◌, ℕ, ◌⊎◌, inl, inr, Bool, true, false, cond, List, [], ◌∷◌, ◌++◌, length, map, Option, Some, None, Result, Ok, Err, refl, sym, ap, subst, ◌∙◌, append-nil, append_assoc, unwrap_or, IfOk, IfSome, not}
 use Rattle.std.specs.Prelude.{nat_le, ◌==◌, ◌&&◌, ◌||◌, if◌then◌else◌}
-use Rattle.std.specs.List.{last_or}
+use Rattle.std.specs.List.{flat_map, last_or}
 use Rattle.std.specs.Map.{lookup, set_value}
-use Rattle.std.specs.Option.{option_and_then, option_map, option_map_or, option_or, is_none}
+use Rattle.std.specs.Option.{option_and_then, option_map, option_map_or, option_or, is_none, is_some}
 use Rattle.std.specs.Result.{is_ok, result_unwrap_or, result_ok}
 use Rattle.std.specs.Str.{bytes_eq}
+use Rattle.dl_bytes.specs.Claim.{Claimed}
 use Rattle.dl_bytes.specs.Id.{zero_id}
 use Rattle.dl_bytes.specs.Level.{own_level_of}
 use Rattle.dl_bytes.specs.declared.outcome.Done.{Done}
@@ -17,7 +18,7 @@ use Rattle.dl_control.specs.declared.request.Request.TheVariants.{SetLogLevel, G
 use Rattle.dl_control.specs.declared.request.RequestFault.{RequestFault}
 use Rattle.dl_events.specs.declared.event.Event.{Event}
 use Rattle.dl_events.specs.declared.event.Event.TheVariants as event
-use Rattle.dl_model.specs.declared.registry.Context.{Context}
+use Rattle.dl_model.specs.declared.context.Context.{Context}
 use Rattle.dl_model.specs.declared.registry.Slot.{Slot}
 use Rattle.dl_model.specs.declared.registry.RegistryFault.{RegistryFault}
 use Rattle.dl_model.specs.declared.registry.RegistryFault.TheVariants as fault
@@ -25,12 +26,13 @@ use Rattle.dl_model.specs.declared.registry.SetFault.TheVariants as set
 use Rattle.dl_model.specs.Along.{along_from}
 use Rattle.dl_bytes.specs.Limits.{last_version}
 use Rattle.dl_model.specs.Journal.{step, after, registry_of, slots_of}
-use Rattle.dl_model.specs.Registry.{App, Registry, app_of, context_of, numbers, places, least_free, slot_of, stored_level, with_app, with_new_app, with_context, with_new_context, without, app_registered, app_unregistered, context_registered, context_unregistered, for_app, applied, matches, Relevel, set_matching, keep_own, no_own, wears, matching, own_set, nothing_stored, releveled_context, releveled_app, releveled}
+use Rattle.dl_model.specs.Registry.{App, Registry, app_of, context_of, numbers, places, least_free, is_free, slot_of, stored_level, with_app, with_new_app, with_context, with_new_context, without, app_registered, app_unregistered, context_registered, context_unregistered, for_app, applied, apid_numbered, with_claim, context_claimed, claimed, registration, registrations, matches, Relevel, set_matching, keep_own, no_own, wears, matching, own_set, nothing_stored, releveled_context, releveled_app, releveled}
 use Rattle.dl_model.specs.Reply.{asked, now_stored, where_done, served}
 use Rattle.dl_model.specs.Setting.{Setting}
 use Rattle.dl_model.specs.Stays.{own_at, given_by_message, given_where_set, none_given, given_by_request, given_at, levels_given}
 use Rattle.dl_model.proofs.OneMore.{registry-one}
 use Rattle.dl_model.proofs.Order.{app_of_found}
+use Rattle.dl_model.proofs.AppPresence.{ifsome_if}
 use Rattle.dl_model.proofs.Presence.{bytes_tell, bytes_same, bytes_differ, lookup-set_same, lookup-set_other, lookup-push, lookup-without_same, lookup-without_other}
 
 -- the own level of a context of an application
@@ -168,17 +170,17 @@ module _ (r : Registry) (a k : List ℕ) where
       ∙ ap (λ b. if b && is_none (own_at r a k) then option_or (stored_level r.stored a k) level ∷ [] else []) context
       ∙ ap (λ o. if is_none o then option_or (stored_level r.stored a k) level ∷ [] else []) none
 
-  context_registered-own : (slots : ℕ → Slot) (apid ctid : List ℕ) (position : ℕ) (level : Option ℕ) (text : List ℕ) (app : App) (o : Option Context)
-      → lookup (bytes_eq apid) r.apps ≡ Some app → lookup (bytes_eq ctid) app.contexts ≡ o
-      → IfOk (context_registered slots r apid ctid position level text app o) (λ new. Stepped (own_at r a k) (Gives apid ctid level) (own_at new a k))
-  context_registered-own slots apid ctid position level text app (Some context) found there = elim (changed_app apid app new found) [
+  -- a context that is there is changed, and keeps its own level
+  context_told-own : (apid ctid : List ℕ) (level : Option ℕ) (app : App) (context told : Context) → lookup (bytes_eq apid) r.apps ≡ Some app → lookup (bytes_eq ctid) app.contexts ≡ Some context → told.own ≡ context.own
+      → Stepped (own_at r a k) (Gives apid ctid level) (own_at (with_app r apid (with_context app ctid told)) a k)
+  context_told-own apid ctid level app context told found there keeps = elim (changed_app apid app new found) [
     | inl here ↦ elim (bytes_tell ctid k) [
       | inl is ↦
           let before : lookup (bytes_eq k) app.contexts ≡ Some context = subst (λ q. lookup (bytes_eq q) app.contexts ≡ Some context) is.1 there in
           let now : lookup (bytes_eq k) (set_value (bytes_eq ctid) app.contexts told) ≡ Some told =
           subst (λ q. lookup (bytes_eq k) (set_value (bytes_eq q) app.contexts told) ≡ Some told) (sym is.1) (lookup-set_same k app.contexts context told before) in
           let was : own_at r a k ≡ Some context.own = here.1 ∙ ap (option_map (λ c. c.own)) before in
-          stays_so (own_at r a k) (own_at (with_app r apid new) a k) (Gives apid ctid level) (is_there apid ctid level context.own was) (here.2 ∙ ap (option_map (λ c. c.own)) now ∙ sym was)
+          stays_so (own_at r a k) (own_at (with_app r apid new) a k) (Gives apid ctid level) (is_there apid ctid level context.own was) (here.2 ∙ ap (option_map (λ c. c.own)) now ∙ ap Some keeps ∙ sym was)
       | inr other ↦
           stays_so (own_at r a k) (own_at (with_app r apid new) a k) (Gives apid ctid level) (other_context apid ctid level other.0)
           (here.2 ∙ ap (option_map (λ c. c.own)) (lookup-set_other k ctid app.contexts told other.1) ∙ sym here.1)
@@ -186,49 +188,91 @@ module _ (r : Registry) (a k : List ℕ) where
     | inr other ↦ stays_so (own_at r a k) (own_at (with_app r apid new) a k) (Gives apid ctid level) (other_app apid ctid level (bytes_differ apid a other.0)) other.1
   ]
     where
-      told : Context
-      told = record context { position = position; text = text }
-
       new : App
       new = with_context app ctid told
+
+  -- one that is not there comes, with the level that was stored for it or else the one that it asks for
+  context_new-own : (apid ctid : List ℕ) (level : Option ℕ) (app : App) (context : Context) → lookup (bytes_eq apid) r.apps ≡ Some app → lookup (bytes_eq ctid) app.contexts ≡ None
+      → context.own ≡ option_or (stored_level r.stored apid ctid) level → Stepped (own_at r a k) (Gives apid ctid level) (own_at (with_app r apid (with_new_context app ctid context)) a k)
+  context_new-own apid ctid level app context found there gets = came where
+    new : App
+    new = with_new_context app ctid context
+
+    or_none : (o : Option Context) → option_or o None ≡ o
+    or_none None = refl
+    or_none (Some x) = refl
+
+    came : Stepped (own_at r a k) (Gives apid ctid level) (own_at (with_app r apid new) a k)
+    came = elim (changed_app apid app new found) [
+      | inl here ↦ elim (bytes_tell ctid k) [
+        | inl is ↦
+            let before : lookup (bytes_eq k) app.contexts ≡ None = subst (λ q. lookup (bytes_eq q) app.contexts ≡ None) is.1 there in
+            let mine : bytes_eq k ctid ≡ true = ap (λ q. bytes_eq k q) is.1 ∙ bytes_same k in
+            let now : lookup (bytes_eq k) (app.contexts ++ (ctid, context) ∷ []) ≡ Some context =
+            lookup-push (bytes_eq k) app.contexts ctid context ∙ ap (λ o. option_or o (cond (bytes_eq k ctid) (Some context) None)) before ∙ ap (λ b. cond b (Some context) None) mine in
+            let same : option_or (stored_level r.stored a k) level ≡ context.own =
+            ap (λ q. option_or (stored_level r.stored q k) level) (sym here.0) ∙ ap (λ q. option_or (stored_level r.stored apid q) level) (sym is.1) ∙ sym gets in
+            let app_is : bytes_eq apid a ≡ true = ap (λ q. bytes_eq q a) here.0 ∙ bytes_same a in
+            is_given (own_at r a k) (own_at (with_app r apid new) a k) (Gives apid ctid level) context.own (here.2 ∙ ap (option_map (λ c. c.own)) now)
+            (comes_now apid ctid level app_is is.0 (here.1 ∙ ap (option_map (λ c. c.own)) before) ∙ ap (λ o. o ∷ []) same)
+        | inr other ↦
+            let not_mine : bytes_eq k ctid ≡ false = bytes_differ k ctid (λ same. other.1 (sym same)) in
+            let now : lookup (bytes_eq k) (app.contexts ++ (ctid, context) ∷ []) ≡ lookup (bytes_eq k) app.contexts =
+            lookup-push (bytes_eq k) app.contexts ctid context ∙ ap (λ b. option_or (lookup (bytes_eq k) app.contexts) (cond b (Some context) None)) not_mine ∙ or_none (lookup (bytes_eq k) app.contexts) in
+            stays_so (own_at r a k) (own_at (with_app r apid new) a k) (Gives apid ctid level) (other_context apid ctid level other.0) (here.2 ∙ ap (option_map (λ c. c.own)) now ∙ sym here.1)
+      ]
+      | inr other ↦ stays_so (own_at r a k) (own_at (with_app r apid new) a k) (Gives apid ctid level) (other_app apid ctid level (bytes_differ apid a other.0)) other.1
+    ]
+
+  context_registered-own : (slots : ℕ → Slot) (apid ctid : List ℕ) (position : ℕ) (level : Option ℕ) (text : List ℕ) (app : App) (o : Option Context)
+      → lookup (bytes_eq apid) r.apps ≡ Some app → lookup (bytes_eq ctid) app.contexts ≡ o
+      → IfOk (context_registered slots r apid ctid position level text app o) (λ new. Stepped (own_at r a k) (Gives apid ctid level) (own_at new a k))
+  context_registered-own slots apid ctid position level text app (Some context) found there =
+      context_told-own apid ctid level app context (record context { position = position; text = text }) found there refl
   context_registered-own slots apid ctid position level text app None found there =
-      ifok_if Step (nat_le 64 (length app.contexts)) fault.ContextsFull _
-      (ifok_if Step ((slots (slot_of app.number (least_free (places app.contexts)))).version == last_version) fault.Worn (Ok (with_app r apid new)) came)
+      ifok_if Step (nat_le 64 (length (places app.contexts))) fault.ContextsFull _
+      (ifok_if Step ((slots (slot_of app.number (least_free (places app.contexts)))).version == last_version) fault.Worn _
+      (context_new-own apid ctid level app (record { place = least_free (places app.contexts); further = []; own = option_or (stored_level r.stored apid ctid) level; position = position; text = text }) found there refl))
     where
-      context : Context
-      context = record { place = least_free (places app.contexts); own = option_or (stored_level r.stored apid ctid) level; position = position; text = text }
-
-      new : App
-      new = with_new_context app ctid context
-
       Step : Registry → Type 0
       Step after = Stepped (own_at r a k) (Gives apid ctid level) (own_at after a k)
 
-      or_none : (o : Option Context) → option_or o None ≡ o
-      or_none None = refl
-      or_none (Some x) = refl
+  -- a claim
+  with_claim-own : (apid : List ℕ) (claim : Claimed) (app : App) (o : Option Context) → lookup (bytes_eq apid) r.apps ≡ Some app → context_of app claim.ctid ≡ o
+      → Stepped (own_at r a k) (Gives apid claim.ctid claim.level) (own_at (with_app r apid (with_claim r.stored apid claim app o)) a k)
+  with_claim-own apid claim app (Some context) found there =
+      context_told-own apid claim.ctid claim.level app context (record context { further = context.further ++ claim.place ∷ [] }) found there refl
+  with_claim-own apid claim app None found there =
+      context_new-own apid claim.ctid claim.level app (record { place = claim.place; further = []; own = option_or (stored_level r.stored apid claim.ctid) claim.level; position = 0; text = claim.text }) found there refl
 
-      came : Stepped (own_at r a k) (Gives apid ctid level) (own_at (with_app r apid new) a k)
-      came = elim (changed_app apid app new found) [
-        | inl here ↦ elim (bytes_tell ctid k) [
-          | inl is ↦
-              let before : lookup (bytes_eq k) app.contexts ≡ None = subst (λ q. lookup (bytes_eq q) app.contexts ≡ None) is.1 there in
-              let mine : bytes_eq k ctid ≡ true = ap (λ q. bytes_eq k q) is.1 ∙ bytes_same k in
-              let now : lookup (bytes_eq k) (app.contexts ++ (ctid, context) ∷ []) ≡ Some context =
-              lookup-push (bytes_eq k) app.contexts ctid context ∙ ap (λ o. option_or o (cond (bytes_eq k ctid) (Some context) None)) before ∙ ap (λ b. cond b (Some context) None) mine in
-              let same : option_or (stored_level r.stored a k) level ≡ context.own =
-              ap (λ q. option_or (stored_level r.stored q k) level) (sym here.0) ∙ ap (λ q. option_or (stored_level r.stored apid q) level) (sym is.1) in
-              let app_is : bytes_eq apid a ≡ true = ap (λ q. bytes_eq q a) here.0 ∙ bytes_same a in
-              is_given (own_at r a k) (own_at (with_app r apid new) a k) (Gives apid ctid level) context.own (here.2 ∙ ap (option_map (λ c. c.own)) now)
-              (comes_now apid ctid level app_is is.0 (here.1 ∙ ap (option_map (λ c. c.own)) before) ∙ ap (λ o. o ∷ []) same)
-          | inr other ↦
-              let not_mine : bytes_eq k ctid ≡ false = bytes_differ k ctid (λ same. other.1 (sym same)) in
-              let now : lookup (bytes_eq k) (app.contexts ++ (ctid, context) ∷ []) ≡ lookup (bytes_eq k) app.contexts =
-              lookup-push (bytes_eq k) app.contexts ctid context ∙ ap (λ b. option_or (lookup (bytes_eq k) app.contexts) (cond b (Some context) None)) not_mine ∙ or_none (lookup (bytes_eq k) app.contexts) in
-              stays_so (own_at r a k) (own_at (with_app r apid new) a k) (Gives apid ctid level) (other_context apid ctid level other.0) (here.2 ∙ ap (option_map (λ c. c.own)) now ∙ sym here.1)
-        ]
-        | inr other ↦ stays_so (own_at r a k) (own_at (with_app r apid new) a k) (Gives apid ctid level) (other_app apid ctid level (bytes_differ apid a other.0)) other.1
-      ]
+  claimed-own : (slots : ℕ → Slot) (apid : List ℕ) (claim : Claimed) (o : Option App) → app_of r 0 apid ≡ o
+      → IfSome (option_and_then (context_claimed slots r apid claim) o) (λ new. Stepped (own_at r a k) (Gives apid claim.ctid claim.level) (own_at new a k))
+  claimed-own slots apid claim None found = tt
+  claimed-own slots apid claim (Some app) found =
+      let own : lookup (bytes_eq apid) r.apps ≡ Some app = app_of_found r 0 apid app found in
+      ifsome_if Step (not (is_free claim.place app.contexts)) _
+      (ifsome_if Step ((slots (slot_of app.number claim.place)).version == last_version) _
+      (with_claim-own apid claim app (context_of app claim.ctid) own refl))
+    where
+      Step : Registry → Type 0
+      Step after = Stepped (own_at r a k) (Gives apid claim.ctid claim.level) (own_at after a k)
+
+  -- what it leaves, where it changes something
+  given_claim : (apid : List ℕ) (claim : Claimed) (o : Option Registry) → IfSome o (λ new. Stepped (own_at r a k) (Gives apid claim.ctid claim.level) (own_at new a k))
+      → Stepped (own_at r a k) (flat_map (given_by_message r a k) (if is_some o then registration apid claim ∷ [] else [])) (own_at (unwrap_or o r) a k)
+  unfolding Gives
+  given_claim apid claim (Some new) stepped = subst (λ given. Stepped (own_at r a k) given (own_at new a k)) (sym (append-nil (given_by_message r a k (registration apid claim)))) stepped
+  given_claim apid claim None stepped = stays_so (own_at r a k) (own_at r a k) [] refl refl
+
+  given_claims : (slots : ℕ → Slot) (claim : Claimed) → Stepped (own_at r a k) (flat_map (given_by_message r a k) (registrations slots r claim)) (own_at (unwrap_or (claimed slots r claim) r) a k)
+  given_claims slots claim = by (apid_numbered r claim.app) where
+    leaves : Option (List ℕ) → Option Registry
+    leaves o = option_and_then (λ apid. option_and_then (context_claimed slots r apid claim) (app_of r 0 apid)) o
+
+    by : (o : Option (List ℕ))
+        → Stepped (own_at r a k) (flat_map (given_by_message r a k) (if is_some (leaves o) then option_map_or (λ apid. registration apid claim ∷ []) o [] else [])) (own_at (unwrap_or (leaves o) r) a k)
+    by None = stays_so (own_at r a k) (own_at r a k) [] refl refl
+    by (Some apid) = given_claim apid claim (option_and_then (context_claimed slots r apid claim) (app_of r 0 apid)) (claimed-own slots apid claim (app_of r 0 apid) refl)
 
   for_app-own : (given : List (Option ℕ)) (channel : ℕ) (apid : List ℕ) (o : Option App) (next : App → Result Registry RegistryFault) → app_of r channel apid ≡ o
       → ((app : App) → lookup (bytes_eq apid) r.apps ≡ Some app → IfOk (next app) (λ new. Stepped (own_at r a k) given (own_at new a k))) → IfOk (for_app o next) (λ new. Stepped (own_at r a k) given (own_at new a k))
@@ -372,6 +416,7 @@ event_own : (s : Setting) (a k : List ℕ) (before : List Event) (e : Event)
 event_own s a k before (event.User channel msg moment) =
     applied_or (registry_of s before) a k msg (applied (slots_of s before) (registry_of s before) channel msg) (applied-own (registry_of s before) a k (slots_of s before) channel msg)
 event_own s a k before (event.Request client frame answer) = served-own (registry_of s before) a k s (slots_of s before) (asked frame) answer
+event_own s a k before (event.Claim claim moment) = given_claims (registry_of s before) a k (slots_of s before) claim
 event_own s a k before (event.Log app writer call moment) = unchanged (registry_of s before) a k
 event_own s a k before (event.Lost app count moment) = unchanged (registry_of s before) a k
 event_own s a k before (event.Level slot level) = unchanged (registry_of s before) a k

@@ -1,6 +1,7 @@
 -- The account of what was logged: each call was filtered, admitted in the order of its ring, or lost and told.
 use Rattle.std.specs.Prelude.{◌≡◌, ℕ, ◌+◌, ◌-◌, ◌%◌, ◌≤◌, ◌==◌, Bool, not, List, [], ◌∷◌, length, map, slice_get, Option, Some, None, if◌then◌else◌}
 use Rattle.std.specs.List.{filter, filter_map, range_with_len, AllByRecursion}
+use Rattle.dl_bytes.specs.Claim.{Claimed}
 use Rattle.dl_bytes.specs.Level.{passes}
 use Rattle.dl_bytes.specs.declared.item.Item.{Item}
 use Rattle.dl_events.specs.declared.event.Event.{Event}
@@ -13,16 +14,41 @@ use Rattle.dl_model.specs.Report.{is_answer, reported}
 
 -- ---- the order of admission
 
+-- what the daemon took of a ring: a call, by its writer and its number, or a claim
+pub data Took : Type 0 where
+  TookCall : ℕ → ℕ → Took
+  TookClaim : Claimed → Took
+
+abbrev pub took_of : ℕ → Event → Option Took
+took_of app (event.Log other writer call moment) = if other == app then Some (TookCall writer call) else None
+took_of app (event.Claim claim moment) = if claim.app == app then Some (TookClaim claim) else None
+took_of app _ = None
+
+-- what the daemon took of an application's ring, in order
+abbrev pub takes : ℕ → List Event → List Took
+takes app events = filter_map (took_of app) events
+
 abbrev pub logged_of : ℕ → Event → Option (ℕ × ℕ)
 logged_of app (event.Log other writer call moment) = if other == app then Some (writer, call) else None
 logged_of app _ = None
 
--- the calls that the daemon took of an application's ring, in order, each by its writer and its number
+-- the calls among it, each by its writer and its number
 abbrev pub order : ℕ → List Event → List (ℕ × ℕ)
 order app events = filter_map (logged_of app) events
 
 abbrev pub of_writer : ℕ → ℕ × ℕ → Bool
 of_writer writer call = call.0 == writer
+
+abbrev pub claim_of : ℕ → Event → Option Claimed
+claim_of app (event.Claim claim moment) = if claim.app == app then Some claim else None
+claim_of app _ = None
+
+-- the claims among it
+abbrev pub claims : ℕ → List Event → List Claimed
+claims app events = filter_map (claim_of app) events
+
+abbrev pub claimed_by : ℕ → Claimed → Bool
+claimed_by writer claim = claim.writer == writer
 
 -- a call by its writer and its number
 abbrev pub name_of : Item → ℕ × ℕ
@@ -62,13 +88,14 @@ NeverFall [] = Unit {0}
 NeverFall (r ∷ records) = AllByRecursion (IsNoOlder r) records × NeverFall records
 
 -- The account of one writer of an application: its calls are numbered, each is exact, and those that its ring took were
--- admitted in their order, each once. The ring refused at least as many pushes as calls were lost.
-pub record WriterAccount (first : ℕ) (events : List Event) (app writer refusals : ℕ) (records : List Record) : Type 0 where
+-- admitted in their order, each once; so were the claims that its ring took. The ring refused at least as many pushes as calls were lost.
+pub record WriterAccount (first : ℕ) (events : List Event) (app writer refusals : ℕ) (pushed : List Claimed) (records : List Record) : Type 0 where
   pub numbered : AreNumbered records
   pub counted : AreCounted 0 records
   pub exact : AllByRecursion (IsExact first events) records
   pub never_fall : NeverFall records
   pub in_order : filter (of_writer writer) (order app events) ≡ map (λ r. name_of r.item) (with_answer answer.Queued records)
+  pub claimed : filter (claimed_by writer) (claims app events) ≡ pushed
   pub refused : length (with_answer answer.Lost records) ≤ refusals
 
 -- ---- losses of an application

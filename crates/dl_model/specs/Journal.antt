@@ -1,13 +1,14 @@
 -- The registry of a journal, the Level events that it owes, and which journals are well-formed.
-use Rattle.std.specs.Prelude.{◌≡◌, ℕ, ◌+◌, ◌<◌, ◌≤◌, ◌⊎◌, Bool, true, false, ◌==◌, List, [], ◌∷◌, ◌++◌, length, count_by, if◌then◌else◌, Option, Some, None, unwrap_or}
+use Rattle.std.specs.Prelude.{◌≡◌, ℕ, ◌+◌, ◌<◌, ◌≤◌, ◌⊎◌, Bool, true, false, ◌==◌, List, [], ◌∷◌, ◌++◌, length, map, count_by, if◌then◌else◌, Option, Some, None, IsSome, unwrap_or}
 use Rattle.std.specs.List.{list_any}
-use Rattle.std.specs.Option.{option_map}
+use Rattle.std.specs.Option.{option_and_then, option_map}
 use Rattle.std.specs.Result.{is_ok, result_unwrap_or}
+use Rattle.dl_bytes.specs.Claim.{Claimed}
 use Rattle.dl_bytes.specs.Limits.{open_client_limit, request_limit}
 use Rattle.dl_bytes.specs.declared.outcome.Done.{Done}
 use Rattle.dl_bytes.specs.declared.user.UserMsg.{UserMsg}
 use Rattle.dl_events.specs.declared.event.Event.{Event}
-use Rattle.dl_events.specs.declared.event.Event.TheVariants.{User, Level, Connect, Request, Close}
+use Rattle.dl_events.specs.declared.event.Event.TheVariants.{User, Claim, Level, Connect, Request, Close}
 use Rattle.dl_events.specs.declared.event.Why.{Why}
 use Rattle.dl_events.specs.declared.event.Why.TheVariants as why
 use Rattle.dl_model.specs.declared.registry.LevelChange.{LevelChange}
@@ -17,7 +18,7 @@ use Rattle.dl_model.specs.Backlog.{outbox_limit, size_of}
 use Rattle.dl_model.specs.ClientStream.{stream}
 use Rattle.dl_model.specs.Frames.{FrameSource, frames_of}
 use Rattle.dl_model.specs.History.{slot_after}
-use Rattle.dl_model.specs.Registry.{Registry, applied, next_change}
+use Rattle.dl_model.specs.Registry.{Registry, app_of, apid_numbered, applied, claimed, registrations, next_change}
 use Rattle.dl_model.specs.Reply.{Need, apid_of, asked, ctid_of, MayAnswer, need_of, reply_frame_to, served}
 use Rattle.dl_model.specs.Setting.{Setting}
 
@@ -27,9 +28,10 @@ use Rattle.dl_model.specs.Setting.{Setting}
 abbrev pub start : Setting → Registry
 start setting = record { level = unwrap_or setting.stored.level setting.level; stored = setting.stored.own; apps = [] }
 
--- what one event makes of the registry: a user message that is refused leaves it
+-- what one event makes of the registry: a user message that is refused leaves it, and so does a claim that changes nothing
 abbrev pub step : Setting → (ℕ → Slot) → Registry → Event → Registry
 step setting slots registry (User channel msg moment) = result_unwrap_or (applied slots registry channel msg) registry
+step setting slots registry (Claim claim moment) = unwrap_or (claimed slots registry claim) registry
 step setting slots registry (Request client frame answer) = served setting slots registry (asked frame) answer
 step setting slots registry _ = registry
 
@@ -52,12 +54,15 @@ pub record Told : Type 0 where
   pub channel : ℕ
   pub msg : UserMsg
 
--- the message of an event, where the checks find no refusal in the registry of the events before it
+-- the message of an event, where the checks find no refusal in the registry of the events before it; a claim that changes
+-- something is the registration of its context on channel 0
 abbrev pub accepted_at : Setting → List Event → Event → List Told
 accepted_at setting before (User channel msg moment) =
     if is_ok (applied (slots_of setting before) (registry_of setting before) channel msg)
     then record { channel = channel; msg = msg } ∷ []
     else []
+accepted_at setting before (Claim claim moment) =
+    map (λ msg. record { channel = 0; msg = msg }) (registrations (slots_of setting before) (registry_of setting before) claim)
 accepted_at setting before _ = []
 
 -- the messages that were accepted, in order
@@ -152,6 +157,12 @@ pub record IsTooSlow (setting : Setting) (source : FrameSource) (before : List E
 abbrev pub IsSettled : Setting → List Event → Type 0
 IsSettled setting before = owed setting before ≡ None
 
+-- a claim is one of an application of this process that is there
+pub record MayClaim (setting : Setting) (before : List Event) (claim : Claimed) : Type 0 where
+  pub settled : IsSettled setting before
+  pub running : IsRunning before
+  pub there : IsSome (option_and_then (app_of (registry_of setting before) 0) (apid_numbered (registry_of setting before) claim.app))
+
 -- clients are numbered from 1 on in the order in which they come; so many may come, and at most 8 are open
 pub record MayConnect (setting : Setting) (before : List Event) (client : ℕ) : Type 0 where
   pub settled : IsSettled setting before
@@ -183,6 +194,7 @@ pub record MayClose (setting : Setting) (source : FrameSource) (before : List Ev
 -- Requests and their Level events follow.
 abbrev pub IsInTurn : Setting → FrameSource → List Event → Event → List Event → Type 0
 IsInTurn setting source before (Level slot level) events = owed setting before ≡ Some (record { slot = slot; level = level })
+IsInTurn setting source before (Claim claim moment) events = MayClaim setting before claim
 IsInTurn setting source before (Connect client) events = MayConnect setting before client
 IsInTurn setting source before (Request client frame answer) events = MayRequest setting before client frame answer
 IsInTurn setting source before (Close client why) events = MayClose setting source before client why events

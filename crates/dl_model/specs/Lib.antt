@@ -20,3 +20,4 @@ pub mod Runs
 pub mod Accounts
 pub mod WholeAccounts
 pub mod ClientEnds
+pub mod Description

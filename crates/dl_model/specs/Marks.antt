@@ -1,11 +1,12 @@
 -- Marks: what the atomic steps of a run came to, in order. A run is a list of marks, and all that is asked of it is a
 -- count or a filter of them.
-use Rattle.std.specs.Prelude.{ℕ, ◌-◌, ◌%◌, ◌==◌, Bool, true, false, nat_le, List, [], ◌∷◌, length, map, count_by, position, slice_get, Option, Some, None, unwrap_or, if◌then◌else◌}
+use Rattle.std.specs.Prelude.{ℕ, ◌+◌, ◌-◌, ◌%◌, ◌==◌, Bool, true, false, nat_le, List, [], ◌∷◌, length, map, count_by, position, slice_get, Option, Some, None, unwrap_or, if◌then◌else◌}
 use Rattle.std.specs.List.{filter, filter_map, flat_map, after_last, range_with_len}
-use Rattle.std.specs.Option.{option_map_or, option_and_then}
+use Rattle.std.specs.Option.{option_map, option_map_or, option_and_then, option_or}
 use Rattle.std.specs.Str.{bytes_eq}
 use Rattle.std.proofs.lemmas.Nat.{mod_below}
 use Rattle.std.proofs.Math.Dec.{lit<}
+use Rattle.dl_bytes.specs.Claim.{Claimed}
 use Rattle.dl_bytes.specs.declared.item.Item.{Item}
 use Rattle.dl_bytes.specs.declared.moment.Moment.{Moment}
 use Rattle.dl_bytes.specs.declared.outcome.Done.{Done}
@@ -38,6 +39,11 @@ pub data Mark : Type 0 where
   Refused : Call → Mark
   -- the count of a call that the ring refused
   Counted : Call → Mark
+  -- a writer claimed a place; the claim waits
+  HasClaim : Claimed → Mark
+  -- the push of a claim that waited: the ring takes it, or is full
+  Announced : Claimed → Mark
+  HeldBack : Claimed → Mark
   -- the daemon noted an event
   Noted : Event → Mark
   -- later events have this moment
@@ -98,7 +104,7 @@ apps done = filter_map app_of done
 abbrev pub number_of : List ℕ → List Mark → Option ℕ
 number_of apid done = position (λ app. bytes_eq app.apid apid) (apps done)
 
--- the APID of an application, and how many calls its ring holds
+-- the APID of an application, and how many calls and claims its ring holds
 abbrev pub apid_of : List Mark → ℕ → List ℕ
 apid_of done app = option_map_or (λ line. line.apid) (slice_get (apps done) app) []
 
@@ -177,13 +183,79 @@ opened_call (Some (Passed call)) = call ∷ []
 opened_call (Some (Refused call)) = call ∷ []
 opened_call _ = []
 
+-- ---- the claims of a writer
+
+abbrev pub claim_of : Mark → Option Claimed
+claim_of (HasClaim claim) = Some claim
+claim_of _ = None
+
+abbrev pub announced_of : Mark → Option Claimed
+announced_of (Announced claim) = Some claim
+announced_of _ = None
+
+-- the claims that a writer made, and those of an application's writers
+abbrev pub claims_of : ℕ → List Mark → List Claimed
+claims_of writer done = filter (λ claim. claim.writer == writer) (filter_map claim_of done)
+
+abbrev pub claims_on : ℕ → List Mark → List Claimed
+claims_on app done = filter (λ claim. claim.app == app) (filter_map claim_of done)
+
+-- those of a writer that its ring took
+abbrev pub announced_by : ℕ → List Mark → List Claimed
+announced_by writer done = filter (λ claim. claim.writer == writer) (filter_map announced_of done)
+
+-- how many of its claims wait, and the first of them
+abbrev pub unannounced : ℕ → List Mark → ℕ
+unannounced writer done = length (claims_of writer done) - length (announced_by writer done)
+
+abbrev pub to_announce : ℕ → List Mark → Option Claimed
+to_announce writer done = slice_get (claims_of writer done) (length (announced_by writer done))
+
+-- the claims of all writers that rings took, by the writers' numbers
+abbrev pub claims : List Mark → List (List Claimed)
+claims done = map (λ writer. announced_by writer done) (writer_numbers done)
+
+-- The place that an id names in a call of a writer of this application: that of its last claim of the id, where there is one, or
+-- else that of the context that was declared.
+abbrev pub claimed_place : ℕ → List ℕ → List Mark → Option ℕ
+claimed_place writer ctid done = option_map (λ claim. claim.place) (last_that (λ claim. bytes_eq claim.ctid ctid) (claims_of writer done))
+
+abbrev pub named_place : ℕ → List ℕ → List ℕ → List Mark → Option ℕ
+named_place writer apid ctid done = option_or (claimed_place writer ctid done) (place_of apid ctid done)
+
+-- the next place of an application: as many were given by its contexts that were declared, and by claims
+abbrev pub next_place : List ℕ → ℕ → List Mark → ℕ
+next_place apid app done = length (contexts_of apid done) + length (claims_on app done)
+
 -- ---- rings and losses
+
+-- what a ring takes: a log call, or a claim
+pub data Pushed : Type 0 where
+  OfCall : Call → Pushed
+  OfClaim : Claimed → Pushed
+
+abbrev pub call_in : Pushed → Option Call
+call_in (OfCall call) = Some call
+call_in (OfClaim claim) = None
+
+abbrev pub claim_in : Pushed → Option Claimed
+claim_in (OfCall call) = None
+claim_in (OfClaim claim) = Some claim
+
+abbrev pub pushed_of : ℕ → Mark → Option Pushed
+pushed_of app (Queued call) = if call.item.app == app then Some (OfCall call) else None
+pushed_of app (Announced claim) = if claim.app == app then Some (OfClaim claim) else None
+pushed_of app _ = None
+
+-- all that an application's ring took, in order
+abbrev pub pushes : ℕ → List Mark → List Pushed
+pushes app done = filter_map (pushed_of app) done
 
 abbrev pub queued_of : ℕ → Mark → Option Call
 queued_of app (Queued call) = if call.item.app == app then Some call else None
 queued_of app _ = None
 
--- the calls that an application's ring took, in order
+-- the log calls among it
 abbrev pub queued : ℕ → List Mark → List Call
 queued app done = filter_map (queued_of app) done
 
@@ -191,13 +263,18 @@ abbrev pub is_log_of : ℕ → Event → Bool
 is_log_of app (event.Log other writer call moment) = other == app
 is_log_of app _ = false
 
--- how many of them the daemon took
-abbrev pub taken : ℕ → List Mark → ℕ
-taken app done = count_by (is_log_of app) (journal done)
+abbrev pub is_taken_of : ℕ → Event → Bool
+is_taken_of app (event.Log other writer call moment) = other == app
+is_taken_of app (event.Claim claim moment) = claim.app == app
+is_taken_of app _ = false
 
--- how many the ring holds
+-- how much of it the daemon took
+abbrev pub taken : ℕ → List Mark → ℕ
+taken app done = count_by (is_taken_of app) (journal done)
+
+-- how much the ring holds
 abbrev pub held_by : ℕ → List Mark → ℕ
-held_by app done = length (queued app done) - taken app done
+held_by app done = length (pushes app done) - taken app done
 
 -- the ring holds as many as it can
 abbrev pub is_full : ℕ → List Mark → Bool

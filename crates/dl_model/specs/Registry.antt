@@ -1,15 +1,16 @@
 -- The registry: which applications and contexts there are, at which levels, and what each event makes of it.
-use Rattle.std.specs.Prelude.{ℕ, ◌+◌, ◌*◌, ◌/◌, ◌%◌, Bool, not, ◌&&◌, ◌||◌, ◌==◌, nat_eq, nat_le, ◌<◌, List, [], ◌∷◌, ◌++◌, length, map, reverse, if◌then◌else◌, Option, Some, None, unwrap_or, Result, Ok, Err}
+use Rattle.std.specs.Prelude.{ℕ, ◌+◌, ◌*◌, ◌/◌, ◌%◌, Bool, not, ◌&&◌, ◌||◌, ◌==◌, nat_eq, nat_le, nat_lt, ◌<◌, List, [], ◌∷◌, ◌++◌, length, map, reverse, if◌then◌else◌, Option, Some, None, is_some, unwrap_or, Result, Ok, Err, negsuc}
 use Rattle.std.specs.List.{AllByRecursion, IsDistinct, filter, filter_map, find, flat_map, list_any, prefix_len, range_with_len}
 use Rattle.std.specs.Map.{lookup, set_value, values_of}
-use Rattle.std.specs.Option.{option_map, option_and_then, option_or}
+use Rattle.std.specs.Option.{option_map, option_map_or, option_and_then, option_or}
 use Rattle.std.specs.Str.{bytes_eq}
+use Rattle.dl_bytes.specs.Claim.{Claimed}
 use Rattle.dl_bytes.specs.Id.{zero_id}
 use Rattle.dl_bytes.specs.Limits.{app_limit, context_limit, last_version}
 use Rattle.dl_bytes.specs.declared.conf.StoredLevel.{StoredLevel}
 use Rattle.dl_bytes.specs.declared.user.UserMsg.{UserMsg}
 use Rattle.dl_bytes.specs.declared.user.UserMsg.TheVariants.{RegisterApp, UnregisterApp, RegisterContext, UnregisterContext}
-use Rattle.dl_model.specs.declared.registry.Context.{Context}
+use Rattle.dl_model.specs.declared.context.Context.{Context}
 use Rattle.dl_model.specs.declared.registry.Slot.{Slot}
 use Rattle.dl_model.specs.declared.registry.LevelChange.{LevelChange}
 use Rattle.dl_model.specs.declared.registry.RegistryFault.{RegistryFault}
@@ -53,12 +54,19 @@ context_named registry apid ctid =
 
 -- ---- numbers, places and slots
 
+-- the places of a context: the one at which its stay began, and those that it got by claims since
+abbrev pub places_of : Context → List ℕ
+places_of context = context.place ∷ context.further
+
+abbrev pub has_place : ℕ → Context → Bool
+has_place place context = list_any (λ other. place == other) (places_of context)
+
 -- the numbers of the applications, and the places of an application's contexts
 abbrev pub numbers : List (List ℕ × App) → List ℕ
 numbers apps = map (λ entry. entry.1.number) apps
 
 abbrev pub places : List (List ℕ × Context) → List ℕ
-places contexts = map (λ entry. entry.1.place) contexts
+places contexts = flat_map (λ entry. places_of entry.1) contexts
 
 -- the least number that is none of these
 abbrev pub least_free : List ℕ → ℕ
@@ -69,14 +77,18 @@ pub record IsNumbered (limit : ℕ) (used : List ℕ) : Type 0 where
   pub apart : IsDistinct nat_eq used
   pub below : AllByRecursion (λ n. n < limit) used
 
--- each application has as many slots as contexts, one a place
+-- a place that an application can have, and that none of its contexts has
+abbrev pub is_free : ℕ → List (List ℕ × Context) → Bool
+is_free place contexts = nat_lt place context_limit && not (list_any (λ other. place == other) (places contexts))
+
+-- each application has as many slots as places
 abbrev pub slot_of : ℕ → ℕ → ℕ
 slot_of number place = context_limit * number + place
 
--- the context that has a slot: it has this place, and its application this number
+-- the context that has a slot: it has this place among its own, and its application this number
 abbrev pub context_at : Registry → ℕ → Option Context
 context_at registry slot =
-    option_and_then (λ app. find (λ context. context.place == slot % context_limit) (values_of app.contexts))
+    option_and_then (λ app. find (has_place (slot % context_limit)) (values_of app.contexts))
     (find (λ app. app.number == slot / context_limit) (values_of registry.apps))
 
 -- ---- levels
@@ -141,10 +153,11 @@ context_registered slots registry apid ctid position own text app (Some context)
     Ok (with_app registry apid (with_context app ctid (record context { position = position; text = text })))
 context_registered slots registry apid ctid position own text app None =
     let place = least_free (places app.contexts) in
-    if nat_le context_limit (length app.contexts) then Err ContextsFull
+    if nat_le context_limit (length (places app.contexts)) then Err ContextsFull
     else if (slots (slot_of app.number place)).version == last_version then Err Worn
     else Ok (with_app registry apid (with_new_context app ctid (record {
       place = place;
+      further = [];
       own = option_or (stored_level registry.stored apid ctid) own;
       position = position;
       text = text;
@@ -175,6 +188,48 @@ applied slots registry channel (RegisterContext apid ctid position level trace p
 applied slots registry channel (UnregisterContext apid ctid pid) =
     for_app (app_of registry channel apid) (λ app. context_unregistered registry apid ctid app (context_of app ctid))
 applied slots registry channel _ = Ok registry
+
+-- ---- claims of this process's writers: what each leaves, where it changes something
+
+-- the id of the application that has the number
+abbrev pub apid_numbered : Registry → ℕ → Option (List ℕ)
+apid_numbered registry number = option_map (λ entry. entry.0) (find (λ entry. entry.1.number == number) registry.apps)
+
+-- A claim, by the context of the application that has its id: one that is there gets the place besides, and nothing else of it
+-- changes; a new one begins at that place, with the level that was stored for both ids or else the one that it asks for.
+abbrev pub with_claim : List StoredLevel → List ℕ → Claimed → App → Option Context → App
+with_claim stored apid claim app (Some context) =
+    with_context app claim.ctid (record context { further = context.further ++ claim.place ∷ [] })
+with_claim stored apid claim app None =
+    with_new_context app claim.ctid (record {
+      place = claim.place;
+      further = [];
+      own = option_or (stored_level stored apid claim.ctid) claim.level;
+      position = 0;
+      text = claim.text;
+    })
+
+-- it changes nothing where the place isn't free, or its slot is at the last version
+abbrev pub context_claimed : (ℕ → Slot) → Registry → List ℕ → Claimed → App → Option Registry
+context_claimed slots registry apid claim app =
+    if not (is_free claim.place app.contexts) then None
+    else if (slots (slot_of app.number claim.place)).version == last_version then None
+    else Some (with_app registry apid (with_claim registry.stored apid claim app (context_of app claim.ctid)))
+
+-- what a claim leaves: its application is the one of this process that has its number
+abbrev pub claimed : (ℕ → Slot) → Registry → Claimed → Option Registry
+claimed slots registry claim =
+    option_and_then (λ apid. option_and_then (context_claimed slots registry apid claim) (app_of registry 0 apid))
+    (apid_numbered registry claim.app)
+
+-- a claim that changes something is the registration of its context, as a message would tell it
+abbrev pub registration : List ℕ → Claimed → UserMsg
+registration apid claim = RegisterContext apid claim.ctid 0 claim.level (negsuc 0) 0 claim.text
+
+abbrev pub registrations : (ℕ → Slot) → Registry → Claimed → List UserMsg
+registrations slots registry claim =
+    if is_some (claimed slots registry claim) then option_map_or (λ apid. registration apid claim ∷ []) (apid_numbered registry claim.app) []
+    else []
 
 -- ---- levels that clients set
 
@@ -208,10 +263,14 @@ releveled_app relevel entry = (entry.0, record entry.1 { contexts = map (relevel
 abbrev pub releveled : ℕ → Relevel → Registry → Registry
 releveled level relevel registry = record registry { level = level; apps = map (releveled_app relevel) registry.apps }
 
--- by that the effective level of a context would change, and its slot is at the last version
+-- a slot of a context is at the last version
+abbrev pub is_worn : (ℕ → Slot) → ℕ → Context → Bool
+is_worn slots number context = list_any (λ place. (slots (slot_of number place)).version == last_version) (places_of context)
+
+-- by that the effective level of a context would change, and a slot of it is at the last version
 abbrev pub wears_context : (ℕ → Slot) → ℕ → ℕ → Relevel → List ℕ × App → List ℕ × Context → Bool
 wears_context slots old new relevel app entry =
-    ((slots (slot_of app.1.number entry.1.place)).version == last_version)
+    is_worn slots app.1.number entry.1
     && not (effective old entry.1 == effective new (releveled_context relevel app.0 entry).1)
 
 abbrev pub wears_app : (ℕ → Slot) → ℕ → ℕ → Relevel → List ℕ × App → Bool

@@ -6,7 +6,7 @@ use Rattle.dl_bytes.specs.declared.moment.Moment.{Moment}
 use Rattle.dl_bytes.specs.declared.outcome.Done.TheVariants.{Yes}
 use Rattle.dl_bytes.specs.declared.user.UserMsg.TheVariants.{RegisterApp, UnregisterApp, RegisterContext, UnregisterContext, Log}
 use Rattle.dl_events.specs.declared.event.Event.{Event}
-use Rattle.dl_events.specs.declared.event.Event.TheVariants.{User, Level, Connect, Request}
+use Rattle.dl_events.specs.declared.event.Event.TheVariants.{User, Claim, Level, Connect, Request}
 use Rattle.dl_model.specs.Setting.{Setting}
 
 -- ---- bytes, written as two hexadecimal digits each, parted by one blank
@@ -62,6 +62,10 @@ context_comes at channel apid ctid own = User channel (RegisterContext (id apid)
 abbrev pub context_goes : Moment → ℕ → List ℕ → List ℕ → Event
 context_goes at channel apid ctid = User channel (UnregisterContext (id apid) (id ctid) 0) at
 
+-- a writer of an application claims this place for a context, with the own level that it asks for
+abbrev pub claims : Moment → ℕ → ℕ → List ℕ → Option ℕ → Event
+claims at app place ctid own = Claim (record { app = app; writer = 1; place = place; ctid = id ctid; level = own; text = [] }) at
+
 -- an application on a channel of its own logs this message
 abbrev pub logged : Moment → List ℕ → Event
 logged at message = User 1 (Log message) at
@@ -109,3 +113,8 @@ two_contexts at =
 abbrev pub one_context : Moment → List Event
 one_context at =
     app_comes at 0 (codes "LOG1") ∷ context_comes at 0 (codes "LOG1") (codes "TEST") (Some 4) ∷ Level 0 4 ∷ Connect 1 ∷ []
+
+-- an application of which two writers claim a place for one context; a client
+abbrev pub two_places : Moment → List Event
+two_places at =
+    app_comes at 0 (codes "LOG1") ∷ claims at 0 0 (codes "SAME") (Some 4) ∷ Level 0 4 ∷ claims at 0 1 (codes "SAME") (Some 5) ∷ Level 1 4 ∷ Connect 1 ∷ []

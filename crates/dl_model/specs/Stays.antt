@@ -1,6 +1,6 @@
 -- Stays and own levels by accepted messages: who came and went, and what gave a level, in the journal's own words.
 use Rattle.std.specs.Prelude.{ℕ, Bool, false, ◌&&◌, ◌||◌, ◌==◌, List, [], ◌∷◌, if◌then◌else◌, Option, Some, None, Result, Ok}
-use Rattle.std.specs.List.{list_any, after_last}
+use Rattle.std.specs.List.{flat_map, list_any, after_last}
 use Rattle.std.specs.Map.{lookup}
 use Rattle.std.specs.Option.{option_and_then, option_map, option_map_or, option_or, is_some, is_none}
 use Rattle.std.specs.Result.{is_ok, result_ok}
@@ -18,7 +18,7 @@ use Rattle.dl_events.specs.declared.event.Event.TheVariants as event
 use Rattle.dl_model.specs.declared.registry.Slot.{Slot}
 use Rattle.dl_model.specs.Along.{along}
 use Rattle.dl_model.specs.Journal.{Told, registry_of, slots_of}
-use Rattle.dl_model.specs.Registry.{Registry, app_of, context_of, stored_level, applied, matches, own_set}
+use Rattle.dl_model.specs.Registry.{Registry, app_of, context_of, stored_level, applied, registrations, matches, own_set}
 use Rattle.dl_model.specs.Reply.{asked, reset_requested}
 use Rattle.dl_model.specs.Setting.{Setting}
 
@@ -102,6 +102,8 @@ given_at setting apid ctid before (event.User channel msg moment) =
     if is_ok (applied (slots_of setting before) (registry_of setting before) channel msg)
     then given_by_message (registry_of setting before) apid ctid msg
     else []
+given_at setting apid ctid before (event.Claim claim moment) =
+    flat_map (given_by_message (registry_of setting before) apid ctid) (registrations (slots_of setting before) (registry_of setting before) claim)
 given_at setting apid ctid before (event.Request client frame answer) =
     given_by_request setting (slots_of setting before) (registry_of setting before) apid ctid (asked frame) answer
 given_at setting apid ctid before _ = []

@@ -1,7 +1,8 @@
 -- Steps: what each line of a step script comes to, after all that came before it.
-use Rattle.std.specs.Prelude.{ℕ, ◌+◌, ◌%◌, ◌&&◌, nat_lt, Bool, true, false, List, [], ◌∷◌, ◌++◌, length, take, drop, map, replicate, count_by, slice_get, Option, Some, None, is_some, unwrap_or, if◌then◌else◌, negsuc}
+use Rattle.std.specs.Prelude.{ℕ, zero, suc, ◌+◌, ◌%◌, ◌&&◌, nat_lt, Bool, true, false, List, [], ◌∷◌, ◌++◌, length, take, drop, map, replicate, count_by, slice_get, Option, Some, None, is_some, unwrap_or, if◌then◌else◌, negsuc}
 use Rattle.std.specs.List.{filter_map, range_with_len}
 use Rattle.std.specs.Option.{option_map_or}
+use Rattle.dl_bytes.specs.Claim.{Claimed}
 use Rattle.dl_bytes.specs.Level.{passes}
 use Rattle.dl_bytes.specs.Limits.{injection_limit, open_client_limit, request_limit, message_limit}
 use Rattle.dl_bytes.specs.Number.{◌>>=◌}
@@ -17,6 +18,7 @@ use Rattle.dl_events.specs.declared.event.Event.TheVariants as event
 use Rattle.dl_events.specs.declared.event.Why.{Why}
 use Rattle.dl_events.specs.declared.event.Why.TheVariants as why
 use Rattle.dl_script_lines.specs.declared.line.CallLine.{CallLine}
+use Rattle.dl_script_lines.specs.declared.line.ClaimLine.{ClaimLine}
 use Rattle.dl_script_lines.specs.declared.step.LevelEvents.TheVariants as levels
 use Rattle.dl_script_lines.specs.declared.step.Step.{Step}
 use Rattle.dl_script_lines.specs.declared.step.Step.TheVariants as line
@@ -26,7 +28,7 @@ use Rattle.dl_model.specs.Setting.{Setting}
 use Rattle.dl_model.specs.Registry.{change_at, all_slots, slot_of}
 use Rattle.dl_model.specs.Reply.{Need, Nothing, Folder, Queue}
 use Rattle.dl_model.specs.Journal.{registry_of, slots_of, need_after, is_connect, is_close, comes_or_goes, is_request_of}
-use Rattle.dl_model.specs.Marks.{Call, Mark, HasApp, HasContext, HasWriter, Filtered, Passed, Queued, Refused, Counted, Noted, Clocked, LevelsWait, Fed, Heard, Answered, Injected, Handed, journal, apps, number_of, place_of, writer_numbers, app_of_writer, calls_of, passed_of, to_push, to_count, queued, taken, held_by, is_full, pending, moment_at, moment, is_later, fed, heard, is_answer, injections}
+use Rattle.dl_model.specs.Marks.{Call, Mark, HasApp, HasContext, HasWriter, Filtered, Passed, Queued, Refused, Counted, HasClaim, Announced, HeldBack, Noted, Clocked, LevelsWait, Fed, Heard, Answered, Injected, Handed, journal, apps, number_of, writer_numbers, app_of_writer, calls_of, passed_of, to_push, to_count, unannounced, to_announce, named_place, next_place, Pushed, OfCall, OfClaim, pushes, taken, held_by, is_full, pending, moment_at, moment, is_later, fed, heard, is_answer, injections}
 
 -- ---- acts, and acts in turn
 
@@ -80,7 +82,7 @@ abbrev pub loaded : Setting → CallLine → List Mark → Option Call
 loaded setting call done = do
   apid ← app_of_writer call.writer done
   app ← number_of apid done
-  place ← place_of apid call.ctid done
+  place ← named_place call.writer apid call.ctid done
   Some (let slot = slots_of setting (journal done) (slot_of app place) in record {
     item = record {
       app = app;
@@ -123,10 +125,55 @@ begin_call setting call = in_sequence (finish call.writer ∷ load setting call 
 abbrev pub whole_call : Setting → CallLine → Act
 whole_call setting call = in_sequence (begin_call setting call ∷ finish call.writer ∷ [])
 
--- the daemon takes the next call of a ring, where there is one
+-- ---- claims
+
+-- a claim as its step makes it, where the writer was declared: it gets the next place of the writer's application
+abbrev pub claim_made : ClaimLine → List Mark → Option Claimed
+claim_made asked done = do
+  apid ← app_of_writer asked.writer done
+  app ← number_of apid done
+  Some (record {
+    app = app;
+    writer = asked.writer;
+    place = next_place apid app done;
+    ctid = asked.ctid;
+    level = asked.level;
+    text = asked.text;
+  })
+
+abbrev pub claim : ClaimLine → Act
+claim asked done = for_some (claim_made asked done) (λ c. just (HasClaim c)) done
+
+-- the push of the writer's first claim that waits: the ring takes it unless it is full
+abbrev pub announce : ℕ → Act
+announce writer done = for_some (to_announce writer done) (λ c. just (if is_full c.app done then HeldBack c else Announced c)) done
+
+-- the ring refused what was to be announced
+abbrev pub is_held_back : List Mark → Bool
+is_held_back (HeldBack c ∷ []) = true
+is_held_back _ = false
+
+-- up to so many claims are pushed in turn, until the ring refuses one
+abbrev pub announce_upto : ℕ → ℕ → Act
+announce_upto zero writer done = []
+announce_upto (suc more) writer done =
+    let step = announce writer done in
+    step ++ (if is_held_back step then [] else announce_upto more writer (done ++ step))
+
+-- all that wait
+abbrev pub announce_all : ℕ → Act
+announce_all writer done = announce_upto (unannounced writer done) writer done
+
+-- ---- what the daemon takes of applications
+
+-- what the daemon notes of what it takes
+abbrev pub event_taken : ℕ → Pushed → List Mark → Event
+event_taken app (OfCall c) now = event.Log app c.item.writer c.item.call (moment now)
+event_taken app (OfClaim c) now = event.Claim c (moment now)
+
+-- the daemon takes the next call or claim of a ring, where there is one
 abbrev pub take_log : Setting → ℕ → Act
-take_log setting app done =
-    for_some (slice_get (queued app done) (taken app done)) (λ c. note setting (λ now. event.Log app c.item.writer c.item.call (moment now))) done
+take_log setting app done = for_some (slice_get (pushes app done) (taken app done)) (λ what. note setting (event_taken app what)) done
 
 -- the daemon takes the count of an application's lost calls, where there are some
 abbrev pub take_losses : Setting → ℕ → Act
@@ -222,6 +269,9 @@ act_of setting answers (line.Count writer) = count writer
 act_of setting answers (line.Call call) = whole_call setting call
 act_of setting answers (line.Log call) =
     in_sequence (whole_call setting call ∷ (λ done. for_some (app_of_writer call.writer done) (λ apid. on_app apid (take_log setting)) done) ∷ [])
+act_of setting answers (line.Claim asked) = in_sequence (finish asked.writer ∷ claim asked ∷ [])
+act_of setting answers (line.Announce writer) = in_sequence (finish writer ∷ announce writer ∷ [])
+act_of setting answers (line.Register asked) = in_sequence (finish asked.writer ∷ claim asked ∷ announce_all asked.writer ∷ [])
 act_of setting answers (line.Take apid) = on_app apid (take_log setting)
 act_of setting answers (line.Losses apid) = on_app apid (take_losses setting)
 act_of setting answers (line.Levels levels.Later) = just (LevelsWait true)
@@ -240,7 +290,7 @@ abbrev pub drain : Setting → ℕ → Act
 drain setting app = in_sequence ((λ done. in_sequence (replicate (held_by app done) (take_log setting app)) done) ∷ take_losses setting app ∷ [])
 
 -- Open calls are finished, rings and losses are emptied application by application, Level events no longer wait, and
--- the clients that are open are closed in the order of their numbers.
+-- the clients that are open are closed in the order of their numbers. Claims that wait stay unannounced.
 abbrev pub end_of : Setting → Act
 end_of setting = in_sequence (
     (λ done. in_sequence (map finish (writer_numbers done)) done)

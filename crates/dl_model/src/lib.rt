@@ -2,9 +2,14 @@
 //! The code here is the plain types that the definitions speak of.
 #![tactic(auto)]
 
+mod context;
+mod described;
+mod description;
 pub mod journal_examples;
 mod registry;
 pub mod registry_examples;
 pub mod registry_laws;
 
-pub use registry::{Context, LevelChange, RegistryFault, SetFault, Slot};
+pub use context::{Context, Places};
+pub use description::Description;
+pub use registry::{LevelChange, RegistryFault, SetFault, Slot};

@@ -1,21 +1,8 @@
-//! What a registry is made of: contexts, levels that change, and why a call was refused.
+//! What a registry tells: levels that change, and why a call was refused.
 
 ghost use Rattle.std.specs.Prelude.{◌≡◌};
 
-use dl_bytes::{Bytes, Level, OutOfMemory, OwnLevel};
-
-/// A context, as it stands in the registry under its id.
-#[derive(Debug, Drop)]
-pub struct Context {
-    /// Its place among the contexts of its application, 0 to 63.
-    pub place: u8,
-    /// The level of its own; without one it follows the default level.
-    pub own: OwnLevel,
-    /// Its place in its application's own table, as the application told it last.
-    pub position: u32,
-    /// Its description, at most 255 bytes.
-    pub text: Bytes,
-}
+use dl_bytes::{Level, OutOfMemory};
 
 /// What the level word of a context's slot holds.
 #[derive(Clone, Copy, Debug, PartialEq, Eq)]
@@ -48,7 +35,7 @@ pub enum RegistryFault {
     UnknownContext,
     /// There are 16 applications.
     AppsFull,
-    /// The application has 64 contexts.
+    /// None of the application's 64 places is free.
     ContextsFull,
     /// The slot that the context would get is at its last version.
     Worn,

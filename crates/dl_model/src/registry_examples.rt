@@ -13,7 +13,7 @@ ghost use Rattle.dl_model.specs.declared.registry.RegistryFault.TheVariants as f
 ghost use Rattle.dl_model.specs.Frames.{FrameSource};
 ghost use Rattle.dl_model.specs.Journal.{IsWellFormed, registry_of, slots_of, owed, reply_after, accepted};
 ghost use Rattle.dl_model.specs.Registry.{applied, app_of, context_at, effective, level_at, owns_now};
-ghost use Rattle.dl_model.specs.RegistryExamples.{hex, defaults, nearly_worn, id, app_comes, app_goes, context_comes, context_goes, control, query, asks, set_level, set_default, store, reset_all, two_contexts, one_context};
+ghost use Rattle.dl_model.specs.RegistryExamples.{hex, defaults, nearly_worn, id, app_comes, app_goes, context_comes, context_goes, claims, control, query, asks, set_level, set_default, store, reset_all, two_contexts, one_context, two_places};
 
 /// A default level that changes: the context that follows it is owed a Level event, and the one with a level of its own
 /// isn't. GetLogInfo tells own levels: 0xFF for none.
@@ -178,6 +178,41 @@ pub fn worn_slots()
         (registry_of nearly_worn (one_context at ++ context_goes at 0 (codes "LOG1") (codes "TEST") ∷ []))
         0 (RegisterContext (id (codes "LOG1")) (id (codes "TEST")) 0 (Some 4) (negsuc 0) 0 [])
         ≡ Err fault.Worn }
+{}
+
+/// A context that two writers claimed has both places: it is told once, and has one level, that of its first claim. A level that is
+/// set concerns both slots, and both are free once it is gone.
+pub fn claimed_places()
+    ensures first { (at : Moment) → level_at (registry_of defaults (two_places at)) 0 ≡ Some 4 }
+    ensures further { (at : Moment) → level_at (registry_of defaults (two_places at)) 1 ≡ Some 4 }
+    ensures settled { (at : Moment) → owed defaults (two_places at) ≡ None }
+    ensures told_once { (at : Moment) →
+        reply_after defaults (two_places at) (query (hex (codes "03 00 00 00 06 00 00 00 00 00 00 00 00 00 00 00 00"))) Yes
+        ≡ hex (codes "25 00 00 29 45 43 55 31 26 01 44 41 31 00 44 43 31 00 03 00 00 00 06 01 00 4C 4F 47 31 01 00 53 41 4D 45 04 FF 00 00 00 00") }
+    ensures both_set { (at : Moment) →
+        owed defaults (two_places at ++ asks (set_level (codes "LOG1") (codes "SAME") 2) ∷ Level 0 2 ∷ []) ≡ Some (record { slot = 1; level = 2 }) }
+    ensures both_free { (at : Moment) →
+        owed defaults (two_places at ++ context_goes at 0 (codes "LOG1") (codes "SAME") ∷ claims at 0 1 (codes "NEXT") (Some 6) ∷ [])
+        ≡ Some (record { slot = 1; level = 6 }) }
+    ensures beside { (at : Moment) → level_at (registry_of defaults (one_context at ++ claims at 0 1 (codes "CTX2") (Some 5) ∷ [])) 1 ≡ Some 5 }
+    ensures least { (at : Moment) →
+        level_at (registry_of defaults (two_places at ++ context_comes at 0 (codes "LOG1") (codes "TEST") (Some 3) ∷ [])) 2 ≡ Some 3 }
+{}
+
+/// A claim changes nothing where its place is taken or no place at all, where its slot is at the last version, and where no application of this process
+/// has its number.
+pub fn void_claims()
+    ensures taken { (at : Moment) → registry_of defaults (two_places at ++ claims at 0 1 (codes "NEXT") (Some 6) ∷ []) ≡ registry_of defaults (two_places at) }
+    ensures beyond { (at : Moment) → registry_of defaults (two_places at ++ claims at 0 64 (codes "NEXT") (Some 6) ∷ []) ≡ registry_of defaults (two_places at) }
+    ensures worn { (at : Moment) →
+        registry_of nearly_worn (two_places at ++ context_goes at 0 (codes "LOG1") (codes "SAME") ∷ claims at 0 1 (codes "NEXT") (Some 6) ∷ [])
+        ≡ registry_of nearly_worn (two_places at ++ context_goes at 0 (codes "LOG1") (codes "SAME") ∷ []) }
+    ensures nobody { (at : Moment) → registry_of defaults (two_places at ++ claims at 1 5 (codes "NEXT") (Some 6) ∷ []) ≡ registry_of defaults (two_places at) }
+    ensures other_channel { (at : Moment) →
+        registry_of defaults (app_comes at 1 (codes "LOG1") ∷ claims at 0 0 (codes "NEXT") (Some 6) ∷ []) ≡ registry_of defaults (app_comes at 1 (codes "LOG1") ∷ []) }
+    ensures not_well_formed { (source : FrameSource) (at : Moment) →
+        IsWellFormed defaults source (app_comes at 1 (codes "LOG1") ∷ claims at 0 0 (codes "NEXT") (Some 6) ∷ []) → ⊥ }
+    ensures well_formed { (source : FrameSource) (at : Moment) → IsWellFormed defaults source (two_places at) }
 {}
 
 /// An injection reaches a context of this process that is named by both ids, where injections are let through and the

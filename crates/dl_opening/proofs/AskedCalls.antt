@@ -15,7 +15,7 @@ use Rattle.dl_bytes.specs.declared.level.Severity.{Severity}
 use Rattle.dl_script_fields.specs.declared.kind.ScriptKind.TheVariants.{Limit, Unknown}
 use Rattle.dl_script_lines.specs.declared.scenario.ScenarioLine.{ScenarioLine}
 use Rattle.dl_script_lines.specs.declared.scenario.ScenarioLine.TheVariants as line
-use Rattle.dl_script.specs.Earlier.{Declared, is_context, is_named, logs_under, noted, nothing, numbered}
+use Rattle.dl_script.specs.Earlier.{Declared, claims_for, is_claim_of, is_context, is_named, logs_under, noted, nothing, numbered}
 use Rattle.dl_script.specs.Playable.{IsRunnable}
 use Rattle.dl_script.specs.Spelled.{MayFollow, scenario_claim}
 use Rattle.dl_script.specs.declared.claim.ContextName.{ContextName}
@@ -65,45 +65,48 @@ module _ (handles : List Context) (app writer : ℕ) (apid : List ℕ) where
       ∙ ap (λ (id : List ℕ). replicate count (record { apid = id; ctid = found.ctx.ctid; severity = severity; payload = payload })) found.app_so
       ∙ ap (λ (id : List ℕ). replicate count (record { apid = apid; ctid = id; severity = severity; payload = payload })) found.ctid_so
 
-  asks : (known : Declared) (rest : List ScenarioLine) → MayFollow scenario_claim known rest → numbered (known.writers ++ writers rest) writer ≡ Some apid
+  asks : (known : Declared) (rest : List ScenarioLine) → MayFollow scenario_claim known rest → known.places ≡ [] → numbered (known.writers ++ writers rest) writer ≡ Some apid
       → AreThere (known.contexts ++ names rest) → map without_slot (calls_of handles app writer rest) ≡ asked_of apid writer rest
-  asks known [] may own known_here = refl
-  asks known (line.App a ∷ rest) may own known_here = asks (noted known (scenario_claim (line.App a))) rest may.1 own known_here
-  asks known (line.Context c ∷ rest) may own known_here =
-      asks (noted known (scenario_claim (line.Context c))) rest may.1 own
+  asks known [] may unclaimed own known_here = refl
+  asks known (line.App a ∷ rest) may unclaimed own known_here = asks (noted known (scenario_claim (line.App a))) rest may.1 unclaimed own known_here
+  asks known (line.Context c ∷ rest) may unclaimed own known_here =
+      asks (noted known (scenario_claim (line.Context c))) rest may.1 unclaimed own
       (subst AreThere (sym (append_assoc known.contexts (record { apid = c.apid; ctid = c.ctid } ∷ []) (names rest))) known_here)
-  asks known (line.Writer id ∷ rest) may own known_here =
-      asks (noted known (scenario_claim (line.Writer id))) rest may.1
+  asks known (line.Writer id ∷ rest) may unclaimed own known_here =
+      asks (noted known (scenario_claim (line.Writer id))) rest may.1 unclaimed
       (ap (λ (l : List (List ℕ)). numbered l writer) (append_assoc known.writers (id ∷ []) (writers rest)) ∙ own) known_here
-  asks known (line.Calls number ctid severity count payload ∷ rest) may own known_here =
+  asks known (line.Calls number ctid severity count payload ∷ rest) may unclaimed own known_here =
       let unknown = no_cause (not (logs_under known number ctid)) Unknown ((ltb 1000000 (known.calls + count), Limit) ∷ []) may.0 in
       let first = by_number (eqb number writer) refl (by_writer (numbered known.writers number) refl unknown.this) in
-      let others = asks (noted known (scenario_claim (line.Calls number ctid severity count payload))) rest may.1 own known_here in
+      let others = asks (noted known (scenario_claim (line.Calls number ctid severity count payload))) rest may.1 unclaimed own known_here in
       map-append without_slot (calls_in handles app writer (line.Calls number ctid severity count payload)) (calls_of handles app writer rest)
       ∙ ap (λ (l : List AskedCall). l ++ map without_slot (calls_of handles app writer rest)) first
       ∙ ap (λ (l : List AskedCall). asked_in apid writer (line.Calls number ctid severity count payload) ++ l) others where
         -- the writer's application has the context
-        by_writer : (o : Option (List ℕ)) → numbered known.writers number ≡ o → not (option_map_or (λ id. is_context known id ctid) o false) ≡ false
+        by_writer : (o : Option (List ℕ)) → numbered known.writers number ≡ o → not (option_map_or (λ id. is_context known id ctid || claims_for known number ctid) o false) ≡ false
             → number ≡ writer → IsFound apid ctid (context_named handles app ctid)
         by_writer None is known_so same = absurd cc
         by_writer (Some id) is known_so same =
             let still = numbered_still known.writers (writers rest) number id is in
             let here : id ≡ apid = some_is (sym still ∙ ap (numbered (known.writers ++ writers rest)) same ∙ own) in
-            let one : is_context known id ctid ≡ true = not_false (is_context known id ctid) known_so in
+            let none : claims_for known number ctid ≡ false = ap (list_any (is_claim_of number ctid)) unclaimed in
+            let one : is_context known id ctid ≡ true = declared (is_context known id ctid) (claims_for known number ctid) known_so none in
             known_here ctid (list_any-append (is_named apid ctid) known.contexts (names rest)
             ∙ ap (λ (b : Bool). b || list_any (is_named apid ctid) (names rest)) (ap (λ (a : List ℕ). is_context known a ctid) (sym here) ∙ one)) where
-              not_false : (b : Bool) → not b ≡ false → b ≡ true
-              not_false true is = refl
-              not_false false is = absurd cc
+              -- no writer claims it
+              declared : (b claimed : Bool) → not (b || claimed) ≡ false → claimed ≡ false → b ≡ true
+              declared true claimed is none = refl
+              declared false true is none = absurd cc
+              declared false false is none = absurd cc
 
         by_number : (b : Bool) → eqb number writer ≡ b → (number ≡ writer → IsFound apid ctid (context_named handles app ctid))
             → map without_slot (cond b (option_map_or (λ (ctx : Context). replicate count (content ctx severity payload)) (context_named handles app ctid) []) [])
             ≡ cond b (replicate count (record { apid = apid; ctid = ctid; severity = severity; payload = payload })) []
         by_number false other found = refl
         by_number true same found = one_line ctid severity count payload (found (eqb-true number writer same))
-  asks known (line.Client ∷ rest) may own known_here = asks (noted known (scenario_claim line.Client)) rest may.1 own known_here
-  asks known (line.Send client bytes ∷ rest) may own known_here = asks (noted known (scenario_claim (line.Send client bytes))) rest may.1 own known_here
-  asks known (line.Leave client count ∷ rest) may own known_here = asks (noted known (scenario_claim (line.Leave client count))) rest may.1 own known_here
+  asks known (line.Client ∷ rest) may unclaimed own known_here = asks (noted known (scenario_claim line.Client)) rest may.1 unclaimed own known_here
+  asks known (line.Send client bytes ∷ rest) may unclaimed own known_here = asks (noted known (scenario_claim (line.Send client bytes))) rest may.1 unclaimed own known_here
+  asks known (line.Leave client count ∷ rest) may unclaimed own known_here = asks (noted known (scenario_claim (line.Leave client count))) rest may.1 unclaimed own known_here
 
 -- ---- the contexts of an application, as lines name them
 
@@ -165,7 +168,7 @@ each_asked lines o runs is before (apid ∷ apids) (b ∷ books) all numbered_so
     let others = tail_is b.writer.push.number (length before + 1) (numbers books) (range_with_len (length before + 1 + 1) (length books)) numbered_so in
     let own : numbered (writers lines) b.writer.push.number ≡ Some apid =
     ap (λ (l : List (List ℕ)). numbered l b.writer.push.number) all ∙ numbered_here before apids apid b.writer.push.number number in
-    let here = asks (handles_from lines 0 (apps lines)) b.writer.app b.writer.push.number apid nothing lines runs.follows own (handles_there lines apid b.writer.app pairs.0.app) in
+    let here = asks (handles_from lines 0 (apps lines)) b.writer.app b.writer.push.number apid nothing lines runs.follows refl own (handles_there lines apid b.writer.app pairs.0.app) in
     let said : IsAsked lines o apid b =
     ap (λ (ctxs : List Context). map without_slot (calls_of ctxs b.writer.app b.writer.push.number o.plan.lines)) is.contexts
     ∙ ap (λ (l : List ScenarioLine). map without_slot (calls_of (handles_from lines 0 (apps lines)) b.writer.app b.writer.push.number l)) is.same_lines ∙ here in

@@ -10,7 +10,7 @@ use Rattle.dl_script_lines.specs.declared.scenario.ScenarioLine.{ScenarioLine}
 use Rattle.dl_desk.specs.Apps.{AppState, declared_app, declared_apps, registration}
 use Rattle.dl_opening.specs.Scenario.{apps, contexts_of, handles_from, opened_app, opened_from, placed, registered, spec_of, specs_of}
 use Rattle.dl_lemmas.proofs.Options.{some_is}
-use Rattle.dl_lemmas.proofs.Lists.{there, get_or-there}
+use Rattle.dl_lemmas.proofs.Lists.{get_or-there}
 
 -- so many of them have
 abbrev pub opened_to : List ScenarioLine → ℕ → ℕ → List AppLine → List AppState

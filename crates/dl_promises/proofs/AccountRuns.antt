@@ -6,26 +6,28 @@ use Rattle.std.specs.Option.{option_map}
 use Rattle.std.proofs.lemmas.Bool.{eq-eqb, ne_eqb, cases_eq, cases_lt}
 use Rattle.std.proofs.lemmas.List.{map-append, length-map}
 use Rattle.std.proofs.lemmas.List.Elements.{filter-append, filter_map-append}
-use Rattle.std.proofs.lemmas.Option.{slice_get-map, slice_get_within, slice_get_past}
-use Rattle.dl_bytes.specs.declared.item.Item.{Item}
+use Rattle.std.proofs.lemmas.Option.{slice_get-map, slice_get_past}
+use Rattle.dl_bytes.specs.Claim.{Claimed}
 use Rattle.dl_events.specs.declared.record.Record.{Record}
 use Rattle.dl_events.specs.declared.record.Answer.TheVariants as answer
 use Rattle.dl_model.specs.Along.{last_that}
 use Rattle.dl_model.specs.Setting.{Setting}
-use Rattle.dl_model.specs.Marks.{Call, Mark, Filtered, Queued, Counted, journal, record_of, records_of, recorded, records, writers, writer_numbers, app_of_writer, number_of, opened_call, is_step_of, calls_of, taken, queued, pending, is_counted_of}
+use Rattle.dl_model.specs.Marks.{Call, Mark, Filtered, Queued, Counted, journal, record_of, records_of, recorded, records, writers, writer_numbers, app_of_writer, opened_call, is_step_of, calls_of, announced_by, Pushed, call_in, pushes, taken, queued, pending, is_counted_of}
+use Rattle.dl_model.specs.Marks.{claims as claims_taken}
 use Rattle.dl_model.specs.Runs.{AreFounded}
 use Rattle.dl_model.specs.Report.{is_answer, records_of_app}
-use Rattle.dl_model.specs.Accounts.{order, of_writer, name_of, with_answer, AreNumbered, IsExact, AreTold}
+use Rattle.dl_model.specs.Accounts.{order, of_writer, name_of, with_answer, AreNumbered, IsExact, AreTold, claimed_by}
 use Rattle.dl_laws.proofs.Lists.{count_by-append}
-use Rattle.dl_laws.proofs.RunLaws.{losses_told, admitted_in_order, calls_exact}
+use Rattle.dl_laws.proofs.RunLaws.{losses_told, calls_in_order, queued_in_ring, calls_exact}
 use Rattle.dl_laws.proofs.Calls.{calls_numbered}
-use Rattle.dl_model.specs.WholeAccounts.{records_by, BelongsTo, IsOwnedSoFar, IsAccountedSoFar}
+use Rattle.dl_model.specs.WholeAccounts.{records_by, claims_by, BelongsTo, IsOwnedSoFar, IsAccountedSoFar}
 use Rattle.dl_promises.specs.RunRecords.{refusals_of}
 use Rattle.dl_promises.proofs.Alls.{all_map, all_filter, by_end}
 use Rattle.dl_promises.proofs.Relations.{AreAll}
 use Rattle.dl_promises.proofs.WriterRuns.{Right}
 use Rattle.dl_promises.proofs.WriterLaws.{counted_records, never_falling, lost_refused}
-use Rattle.dl_promises.proofs.OwnApps.{IsOwnItem, own_records}
+use Rattle.dl_promises.proofs.ClaimPlaces.{home, home_is, claims_waiting, writer_claims, claims_elsewhere, none_announced, places_apart}
+use Rattle.dl_promises.proofs.OwnApps.{IsOwnItem, own_records, in_range}
 use Rattle.dl_promises.proofs.Partition.{flat_sum, split, all_owners}
 
 -- ---- numbers
@@ -107,21 +109,6 @@ none_in app other [] all apart = refl
 none_in app other (r ∷ rs) all apart =
     ap (λ (b : Bool). cond b (r ∷ in_app other rs) (in_app other rs)) (ne_eqb r.item.app other (λ same. apart (sym all.0 ∙ same))) ∙ none_in app other rs all.1 apart
 
--- ---- the application of a writer
-
-some_of_two : {A : Type 0} (x y : A) → ◌≡◌ {A = Option A} (Some x) (Some y) → x ≡ y
-some_of_two x y e = cc
-
-same_owner : (writer : ℕ) (marks : List Mark) (i j : Item) → IsOwnItem writer marks i → IsOwnItem writer marks j → j.app ≡ i.app
-same_owner writer marks i j a b =
-    let ids : b.apid ≡ a.apid = some_of_two b.apid a.apid (sym b.of_writer ∙ a.of_writer) in
-    some_of_two j.app i.app (sym b.number ∙ ap (λ (apid : List ℕ). number_of apid marks) ids ∙ a.number)
-
-owner : (writer : ℕ) (marks : List Mark) (rs : List Record) → AllByRecursion (λ (r : Record). IsOwnItem writer marks r.item) rs → (app : ℕ) × AllByRecursion (λ (r : Record). r.item.app ≡ app) rs
-owner writer marks [] all = (0, tt)
-owner writer marks (r ∷ rs) all =
-    (r.item.app, (refl, all_map (λ (x : Record). IsOwnItem writer marks x.item) (λ (x : Record). x.item.app ≡ r.item.app) (λ x is. same_owner writer marks r.item x.item all.0 is) rs all.1))
-
 -- ---- in order
 
 pub empty_front : {A : Type 0} (xs ys : List A) → xs ++ ys ≡ [] → xs ≡ []
@@ -130,43 +117,51 @@ empty_front (x ∷ xs) ys e = absurd cc
 
 -- the calls of a writer that still wait in the ring
 pub waiting_of : ℕ → ℕ → List Mark → List (ℕ × ℕ)
-waiting_of writer app marks = filter (of_writer writer) (map nm (drop (taken app marks) (queued app marks)))
+waiting_of writer app marks = filter (of_writer writer) (map nm (filter_map call_in (drop (taken app marks) (pushes app marks))))
 
 pub admitted_parts : (setting : Setting) (marks : List Mark) → AreFounded setting [] marks → (writer app : ℕ) → filter (of_writer writer) (order app (journal marks)) ++ waiting_of writer app marks ≡ ring_of writer app marks
 unfolding waiting_of
 admitted_parts setting marks founded writer app =
     let n = taken app marks in
-    let qs = queued app marks in
-    let is = (admitted_in_order setting marks founded app).0 in
-    ap (λ (l : List (ℕ × ℕ)). filter (of_writer writer) l ++ filter (of_writer writer) (map nm (drop n qs))) is
-    ∙ sym (filter-append (of_writer writer) (map nm (take n qs)) (map nm (drop n qs)))
-    ∙ ap (filter (of_writer writer)) (sym (map-append nm (take n qs) (drop n qs)) ∙ ap (map nm) (take-append-drop n qs))
+    let ps = pushes app marks in
+    let front = filter_map call_in (take n ps) in
+    let rest = filter_map call_in (drop n ps) in
+    ap (λ (l : List (ℕ × ℕ)). filter (of_writer writer) l ++ filter (of_writer writer) (map nm rest)) (calls_in_order setting marks founded app)
+    ∙ sym (filter-append (of_writer writer) (map nm front) (map nm rest))
+    ∙ ap (filter (of_writer writer)) (sym (map-append nm front rest)
+    ∙ ap (map nm) (sym (filter_map-append call_in (take n ps) (drop n ps)) ∙ ap (filter_map call_in) (take-append-drop n ps) ∙ sym (queued_in_ring app marks)))
 
-pub none_waits : (writer app : ℕ) (marks : List Mark) → taken app marks ≡ length (queued app marks) → waiting_of writer app marks ≡ []
+pub none_waits : (writer app : ℕ) (marks : List Mark) → taken app marks ≡ length (pushes app marks) → waiting_of writer app marks ≡ []
 unfolding waiting_of
-none_waits writer app marks same = ap (λ (l : List Call). filter (of_writer writer) (map nm l)) (ap (λ (n : ℕ). drop n (queued app marks)) same ∙ all_gone (queued app marks)) where
-  all_gone : (l : List Call) → drop (length l) l ≡ []
-  all_gone [] = refl
-  all_gone (c ∷ l) = all_gone l
+none_waits writer app marks same =
+    ap (λ (l : List Pushed). filter (of_writer writer) (map nm (filter_map call_in l))) (ap (λ (n : ℕ). drop n (pushes app marks)) same ∙ all_gone (pushes app marks)) where
+      all_gone : (l : List Pushed) → drop (length l) l ≡ []
+      all_gone [] = refl
+      all_gone (what ∷ l) = all_gone l
 
 abbrev pub queued_records : ℕ → List Mark → List Record
 queued_records writer marks = with_answer answer.Queued (records_of writer marks)
 
--- the application that a writer's records are of
-pub owner_of : (setting : Setting) (marks : List Mark) → AreAll (Right setting) [] marks → (writer : ℕ) → (app : ℕ) × AllByRecursion (λ (r : Record). r.item.app ≡ app) (records_of writer marks)
-owner_of setting marks right writer = owner writer marks (records_of writer marks) (own_records setting writer marks right)
+-- a writer's records are of its application
+at_home : (writer : ℕ) (marks : List Mark) (r : Record) → IsOwnItem writer marks r.item → r.item.app ≡ home writer marks
+at_home writer marks r is = sym (home_is writer marks is.apid r.item.app is.of_writer is.number)
+
+pub owner_of : (setting : Setting) (marks : List Mark) → AreAll (Right setting) [] marks → (writer : ℕ) → AllByRecursion (λ (r : Record). r.item.app ≡ home writer marks) (records_of writer marks)
+owner_of setting marks right writer =
+    all_map (λ (r : Record). IsOwnItem writer marks r.item) (λ (r : Record). r.item.app ≡ home writer marks) (at_home writer marks) (records_of writer marks) (own_records setting writer marks right)
 
 queued_in : (writer app : ℕ) (marks : List Mark) → AllByRecursion (λ (r : Record). r.item.app ≡ app) (records_of writer marks) → AllByRecursion (λ (r : Record). r.item.app ≡ app) (queued_records writer marks)
 queued_in writer app marks all = all_filter (λ (r : Record). r.item.app ≡ app) (λ (r : Record). is_answer answer.Queued r.answer) (records_of writer marks) all
 
-pub belongs_to : (setting : Setting) (marks : List Mark) → AreFounded setting [] marks → AreAll (Right setting) [] marks → (writer app : ℕ) → AllByRecursion (λ (r : Record). r.item.app ≡ app) (records_of writer marks) →
-    BelongsTo app writer (journal marks) (records_of writer marks)
-belongs_to setting marks founded right writer app all = record {
+pub belongs_to : (setting : Setting) (marks : List Mark) → AreFounded setting [] marks → AreAll (Right setting) [] marks → (writer : ℕ) → BelongsTo (home writer marks) writer (journal marks) (records_of writer marks)
+belongs_to setting marks founded right writer = let all = owner_of setting marks right writer in record {
   own = all;
   by_writer = all_map (λ (r : Record). IsOwnItem writer marks r.item) (λ (r : Record). r.item.writer ≡ writer) (λ r is. is.writer_is) (records_of writer marks) (own_records setting writer marks right);
   alone = λ other apart.
-      let none : ring_of writer other marks ≡ [] = ring_records writer other marks ∙ ap (map nr) (none_in app other (queued_records writer marks) (queued_in writer app marks all) (λ same. apart (sym same))) in
+      let none : ring_of writer other marks ≡ [] =
+      ring_records writer other marks ∙ ap (map nr) (none_in (home writer marks) other (queued_records writer marks) (queued_in writer (home writer marks) marks all) (λ same. apart (sym same))) in
       empty_front (filter (of_writer writer) (order other (journal marks))) (waiting_of writer other marks) (admitted_parts setting marks founded writer other ∙ none);
+  claims_alone = claims_elsewhere setting marks founded writer;
 }
 
 pub ring_in_order : (setting : Setting) (marks : List Mark) → AreFounded setting [] marks → (writer app : ℕ) → AllByRecursion (λ (r : Record). r.item.app ≡ app) (records_of writer marks) →
@@ -177,19 +172,22 @@ ring_in_order setting marks founded writer app all =
 pub exact_of : (setting : Setting) (marks : List Mark) → AreFounded setting [] marks → (writer : ℕ) → AllByRecursion (IsExact setting.first (journal marks)) (records_of writer marks)
 exact_of setting marks founded writer = all_filter (IsExact setting.first (journal marks)) (λ (r : Record). eqb r.item.writer writer) (filter_map record_of marks) (calls_exact setting marks founded)
 
-pub owned_so_far : (setting : Setting) (marks : List Mark) → AreFounded setting [] marks → AreAll (Right setting) [] marks → (writer : ℕ) → IsOwnedSoFar setting.first (journal marks) writer (refusals_of marks writer) (records_of writer marks)
+pub owned_so_far : (setting : Setting) (marks : List Mark) → AreFounded setting [] marks → AreAll (Right setting) [] marks → (writer : ℕ) →
+    IsOwnedSoFar setting.first (journal marks) writer (refusals_of marks writer) (announced_by writer marks) (records_of writer marks)
 owned_so_far setting marks founded right writer =
-    let mine = owner_of setting marks right writer in
+    let app = home writer marks in
     record {
-      app = mine.0;
-      belongs = belongs_to setting marks founded right writer mine.0 mine.1;
+      app = app;
+      belongs = belongs_to setting marks founded right writer;
       account = record {
         numbered = numbered setting writer marks founded;
         counted = counted_records setting writer marks right;
         exact = exact_of setting marks founded writer;
         never_fall = never_falling setting writer marks right;
-        waiting = waiting_of writer mine.0 marks;
-        in_order = ring_in_order setting marks founded writer mine.0 mine.1;
+        waiting = waiting_of writer app marks;
+        in_order = ring_in_order setting marks founded writer app (owner_of setting marks right writer);
+        waiting_claims = filter (claimed_by writer) (claims_waiting app marks);
+        claimed = writer_claims setting marks founded writer;
         refused = lost_refused setting writer marks right;
       };
     }
@@ -213,25 +211,33 @@ no_records setting writer marks right none = by_list (records_of writer marks) (
   by_list [] all = refl
   by_list (r ∷ rs) all = let is = all.0.of_writer in absurd cc
 
-pub by_number : (setting : Setting) (marks : List Mark) → AreAll (Right setting) [] marks → (writer : ℕ) → records_by writer (records marks) ≡ records_of writer marks
-by_number setting marks right writer = by_zero (cases_eq writer 0) where
-  by_place : (writer ≡ 0 → ⊥) → (writer - 1 < length (writers marks)) ⊎ (length (writers marks) ≤ writer - 1) → unwrap_or (slice_get (records marks) (writer - 1)) [] ≡ records_of writer marks
+-- what each writer has, by its number; one that isn't declared has nothing
+has_number : {X : Type 0} (f : ℕ → List X) (marks : List Mark) → ((w : ℕ) → app_of_writer w marks ≡ None → f w ≡ []) → (writer : ℕ) →
+    cond (eqb writer 0) [] (unwrap_or (slice_get (map f (writer_numbers marks)) (writer - 1)) []) ≡ f writer
+has_number {X = X} f marks nothing writer = by_zero (cases_eq writer 0) where
+  by_place : (writer ≡ 0 → ⊥) → (writer - 1 < length (writers marks)) ⊎ (length (writers marks) ≤ writer - 1) → unwrap_or (slice_get (map f (writer_numbers marks)) (writer - 1)) [] ≡ f writer
   by_place apart (inl lt) =
       let here : 1 + (writer - 1) ≡ writer = omega (arith, apart) in
-      ap (λ (o : Option (List Record)). unwrap_or o []) (slice_get-map (λ (w : ℕ). records_of w marks) (writer_numbers marks) (writer - 1)
-      ∙ ap (λ (o : Option ℕ). option_map (λ (w : ℕ). records_of w marks) o) (range_get 1 (length (writers marks)) (writer - 1) lt ∙ ap Some here))
+      ap (λ (o : Option (List X)). unwrap_or o []) (slice_get-map f (writer_numbers marks) (writer - 1)
+      ∙ ap (λ (o : Option ℕ). option_map f o) (range_get 1 (length (writers marks)) (writer - 1) lt ∙ ap Some here))
   by_place apart (inr le) =
-      let past : slice_get (records marks) (writer - 1) ≡ None = slice_get_past (records marks) (writer - 1) (omega (arith, le, length-map (writer_numbers marks) (λ (w : ℕ). records_of w marks), range_length 1 (length (writers marks)))) in
+      let past : slice_get (map f (writer_numbers marks)) (writer - 1) ≡ None = slice_get_past (map f (writer_numbers marks)) (writer - 1) (omega (arith, le, length-map (writer_numbers marks) f, range_length 1 (length (writers marks)))) in
       let none : app_of_writer writer marks ≡ None =
       ap (λ (b : Bool). cond b None (slice_get (writers marks) (writer - 1))) (ne_eqb writer 0 apart) ∙ slice_get_past (writers marks) (writer - 1) le in
-      ap (λ (o : Option (List Record)). unwrap_or o []) past ∙ sym (no_records setting writer marks right none)
+      ap (λ (o : Option (List X)). unwrap_or o []) past ∙ sym (nothing writer none)
 
-  by_zero : (writer ≡ 0) ⊎ (writer ≡ 0 → ⊥) → records_by writer (records marks) ≡ records_of writer marks
+  by_zero : (writer ≡ 0) ⊎ (writer ≡ 0 → ⊥) → cond (eqb writer 0) [] (unwrap_or (slice_get (map f (writer_numbers marks)) (writer - 1)) []) ≡ f writer
   by_zero (inl same) =
       let none : app_of_writer writer marks ≡ None = ap (λ (b : Bool). cond b None (slice_get (writers marks) (writer - 1))) (eq-eqb writer 0 same) in
-      ap (λ (b : Bool). cond b [] (unwrap_or (slice_get (records marks) (writer - 1)) [])) (eq-eqb writer 0 same) ∙ sym (no_records setting writer marks right none)
+      ap (λ (b : Bool). cond b [] (unwrap_or (slice_get (map f (writer_numbers marks)) (writer - 1)) [])) (eq-eqb writer 0 same) ∙ sym (nothing writer none)
   by_zero (inr apart) =
-      ap (λ (b : Bool). cond b [] (unwrap_or (slice_get (records marks) (writer - 1)) [])) (ne_eqb writer 0 apart) ∙ by_place apart (cases_lt (writer - 1) (length (writers marks)))
+      ap (λ (b : Bool). cond b [] (unwrap_or (slice_get (map f (writer_numbers marks)) (writer - 1)) [])) (ne_eqb writer 0 apart) ∙ by_place apart (cases_lt (writer - 1) (length (writers marks)))
+
+pub by_number : (setting : Setting) (marks : List Mark) → AreAll (Right setting) [] marks → (writer : ℕ) → records_by writer (records marks) ≡ records_of writer marks
+by_number setting marks right writer = has_number (λ (w : ℕ). records_of w marks) marks (λ w none. no_records setting w marks right none) writer
+
+pub claims_by_number : (setting : Setting) (marks : List Mark) → AreFounded setting [] marks → (writer : ℕ) → claims_by writer (claims_taken marks) ≡ announced_by writer marks
+claims_by_number setting marks founded writer = has_number (λ (w : ℕ). announced_by w marks) marks (none_announced setting marks founded) writer
 
 -- ---- losses
 
@@ -265,18 +271,6 @@ lost_counted app = by_end (λ marks. lost_in app (filter_map record_of marks) �
     let left = ap (lost_in app) (filter_map-append record_of done (mark ∷ [])) ∙ lost_adds app (filter_map record_of done) (filter_map record_of (mark ∷ [])) in
     omega (arith, left, count_by-append (is_counted_of app) done (mark ∷ []), is, one_lost app mark))
 
--- every record is that of a declared writer
-pub in_range : (marks : List Mark) (writer : ℕ) (apid : List ℕ) → app_of_writer writer marks ≡ Some apid → (1 ≤ writer) × (writer < 1 + length (writers marks))
-in_range marks writer apid e = by_zero (cases_eq writer 0) where
-  by_zero : (writer ≡ 0) ⊎ (writer ≡ 0 → ⊥) → (1 ≤ writer) × (writer < 1 + length (writers marks))
-  by_zero (inl same) =
-      let none : app_of_writer writer marks ≡ None = ap (λ (b : Bool). cond b None (slice_get (writers marks) (writer - 1))) (eq-eqb writer 0 same) in
-      absurd cc
-  by_zero (inr apart) =
-      let there : slice_get (writers marks) (writer - 1) ≡ Some apid = sym (ap (λ (b : Bool). cond b None (slice_get (writers marks) (writer - 1))) (ne_eqb writer 0 apart)) ∙ e in
-      let lt = slice_get_within (writers marks) (writer - 1) apid there in
-      (omega (arith, apart), omega (arith, apart, lt))
-
 pub all_owned : (setting : Setting) (marks : List Mark) → AreAll (Right setting) [] marks → AllByRecursion (λ (r : Record). IsOwnItem r.item.writer marks r.item) (filter_map record_of marks)
 all_owned setting marks right = all_owners (λ (r : Record). r.item.writer) (λ (w : ℕ) (r : Record). IsOwnItem w marks r.item) (filter_map record_of marks) (λ w. own_records setting w marks right)
 
@@ -295,8 +289,12 @@ told_so_far setting marks founded right app =
     losses_told setting marks founded app ∙ sym (lost_counted app marks) ∙ sym (lost_of_app setting marks right app)
 
 pub accounted_so_far : (setting : Setting) (marks : List Mark) → AreFounded setting [] marks → AreAll (Right setting) [] marks →
-    IsAccountedSoFar setting.first (journal marks) (λ app. pending app marks) (refusals_of marks) (records marks)
+    IsAccountedSoFar setting.first (journal marks) (λ app. pending app marks) (refusals_of marks) (claims_taken marks) (records marks)
 accounted_so_far setting marks founded right = record {
-  writers = λ writer. subst (IsOwnedSoFar setting.first (journal marks) writer (refusals_of marks writer)) (sym (by_number setting marks right writer)) (owned_so_far setting marks founded right writer);
+  writers = λ writer.
+      subst (IsOwnedSoFar setting.first (journal marks) writer (refusals_of marks writer) (claims_by writer (claims_taken marks))) (sym (by_number setting marks right writer))
+      (subst (λ (cs : List Claimed). IsOwnedSoFar setting.first (journal marks) writer (refusals_of marks writer) cs (records_of writer marks)) (sym (claims_by_number setting marks founded writer))
+      (owned_so_far setting marks founded right writer));
+  places = places_apart setting marks founded;
   told = told_so_far setting marks founded right;
 }

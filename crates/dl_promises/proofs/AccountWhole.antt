@@ -4,18 +4,20 @@ use Rattle.std.specs.Prelude.{map}
 use Rattle.std.specs.List.{filter, filter_map, AllByRecursion}
 use Rattle.std.proofs.lemmas.Bool.{ne_eqb, cases_lt}
 use Rattle.std.proofs.lemmas.List.{append-nil}
+use Rattle.dl_bytes.specs.Claim.{Claimed}
 use Rattle.dl_bytes.specs.declared.outcome.Done.{Done}
 use Rattle.dl_events.specs.declared.record.Record.{Record}
 use Rattle.dl_events.specs.declared.record.Answer.TheVariants as answer
 use Rattle.dl_script_lines.specs.declared.step.Step.{Step}
 use Rattle.dl_model.specs.Setting.{Setting}
-use Rattle.dl_model.specs.Marks.{Mark, journal, apps, record_of, records_of, records}
+use Rattle.dl_model.specs.Marks.{Mark, journal, announced_by, apps, record_of, records_of, records}
+use Rattle.dl_model.specs.Marks.{claims as claims_taken}
 use Rattle.dl_model.specs.Report.{records_of_app}
-use Rattle.dl_model.specs.Accounts.{order, of_writer, with_answer, AreTold}
+use Rattle.dl_model.specs.Accounts.{order, of_writer, claims, claimed_by, with_answer, AreTold}
 use Rattle.dl_model.specs.Runs.{AreFounded}
 use Rattle.dl_model.specs.Steps.{run}
 use Rattle.dl_laws.proofs.Founded.{run_founded}
-use Rattle.dl_model.specs.WholeAccounts.{IsOwned, IsAccounted}
+use Rattle.dl_model.specs.WholeAccounts.{IsOwned, IsAccounted, claims_by}
 use Rattle.dl_promises.specs.RunRecords.{refusals_of}
 use Rattle.dl_promises.proofs.Alls.{all_map}
 use Rattle.dl_promises.proofs.Relations.{AreAll}
@@ -24,7 +26,8 @@ use Rattle.dl_promises.proofs.WriterLaws.{counted_records, never_falling, lost_r
 use Rattle.dl_promises.proofs.OwnApps.{IsOwnItem, own_records, number-within}
 use Rattle.dl_promises.proofs.RightRuns.{run_right}
 use Rattle.dl_promises.proofs.Drained.{Emptied, run_empties}
-use Rattle.dl_promises.proofs.AccountRuns.{nr, in_app, numbered, exact_of, owner_of, belongs_to, ring_in_order, waiting_of, none_waits, empty_front, by_number, told_so_far, lost_of_app, all_owned}
+use Rattle.dl_promises.proofs.AccountRuns.{nr, in_app, numbered, exact_of, owner_of, belongs_to, ring_in_order, waiting_of, none_waits, empty_front, by_number, told_so_far, lost_of_app, all_owned, claims_by_number}
+use Rattle.dl_promises.proofs.ClaimPlaces.{IsOwnClaim, home, own_announced, announced_at_home, claims_waiting, none_waiting, writer_claims, places_apart}
 
 module _ (setting : Setting) (marks : List Mark) (founded : AreFounded setting [] marks) (right : AreAll (Right setting) [] marks) (emptied : (app : ℕ) → app < length (apps marks) → Emptied app marks) where
   -- a writer that has a record is of an application whose ring is empty
@@ -37,18 +40,31 @@ module _ (setting : Setting) (marks : List Mark) (founded : AreFounded setting [
       let none = none_waits writer app marks (emptied app lt).all_taken in
       sym (append-nil (filter (of_writer writer) (order app (journal marks)))) ∙ ap (λ (l : List (ℕ × ℕ)). filter (of_writer writer) (order app (journal marks)) ++ l) (sym none) ∙ is
 
-  owned : (writer : ℕ) → IsOwned setting.first (journal marks) writer (refusals_of marks writer) (records_of writer marks)
+  -- so of a claim
+  claimed_by_home : (writer : ℕ) (cs : List Claimed) → AllByRecursion (IsOwnClaim marks) cs → AllByRecursion (λ (c : Claimed). c.app ≡ home writer marks) cs →
+      filter (claimed_by writer) (claims (home writer marks) (journal marks)) ++ filter (claimed_by writer) (claims_waiting (home writer marks) marks) ≡ cs →
+      filter (claimed_by writer) (claims (home writer marks) (journal marks)) ≡ cs
+  claimed_by_home writer [] own all is = empty_front (filter (claimed_by writer) (claims (home writer marks) (journal marks))) (filter (claimed_by writer) (claims_waiting (home writer marks) marks)) is
+  claimed_by_home writer (c ∷ cs) own all is =
+      let lt : home writer marks < length (apps marks) = omega (arith, number-within marks own.0.apid c.app own.0.number, all.0) in
+      let none = none_waiting (home writer marks) marks (emptied (home writer marks) lt).all_taken in
+      sym (append-nil (filter (claimed_by writer) (claims (home writer marks) (journal marks))))
+      ∙ ap (λ (l : List Claimed). filter (claimed_by writer) (claims (home writer marks) (journal marks)) ++ filter (claimed_by writer) l) (sym none) ∙ is
+
+  owned : (writer : ℕ) → IsOwned setting.first (journal marks) writer (refusals_of marks writer) (announced_by writer marks) (records_of writer marks)
   owned writer =
-      let mine = owner_of setting marks right writer in
+      let app = home writer marks in
+      let all = owner_of setting marks right writer in
       record {
-        app = mine.0;
-        belongs = belongs_to setting marks founded right writer mine.0 mine.1;
+        app = app;
+        belongs = belongs_to setting marks founded right writer;
         account = record {
           numbered = numbered setting writer marks founded;
           counted = counted_records setting writer marks right;
           exact = exact_of setting marks founded writer;
           never_fall = never_falling setting writer marks right;
-          in_order = in_order_by writer mine.0 (records_of writer marks) (own_records setting writer marks right) mine.1 (ring_in_order setting marks founded writer mine.0 mine.1);
+          in_order = in_order_by writer app (records_of writer marks) (own_records setting writer marks right) all (ring_in_order setting marks founded writer app all);
+          claimed = claimed_by_home writer (announced_by writer marks) (own_announced setting marks founded writer) (announced_at_home setting marks founded writer) (writer_claims setting marks founded writer);
           refused = lost_refused setting writer marks right;
         };
       }
@@ -71,13 +87,16 @@ module _ (setting : Setting) (marks : List Mark) (founded : AreFounded setting [
     | inr le ↦ omega (arith, told_so_far setting marks founded right app, none_lost app le)
   ]
 
-  accounted : IsAccounted setting.first (journal marks) (λ app. 0) (refusals_of marks) (records marks)
+  accounted : IsAccounted setting.first (journal marks) (λ app. 0) (refusals_of marks) (claims_taken marks) (records marks)
   accounted = record {
-    writers = λ writer. subst (IsOwned setting.first (journal marks) writer (refusals_of marks writer)) (sym (by_number setting marks right writer)) (owned writer);
+    writers = λ writer.
+        subst (IsOwned setting.first (journal marks) writer (refusals_of marks writer) (claims_by writer (claims_taken marks))) (sym (by_number setting marks right writer))
+        (subst (λ (cs : List Claimed). IsOwned setting.first (journal marks) writer (refusals_of marks writer) cs (records_of writer marks)) (sym (claims_by_number setting marks founded writer)) (owned writer));
+    places = places_apart setting marks founded;
     told = told;
   }
 
 pub run_accounted : (setting : Setting) (answers : List Done) (steps : List Step) →
-    IsAccounted setting.first (journal (run setting answers steps)) (λ app. 0) (refusals_of (run setting answers steps)) (records (run setting answers steps))
+    IsAccounted setting.first (journal (run setting answers steps)) (λ app. 0) (refusals_of (run setting answers steps)) (claims_taken (run setting answers steps)) (records (run setting answers steps))
 run_accounted setting answers steps =
     accounted setting (run setting answers steps) (run_founded setting answers steps) (run_right setting answers steps) (run_empties setting answers steps)

@@ -1,8 +1,9 @@
 -- Acts that do not look at the bytes that came.
-use Rattle.std.proofs.Common.{◌≡◌, ℕ, zero, suc, ◌+◌, Bool, true, false, cond, ltb, List, [], ◌∷◌, length, Option, Some, None, refl, ap, ◌∙◌}
+use Rattle.std.proofs.Common.{◌≡◌, ℕ, zero, suc, ◌+◌, Bool, true, false, cond, ltb, List, [], ◌∷◌, ◌++◌, length, Option, Some, None, refl, ap, ◌∙◌}
 use Rattle.std.specs.Prelude.{map, count_by, replicate, slice_get, take, unwrap_or, negsuc, ◌&&◌, ◌%◌}
 use Rattle.std.specs.List.{range_with_len, AllByRecursion}
 use Rattle.std.specs.Option.{option_map_or}
+use Rattle.dl_bytes.specs.Claim.{Claimed}
 use Rattle.dl_bytes.specs.Level.{passes}
 use Rattle.dl_bytes.specs.Number.{◌>>=◌}
 use Rattle.dl_bytes.specs.declared.outcome.Done.{Done}
@@ -15,6 +16,7 @@ use Rattle.dl_events.specs.declared.event.Why.{Why}
 use Rattle.dl_events.specs.declared.event.Why.TheVariants as why
 use Rattle.dl_script_lines.specs.declared.line.AppLine.{AppLine}
 use Rattle.dl_script_lines.specs.declared.line.CallLine.{CallLine}
+use Rattle.dl_script_lines.specs.declared.line.ClaimLine.{ClaimLine}
 use Rattle.dl_script_lines.specs.declared.step.LevelEvents.TheVariants as levels
 use Rattle.dl_script_lines.specs.declared.step.Step.{Step}
 use Rattle.dl_script_lines.specs.declared.step.Step.TheVariants as line
@@ -23,9 +25,9 @@ use Rattle.dl_model.specs.Setting.{Setting}
 use Rattle.dl_model.specs.Registry.{slot_of}
 use Rattle.dl_model.specs.Reply.{Need, Nothing, Folder, Queue}
 use Rattle.dl_model.specs.Journal.{slots_of, is_connect, is_close, comes_or_goes, is_request_of, need_after}
-use Rattle.dl_model.specs.Marks.{Call, Mark, HasApp, HasContext, Filtered, Passed, Queued, Refused, Counted, Noted, Answered, Injected, Handed, journal, apps, number_of, place_of, writer_numbers, app_of_writer, calls_of, passed_of, to_push, to_count, queued, taken, held_by, is_full, is_later, pending, moment, injections}
-use Rattle.dl_model.specs.Steps.{Act, in_sequence, just, for_some, when, changes, level_noted, note_levels, note_levels_now, note, loaded, load, push, count, finish, begin_call, whole_call, take_log, take_losses, is_open, close, connect, served, request_now, ask, tell, take_injection, on_app, act_of, drain, end_of}
-use Rattle.dl_promises.proofs.Unfed.{unfed, Blind, journal_blind, apps_blind, queued_blind, calls_of_blind, passed_of_blind, to_push_blind, to_count_blind, taken_blind, held_blind, is_full_blind, pending_blind, moment_blind, is_later_blind, answers_blind, injections_blind, number_blind, place_blind, writer_numbers_blind, app_of_writer_blind, some_same, when_same, turns_blind, each_blind}
+use Rattle.dl_model.specs.Marks.{Call, Mark, HasApp, HasContext, Filtered, Passed, Queued, Refused, Counted, HasClaim, Announced, HeldBack, Noted, Answered, Injected, Handed, journal, apps, number_of, named_place, next_place, writer_numbers, app_of_writer, calls_of, passed_of, to_push, to_count, to_announce, unannounced, Pushed, OfCall, OfClaim, pushes, taken, held_by, is_full, is_later, pending, moment, injections}
+use Rattle.dl_model.specs.Steps.{Act, in_sequence, just, for_some, when, changes, level_noted, note_levels, note_levels_now, note, loaded, load, push, count, finish, begin_call, whole_call, claim_made, claim, announce, is_held_back, announce_upto, announce_all, event_taken, take_log, take_losses, is_open, close, connect, served, request_now, ask, tell, take_injection, on_app, act_of, drain, end_of}
+use Rattle.dl_promises.proofs.Unfed.{unfed, Blind, journal_blind, apps_blind, pushes_blind, to_announce_blind, unannounced_blind, calls_of_blind, passed_of_blind, to_push_blind, to_count_blind, taken_blind, held_blind, is_full_blind, pending_blind, moment_blind, is_later_blind, answers_blind, injections_blind, number_blind, named_place_blind, next_place_blind, writer_numbers_blind, app_of_writer_blind, some_same, when_same, turns_blind, each_blind, blind_append}
 
 -- ---- Level events
 
@@ -66,8 +68,8 @@ loaded_blind setting call done =
       }
 
       by_apid : app_of_writer call.writer done ≡ app_of_writer call.writer (unfed done) → loaded setting call done ≡
-          (app_of_writer call.writer (unfed done) >>= λ apid. number_of apid done >>= λ app. place_of apid call.ctid done >>= λ place. Some (made (journal done) (calls_of call.writer done) (passed_of call.writer done) apid app place))
-      by_apid same = ap (λ (o : Option (List ℕ)). o >>= λ apid. number_of apid done >>= λ app. place_of apid call.ctid done >>= λ place. Some (made (journal done) (calls_of call.writer done) (passed_of call.writer done) apid app place)) same
+          (app_of_writer call.writer (unfed done) >>= λ apid. number_of apid done >>= λ app. named_place call.writer apid call.ctid done >>= λ place. Some (made (journal done) (calls_of call.writer done) (passed_of call.writer done) apid app place))
+      by_apid same = ap (λ (o : Option (List ℕ)). o >>= λ apid. number_of apid done >>= λ app. named_place call.writer apid call.ctid done >>= λ place. Some (made (journal done) (calls_of call.writer done) (passed_of call.writer done) apid app place)) same
 
       by_place : (apid : List ℕ) (app : ℕ) (o : Option ℕ) →
           (o >>= λ place. Some (made (journal done) (calls_of call.writer done) (passed_of call.writer done) apid app place))
@@ -79,19 +81,19 @@ loaded_blind setting call done =
           ∙ ap (λ (n : ℕ). Some (made (journal (unfed done)) (calls_of call.writer (unfed done)) n apid app place)) (passed_of_blind call.writer done)
 
       by_number : (apid : List ℕ) (o : Option ℕ) →
-          (o >>= λ app. place_of apid call.ctid done >>= λ place. Some (made (journal done) (calls_of call.writer done) (passed_of call.writer done) apid app place))
-          ≡ (o >>= λ app. place_of apid call.ctid (unfed done) >>= λ place. Some (made (journal (unfed done)) (calls_of call.writer (unfed done)) (passed_of call.writer (unfed done)) apid app place))
+          (o >>= λ app. named_place call.writer apid call.ctid done >>= λ place. Some (made (journal done) (calls_of call.writer done) (passed_of call.writer done) apid app place))
+          ≡ (o >>= λ app. named_place call.writer apid call.ctid (unfed done) >>= λ place. Some (made (journal (unfed done)) (calls_of call.writer (unfed done)) (passed_of call.writer (unfed done)) apid app place))
       by_number apid None = refl
       by_number apid (Some app) =
-          ap (λ (o : Option ℕ). o >>= λ place. Some (made (journal done) (calls_of call.writer done) (passed_of call.writer done) apid app place)) (place_blind apid call.ctid done)
-          ∙ by_place apid app (place_of apid call.ctid (unfed done))
+          ap (λ (o : Option ℕ). o >>= λ place. Some (made (journal done) (calls_of call.writer done) (passed_of call.writer done) apid app place)) (named_place_blind call.writer apid call.ctid done)
+          ∙ by_place apid app (named_place call.writer apid call.ctid (unfed done))
 
       by_app : (o : Option (List ℕ)) →
-          (o >>= λ apid. number_of apid done >>= λ app. place_of apid call.ctid done >>= λ place. Some (made (journal done) (calls_of call.writer done) (passed_of call.writer done) apid app place))
-          ≡ (o >>= λ apid. number_of apid (unfed done) >>= λ app. place_of apid call.ctid (unfed done) >>= λ place. Some (made (journal (unfed done)) (calls_of call.writer (unfed done)) (passed_of call.writer (unfed done)) apid app place))
+          (o >>= λ apid. number_of apid done >>= λ app. named_place call.writer apid call.ctid done >>= λ place. Some (made (journal done) (calls_of call.writer done) (passed_of call.writer done) apid app place))
+          ≡ (o >>= λ apid. number_of apid (unfed done) >>= λ app. named_place call.writer apid call.ctid (unfed done) >>= λ place. Some (made (journal (unfed done)) (calls_of call.writer (unfed done)) (passed_of call.writer (unfed done)) apid app place))
       by_app None = refl
       by_app (Some apid) =
-          ap (λ (o : Option ℕ). o >>= λ app. place_of apid call.ctid done >>= λ place. Some (made (journal done) (calls_of call.writer done) (passed_of call.writer done) apid app place)) (number_blind apid done)
+          ap (λ (o : Option ℕ). o >>= λ app. named_place call.writer apid call.ctid done >>= λ place. Some (made (journal done) (calls_of call.writer done) (passed_of call.writer done) apid app place)) (number_blind apid done)
           ∙ by_number apid (number_of apid (unfed done))
 
 load_blind : (setting : Setting) (call : CallLine) → Blind (load setting call)
@@ -118,12 +120,61 @@ begin_blind setting call = turns_blind (finish call.writer ∷ load setting call
 whole_blind : (setting : Setting) (call : CallLine) → Blind (whole_call setting call)
 whole_blind setting call = turns_blind (begin_call setting call ∷ finish call.writer ∷ []) (begin_blind setting call, (finish_blind call.writer, tt))
 
+-- ---- claims
+
+claim_made_blind : (asked : ClaimLine) → Blind (claim_made asked)
+claim_made_blind asked done =
+    ap (λ (o : Option (List ℕ)). o >>= λ apid. number_of apid done >>= λ app. Some (made apid app (next_place apid app done))) (app_of_writer_blind asked.writer done)
+    ∙ by_app (app_of_writer asked.writer (unfed done)) where
+      made : List ℕ → ℕ → ℕ → Claimed
+      made apid app place = record { app = app; writer = asked.writer; place = place; ctid = asked.ctid; level = asked.level; text = asked.text }
+
+      by_number : (apid : List ℕ) (o : Option ℕ) → (o >>= λ app. Some (made apid app (next_place apid app done))) ≡ (o >>= λ app. Some (made apid app (next_place apid app (unfed done))))
+      by_number apid None = refl
+      by_number apid (Some app) = ap (λ (n : ℕ). Some (made apid app n)) (next_place_blind apid app done)
+
+      by_app : (o : Option (List ℕ)) → (o >>= λ apid. number_of apid done >>= λ app. Some (made apid app (next_place apid app done)))
+          ≡ (o >>= λ apid. number_of apid (unfed done) >>= λ app. Some (made apid app (next_place apid app (unfed done))))
+      by_app None = refl
+      by_app (Some apid) =
+          ap (λ (o : Option ℕ). o >>= λ app. Some (made apid app (next_place apid app done))) (number_blind apid done) ∙ by_number apid (number_of apid (unfed done))
+
+claim_blind : (asked : ClaimLine) → Blind (claim asked)
+claim_blind asked done =
+    let act = λ (c : Claimed). just (HasClaim c) in
+    some_same (claim_made asked done) (claim_made asked (unfed done)) act act done (unfed done) (claim_made_blind asked done) (λ c. refl)
+
+announce_blind : (writer : ℕ) → Blind (announce writer)
+announce_blind writer done =
+    some_same (to_announce writer done) (to_announce writer (unfed done)) (λ c. just (cond (is_full c.app done) (HeldBack c) (Announced c))) (λ c. just (cond (is_full c.app (unfed done)) (HeldBack c) (Announced c)))
+    done (unfed done) (to_announce_blind writer done) (λ c. ap (λ (b : Bool). cond b (HeldBack c) (Announced c) ∷ []) (is_full_blind c.app done))
+
+announce_upto_blind : (more writer : ℕ) → Blind (announce_upto more writer)
+announce_upto_blind zero writer done = refl
+announce_upto_blind (suc more) writer done =
+    let step = announce writer done in
+    let same = announce_blind writer done in
+    let later : announce_upto more writer (done ++ step) ≡ announce_upto more writer (unfed done ++ announce writer (unfed done)) =
+    blind_append (announce_upto more writer) (announce_upto_blind more writer) done step (announce writer (unfed done)) (ap unfed same) in
+    ap (λ (ms : List Mark). step ++ cond (is_held_back step) [] ms) later
+    ∙ ap (λ (ms : List Mark). ms ++ cond (is_held_back ms) [] (announce_upto more writer (unfed done ++ announce writer (unfed done)))) same
+
+announce_all_blind : (writer : ℕ) → Blind (announce_all writer)
+announce_all_blind writer done =
+    ap (λ (n : ℕ). announce_upto n writer done) (unannounced_blind writer done) ∙ announce_upto_blind (unannounced writer (unfed done)) writer done
+
+-- ---- what the daemon takes
+
+event_blind : (app : ℕ) (what : Pushed) → Blind (event_taken app what)
+event_blind app (OfCall c) done = ap (event.Log app c.item.writer c.item.call) (moment_blind done)
+event_blind app (OfClaim c) done = ap (event.Claim c) (moment_blind done)
+
 take_log_blind : (setting : Setting) (app : ℕ) → Blind (take_log setting app)
 take_log_blind setting app done =
-    let act = λ (c : Call). note setting (λ now. event.Log app c.item.writer c.item.call (moment now)) in
-    some_same (slice_get (queued app done) (taken app done)) (slice_get (queued app (unfed done)) (taken app (unfed done))) act act done (unfed done)
-    (ap (λ (cs : List Call). slice_get cs (taken app done)) (queued_blind app done) ∙ ap (slice_get (queued app (unfed done))) (taken_blind app done))
-    (λ c. note_blind setting (λ now. event.Log app c.item.writer c.item.call (moment now)) (λ d. ap (event.Log app c.item.writer c.item.call) (moment_blind d)) done)
+    let act = λ (what : Pushed). note setting (event_taken app what) in
+    some_same (slice_get (pushes app done) (taken app done)) (slice_get (pushes app (unfed done)) (taken app (unfed done))) act act done (unfed done)
+    (ap (λ (ps : List Pushed). slice_get ps (taken app done)) (pushes_blind app done) ∙ ap (slice_get (pushes app (unfed done))) (taken_blind app done))
+    (λ what. note_blind setting (event_taken app what) (event_blind app what) done)
 
 take_losses_blind : (setting : Setting) (app : ℕ) → Blind (take_losses setting app)
 take_losses_blind setting app done =
@@ -215,6 +266,10 @@ plain_blind setting answers (line.Log call) is =
         tt,
       ),
     )
+plain_blind setting answers (line.Claim asked) is = turns_blind (finish asked.writer ∷ claim asked ∷ []) (finish_blind asked.writer, (claim_blind asked, tt))
+plain_blind setting answers (line.Announce writer) is = turns_blind (finish writer ∷ announce writer ∷ []) (finish_blind writer, (announce_blind writer, tt))
+plain_blind setting answers (line.Register asked) is =
+    turns_blind (finish asked.writer ∷ claim asked ∷ announce_all asked.writer ∷ []) (finish_blind asked.writer, (claim_blind asked, (announce_all_blind asked.writer, tt)))
 plain_blind setting answers (line.Take apid) is = on_app_blind apid (take_log setting) (take_log_blind setting)
 plain_blind setting answers (line.Losses apid) is = on_app_blind apid (take_losses setting) (take_losses_blind setting)
 plain_blind setting answers (line.Levels levels.Later) is = λ _. refl

@@ -6,6 +6,7 @@ use Rattle.std.proofs.lemmas.Bool.{eq-eqb, or_parts}
 use Rattle.std.proofs.lemmas.List.{append-nil}
 use Rattle.std.proofs.lemmas.List.Folds.{list_any-append}
 use Rattle.std.proofs.lemmas.List.Sums.{sum_by-cons}
+use Rattle.dl_bytes.specs.Claim.{Claimed}
 use Rattle.dl_bytes.specs.Level.{passes}
 use Rattle.dl_bytes.specs.declared.outcome.Done.{Done}
 use Rattle.dl_events.specs.declared.event.Event.{Event}
@@ -14,22 +15,23 @@ use Rattle.dl_events.specs.declared.record.Record.{Record}
 use Rattle.dl_events.specs.declared.record.Answer.{Answer}
 use Rattle.dl_events.specs.declared.record.Answer.TheVariants as answer
 use Rattle.dl_script_lines.specs.declared.step.Step.{Step}
-use Rattle.dl_model.specs.Accounts.{IsExact, AreTold, of_writer, order, with_answer}
+use Rattle.dl_model.specs.Accounts.{IsExact, AreTold, of_writer, order, with_answer, claims, claimed_by}
 use Rattle.dl_model.specs.Setting.{Setting}
 use Rattle.dl_model.specs.Journal.{IsWellFormed}
 use Rattle.dl_model.specs.Frames.{FrameSource}
-use Rattle.dl_model.specs.Marks.{Mark, journal, pending, records, records_of}
+use Rattle.dl_model.specs.Marks.{Mark, journal, pending, records, records_of, announced_by}
 use Rattle.dl_model.specs.Replay.{source_of}
 use Rattle.dl_model.specs.Report.{is_answer, records_of_app, reported}
 use Rattle.dl_model.specs.Steps.{after_lines, run}
 use Rattle.dl_model.specs.Traffic as t
-use Rattle.dl_model.specs.Traffic.{Traffic, is_any_open}
+use Rattle.dl_model.specs.Traffic.{is_any_open}
 use Rattle.dl_model.specs.Backlog.{size_of, waiting}
 use Rattle.dl_model.specs.ClientStream.{traffic, stream}
-use Rattle.dl_model.specs.WholeAccounts.{IsAccounted, IsOwned, IsOwnedSoFar, records_by}
+use Rattle.dl_model.specs.WholeAccounts.{IsAccounted, IsOwned, IsOwnedSoFar, records_by, claims_by}
 use Rattle.dl_laws.proofs.Founded.{lines_founded, run_founded}
 use Rattle.dl_promises.specs.Fates.{Fate, InRing, InStream, BufferFull, ForOthers, next_client, kept, of_frame, logs, of_queued, by_answer, what_became_of}
 use Rattle.dl_promises.specs.Causes.{is_filtered, is_ring_full, is_admitted, HasOneCause, HaveCauses, HaveMetFullRings, full_ones}
+use Rattle.dl_promises.specs.PresentClaims.{ClaimsArePresent}
 use Rattle.dl_promises.specs.RunRecords.{MetFullRing, refusals_of}
 use Rattle.dl_promises.proofs.AccountRuns.{owned_so_far, told_so_far}
 use Rattle.dl_promises.proofs.AccountWhole.{run_accounted}
@@ -97,11 +99,11 @@ by_ring answer.Queued f plain = plain.1
 
 -- ---- one cause
 
-module _ (setting : Setting) (source : FrameSource) (buffer client first writer refusals : ℕ) (events : List Event) (formed : IsWellFormed setting source events) where
+module _ (setting : Setting) (source : FrameSource) (buffer client first writer refusals : ℕ) (pushed : List Claimed) (events : List Event) (formed : IsWellFormed setting source events) where
   abbrev fate : Record → Fate
   fate r = what_became_of source buffer client events r
 
-  module _ (earlier : List Record) (r : Record) (later : List Record) (owned : IsOwnedSoFar first events writer refusals (earlier ++ r ∷ later)) where
+  module _ (earlier : List Record) (r : Record) (later : List Record) (owned : IsOwnedSoFar first events writer refusals pushed (earlier ++ r ∷ later)) where
     abbrev rs : List Record
     rs = earlier ++ r ∷ later
 
@@ -120,18 +122,18 @@ module _ (setting : Setting) (source : FrameSource) (buffer client first writer 
     none_counted : is_answer answer.Queued r.answer ≡ false → count_by (logs r.item.writer r.item.call) events ≡ 0
     none_counted is =
         counted_none r.item.writer r.item.call events
-        (subst (λ (w : ℕ). list_any (logs w r.item.call) events ≡ false) (sym its_writer) (not_logged first events writer refusals earlier later r owned is))
+        (subst (λ (w : ℕ). list_any (logs w r.item.call) events ≡ false) (sym its_writer) (not_logged first events writer refusals pushed earlier later r owned is))
 
     rest_silent : (l : IsLogged r.item.writer r.item.call events) → r.answer ≡ answer.Queued → list_any (logs r.item.writer r.item.call) l.after ≡ false
     rest_silent l is =
         let n = r.item.call in
-        let logged = logged_queued first events writer refusals rs owned in
+        let logged = logged_queued first events writer refusals pushed rs owned in
         let here : numbers_logged writer events ≡ numbers_logged writer l.before ++ n ∷ numbers_logged writer l.after =
         ap (numbers_logged writer) l.place ∙ subst (λ (w : ℕ). numbers_logged writer (l.before ++ event.Log l.app w n l.moment ∷ l.after) ≡ numbers_logged writer l.before ++ n ∷ numbers_logged writer l.after) (sym its_writer)
         (number_here l.app writer n l.moment l.before l.after) in
         let all : queued_numbers rs ≡ numbers_logged writer l.before ++ n ∷ (numbers_logged writer l.after ++ logged.0) =
         sym logged.1 ∙ ap (λ (ns : List ℕ). ns ++ logged.0) here ∙ append_assoc (numbers_logged writer l.before) (n ∷ numbers_logged writer l.after) logged.0 in
-        let once = alone 1 n (numbers_logged writer l.before) (numbers_logged writer l.after ++ logged.0) (subst (Rising 1) all (queued_rise first events writer refusals rs owned)) in
+        let once = alone 1 n (numbers_logged writer l.before) (numbers_logged writer l.after ++ logged.0) (subst (Rising 1) all (queued_rise first events writer refusals pushed rs owned)) in
         let parts : (has n (numbers_logged writer l.after) || has n logged.0) ≡ false = sym (list_any-append (λ m. eqb m n) (numbers_logged writer l.after) logged.0) ∙ once.2 in
         let none : list_any (logs writer n) l.after ≡ false = logs_number writer n l.after ∙ (or_parts (has n (numbers_logged writer l.after)) (has n logged.0) parts).0 in
         subst (λ (w : ℕ). list_any (logs w n) l.after ≡ false) (sym its_writer) none
@@ -159,8 +161,8 @@ module _ (setting : Setting) (source : FrameSource) (buffer client first writer 
     cause : HasOneCause source buffer client events r
     cause = record { says = says setting source buffer client first events r formed exact; by_level = level; admitted = once_by r.answer refl }
 
-  pub causes_are : (records : List Record) → IsOwnedSoFar first events writer refusals records → AllByRecursion (HasOneCause source buffer client events) records
-  causes_are records owned = all_places (HasOneCause source buffer client events) [] records (λ before r after is. cause before r after (subst (IsOwnedSoFar first events writer refusals) is owned))
+  pub causes_are : (records : List Record) → IsOwnedSoFar first events writer refusals pushed records → AllByRecursion (HasOneCause source buffer client events) records
+  causes_are records owned = all_places (HasOneCause source buffer client events) [] records (λ before r after is. cause before r after (subst (IsOwnedSoFar first events writer refusals pushed) is owned))
 
 -- ---- those whose ring was full
 
@@ -198,16 +200,16 @@ full_met source buffer client done (r ∷ records) all = by_test (is_answer answ
 -- ---- every run
 
 module _ (setting : Setting) (answers : List Done) (steps : List Step) (writer client : ℕ) where
-  pub lines_have : HaveCauses setting (after_lines setting answers steps) writer client
-  lines_have =
+  pub lines_have : ClaimsArePresent setting (journal (after_lines setting answers steps)) → HaveCauses setting (after_lines setting answers steps) writer client
+  lines_have present =
       let done = after_lines setting answers steps in
-      causes_are setting (source_of setting done) setting.buffer client setting.first writer (refusals_of done writer) (journal done) (lines_well_formed setting (source_of setting done) answers steps)
+      causes_are setting (source_of setting done) setting.buffer client setting.first writer (refusals_of done writer) (announced_by writer done) (journal done) (lines_well_formed setting (source_of setting done) answers steps present)
       (records_of writer done) (owned_so_far setting done (lines_founded setting answers steps) (lines_right setting answers steps) writer)
 
-  pub run_has : HaveCauses setting (run setting answers steps) writer client
-  run_has =
+  pub run_has : ClaimsArePresent setting (journal (run setting answers steps)) → HaveCauses setting (run setting answers steps) writer client
+  run_has present =
       let done = run setting answers steps in
-      causes_are setting (source_of setting done) setting.buffer client setting.first writer (refusals_of done writer) (journal done) (run_well_formed setting (source_of setting done) answers steps)
+      causes_are setting (source_of setting done) setting.buffer client setting.first writer (refusals_of done writer) (announced_by writer done) (journal done) (run_well_formed setting (source_of setting done) answers steps present)
       (records_of writer done) (owned_so_far setting done (run_founded setting answers steps) (run_right setting answers steps) writer)
 
   pub lines_met : HaveMetFullRings setting (after_lines setting answers steps) writer client
@@ -234,8 +236,8 @@ module _ (setting : Setting) (answers : List Done) (steps : List Step) (app clie
 
 -- ---- whole accounts
 
-so_far : (first : ℕ) (events : List Event) (writer refusals : ℕ) (records : List Record) → IsOwned first events writer refusals records → IsOwnedSoFar first events writer refusals records
-so_far first events writer refusals records owned = record {
+so_far : (first : ℕ) (events : List Event) (writer refusals : ℕ) (pushed : List Claimed) (records : List Record) → IsOwned first events writer refusals pushed records → IsOwnedSoFar first events writer refusals pushed records
+so_far first events writer refusals pushed records owned = record {
   app = owned.app;
   belongs = owned.belongs;
   account = record {
@@ -245,15 +247,17 @@ so_far first events writer refusals records owned = record {
     never_fall = owned.account.never_fall;
     waiting = [];
     in_order = append-nil (filter (of_writer writer) (order owned.app events)) ∙ owned.account.in_order;
+    waiting_claims = [];
+    claimed = append-nil (filter (claimed_by writer) (claims owned.app events)) ∙ owned.account.claimed;
     refused = owned.account.refused;
   };
 }
 
-pub accounts_have : (setting : Setting) (source : FrameSource) (first : ℕ) (events : List Event) (pending refusals : ℕ → ℕ) (records : List (List Record)) → IsWellFormed setting source events → IsAccounted first events pending refusals records →
+pub accounts_have : (setting : Setting) (source : FrameSource) (first : ℕ) (events : List Event) (pending refusals : ℕ → ℕ) (pushed : List (List Claimed)) (records : List (List Record)) → IsWellFormed setting source events → IsAccounted first events pending refusals pushed records →
     (buffer client writer : ℕ) → AllByRecursion (HasOneCause source buffer client events) (records_by writer records)
-accounts_have setting source first events pending refusals records formed accounted buffer client writer =
+accounts_have setting source first events pending refusals pushed records formed accounted buffer client writer =
     let rs = records_by writer records in
-    causes_are setting source buffer client first writer (refusals writer) events formed rs (so_far first events writer (refusals writer) rs (accounted.writers writer))
+    causes_are setting source buffer client first writer (refusals writer) (claims_by writer pushed) events formed rs (so_far first events writer (refusals writer) (claims_by writer pushed) rs (accounted.writers writer))
 
 has_it : (n : ℕ) (xs ys : List ℕ) → has n (xs ++ n ∷ ys) ≡ true
 has_it n xs ys = list_any-append (λ m. eqb m n) xs (n ∷ ys) ∙ ap (λ (b : Bool). has n xs || (b || has n ys)) (eq-eqb n n refl) ∙ last_so (has n xs) where
@@ -262,9 +266,9 @@ has_it n xs ys = list_any-append (λ m. eqb m n) xs (n ∷ ys) ∙ ap (λ (b : B
   last_so false = refl
 
 -- a queued call of a whole account was taken
-none_in_ring : (source : FrameSource) (buffer client first writer refusals : ℕ) (events : List Event) (earlier : List Record) (r : Record) (later : List Record) → IsOwned first events writer refusals (earlier ++ r ∷ later) →
+none_in_ring : (source : FrameSource) (buffer client first writer refusals : ℕ) (pushed : List Claimed) (events : List Event) (earlier : List Record) (r : Record) (later : List Record) → IsOwned first events writer refusals pushed (earlier ++ r ∷ later) →
     what_became_of source buffer client events r ≡ InRing → ⊥
-none_in_ring source buffer client first writer refusals events earlier r later owned in_ring = by_answer_of r.answer refl where
+none_in_ring source buffer client first writer refusals pushed events earlier r later owned in_ring = by_answer_of r.answer refl where
   its_writer : r.item.writer ≡ writer
   its_writer = all_here (λ (x : Record). x.item.writer ≡ writer) earlier r later owned.belongs.by_writer
 
@@ -278,7 +282,7 @@ none_in_ring source buffer client first writer refusals events earlier r later o
       true_not_false (is_admitted frame) admitted (ap is_admitted (sym (f.found client) ∙ given answer.Queued is))
   by_search is (inr none) =
       let there : has r.item.call (numbers_logged writer events) ≡ true =
-      ap (has r.item.call) (all_logged first events writer refusals (earlier ++ r ∷ later) owned ∙ queued_here earlier later r is) ∙ has_it r.item.call (queued_numbers earlier) (queued_numbers later) in
+      ap (has r.item.call) (all_logged first events writer refusals pushed (earlier ++ r ∷ later) owned ∙ queued_here earlier later r is) ∙ has_it r.item.call (queued_numbers earlier) (queued_numbers later) in
       true_not_false (list_any (logs writer r.item.call) events) (logs_number writer r.item.call events ∙ there)
       (subst (λ (w : ℕ). list_any (logs w r.item.call) events ≡ false) its_writer none.0)
 
@@ -287,8 +291,8 @@ none_in_ring source buffer client first writer refusals events earlier r later o
   by_answer_of answer.Lost is = true_not_false true refl (ap is_ring_full (given answer.Lost is))
   by_answer_of answer.Queued is = by_search is (searched source buffer r.item.writer r.item.call [] events)
 
-pub accounts_taken : (source : FrameSource) (first : ℕ) (events : List Event) (pending refusals : ℕ → ℕ) (records : List (List Record)) → IsAccounted first events pending refusals records →
+pub accounts_taken : (source : FrameSource) (first : ℕ) (events : List Event) (pending refusals : ℕ → ℕ) (pushed : List (List Claimed)) (records : List (List Record)) → IsAccounted first events pending refusals pushed records →
     (buffer client writer : ℕ) → AllByRecursion (λ r. what_became_of source buffer client events r ≡ InRing → ⊥) (records_by writer records)
-accounts_taken source first events pending refusals records accounted buffer client writer =
+accounts_taken source first events pending refusals pushed records accounted buffer client writer =
     all_places (λ r. what_became_of source buffer client events r ≡ InRing → ⊥) [] (records_by writer records)
-    (λ before r after is. none_in_ring source buffer client first writer (refusals writer) events before r after (subst (IsOwned first events writer (refusals writer)) is (accounted.writers writer)))
+    (λ before r after is. none_in_ring source buffer client first writer (refusals writer) (claims_by writer pushed) events before r after (subst (IsOwned first events writer (refusals writer) (claims_by writer pushed)) is (accounted.writers writer)))

@@ -7,6 +7,7 @@ use Rattle.std.proofs.lemmas.List.{map-append}
 use Rattle.std.proofs.lemmas.List.Elements.{filter-append, filter_map-append}
 use Rattle.std.proofs.lemmas.List.Folds.{list_any-append}
 use Rattle.std.proofs.lemmas.List.Sums.{sum_by-cons}
+use Rattle.dl_bytes.specs.Claim.{Claimed}
 use Rattle.dl_bytes.specs.declared.moment.Moment.{Moment}
 use Rattle.dl_events.specs.declared.event.Event.{Event}
 use Rattle.dl_events.specs.declared.event.Event.TheVariants as event
@@ -85,6 +86,7 @@ logs_number writer call (event.Log app other number moment ∷ events) = by_test
 logs_number writer call (event.Connect client ∷ events) = logs_number writer call events
 logs_number writer call (event.Request client frame done ∷ events) = logs_number writer call events
 logs_number writer call (event.Close client why ∷ events) = logs_number writer call events
+logs_number writer call (event.Claim claim moment ∷ events) = logs_number writer call events
 logs_number writer call (event.Level slot level ∷ events) = logs_number writer call events
 logs_number writer call (event.Lost app count moment ∷ events) = logs_number writer call events
 logs_number writer call (event.User channel msg moment ∷ events) = logs_number writer call events
@@ -209,6 +211,7 @@ logged_order writer app (event.Log that by call moment ∷ events) none = by_wri
   by_writer false other later = later ∙ ap (map second_of) (sym (elsewhere (eqb that app) other))
 logged_order writer app (event.Lost that count moment ∷ events) none = logged_order writer app events (fewer writer app (event.Lost that count moment) events none)
 logged_order writer app (event.User channel msg moment ∷ events) none = logged_order writer app events (fewer writer app (event.User channel msg moment) events none)
+logged_order writer app (event.Claim claim moment ∷ events) none = logged_order writer app events (fewer writer app (event.Claim claim moment) events none)
 logged_order writer app (event.Level slot level ∷ events) none = logged_order writer app events (fewer writer app (event.Level slot level) events none)
 logged_order writer app (event.Connect client ∷ events) none = logged_order writer app events (fewer writer app (event.Connect client) events none)
 logged_order writer app (event.Request client frame answer ∷ events) none = logged_order writer app events (fewer writer app (event.Request client frame answer) events none)
@@ -222,9 +225,9 @@ map_second : (rs : List Record) → map second_of (map nr rs) ≡ map call_numbe
 map_second [] = refl
 map_second (r ∷ rs) = ap (λ (ns : List ℕ). r.item.call ∷ ns) (map_second rs)
 
-pub logged_queued : (first : ℕ) (events : List Event) (writer refusals : ℕ) (records : List Record) → IsOwnedSoFar first events writer refusals records →
+pub logged_queued : (first : ℕ) (events : List Event) (writer refusals : ℕ) (pushed : List Claimed) (records : List Record) → IsOwnedSoFar first events writer refusals pushed records →
     (others : List ℕ) × (numbers_logged writer events ++ others ≡ queued_numbers records)
-logged_queued first events writer refusals records owned =
+logged_queued first events writer refusals pushed records owned =
     let done = filter (of_writer writer) (order owned.app events) in (
       map second_of owned.account.waiting,
       ap (λ (ns : List ℕ). ns ++ map second_of owned.account.waiting) (logged_order writer owned.app events owned.belongs.alone)
@@ -232,8 +235,8 @@ logged_queued first events writer refusals records owned =
     )
 
 -- in a whole account, all of them
-pub all_logged : (first : ℕ) (events : List Event) (writer refusals : ℕ) (records : List Record) → IsOwned first events writer refusals records → numbers_logged writer events ≡ queued_numbers records
-all_logged first events writer refusals records owned =
+pub all_logged : (first : ℕ) (events : List Event) (writer refusals : ℕ) (pushed : List Claimed) (records : List Record) → IsOwned first events writer refusals pushed records → numbers_logged writer events ≡ queued_numbers records
+all_logged first events writer refusals pushed records owned =
     logged_order writer owned.app events owned.belongs.alone ∙ ap (map second_of) owned.account.in_order ∙ map_second (with_answer answer.Queued records)
 
 -- they rise
@@ -244,11 +247,11 @@ kept_rises a (x ∷ rs) r = by_test (is_answer answer.Queued x.answer) (kept_ris
   by_test true later = (r.0, later)
   by_test false later = lower (x.item.call + 1) a (queued_numbers rs) (omega (arith, r.0)) later
 
-pub numbers_rise : (first : ℕ) (events : List Event) (writer refusals : ℕ) (records : List Record) → IsOwnedSoFar first events writer refusals records → Rising 1 (map call_number records)
-numbers_rise first events writer refusals records owned = subst (Rising 1) (sym owned.account.numbered) (range_rises 1 (length records))
+pub numbers_rise : (first : ℕ) (events : List Event) (writer refusals : ℕ) (pushed : List Claimed) (records : List Record) → IsOwnedSoFar first events writer refusals pushed records → Rising 1 (map call_number records)
+numbers_rise first events writer refusals pushed records owned = subst (Rising 1) (sym owned.account.numbered) (range_rises 1 (length records))
 
-pub queued_rise : (first : ℕ) (events : List Event) (writer refusals : ℕ) (records : List Record) → IsOwnedSoFar first events writer refusals records → Rising 1 (queued_numbers records)
-queued_rise first events writer refusals records owned = kept_rises 1 records (numbers_rise first events writer refusals records owned)
+pub queued_rise : (first : ℕ) (events : List Event) (writer refusals : ℕ) (pushed : List Claimed) (records : List Record) → IsOwnedSoFar first events writer refusals pushed records → Rising 1 (queued_numbers records)
+queued_rise first events writer refusals pushed records owned = kept_rises 1 records (numbers_rise first events writer refusals pushed records owned)
 
 pub queued-append : (xs ys : List Record) → queued_numbers (xs ++ ys) ≡ queued_numbers xs ++ queued_numbers ys
 queued-append xs ys =
@@ -271,12 +274,12 @@ none_queued n (r ∷ rs) none = by_test (is_answer answer.Queued r.answer) (none
   by_test false later = later
 
 -- a call that isn't queued has no Log event
-pub not_logged : (first : ℕ) (events : List Event) (writer refusals : ℕ) (earlier later : List Record) (r : Record) → IsOwnedSoFar first events writer refusals (earlier ++ r ∷ later) → is_answer answer.Queued r.answer ≡ false →
+pub not_logged : (first : ℕ) (events : List Event) (writer refusals : ℕ) (pushed : List Claimed) (earlier later : List Record) (r : Record) → IsOwnedSoFar first events writer refusals pushed (earlier ++ r ∷ later) → is_answer answer.Queued r.answer ≡ false →
     list_any (logs writer r.item.call) events ≡ false
-not_logged first events writer refusals earlier later r owned not =
+not_logged first events writer refusals pushed earlier later r owned not =
     let n = r.item.call in
-    let logged = logged_queued first events writer refusals (earlier ++ r ∷ later) owned in
-    let rises : Rising 1 (map call_number earlier ++ n ∷ map call_number later) = subst (Rising 1) (map-append call_number earlier (r ∷ later)) (numbers_rise first events writer refusals (earlier ++ r ∷ later) owned) in
+    let logged = logged_queued first events writer refusals pushed (earlier ++ r ∷ later) owned in
+    let rises : Rising 1 (map call_number earlier ++ n ∷ map call_number later) = subst (Rising 1) (map-append call_number earlier (r ∷ later)) (numbers_rise first events writer refusals pushed (earlier ++ r ∷ later) owned) in
     let once = alone 1 n (map call_number earlier) (map call_number later) rises in
     let same : queued_numbers (earlier ++ r ∷ later) ≡ queued_numbers earlier ++ queued_numbers later =
     queued-append earlier (r ∷ later) ∙ ap (λ (b : Bool). queued_numbers earlier ++ map call_number (cond b (r ∷ with_answer answer.Queued later) (with_answer answer.Queued later))) not in

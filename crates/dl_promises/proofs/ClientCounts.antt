@@ -124,6 +124,7 @@ one_more before (event.Close client cause) all says is =
 one_more before (event.Log app writer call moment) all says is = quiet_one before (event.Log app writer call moment) refl refl (λ c. refl) is
 one_more before (event.Lost app count moment) all says is = quiet_one before (event.Lost app count moment) refl refl (λ c. refl) is
 one_more before (event.User channel msg moment) all says is = quiet_one before (event.User channel msg moment) refl refl (λ c. refl) is
+one_more before (event.Claim claim moment) all says is = quiet_one before (event.Claim claim moment) refl refl (λ c. refl) is
 one_more before (event.Level slot level) all says is = quiet_one before (event.Level slot level) refl refl (λ c. refl) is
 one_more before (event.Request client frame answer) all says is = quiet_one before (event.Request client frame answer) refl refl (λ c. refl) is
 

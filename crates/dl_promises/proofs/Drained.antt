@@ -15,13 +15,13 @@ use Rattle.dl_script_lines.specs.declared.step.Step.{Step}
 use Rattle.dl_model.specs.declared.registry.LevelChange.{LevelChange}
 use Rattle.dl_model.specs.Setting.{Setting}
 use Rattle.dl_model.specs.Journal.{is_connect}
-use Rattle.dl_model.specs.Marks.{Call, Mark, Noted, journal, event_of, app_of, apps, queued, queued_of, taken, is_log_of, held_by, pending, is_lost_of, is_counted_of, is_later, moment}
+use Rattle.dl_model.specs.Marks.{Mark, Noted, journal, event_of, app_of, apps, Pushed, OfCall, OfClaim, pushes, pushed_of, taken, is_taken_of, held_by, pending, is_lost_of, is_counted_of, is_later, moment}
 use Rattle.dl_model.specs.Runs.{RestsOn, AreFounded}
-use Rattle.dl_model.specs.Steps.{Act, in_sequence, for_some, when, changes, level_noted, note_levels, note_levels_now, note, take_log, take_losses, is_open, close, drain, act_of, run}
+use Rattle.dl_model.specs.Steps.{Act, in_sequence, for_some, when, changes, level_noted, note_levels, note_levels_now, note, event_taken, take_log, take_losses, is_open, close, drain, act_of, run}
 use Rattle.dl_laws.proofs.Lists.{after_last-one, count_by-append}
-use Rattle.dl_laws.proofs.Founded.{run_founded}
+use Rattle.dl_laws.proofs.Founded.{IsOf, pushed-own, run_founded}
 use Rattle.dl_laws.proofs.RunLaws.{admitted_in_order}
-use Rattle.dl_promises.proofs.Relations.{AreAll, Keeps, both, first_part, second_part, holds_on, turns, each, repeated, asked_for, where_so}
+use Rattle.dl_promises.proofs.Relations.{AreAll, Keeps, as_all, both, first_part, second_part, holds_on, turns, each, repeated, asked_for, where_so}
 use Rattle.dl_promises.proofs.Turns.{ready, finishes, drains, stops, before_stop}
 use Rattle.dl_promises.proofs.WellFormed.{in_sequence-one, run_is}
 use Rattle.dl_promises.proofs.CutInTwo.{note_parts}
@@ -47,12 +47,12 @@ module _ {A : Type 0} (W : List Mark → A) (still : (done : List Mark) (c : Lev
 
 -- ---- what a noted event changes
 
-queued_noted : (app : ℕ) (done : List Mark) (e : Event) → queued app (done ++ Noted e ∷ []) ≡ queued app done
-queued_noted app done e = filter_map-append (queued_of app) done (Noted e ∷ []) ∙ append-nil (queued app done)
+pushes_noted : (app : ℕ) (done : List Mark) (e : Event) → pushes app (done ++ Noted e ∷ []) ≡ pushes app done
+pushes_noted app done e = filter_map-append (pushed_of app) done (Noted e ∷ []) ∙ append-nil (pushes app done)
 
-taken_noted : (app : ℕ) (done : List Mark) (e : Event) → taken app (done ++ Noted e ∷ []) ≡ taken app done + cond (is_log_of app e) 1 0
+taken_noted : (app : ℕ) (done : List Mark) (e : Event) → taken app (done ++ Noted e ∷ []) ≡ taken app done + cond (is_taken_of app e) 1 0
 taken_noted app done e =
-    let all = ap (count_by (is_log_of app)) (filter_map-append event_of done (Noted e ∷ [])) ∙ count_by-append (is_log_of app) (journal done) (e ∷ []) in
+    let all = ap (count_by (is_taken_of app)) (filter_map-append event_of done (Noted e ∷ [])) ∙ count_by-append (is_taken_of app) (journal done) (e ∷ []) in
     omega (arith, all)
 
 pending_noted : (app : ℕ) (done : List Mark) (e : Event) → pending app (done ++ Noted e ∷ []) ≡ cond (is_lost_of app (Noted e)) 0 (pending app done)
@@ -69,13 +69,13 @@ taken_level app done c = omega (arith, taken_noted app done (event.Level c.slot 
 pending_level : (app : ℕ) (done : List Mark) (c : LevelChange) → pending app (done ++ level_noted c ∷ []) ≡ pending app done
 pending_level app done c = pending_noted app done (event.Level c.slot c.level)
 
-queued_level : (app : ℕ) (done : List Mark) (c : LevelChange) → queued app (done ++ level_noted c ∷ []) ≡ queued app done
-queued_level app done c = queued_noted app done (event.Level c.slot c.level)
+pushes_level : (app : ℕ) (done : List Mark) (c : LevelChange) → pushes app (done ++ level_noted c ∷ []) ≡ pushes app done
+pushes_level app done c = pushes_noted app done (event.Level c.slot c.level)
 
 -- ---- an application that is drained stays so
 
 pub record Emptied (app : ℕ) (done : List Mark) : Type 0 where
-  pub all_taken : taken app done ≡ length (queued app done)
+  pub all_taken : taken app done ≡ length (pushes app done)
   pub none_pending : pending app done ≡ 0
 
 -- marks of the daemon alone
@@ -86,15 +86,22 @@ IsNoted done _ = ⊥
 abbrev Told : Setting → List Mark → Mark → Type 0
 Told setting done mark = RestsOn setting done mark × IsNoted done mark
 
--- no further call is taken
-none_taken : (setting : Setting) (app : ℕ) (done : List Mark) (e : Event) → taken app done ≡ length (queued app done) → RestsOn setting done (Noted e) → ◌≡◌ {A = ℕ} (cond (is_log_of app e) 1 0) 0
+-- nothing further is taken
+none_taken : (setting : Setting) (app : ℕ) (done : List Mark) (e : Event) → taken app done ≡ length (pushes app done) → RestsOn setting done (Noted e) → ◌≡◌ {A = ℕ} (cond (is_taken_of app e) 1 0) 0
 none_taken setting app done (event.Log other writer call moment) all rests = by_app (cases_eq other app) where
   by_app : (other ≡ app) ⊎ (other ≡ app → ⊥) → ◌≡◌ {A = ℕ} (cond (eqb other app) 1 0) 0
   by_app (inl same) =
-      let there : slice_get (queued app done) (taken app done) ≡ Some rests.call = subst (λ (a : ℕ). slice_get (queued a done) (taken a done) ≡ Some rests.call) same rests.first in
-      let within = slice_get_within (queued app done) (taken app done) rests.call there in
+      let there : slice_get (pushes app done) (taken app done) ≡ Some (OfCall rests.call) = subst (λ (a : ℕ). slice_get (pushes a done) (taken a done) ≡ Some (OfCall rests.call)) same rests.first in
+      let within = slice_get_within (pushes app done) (taken app done) (OfCall rests.call) there in
       absurd (omega (arith, within, all))
   by_app (inr apart) = ap (λ (b : Bool). cond b 1 0) (ne_eqb other app apart)
+none_taken setting app done (event.Claim claim moment) all rests = by_app (cases_eq claim.app app) where
+  by_app : (claim.app ≡ app) ⊎ (claim.app ≡ app → ⊥) → ◌≡◌ {A = ℕ} (cond (eqb claim.app app) 1 0) 0
+  by_app (inl same) =
+      let there : slice_get (pushes app done) (taken app done) ≡ Some (OfClaim claim) = subst (λ (a : ℕ). slice_get (pushes a done) (taken a done) ≡ Some (OfClaim claim)) same rests in
+      let within = slice_get_within (pushes app done) (taken app done) (OfClaim claim) there in
+      absurd (omega (arith, within, all))
+  by_app (inr apart) = ap (λ (b : Bool). cond b 1 0) (ne_eqb claim.app app apart)
 none_taken setting app done _ all rests = refl
 
 none_due : (b : Bool) (n : ℕ) → n ≡ 0 → cond b 0 n ≡ 0
@@ -105,7 +112,7 @@ still_empty : (setting : Setting) (app : ℕ) (done : List Mark) (mark : Mark) �
 still_empty setting app done (Noted e) is told = record {
   all_taken =
       let none = none_taken setting app done e is.all_taken told.0 in
-      omega (arith, taken_noted app done e, none, is.all_taken, ap length (queued_noted app done e));
+      omega (arith, taken_noted app done e, none, is.all_taken, ap length (pushes_noted app done e));
   none_pending = pending_noted app done e ∙ none_due (is_lost_of app (Noted e)) (pending app done) is.none_pending;
 }
 still_empty setting app done mark is told = absurd told.1
@@ -133,8 +140,7 @@ note_noted setting make = turns IsNoted (note_levels setting ∷ (λ done. Noted
 
 take_log_noted : (setting : Setting) (app : ℕ) → Keeps IsNoted (take_log setting app)
 take_log_noted setting app done =
-    asked_for IsNoted (slice_get (queued app done) (taken app done)) (λ c. note setting (λ now. event.Log app c.item.writer c.item.call (moment now))) done
-    (λ c e. note_noted setting (λ now. event.Log app c.item.writer c.item.call (moment now)) done)
+    asked_for IsNoted (slice_get (pushes app done) (taken app done)) (λ what. note setting (event_taken app what)) done (λ what e. note_noted setting (event_taken app what) done)
 
 take_losses_noted : (setting : Setting) (app : ℕ) → Keeps IsNoted (take_losses setting app)
 take_losses_noted setting app done =
@@ -160,42 +166,47 @@ stops_noted setting done =
 
 -- ---- one application is drained
 
--- a call that waits is taken
-take_one : (setting : Setting) (app : ℕ) (done : List Mark) → taken app done < length (queued app done) →
-    (taken app (done ++ take_log setting app done) ≡ taken app done + 1) × (queued app (done ++ take_log setting app done) ≡ queued app done)
-take_one setting app done lt = by_cases (slice_get_cases (queued app done) (taken app done)).1 where
-  by_call : (c : Call) → slice_get (queued app done) (taken app done) ≡ Some c → (taken app (done ++ take_log setting app done) ≡ taken app done + 1) × (queued app (done ++ take_log setting app done) ≡ queued app done)
-  by_call c e =
-      let make = λ (now : List Mark). event.Log app c.item.writer c.item.call (moment now) in
-      let marks : take_log setting app done ≡ note setting make done = ap (λ (o : Option Call). for_some o (λ c. note setting (λ now. event.Log app c.item.writer c.item.call (moment now))) done) e in
-      let own : ◌≡◌ {A = ℕ} (cond (eqb app app) 1 0) 1 = ap (λ (b : Bool). cond b 1 0) (eq-eqb app app refl) in
+-- the event of what is taken is one of a take
+own_take : (app : ℕ) (what : Pushed) (now : List Mark) → IsOf app what → ◌≡◌ {A = ℕ} (cond (is_taken_of app (event_taken app what now)) 1 0) 1
+own_take app (OfCall c) now own = ap (λ (b : Bool). cond b 1 0) (eq-eqb app app refl)
+own_take app (OfClaim c) now own = ap (λ (b : Bool). cond b 1 0) (eq-eqb c.app app own)
+
+-- a call or a claim that waits is taken
+take_one : (setting : Setting) (app : ℕ) (done : List Mark) → taken app done < length (pushes app done) →
+    (taken app (done ++ take_log setting app done) ≡ taken app done + 1) × (pushes app (done ++ take_log setting app done) ≡ pushes app done)
+take_one setting app done lt = by_cases (slice_get_cases (pushes app done) (taken app done)).1 where
+  by_push : (what : Pushed) → slice_get (pushes app done) (taken app done) ≡ Some what → (taken app (done ++ take_log setting app done) ≡ taken app done + 1) × (pushes app (done ++ take_log setting app done) ≡ pushes app done)
+  by_push what e =
+      let make = event_taken app what in
+      let marks : take_log setting app done ≡ note setting make done = ap (λ (o : Option Pushed). for_some o (λ what. note setting (event_taken app what)) done) e in
       let now = ready setting done in
-      let took : taken app (done ++ note setting make done) ≡ taken app now + cond (eqb app app) 1 0 = word_note (taken app) (taken_level app) setting make done ∙ taken_noted app now (make now) in
+      let own = own_take app what now (pushed-own app done (taken app done) what e) in
+      let took : taken app (done ++ note setting make done) ≡ taken app now + cond (is_taken_of app (make now)) 1 0 = word_note (taken app) (taken_level app) setting make done ∙ taken_noted app now (make now) in
       let took_ready : taken app now ≡ taken app done = word_ready (taken app) (taken_level app) setting done in (
         ap (λ (ms : List Mark). taken app (done ++ ms)) marks ∙ omega (arith, took, took_ready, own),
-        ap (λ (ms : List Mark). queued app (done ++ ms)) marks ∙ word_note (queued app) (queued_level app) setting make done ∙ queued_noted app now (make now)
-            ∙ word_ready (queued app) (queued_level app) setting done,
+        ap (λ (ms : List Mark). pushes app (done ++ ms)) marks ∙ word_note (pushes app) (pushes_level app) setting make done ∙ pushes_noted app now (make now)
+            ∙ word_ready (pushes app) (pushes_level app) setting done,
       )
 
-  by_cases : ((x : Call) × (taken app done < length (queued app done)) × (slice_get (queued app done) (taken app done) ≡ Some x) × (get_or (queued app done) (taken app done) x ≡ x)) ⊎ ((length (queued app done) ≤ taken app done) × (slice_get (queued app done) (taken app done) ≡ None)) →
-      (taken app (done ++ take_log setting app done) ≡ taken app done + 1) × (queued app (done ++ take_log setting app done) ≡ queued app done)
-  by_cases (inl found) = by_call found.0 found.2
+  by_cases : ((x : Pushed) × (taken app done < length (pushes app done)) × (slice_get (pushes app done) (taken app done) ≡ Some x) × (get_or (pushes app done) (taken app done) x ≡ x)) ⊎ ((length (pushes app done) ≤ taken app done) × (slice_get (pushes app done) (taken app done) ≡ None)) →
+      (taken app (done ++ take_log setting app done) ≡ taken app done + 1) × (pushes app (done ++ take_log setting app done) ≡ pushes app done)
+  by_cases (inl found) = by_push found.0 found.2
   by_cases (inr none) = absurd (omega (arith, lt, none.0))
 
-take_all : (setting : Setting) (app k : ℕ) (done : List Mark) → taken app done + k ≡ length (queued app done) →
-    taken app (done ++ in_sequence (replicate k (take_log setting app)) done) ≡ length (queued app (done ++ in_sequence (replicate k (take_log setting app)) done))
+take_all : (setting : Setting) (app k : ℕ) (done : List Mark) → taken app done + k ≡ length (pushes app done) →
+    taken app (done ++ in_sequence (replicate k (take_log setting app)) done) ≡ length (pushes app (done ++ in_sequence (replicate k (take_log setting app)) done))
 take_all setting app zero done e =
-    ap (taken app) (append-nil done) ∙ omega (arith, e) ∙ ap (λ (ms : List Mark). length (queued app ms)) (sym (append-nil done))
+    ap (taken app) (append-nil done) ∙ omega (arith, e) ∙ ap (λ (ms : List Mark). length (pushes app ms)) (sym (append-nil done))
 take_all setting app (suc k) done e =
     let one = take_one setting app done (omega (arith, e)) in
     let now = done ++ take_log setting app done in
     let rest = in_sequence (replicate k (take_log setting app)) now in
     let later = take_all setting app k now (omega (arith, one.0, ap length one.1, e)) in
     let same : now ++ rest ≡ done ++ (take_log setting app done ++ rest) = append_assoc done (take_log setting app done) rest in
-    subst (λ (ms : List Mark). taken app ms ≡ length (queued app ms)) same later
+    subst (λ (ms : List Mark). taken app ms ≡ length (pushes app ms)) same later
 
 -- losses that are pending are told
-tell_losses : (setting : Setting) (app : ℕ) (done : List Mark) → taken app done ≡ length (queued app done) → Emptied app (done ++ take_losses setting app done)
+tell_losses : (setting : Setting) (app : ℕ) (done : List Mark) → taken app done ≡ length (pushes app done) → Emptied app (done ++ take_losses setting app done)
 tell_losses setting app done all = by_test (ltb 0 (pending app done)) refl where
   by_test : (b : Bool) → ltb 0 (pending app done) ≡ b → Emptied app (done ++ when b (note setting (λ now. event.Lost app (pending app now) (moment now))) done)
   by_test true e =
@@ -203,7 +214,7 @@ tell_losses setting app done all = by_test (ltb 0 (pending app done)) refl where
       let now = ready setting done in
       let took = word_note (taken app) (taken_level app) setting make done ∙ taken_noted app now (make now) in
       let took_ready : taken app now ≡ taken app done = word_ready (taken app) (taken_level app) setting done in
-      let same : queued app (done ++ note setting make done) ≡ queued app done = word_note (queued app) (queued_level app) setting make done ∙ queued_noted app now (make now) ∙ word_ready (queued app) (queued_level app) setting done in
+      let same : pushes app (done ++ note setting make done) ≡ pushes app done = word_note (pushes app) (pushes_level app) setting make done ∙ pushes_noted app now (make now) ∙ word_ready (pushes app) (pushes_level app) setting done in
       record {
         all_taken = omega (arith, took, took_ready, all, ap length same);
         none_pending = word_note (pending app) (pending_level app) setting make done ∙ pending_noted app now (make now) ∙ ap (λ (b : Bool). cond b 0 (pending app now)) (eq-eqb app app refl);
@@ -212,7 +223,7 @@ tell_losses setting app done all = by_test (ltb 0 (pending app done)) refl where
       let none = ltb-false 0 (pending app done) e in
       subst (Emptied app) (sym (append-nil done)) (record { all_taken = all; none_pending = omega (arith, none) })
 
-drain_empties : (setting : Setting) (app : ℕ) (done : List Mark) → taken app done ≤ length (queued app done) → Emptied app (done ++ drain setting app done)
+drain_empties : (setting : Setting) (app : ℕ) (done : List Mark) → taken app done ≤ length (pushes app done) → Emptied app (done ++ drain setting app done)
 drain_empties setting app done le =
     let takes = in_sequence (replicate (held_by app done) (take_log setting app)) done in
     let now = done ++ takes in
@@ -244,10 +255,6 @@ drain_each setting (suc k) a done founded all grows app le lt =
 told_by : (setting : Setting) (before ms : List Mark) → AreAll (RestsOn setting) before ms → AreAll IsNoted before ms → AreAll (Told setting) before ms
 told_by setting before [] rests noted = tt
 told_by setting before (mark ∷ ms) rests noted = ((rests.0, noted.0), told_by setting (before ++ mark ∷ []) ms rests.1 noted.1)
-
-as_all : (setting : Setting) (before ms : List Mark) → AreFounded setting before ms → AreAll (RestsOn setting) before ms
-as_all setting before [] founded = tt
-as_all setting before (mark ∷ ms) founded = (founded.0, as_all setting (before ++ mark ∷ []) ms founded.1)
 
 as_founded : (setting : Setting) (before ms : List Mark) → AreAll (RestsOn setting) before ms → AreFounded setting before ms
 as_founded setting before [] all = tt

@@ -18,9 +18,9 @@ use Rattle.dl_laws.proofs.Calls.{calls_numbered}
 use Rattle.dl_promises.proofs.Relations.{AreAll}
 use Rattle.dl_promises.proofs.Turns.{drains}
 use Rattle.dl_promises.proofs.WriterRuns.{Open, Shut, ToPush, ToCount, open_of, IfOpen, Right}
-use Rattle.dl_promises.proofs.OwnApps.{IsOwnItem, own_open}
+use Rattle.dl_promises.proofs.OwnApps.{IsOwnItem, own_open, in_range}
 use Rattle.dl_promises.proofs.RightRuns.{lines_right}
-use Rattle.dl_promises.proofs.AccountRuns.{in_range, range_length}
+use Rattle.dl_promises.proofs.AccountRuns.{range_length}
 use Rattle.dl_promises.proofs.Drained.{IsNoted, lines, finished, drained, after, whole_is, noted_after, drains_noted}
 
 -- no call of the writer is open

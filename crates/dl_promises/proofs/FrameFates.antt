@@ -96,6 +96,7 @@ module _ (source : FrameSource) where
   waits_event first before (event.Close client why) says none w =
       let there : t.is_open client (traffic source before) ≡ true = open_same source client before ∙ opened_is client before says in
       absurd (true_not_false (is_any_open (traffic source before)) ((any_open (traffic source before)).1 client there) w.shut)
+  waits_event first before (event.Claim claim moment) says none w = waits_frames first (traffic source before) [] w
   waits_event first before (event.Level slot level) says none w = waits_frames first (traffic source before) [] w
   waits_event first before (event.Log app writer call moment) says none w = waits_frames first (traffic source before) (frames_of source (event.Log app writer call moment)) w
   waits_event first before (event.Lost app count moment) says none w = waits_frames first (traffic source before) (frames_of source (event.Lost app count moment)) w
@@ -130,6 +131,7 @@ comes client (event.Connect other ∷ events) is =
     subst (λ (n : ℕ). Comes n (event.Connect other ∷ events)) same (record { middle = []; after = events; place = refl; none = refl })
 comes client (event.Request other frame done ∷ events) is = comes_later (event.Request other frame done) client events refl (λ middle none. none) (comes client events is)
 comes client (event.Close other why ∷ events) is = comes_later (event.Close other why) client events refl (λ middle none. none) (comes client events is)
+comes client (event.Claim claim moment ∷ events) is = comes_later (event.Claim claim moment) client events refl (λ middle none. none) (comes client events is)
 comes client (event.Level slot level ∷ events) is = comes_later (event.Level slot level) client events refl (λ middle none. none) (comes client events is)
 comes client (event.Log app writer call moment ∷ events) is = comes_later (event.Log app writer call moment) client events refl (λ middle none. none) (comes client events is)
 comes client (event.Lost app count moment ∷ events) is = comes_later (event.Lost app count moment) client events refl (λ middle none. none) (comes client events is)

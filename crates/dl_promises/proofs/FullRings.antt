@@ -11,7 +11,7 @@ use Rattle.dl_events.specs.declared.record.Record.{Record}
 use Rattle.dl_events.specs.declared.record.Answer.TheVariants as answer
 use Rattle.dl_script_lines.specs.declared.line.AppLine.{AppLine}
 use Rattle.dl_model.specs.Setting.{Setting}
-use Rattle.dl_model.specs.Marks.{Call, Mark, Filtered, Passed, Queued, Refused, Counted, event_of, journal, app_of, apps, record_of, recorded, records_of, queued, queued_of, taken, is_log_of, held_by, capacity_of, is_full}
+use Rattle.dl_model.specs.Marks.{Call, Mark, Filtered, Passed, Queued, Refused, Counted, Announced, event_of, journal, app_of, apps, record_of, recorded, records_of, OfCall, OfClaim, pushes, pushed_of, taken, is_taken_of, held_by, capacity_of, is_full}
 use Rattle.dl_model.specs.Report.{is_answer}
 use Rattle.dl_model.specs.Accounts.{with_answer}
 use Rattle.dl_laws.proofs.Lists.{count_by-append}
@@ -45,11 +45,11 @@ capacity_more done mark app =
 
 taken_more : (done : List Mark) (mark : Mark) (app : ℕ) → taken app done ≤ taken app (done ++ mark ∷ [])
 taken_more done mark app =
-    let all = ap (count_by (is_log_of app)) (filter_map-append event_of done (mark ∷ [])) ∙ count_by-append (is_log_of app) (journal done) (filter_map event_of (mark ∷ [])) in
+    let all = ap (count_by (is_taken_of app)) (filter_map-append event_of done (mark ∷ [])) ∙ count_by-append (is_taken_of app) (journal done) (filter_map event_of (mark ∷ [])) in
     omega (arith, all)
 
-queued_more : (done : List Mark) (mark : Mark) (app : ℕ) → length (queued app (done ++ mark ∷ [])) ≡ length (queued app done) + length (filter_map (queued_of app) (mark ∷ []))
-queued_more done mark app = ap length (filter_map-append (queued_of app) done (mark ∷ [])) ∙ length-append (queued app done) (filter_map (queued_of app) (mark ∷ []))
+pushes_more : (done : List Mark) (mark : Mark) (app : ℕ) → length (pushes app (done ++ mark ∷ [])) ≡ length (pushes app done) + length (filter_map (pushed_of app) (mark ∷ []))
+pushes_more done mark app = ap length (filter_map-append (pushed_of app) done (mark ∷ [])) ∙ length-append (pushes app done) (filter_map (pushed_of app) (mark ∷ []))
 
 room_on : (setting : Setting) (done : List Mark) (mark : Mark) → HaveRoom done → Right setting done mark → HaveRoom (done ++ mark ∷ [])
 room_on setting done (Queued c) room right app = by_app (eqb c.item.app app) refl where
@@ -57,12 +57,22 @@ room_on setting done (Queued c) room right app = by_app (eqb c.item.app app) ref
   by_app true is =
       let same = eqb-true c.item.app app is in
       let below : held_by app done < capacity_of done app = subst (λ (a : ℕ). held_by a done < capacity_of done a) same (leb-false (capacity_of done c.item.app) (held_by c.item.app done) right.0.1) in
-      let one : length (filter_map (queued_of app) (Queued c ∷ [])) ≡ 1 = ap (λ (b : Bool). length (cons_option (cond b (Some c) None) [])) is in
-      omega (arith, below, one, queued_more done (Queued c) app, taken_more done (Queued c) app, capacity_more done (Queued c) app)
+      let one : length (filter_map (pushed_of app) (Queued c ∷ [])) ≡ 1 = ap (λ (b : Bool). length (cons_option (cond b (Some (OfCall c)) None) [])) is in
+      omega (arith, below, one, pushes_more done (Queued c) app, taken_more done (Queued c) app, capacity_more done (Queued c) app)
   by_app false is =
-      let none : length (filter_map (queued_of app) (Queued c ∷ [])) ≡ 0 = ap (λ (b : Bool). length (cons_option (cond b (Some c) None) [])) is in
-      omega (arith, room app, none, queued_more done (Queued c) app, taken_more done (Queued c) app, capacity_more done (Queued c) app)
-room_on setting done mark room right app = omega (arith, room app, queued_more done mark app, taken_more done mark app, capacity_more done mark app)
+      let none : length (filter_map (pushed_of app) (Queued c ∷ [])) ≡ 0 = ap (λ (b : Bool). length (cons_option (cond b (Some (OfCall c)) None) [])) is in
+      omega (arith, room app, none, pushes_more done (Queued c) app, taken_more done (Queued c) app, capacity_more done (Queued c) app)
+room_on setting done (Announced c) room right app = by_app (eqb c.app app) refl where
+  by_app : (b : Bool) → eqb c.app app ≡ b → held_by app (done ++ Announced c ∷ []) ≤ capacity_of (done ++ Announced c ∷ []) app
+  by_app true is =
+      let same = eqb-true c.app app is in
+      let below : held_by app done < capacity_of done app = subst (λ (a : ℕ). held_by a done < capacity_of done a) same (leb-false (capacity_of done c.app) (held_by c.app done) right.0.1) in
+      let one : length (filter_map (pushed_of app) (Announced c ∷ [])) ≡ 1 = ap (λ (b : Bool). length (cons_option (cond b (Some (OfClaim c)) None) [])) is in
+      omega (arith, below, one, pushes_more done (Announced c) app, taken_more done (Announced c) app, capacity_more done (Announced c) app)
+  by_app false is =
+      let none : length (filter_map (pushed_of app) (Announced c ∷ [])) ≡ 0 = ap (λ (b : Bool). length (cons_option (cond b (Some (OfClaim c)) None) [])) is in
+      omega (arith, room app, none, pushes_more done (Announced c) app, taken_more done (Announced c) app, capacity_more done (Announced c) app)
+room_on setting done mark room right app = omega (arith, room app, pushes_more done mark app, taken_more done mark app, capacity_more done mark app)
 
 pub rooms : (setting : Setting) (marks : List Mark) → AreAll (Right setting) [] marks → (app : ℕ) → held_by app marks ≤ capacity_of marks app
 rooms setting marks all = holds_on (Right setting) HaveRoom (room_on setting) [] marks (λ app. omega arith) all
@@ -138,11 +148,11 @@ meets_go_on setting writer = record {
 pub lost_met : (setting : Setting) (writer : ℕ) (marks : List Mark) → AreAll (Right setting) [] marks → AllByRecursion (MetFullRing marks) (with_answer answer.Lost (records_of writer marks))
 lost_met setting writer marks all = (writer_holds setting writer Meets (meets_go_on setting writer) marks (tt, tt) all).0
 
--- ---- an application that lost a call had its ring's capacity of queued ones
+-- ---- an application that lost a call had its ring's capacity of calls and claims
 
--- the application was declared, and its ring had taken as many calls as it can hold
-abbrev pub HadQueued : List Mark → ℕ → Type 0
-HadQueued done app = (app < length (apps done)) × (capacity_of done app ≤ length (queued app done))
+-- the application was declared, and its ring had taken as many calls and claims as it can hold
+abbrev pub HadPushed : List Mark → ℕ → Type 0
+HadPushed done app = (app < length (apps done)) × (capacity_of done app ≤ length (pushes app done))
 
 apps_more : (done : List Mark) (mark : Mark) → apps (done ++ mark ∷ []) ≡ apps done ++ filter_map app_of (mark ∷ [])
 apps_more done mark = filter_map-append app_of done (mark ∷ [])
@@ -159,38 +169,38 @@ capacity_kept lines more app lt = by_cases (slice_get_cases lines app).1 where
   by_cases (inl found) = ap (λ (o : Option AppLine). option_map_or (λ (line : AppLine). line.capacity) o 0) (slice_get-more lines more app found.0 found.2 ∙ sym found.2)
   by_cases (inr none) = absurd (omega (arith, lt, none.0))
 
-had_more : (done : List Mark) (mark : Mark) (app : ℕ) → HadQueued done app → HadQueued (done ++ mark ∷ []) app
+had_more : (done : List Mark) (mark : Mark) (app : ℕ) → HadPushed done app → HadPushed (done ++ mark ∷ []) app
 had_more done mark app is =
     let lines = ap (λ (l : List AppLine). option_map_or (λ (line : AppLine). line.capacity) (slice_get l app) 0) (apps_more done mark) in
     let same : capacity_of (done ++ mark ∷ []) app ≡ capacity_of done app = lines ∙ capacity_kept (apps done) (filter_map app_of (mark ∷ [])) app is.0 in
-    (declared_more done mark app is.0, omega (arith, is.1, same, queued_more done mark app))
+    (declared_more done mark app is.0, omega (arith, is.1, same, pushes_more done mark app))
 
 abbrev Lost : List Mark → List Record → Type 0
-Lost done rs = AllByRecursion (λ r. HadQueued done r.item.app) (with_answer answer.Lost rs)
+Lost done rs = AllByRecursion (λ r. HadPushed done r.item.app) (with_answer answer.Lost rs)
 
 abbrev Had : List Mark → List Record → Open → Type 0
-Had done rs o = Lost done rs × IfOpen o (λ c. c.item.app < length (apps done)) × IfCount o (λ c. HadQueued done c.item.app)
+Had done rs o = Lost done rs × IfOpen o (λ c. c.item.app < length (apps done)) × IfCount o (λ c. HadPushed done c.item.app)
 
 lost_later : (done : List Mark) (mark : Mark) (rs : List Record) → Lost done rs → Lost (done ++ mark ∷ []) rs
-lost_later done mark rs all = all_map (λ (r : Record). HadQueued done r.item.app) (λ (r : Record). HadQueued (done ++ mark ∷ []) r.item.app) (λ r is. had_more done mark r.item.app is) (with_answer answer.Lost rs) all
+lost_later done mark rs all = all_map (λ (r : Record). HadPushed done r.item.app) (λ (r : Record). HadPushed (done ++ mark ∷ []) r.item.app) (λ r is. had_more done mark r.item.app is) (with_answer answer.Lost rs) all
 
 lost_same : (done : List Mark) (rs : List Record) (r : Record) → is_answer answer.Lost r.answer ≡ false → Lost done rs → Lost done (rs ++ r ∷ [])
 lost_same done rs r e all =
     let same : with_answer answer.Lost (rs ++ r ∷ []) ≡ with_answer answer.Lost rs =
     filter-append (λ (x : Record). is_answer answer.Lost x.answer) rs (r ∷ []) ∙ ap (λ (b : Bool). with_answer answer.Lost rs ++ cond b (r ∷ []) []) e ∙ append-nil (with_answer answer.Lost rs) in
-    subst (AllByRecursion (λ r. HadQueued done r.item.app)) (sym same) all
+    subst (AllByRecursion (λ r. HadPushed done r.item.app)) (sym same) all
 
-lost_one : (done : List Mark) (rs : List Record) (c : Call) → HadQueued done c.item.app → Lost done rs → Lost done (rs ++ recorded c answer.Lost ∷ [])
+lost_one : (done : List Mark) (rs : List Record) (c : Call) → HadPushed done c.item.app → Lost done rs → Lost done (rs ++ recorded c answer.Lost ∷ [])
 lost_one done rs c is all =
-    subst (AllByRecursion (λ r. HadQueued done r.item.app)) (sym (filter-append (λ (x : Record). is_answer answer.Lost x.answer) rs (recorded c answer.Lost ∷ [])))
-    (all_more (λ r. HadQueued done r.item.app) (with_answer answer.Lost rs) (recorded c answer.Lost ∷ []) all (is, tt))
+    subst (AllByRecursion (λ r. HadPushed done r.item.app)) (sym (filter-append (λ (x : Record). is_answer answer.Lost x.answer) rs (recorded c answer.Lost ∷ [])))
+    (all_more (λ r. HadPushed done r.item.app) (with_answer answer.Lost rs) (recorded c answer.Lost ∷ []) all (is, tt))
 
 open_later : (done : List Mark) (mark : Mark) (o : Open) → IfOpen o (λ c. c.item.app < length (apps done)) → IfOpen o (λ c. c.item.app < length (apps (done ++ mark ∷ [])))
 open_later done mark Shut is = tt
 open_later done mark (ToPush c) is = declared_more done mark c.item.app is
 open_later done mark (ToCount c) is = declared_more done mark c.item.app is
 
-count_later : (done : List Mark) (mark : Mark) (o : Open) → IfCount o (λ c. HadQueued done c.item.app) → IfCount o (λ c. HadQueued (done ++ mark ∷ []) c.item.app)
+count_later : (done : List Mark) (mark : Mark) (o : Open) → IfCount o (λ c. HadPushed done c.item.app) → IfCount o (λ c. HadPushed (done ++ mark ∷ []) c.item.app)
 count_later done mark (ToCount c) is = had_more done mark c.item.app is
 count_later done mark Shut is = tt
 count_later done mark (ToPush c) is = tt
@@ -212,28 +222,28 @@ lost_had setting writer marks all = (writer_holds setting writer Had (had_goes_o
 
 -- the same of each record of an application
 abbrev IfLost : List Mark → Record → Type 0
-IfLost done r = is_answer answer.Lost r.answer ≡ true → HadQueued done r.item.app
+IfLost done r = is_answer answer.Lost r.answer ≡ true → HadPushed done r.item.app
 
 unfiltered : (done : List Mark) (rs : List Record) → Lost done rs → AllByRecursion (IfLost done) rs
 unfiltered done [] all = tt
 unfiltered done (r ∷ rs) all = by_test (is_answer answer.Lost r.answer) refl all (unfiltered done rs) where
-  by_test : (b : Bool) → is_answer answer.Lost r.answer ≡ b → AllByRecursion (λ r. HadQueued done r.item.app) (cond b (r ∷ with_answer answer.Lost rs) (with_answer answer.Lost rs)) → (Lost done rs → AllByRecursion (IfLost done) rs) → AllByRecursion (IfLost done) (r ∷ rs)
+  by_test : (b : Bool) → is_answer answer.Lost r.answer ≡ b → AllByRecursion (λ r. HadPushed done r.item.app) (cond b (r ∷ with_answer answer.Lost rs) (with_answer answer.Lost rs)) → (Lost done rs → AllByRecursion (IfLost done) rs) → AllByRecursion (IfLost done) (r ∷ rs)
   by_test true is so later = ((λ e. so.0), later so.1)
   by_test false is so later = ((λ e. absurd cc), later so)
 
-some_lost : (done : List Mark) (app : ℕ) (rs : List Record) → AllByRecursion (IfLost done) rs → 0 < length (with_answer answer.Lost (in_app app rs)) → HadQueued done app
+some_lost : (done : List Mark) (app : ℕ) (rs : List Record) → AllByRecursion (IfLost done) rs → 0 < length (with_answer answer.Lost (in_app app rs)) → HadPushed done app
 some_lost done app [] all lt = absurd (omega (arith, lt))
 some_lost done app (r ∷ rs) all lt = by_app (eqb r.item.app app) refl lt (some_lost done app rs all.1) where
   by_lost : r.item.app ≡ app → (b : Bool) → is_answer answer.Lost r.answer ≡ b → 0 < length (cond b (r ∷ with_answer answer.Lost (in_app app rs)) (with_answer answer.Lost (in_app app rs))) →
-      (0 < length (with_answer answer.Lost (in_app app rs)) → HadQueued done app) → HadQueued done app
-  by_lost same true is some later = subst (HadQueued done) same (all.0 is)
+      (0 < length (with_answer answer.Lost (in_app app rs)) → HadPushed done app) → HadPushed done app
+  by_lost same true is some later = subst (HadPushed done) same (all.0 is)
   by_lost same false is some later = later some
 
-  by_app : (b : Bool) → eqb r.item.app app ≡ b → 0 < length (with_answer answer.Lost (cond b (r ∷ in_app app rs) (in_app app rs))) → (0 < length (with_answer answer.Lost (in_app app rs)) → HadQueued done app) → HadQueued done app
+  by_app : (b : Bool) → eqb r.item.app app ≡ b → 0 < length (with_answer answer.Lost (cond b (r ∷ in_app app rs) (in_app app rs))) → (0 < length (with_answer answer.Lost (in_app app rs)) → HadPushed done app) → HadPushed done app
   by_app true is some later = by_lost (eqb-true r.item.app app is) (is_answer answer.Lost r.answer) refl some later
   by_app false is some later = later some
 
-pub had_queued : (setting : Setting) (marks : List Mark) → AreAll (Right setting) [] marks → (app : ℕ) → 0 < length (with_answer answer.Lost (in_app app (filter_map record_of marks))) → HadQueued marks app
-had_queued setting marks all app some =
+pub had_pushed : (setting : Setting) (marks : List Mark) → AreAll (Right setting) [] marks → (app : ℕ) → 0 < length (with_answer answer.Lost (in_app app (filter_map record_of marks))) → HadPushed marks app
+had_pushed setting marks all app some =
     some_lost marks app (filter_map record_of marks)
     (all_owners (λ (r : Record). r.item.writer) (λ (w : ℕ) (r : Record). IfLost marks r) (filter_map record_of marks) (λ w. unfiltered marks (records_of w marks) (lost_had setting w marks all))) some

@@ -1,11 +1,12 @@
 -- What a registry holds is what was given last: default level, stored levels, and an application's number and what it tells of itself.
-use Rattle.std.proofs.Common.{◌≡◌, ◌≢◌, ◌⊎◌, inl, inr, ℕ, Bool, true, false, cond, List, [], ◌∷◌, ◌++◌, length, Option, Some, None, Result, Ok, Err, refl, sym, ap, subst, ◌∙◌, append_assoc, append-nil}
+use Rattle.std.proofs.Common.{◌≡◌, ◌≢◌, ◌⊎◌, inl, inr, ℕ, Bool, true, false, cond, List, [], ◌∷◌, ◌++◌, length, Option, Some, None, Result, Ok, Err, refl, sym, ap, subst, ◌∙◌, append_assoc, append-nil, not}
 use Rattle.std.specs.Prelude.{◌&&◌, ◌||◌, ◌==◌, map, nat_le, is_some, if◌then◌else◌, unwrap_or, IfOk, IfSome}
 use Rattle.std.specs.List.{last_or}
 use Rattle.std.specs.Map.{lookup, set_value}
 use Rattle.std.specs.Option.{is_none, option_and_then, option_map, option_or}
 use Rattle.std.specs.Result.{is_ok, result_ok, result_unwrap_or}
 use Rattle.std.specs.Str.{bytes_eq}
+use Rattle.dl_bytes.specs.Claim.{Claimed}
 use Rattle.dl_bytes.specs.Id.{zero_id}
 use Rattle.dl_bytes.specs.Level.{own_level_of}
 use Rattle.dl_bytes.specs.Limits.{last_version}
@@ -19,14 +20,14 @@ use Rattle.dl_control.specs.declared.request.Request.TheVariants.{SetLogLevel, G
 use Rattle.dl_control.specs.declared.request.RequestFault.{RequestFault}
 use Rattle.dl_events.specs.declared.event.Event.{Event}
 use Rattle.dl_events.specs.declared.event.Event.TheVariants as event
-use Rattle.dl_model.specs.declared.registry.Context.{Context}
+use Rattle.dl_model.specs.declared.context.Context.{Context}
 use Rattle.dl_model.specs.declared.registry.RegistryFault.{RegistryFault}
 use Rattle.dl_model.specs.declared.registry.RegistryFault.TheVariants as fault
 use Rattle.dl_model.specs.declared.registry.SetFault.TheVariants as set
 use Rattle.dl_model.specs.declared.registry.Slot.{Slot}
 use Rattle.dl_model.specs.Along.{along, along_from}
 use Rattle.dl_model.specs.Journal.{registry_of, slots_of, start, step}
-use Rattle.dl_model.specs.Registry.{App, Registry, Relevel, app_of, app_registered, app_unregistered, applied, context_of, context_registered, context_unregistered, default_set, for_app, keep_own, least_free, matching, no_own, numbers, own_set, places, releveled, releveled_context, reset, set_matching, slot_of, unless_worn, wears, with_app, with_new_app, without}
+use Rattle.dl_model.specs.Registry.{App, Registry, Relevel, apid_numbered, claimed, context_claimed, is_free, with_claim, app_of, app_registered, app_unregistered, applied, context_of, context_registered, context_unregistered, default_set, for_app, keep_own, least_free, matching, no_own, numbers, own_set, places, releveled, releveled_context, reset, set_matching, slot_of, unless_worn, wears, with_app, with_new_app, without}
 use Rattle.dl_model.specs.Reply.{asked, default_requested, own_requested, reset_requested, served}
 use Rattle.dl_model.specs.Setting.{Setting}
 use Rattle.dl_model.specs.Stays.{names_app}
@@ -107,7 +108,7 @@ app_unregistered-keeps r apid (Some app) = (refl, refl)
 context_registered-keeps : (slots : ℕ → Slot) (r : Registry) (apid ctid : List ℕ) (position : ℕ) (own : Option ℕ) (text : List ℕ) (app : App) (o : Option Context) → IfOk (context_registered slots r apid ctid position own text app o) (Keeps r)
 context_registered-keeps slots r apid ctid position own text app (Some context) = (refl, refl)
 context_registered-keeps slots r apid ctid position own text app None =
-    ifok_if (Keeps r) (nat_le 64 (length app.contexts)) fault.ContextsFull _
+    ifok_if (Keeps r) (nat_le 64 (length (places app.contexts))) fault.ContextsFull _
     (ifok_if (Keeps r) ((slots (slot_of app.number (least_free (places app.contexts)))).version == last_version) fault.Worn _ (refl, refl))
 
 context_unregistered-keeps : (r : Registry) (apid ctid : List ℕ) (app : App) (o : Option Context) → IfOk (context_unregistered r apid ctid app o) (Keeps r)
@@ -135,6 +136,29 @@ applied-keeps slots r channel (Overflow counter apid) = (refl, refl)
 message_keeps : (r : Registry) (result : Result Registry RegistryFault) → IfOk result (Keeps r) → Keeps r (result_unwrap_or result r)
 message_keeps r (Ok new) keeps = keeps
 message_keeps r (Err fault) keeps = (refl, refl)
+
+-- ---- a claim leaves them too
+
+ifsome_if : {A : Type 0} (P : A → Type 0) (b : Bool) (o : Option A) → IfSome o P → IfSome (cond b None o) P
+ifsome_if P true o ok = tt
+ifsome_if P false o ok = ok
+
+-- a claim that changes something gives an application other contexts
+in_claimed : (P : Registry → Type 0) (slots : ℕ → Slot) (r : Registry) (claim : Claimed)
+    → ((apid : List ℕ) (app : App) (o : Option Context) → lookup (bytes_eq apid) r.apps ≡ Some app → P (with_app r apid (with_claim r.stored apid claim app o))) → IfSome (claimed slots r claim) P
+in_claimed P slots r claim each = by (apid_numbered r claim.app) where
+  in_app : (apid : List ℕ) (o : Option App) → app_of r 0 apid ≡ o → IfSome (option_and_then (context_claimed slots r apid claim) o) P
+  in_app apid None found = tt
+  in_app apid (Some app) found =
+      ifsome_if P (not (is_free claim.place app.contexts)) _
+      (ifsome_if P ((slots (slot_of app.number claim.place)).version == last_version) _ (each apid app (context_of app claim.ctid) (app_of_found r 0 apid app found)))
+
+  by : (o : Option (List ℕ)) → IfSome (option_and_then (λ apid. option_and_then (context_claimed slots r apid claim) (app_of r 0 apid)) o) P
+  by None = tt
+  by (Some apid) = in_app apid (app_of r 0 apid) refl
+
+claimed-keeps : (slots : ℕ → Slot) (r : Registry) (claim : Claimed) → IfSome (claimed slots r claim) (Keeps r)
+claimed-keeps slots r claim = in_claimed (Keeps r) slots r claim (λ apid app o found. (refl, refl))
 
 -- ---- a request
 
@@ -225,6 +249,7 @@ event_level : (s : Setting) (before : List Event) (e : Event) → Stepped (Some 
 event_level s before (event.User channel msg moment) =
     inr (refl, ap Some (sym (message_keeps (registry_of s before) (applied (slots_of s before) (registry_of s before) channel msg) (applied-keeps (slots_of s before) (registry_of s before) channel msg)).0))
 event_level s before (event.Request client frame answer) = request_level s (slots_of s before) (registry_of s before) (asked frame) answer
+event_level s before (event.Claim claim moment) = kept_level (registry_of s before) (claimed (slots_of s before) (registry_of s before) claim) (claimed-keeps (slots_of s before) (registry_of s before) claim)
 event_level s before (event.Log app writer call moment) = inr (refl, refl)
 event_level s before (event.Lost app count moment) = inr (refl, refl)
 event_level s before (event.Level slot level) = inr (refl, refl)
@@ -235,6 +260,9 @@ event_stored : (s : Setting) (before : List Event) (e : Event) → Stepped (Some
 event_stored s before (event.User channel msg moment) =
     inr (refl, ap Some (sym (message_keeps (registry_of s before) (applied (slots_of s before) (registry_of s before) channel msg) (applied-keeps (slots_of s before) (registry_of s before) channel msg)).1))
 event_stored s before (event.Request client frame answer) = request_stored s (slots_of s before) (registry_of s before) (asked frame) answer
+event_stored s before (event.Claim claim moment) =
+    let r = registry_of s before in
+    kept_stored r (claimed (slots_of s before) r claim) (weaker (Keeps r) (λ new. new.stored ≡ r.stored) (claimed (slots_of s before) r claim) (λ new is. is.1) (claimed-keeps (slots_of s before) r claim))
 event_stored s before (event.Log app writer call moment) = inr (refl, refl)
 event_stored s before (event.Lost app count moment) = inr (refl, refl)
 event_stored s before (event.Level slot level) = inr (refl, refl)
@@ -278,6 +306,16 @@ module _ {A : Type 0} (f : App → A) (r : Registry) (a : List ℕ) (G : UserMsg
     | inl here ↦ stays_so (At r) (At (with_app r apid (record old { contexts = contexts }))) (G msg) none (ap (option_map f) here.2 ∙ ap Some (blind old contexts) ∙ sym (ap (option_map f) here.1))
     | inr apart ↦ stays_so (At r) (At (with_app r apid (record old { contexts = contexts }))) (G msg) none apart.1
   ]
+
+  contexts_same : (apid : List ℕ) (old : App) (contexts : List (List ℕ × Context)) → lookup (bytes_eq apid) r.apps ≡ Some old → At (with_app r apid (record old { contexts = contexts })) ≡ At r
+  contexts_same apid old contexts found = elim (changed_app apid old (record old { contexts = contexts }) found) [
+    | inl here ↦ ap (option_map f) here.2 ∙ ap Some (blind old contexts) ∙ sym (ap (option_map f) here.1)
+    | inr apart ↦ apart.1
+  ]
+
+  with_claim-same : (apid : List ℕ) (claim : Claimed) (app : App) (o : Option Context) → lookup (bytes_eq apid) r.apps ≡ Some app → At (with_app r apid (with_claim r.stored apid claim app o)) ≡ At r
+  with_claim-same apid claim app (Some context) found = contexts_same apid app _ found
+  with_claim-same apid claim app None found = contexts_same apid app _ found
 
   app_registered-steps : (channel : ℕ) (apid : List ℕ) (pid : ℕ) (text : List ℕ) (o : Option App) → lookup (bytes_eq apid) r.apps ≡ o → IfOk (app_registered r channel apid pid text o) (Steps (RegisterApp apid pid text))
   app_registered-steps channel apid pid text (Some app) found = by (app.channel == channel) where
@@ -337,7 +375,7 @@ module _ {A : Type 0} (f : App → A) (r : Registry) (a : List ℕ) (G : UserMsg
   context_registered-steps slots msg apid ctid position own text app (Some context) none found =
       same_but_contexts msg apid app (set_value (bytes_eq ctid) app.contexts (record context { position = position; text = text })) none found
   context_registered-steps slots msg apid ctid position own text app None none found =
-      ifok_if (Steps msg) (nat_le 64 (length app.contexts)) fault.ContextsFull _
+      ifok_if (Steps msg) (nat_le 64 (length (places app.contexts))) fault.ContextsFull _
       (ifok_if (Steps msg) ((slots (slot_of app.number (least_free (places app.contexts)))).version == last_version) fault.Worn _ (same_but_contexts msg apid app _ none found))
 
   context_unregistered-steps : (msg : UserMsg) (apid ctid : List ℕ) (app : App) (o : Option Context) → G msg ≡ [] → lookup (bytes_eq apid) r.apps ≡ Some app → IfOk (context_unregistered r apid ctid app o) (Steps msg)
@@ -387,6 +425,9 @@ module _ {A : Type 0} (f : App → A) (r : Registry) (a : List ℕ) (G : UserMsg
   same_or : (o : Option Registry) → IfSome o (λ new. At new ≡ At r) → Stepped (At r) [] (At (unwrap_or o r))
   same_or None is = stays_so (At r) (At r) [] refl refl
   same_or (Some new) is = stays_so (At r) (At new) [] refl is
+
+  claims : (slots : ℕ → Slot) (claim : Claimed) → Stepped (At r) [] (At (unwrap_or (claimed slots r claim) r))
+  claims slots claim = same_or (claimed slots r claim) (in_claimed (λ new. At new ≡ At r) slots r claim (λ apid app o found. with_claim-same apid claim app o found))
 
   requests : (s : Setting) (slots : ℕ → Slot) (request : Result Request RequestFault) (answer : Done) → Stepped (At r) [] (At (served s slots r request answer))
   requests s slots (Ok (SetLogLevel apid ctid level)) answer = same_or (own_requested slots r apid ctid level) (by (own_level_of level)) where
@@ -462,6 +503,9 @@ event_number s a before (event.User channel msg moment) =
 event_number s a before (event.Request client frame answer) =
     let r = registry_of s before in
     requests (λ app. app.number) r a (number_by_message r a) (λ app contexts. refl) (number_other r a) (number_again r a) (number_begins r a) s (slots_of s before) (asked frame) answer
+event_number s a before (event.Claim claim moment) =
+    let r = registry_of s before in
+    claims (λ app. app.number) r a (number_by_message r a) (λ app contexts. refl) (number_other r a) (number_again r a) (number_begins r a) (slots_of s before) claim
 event_number s a before (event.Log app writer call moment) = stays_so (number_of (registry_of s before) a) (number_of (registry_of s before) a) [] refl refl
 event_number s a before (event.Lost app count moment) = stays_so (number_of (registry_of s before) a) (number_of (registry_of s before) a) [] refl refl
 event_number s a before (event.Level slot level) = stays_so (number_of (registry_of s before) a) (number_of (registry_of s before) a) [] refl refl
@@ -476,6 +520,9 @@ event_told s a before (event.User channel msg moment) =
 event_told s a before (event.Request client frame answer) =
     let r = registry_of s before in
     requests told r a (told_by_message a) (λ app contexts. refl) (told_other a) (λ pid text app there. inl (told_now a pid text)) (λ channel pid text none. told_now a pid text) s (slots_of s before) (asked frame) answer
+event_told s a before (event.Claim claim moment) =
+    let r = registry_of s before in
+    claims told r a (told_by_message a) (λ app contexts. refl) (told_other a) (λ pid text app there. inl (told_now a pid text)) (λ channel pid text none. told_now a pid text) (slots_of s before) claim
 event_told s a before (event.Log app writer call moment) = stays_so (told_of (registry_of s before) a) (told_of (registry_of s before) a) [] refl refl
 event_told s a before (event.Lost app count moment) = stays_so (told_of (registry_of s before) a) (told_of (registry_of s before) a) [] refl refl
 event_told s a before (event.Level slot level) = stays_so (told_of (registry_of s before) a) (told_of (registry_of s before) a) [] refl refl

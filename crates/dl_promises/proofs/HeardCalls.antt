@@ -7,6 +7,7 @@ use Rattle.std.proofs.lemmas.Bool.{cases_eq, eq-eqb, eqb-true}
 use Rattle.std.proofs.lemmas.List.{append-nil, map-append, take-append-drop}
 use Rattle.std.proofs.lemmas.List.Elements.{filter_map-append}
 use Rattle.std.proofs.lemmas.List.Sums.{sum_by-append, sum_by-cons}
+use Rattle.dl_bytes.specs.Claim.{Claimed}
 use Rattle.dl_bytes.specs.Id.{zero_id}
 use Rattle.dl_bytes.specs.declared.conf.AppSpec.{AppSpec}
 use Rattle.dl_message.specs.Frames.{log_message, overflow_record}
@@ -24,7 +25,7 @@ use Rattle.dl_model.specs.Overflow.{counters}
 use Rattle.dl_model.specs.Report.{is_answer, lost_of, records_of_app, reported}
 use Rattle.dl_model.specs.Setting.{Setting}
 use Rattle.dl_model.specs.Traffic.{Traffic, admitted_in, frame_of, is_any_open, is_going}
-use Rattle.dl_model.specs.WholeAccounts.{IsAccounted, IsOwned, apid_in, frame_of_record, records_by, source_of_records}
+use Rattle.dl_model.specs.WholeAccounts.{IsAccounted, IsOwned, apid_in, frame_of_record, records_by, claims_by, source_of_records}
 use Rattle.dl_laws.proofs.Backlogs.{sum_of_counters}
 use Rattle.dl_laws.proofs.ClientStreams.{traffic_admits}
 use Rattle.dl_promises.specs.ClientParts.{IsMerged, replies_after}
@@ -71,6 +72,7 @@ fewer writer app (event.Log that by call moment) events none other apart = by_ap
   by_app false is = is
 fewer writer app (event.Lost that count moment) events none other apart = none other apart
 fewer writer app (event.User channel msg moment) events none other apart = none other apart
+fewer writer app (event.Claim claim moment) events none other apart = none other apart
 fewer writer app (event.Level slot level) events none other apart = none other apart
 fewer writer app (event.Connect client) events none other apart = none other apart
 fewer writer app (event.Request client frame answer) events none other apart = none other apart
@@ -114,6 +116,7 @@ logged_frames source writer app (event.Log that by call moment ∷ events) none 
   by_writer false other later = later ∙ ap (map (framed source)) (sym (elsewhere (eqb that app) other))
 logged_frames source writer app (event.Lost that count moment ∷ events) none = logged_frames source writer app events (fewer writer app (event.Lost that count moment) events none)
 logged_frames source writer app (event.User channel msg moment ∷ events) none = logged_frames source writer app events (fewer writer app (event.User channel msg moment) events none)
+logged_frames source writer app (event.Claim claim moment ∷ events) none = logged_frames source writer app events (fewer writer app (event.Claim claim moment) events none)
 logged_frames source writer app (event.Level slot level ∷ events) none = logged_frames source writer app events (fewer writer app (event.Level slot level) events none)
 logged_frames source writer app (event.Connect client ∷ events) none = logged_frames source writer app events (fewer writer app (event.Connect client) events none)
 logged_frames source writer app (event.Request client frame answer ∷ events) none = logged_frames source writer app events (fewer writer app (event.Request client frame answer) events none)
@@ -168,6 +171,7 @@ lost_frames source app (event.Lost other count moment ∷ events) = by_app (eqb 
   by_app false is later = later
 lost_frames source app (event.Log that by call moment ∷ events) = lost_frames source app events
 lost_frames source app (event.User channel msg moment ∷ events) = lost_frames source app events
+lost_frames source app (event.Claim claim moment ∷ events) = lost_frames source app events
 lost_frames source app (event.Level slot level ∷ events) = lost_frames source app events
 lost_frames source app (event.Connect client ∷ events) = lost_frames source app events
 lost_frames source app (event.Request client frame answer ∷ events) = lost_frames source app events
@@ -182,6 +186,7 @@ counts_add_up app (event.Lost other count moment ∷ events) =
       by_app false later = omega (arith, later)
 counts_add_up app (event.Log that by call moment ∷ events) = omega (arith, counts_add_up app events, sum_by-cons (lost_of app) (event.Log that by call moment) events)
 counts_add_up app (event.User channel msg moment ∷ events) = omega (arith, counts_add_up app events, sum_by-cons (lost_of app) (event.User channel msg moment) events)
+counts_add_up app (event.Claim claim moment ∷ events) = omega (arith, counts_add_up app events, sum_by-cons (lost_of app) (event.Claim claim moment) events)
 counts_add_up app (event.Level slot level ∷ events) = omega (arith, counts_add_up app events, sum_by-cons (lost_of app) (event.Level slot level) events)
 counts_add_up app (event.Connect client ∷ events) = omega (arith, counts_add_up app events, sum_by-cons (lost_of app) (event.Connect client) events)
 counts_add_up app (event.Request client frame answer ∷ events) = omega (arith, counts_add_up app events, sum_by-cons (lost_of app) (event.Request client frame answer) events)
@@ -189,11 +194,11 @@ counts_add_up app (event.Close client cause ∷ events) = omega (arith, counts_a
 
 -- ---- the whole
 
-module _ (setting : Setting) (records : List (List Record)) (specs : List AppSpec) (refusals : ℕ → ℕ) where
+module _ (setting : Setting) (records : List (List Record)) (specs : List AppSpec) (refusals : ℕ → ℕ) (pushed : List (List Claimed)) where
   abbrev source : FrameSource
   source = source_of_records setting records specs
 
-  calls_of : (events : List Event) (writer : ℕ) → IsOwned setting.first events writer (refusals writer) (records_by writer records) →
+  calls_of : (events : List Event) (writer : ℕ) → IsOwned setting.first events writer (refusals writer) (claims_by writer pushed) (records_by writer records) →
       calls_heard setting records specs writer events ≡ map (λ r. log_message setting.ecu r.item) (with_answer answer.Queued (records_by writer records))
   calls_of events writer owned =
       let rs = records_by writer records in
@@ -207,7 +212,7 @@ module _ (setting : Setting) (records : List (List Record)) (specs : List AppSpe
 
   pub hears_all : (client : ℕ) (cause : Why) (before middle after : List Event) →
       IsWellFormed setting source (before ++ event.Connect client ∷ (middle ++ event.Close client cause ∷ after)) →
-      IsAccounted setting.first (before ++ event.Connect client ∷ (middle ++ event.Close client cause ∷ after)) (λ app. 0) refusals records →
+      IsAccounted setting.first (before ++ event.Connect client ∷ (middle ++ event.Close client cause ∷ after)) (λ app. 0) refusals pushed records →
       admitted source before ≡ [] → admitted source after ≡ [] →
       HearsAll setting records specs (before ++ event.Connect client ∷ (middle ++ event.Close client cause ∷ after))
       (stream source setting.buffer client (before ++ event.Connect client ∷ (middle ++ event.Close client cause ∷ after)))

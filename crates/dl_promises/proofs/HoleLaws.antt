@@ -7,6 +7,7 @@ use Rattle.std.proofs.lemmas.Bool.{cases_lt, eqb-true, eq-eqb, or_parts}
 use Rattle.std.proofs.lemmas.List.{append-nil}
 use Rattle.std.proofs.lemmas.List.Folds.{list_any-append}
 use Rattle.std.proofs.lemmas.List.Sums.{sum_by-cons}
+use Rattle.dl_bytes.specs.Claim.{Claimed}
 use Rattle.dl_bytes.specs.declared.moment.Moment.{Moment}
 use Rattle.dl_events.specs.declared.event.Event.{Event}
 use Rattle.dl_events.specs.declared.event.Event.TheVariants as event
@@ -63,6 +64,7 @@ next_client-append [] ys = refl
 next_client-append (event.Connect client ∷ xs) ys = refl
 next_client-append (event.Request client frame done ∷ xs) ys = next_client-append xs ys
 next_client-append (event.Close client why ∷ xs) ys = next_client-append xs ys
+next_client-append (event.Claim claim moment ∷ xs) ys = next_client-append xs ys
 next_client-append (event.Level slot level ∷ xs) ys = next_client-append xs ys
 next_client-append (event.Log app writer call moment ∷ xs) ys = next_client-append xs ys
 next_client-append (event.Lost app count moment ∷ xs) ys = next_client-append xs ys
@@ -216,8 +218,8 @@ counted_on n (r ∷ front) back c =
 
 -- ---- two calls that a client heard, and those between
 
-module _ (setting : Setting) (source : FrameSource) (buffer client first writer refusals : ℕ) (events : List Event) (one two : Record) (earlier between later : List Record)
-    (formed : IsWellFormed setting source events) (owned : IsOwnedSoFar first events writer refusals (earlier ++ one ∷ (between ++ two ∷ later))) where
+module _ (setting : Setting) (source : FrameSource) (buffer client first writer refusals : ℕ) (pushed : List Claimed) (events : List Event) (one two : Record) (earlier between later : List Record)
+    (formed : IsWellFormed setting source events) (owned : IsOwnedSoFar first events writer refusals pushed (earlier ++ one ∷ (between ++ two ∷ later))) where
   abbrev rs : List Record
   rs = earlier ++ one ∷ (between ++ two ∷ later)
 
@@ -285,7 +287,7 @@ module _ (setting : Setting) (source : FrameSource) (buffer client first writer 
       numbers_all = ap queued_numbers is_rs ∙ queued_here (earlier ++ one ∷ (x ++ r ∷ y)) later two (heard_queued two heard_two)
 
       rises : Rising 1 (q (earlier ++ one ∷ (x ++ r ∷ y)) ++ two.item.call ∷ q later)
-      rises = subst (Rising 1) numbers_all (queued_rise first events writer refusals rs owned)
+      rises = subst (Rising 1) numbers_all (queued_rise first events writer refusals pushed rs owned)
 
       none_two : has two.item.call (q (earlier ++ one ∷ (x ++ r ∷ y))) ≡ false
       none_two = (alone 1 two.item.call (q (earlier ++ one ∷ (x ++ r ∷ y))) (q later) rises).1
@@ -306,7 +308,7 @@ module _ (setting : Setting) (source : FrameSource) (buffer client first writer 
       by_place : Finds source buffer writer two.item.call [] events → fate r ≡ BufferFull (Some client)
       by_place f =
           let l = f.logged in
-          let logged = logged_queued first events writer refusals rs owned in
+          let logged = logged_queued first events writer refusals pushed rs owned in
           let here : numbers_logged writer events ≡ numbers_logged writer l.before ++ two.item.call ∷ numbers_logged writer l.after =
           ap (numbers_logged writer) l.place ∙ number_here l.app writer two.item.call l.moment l.before l.after in
           let spelled : numbers_logged writer l.before ++ two.item.call ∷ (numbers_logged writer l.after ++ logged.0) ≡ q (earlier ++ one ∷ (x ++ r ∷ y)) ++ two.item.call ∷ q later =

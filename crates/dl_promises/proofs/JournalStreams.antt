@@ -69,6 +69,7 @@ one_merged source client before (event.Request other frame done) xs ys zs is = b
   by_test true = merged_right (source.reply before frame done ∷ []) xs ys zs is
   by_test false = is
 one_merged source client before (event.Close other why) xs ys zs is = is
+one_merged source client before (event.Claim claim moment) xs ys zs is = is
 one_merged source client before (event.Level slot level) xs ys zs is = is
 one_merged source client before (event.Log app writer call moment) xs ys zs is = merged_left (source.frame writer call ∷ []) xs ys zs is
 one_merged source client before (event.Lost app count moment) xs ys zs is =
@@ -187,6 +188,7 @@ since_one source events (event.Close client why) is =
     ap admitted_in left ∙ ap (admitted source) (sym right)
 since_one source events (event.Connect client) is = since_more source events (event.Connect client) refl refl refl is
 since_one source events (event.Request client frame done) is = since_more source events (event.Request client frame done) refl refl refl is
+since_one source events (event.Claim claim moment) is = since_more source events (event.Claim claim moment) refl refl refl is
 since_one source events (event.Level slot level) is = since_more source events (event.Level slot level) refl refl refl is
 since_one source events (event.Log app writer call moment) is = since_more source events (event.Log app writer call moment) refl refl refl is
 since_one source events (event.Lost app count moment) is =
@@ -210,6 +212,7 @@ open_event : (source : FrameSource) (client : ℕ) (events : List Event) (e : Ev
 open_event source client events (event.Connect other) = is_open-one client (traffic source events) (Connected other)
 open_event source client events (event.Request other frame done) = is_open-one client (traffic source events) (Reply other (source.reply events frame done))
 open_event source client events (event.Close other why) = is_open-one client (traffic source events) (Closed other)
+open_event source client events (event.Claim claim moment) = ap (t.is_open client) (append-nil (traffic source events))
 open_event source client events (event.Level slot level) = ap (t.is_open client) (append-nil (traffic source events))
 open_event source client events (event.Log app writer call moment) = quiet_admits client (traffic source events) (frames_of source (event.Log app writer call moment))
 open_event source client events (event.Lost app count moment) = quiet_admits client (traffic source events) (frames_of source (event.Lost app count moment))

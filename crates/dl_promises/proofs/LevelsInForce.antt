@@ -1,6 +1,6 @@
 -- Where no Level event is owed, each slot holds the level of its context.
 use Rattle.std.proofs.Common.{◌≡◌, ℕ, zero, suc, ◌+◌, ◌/◌, ◌%◌, ◌<◌, ◌≤◌, Bool, true, false, cond, eqb, List, [], ◌∷◌, ◌++◌, Option, Some, None, refl, sym, ap, subst, ◌∙◌, arith, inl, inr}
-use Rattle.std.specs.Prelude.{IfSome, ◌⊎◌}
+use Rattle.std.specs.Prelude.{IfSome}
 use Rattle.std.specs.List.{AllByRecursion, find, range_with_len}
 use Rattle.std.specs.Map.{values_of}
 use Rattle.std.specs.Option.{option_and_then, option_map, option_or}
@@ -8,11 +8,11 @@ use Rattle.std.proofs.lemmas.Bool.{cases_eq, eqb-true}
 use Rattle.dl_events.specs.declared.event.Event.{Event}
 use Rattle.dl_events.specs.declared.event.Event.TheVariants as event
 use Rattle.dl_events.specs.declared.event.Why.{Why}
-use Rattle.dl_model.specs.declared.registry.Context.{Context}
+use Rattle.dl_model.specs.declared.context.Context.{Context}
 use Rattle.dl_model.specs.declared.registry.LevelChange.{LevelChange}
 use Rattle.dl_model.specs.declared.registry.Slot.{Slot}
-use Rattle.dl_model.specs.Registry.{App, Registry, change_at, context_at, effective, first_change, level_at, numbers}
-use Rattle.dl_model.specs.Journal.{IsSettled, owed, registry_of, slots_of}
+use Rattle.dl_model.specs.Registry.{App, Registry, change_at, context_at, effective, first_change, has_place, level_at, numbers}
+use Rattle.dl_model.specs.Journal.{IsSettled, registry_of, slots_of}
 use Rattle.dl_model.specs.Setting.{Setting}
 use Rattle.dl_model.proofs.OneMore.{registry-one, slot-other}
 use Rattle.dl_model.proofs.Order.{in_order-registry_of}
@@ -46,7 +46,7 @@ number_below test (e ∷ es) app found all = by_test (test e.1) found (λ is. nu
 slot_below : (registry : Registry) (slot : ℕ) (context : Context) → AllByRecursion (λ (n : ℕ). n < 16) (numbers registry.apps) → context_at registry slot ≡ Some context → slot < 1024
 slot_below registry slot context below found = by_app (find (λ (app : App). eqb app.number (slot / 64)) (values_of registry.apps)) refl found where
   by_app : (o : Option App) → find (λ (app : App). eqb app.number (slot / 64)) (values_of registry.apps) ≡ o
-      → option_and_then (λ (app : App). find (λ (context : Context). eqb context.place (slot % 64)) (values_of app.contexts)) o ≡ Some context → slot < 1024
+      → option_and_then (λ (app : App). find (has_place (slot % 64)) (values_of app.contexts)) o ≡ Some context → slot < 1024
   by_app None is e = absurd cc
   by_app (Some app) is e =
       let number : app.number ≡ slot / 64 = eqb-true app.number (slot / 64) (find-passes (λ (a : App). eqb a.number (slot / 64)) (values_of registry.apps) app is) in

@@ -14,6 +14,12 @@ pub mod CutLines
 pub mod CutInTwo
 pub mod CutRuns
 pub mod Partition
+pub mod ClaimPlaces
+pub mod ClaimOrder
+pub mod UniqueIds
+pub mod FreePlaces
+pub mod EarlyCalls
+pub mod RegisteredClaims
 pub mod AccountRuns
 pub mod Drained
 pub mod AccountWhole

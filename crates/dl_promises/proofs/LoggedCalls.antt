@@ -3,6 +3,7 @@ use Rattle.std.proofs.Common.{◌≡◌, ℕ, zero, suc, ◌+◌, Bool, true, fa
 use Rattle.std.specs.List.{cons_option, filter, find, range_with_len, AllByRecursion}
 use Rattle.std.proofs.lemmas.Bool.{cases_eq, eq-eqb, ne_eqb}
 use Rattle.std.proofs.lemmas.List.Elements.{filter-append, filter_map-append}
+use Rattle.dl_bytes.specs.Claim.{Claimed}
 use Rattle.dl_bytes.specs.declared.moment.Moment.{Moment}
 use Rattle.dl_events.specs.declared.event.Event.{Event}
 use Rattle.dl_events.specs.declared.event.Event.TheVariants.{Log}
@@ -11,7 +12,7 @@ use Rattle.dl_events.specs.declared.record.Answer.TheVariants as answer
 use Rattle.dl_events.specs.declared.record.Record.{Record}
 use Rattle.dl_model.specs.Accounts.{logged_of, of_writer, order, with_answer}
 use Rattle.dl_model.specs.Report.{is_answer}
-use Rattle.dl_model.specs.WholeAccounts.{IsAccounted, IsOwned, records_by}
+use Rattle.dl_model.specs.WholeAccounts.{IsAccounted, IsOwned, records_by, claims_by}
 use Rattle.dl_promises.specs.LoggedCalls.{WasLogged}
 use Rattle.dl_promises.proofs.AccountRuns.{nr}
 
@@ -120,9 +121,9 @@ of_that_writer writer call xs ys =
 not_none : {A : Type 0} (xs ys : List A) (x : A) → xs ++ x ∷ ys ≡ [] → ⊥
 not_none xs ys x e = absurd (omega (arith, ap length e, length-append xs (x ∷ ys)))
 
-module _ (first : ℕ) (events : List Event) (pending refusals : ℕ → ℕ) (records : List (List Record)) (accounted : IsAccounted first events pending refusals records)
+module _ (first : ℕ) (events : List Event) (pending refusals : ℕ → ℕ) (pushed : List (List Claimed)) (records : List (List Record)) (accounted : IsAccounted first events pending refusals pushed records)
     (app writer call : ℕ) (moment : Moment) (before after : List Event) (there : events ≡ before ++ Log app writer call moment ∷ after) where
-  abbrev owned : IsOwned first events writer (refusals writer) (records_by writer records)
+  abbrev owned : IsOwned first events writer (refusals writer) (claims_by writer pushed) (records_by writer records)
   owned = accounted.writers writer
 
   abbrev rs : List Record

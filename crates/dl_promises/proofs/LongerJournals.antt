@@ -42,6 +42,7 @@ slow_longer setting source before client (why.Slow room need) xs more is = recor
 slow_longer setting source before client _ xs more is = tt
 
 pub turn_longer : (setting : Setting) (source : FrameSource) (before : List Event) (e : Event) (xs more : List Event) → IsInTurn setting source before e xs → IsInTurn setting source before e (xs ++ more)
+turn_longer setting source before (event.Claim claim moment) xs more turn = turn
 turn_longer setting source before (event.Level slot level) xs more turn = turn
 turn_longer setting source before (event.Connect client) xs more turn = turn
 turn_longer setting source before (event.Request client frame answer) xs more turn = turn

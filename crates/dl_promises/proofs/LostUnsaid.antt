@@ -7,15 +7,16 @@ use Rattle.std.proofs.lemmas.List.{length-map}
 use Rattle.std.proofs.lemmas.List.Elements.{filter-append}
 use Rattle.std.proofs.lemmas.List.Sums.{sum_by-cons}
 use Rattle.std.proofs.lemmas.Option.{slice_get_past}
+use Rattle.dl_bytes.specs.Claim.{Claimed}
 use Rattle.dl_events.specs.declared.event.Event.{Event}
 use Rattle.dl_events.specs.declared.event.Event.TheVariants as event
 use Rattle.dl_events.specs.declared.record.Record.{Record}
 use Rattle.dl_events.specs.declared.record.Answer.{Answer}
 use Rattle.dl_events.specs.declared.record.Answer.TheVariants as answer
-use Rattle.dl_model.specs.Marks.{is_log_of}
+use Rattle.dl_model.specs.Marks.{is_log_of, is_taken_of}
 use Rattle.dl_model.specs.Report.{is_answer, records_of_app, answered, reported}
-use Rattle.dl_model.specs.Accounts.{order, of_writer, with_answer}
-use Rattle.dl_model.specs.WholeAccounts.{records_by, IsOwned, IsAccounted}
+use Rattle.dl_model.specs.Accounts.{order, of_writer, with_answer, claims}
+use Rattle.dl_model.specs.WholeAccounts.{records_by, claims_by, IsOwned, IsAccounted}
 use Rattle.dl_promises.proofs.AccountRuns.{nr, in_app, all_in, none_in}
 use Rattle.dl_promises.proofs.Partition.{sums, sums_same, split, all_owners}
 
@@ -43,6 +44,25 @@ logs_are app (event.Log other writer call moment ∷ events) =
       by_test false is = omega (arith, is)
 logs_are app (e ∷ events) = sum_by-cons (λ (x : Event). cond (is_log_of app x) 1 0) e events ∙ omega (arith, logs_are app events)
 
+-- what is taken of an application is a call or a claim
+pub takes_are : (app : ℕ) (events : List Event) → count_by (is_taken_of app) events ≡ count_by (is_log_of app) events + length (claims app events)
+takes_are app [] = refl
+takes_are app (event.Log other writer call moment ∷ events) =
+    let one = sum_by-cons (λ (e : Event). cond (is_taken_of app e) 1 0) (event.Log other writer call moment) events in
+    let logged = sum_by-cons (λ (e : Event). cond (is_log_of app e) 1 0) (event.Log other writer call moment) events in
+    omega (arith, one, logged, takes_are app events)
+takes_are app (event.Claim claim moment ∷ events) =
+    sum_by-cons (λ (e : Event). cond (is_taken_of app e) 1 0) (event.Claim claim moment) events ∙ by_test (eqb claim.app app) (takes_are app events)
+    ∙ ap (λ (n : ℕ). n + length (claims app (event.Claim claim moment ∷ events))) (sym (sum_by-cons (λ (e : Event). cond (is_log_of app e) 1 0) (event.Claim claim moment) events)) where
+      by_test : (b : Bool) → count_by (is_taken_of app) events ≡ count_by (is_log_of app) events + length (claims app events) →
+          cond b 1 0 + count_by (is_taken_of app) events ≡ (0 + count_by (is_log_of app) events) + length (cons_option (cond b (Some claim) None) (claims app events))
+      by_test true is = omega (arith, is)
+      by_test false is = omega (arith, is)
+takes_are app (e ∷ events) =
+    let one = sum_by-cons (λ (x : Event). cond (is_taken_of app x) 1 0) e events in
+    let logged = sum_by-cons (λ (x : Event). cond (is_log_of app x) 1 0) e events in
+    omega (arith, one, logged, takes_are app events)
+
 -- how many queued calls of an application these records have
 abbrev queued_in : ℕ → List Record → ℕ
 queued_in app rs = answered answer.Queued (in_app app rs)
@@ -54,8 +74,8 @@ queued_adds app xs ys =
     ∙ length-append (with_answer answer.Queued (in_app app xs)) (with_answer answer.Queued (in_app app ys))
 
 -- a writer's Log events of an application are its queued records of it
-of_one : (first : ℕ) (events : List Event) (writer refusals : ℕ) (rs : List Record) → IsOwned first events writer refusals rs → (app : ℕ) → length (filter (of_writer writer) (order app events)) ≡ queued_in app rs
-of_one first events writer refusals rs owned app = elim (cases_eq owned.app app) [
+of_one : (first : ℕ) (events : List Event) (writer refusals : ℕ) (pushed : List Claimed) (rs : List Record) → IsOwned first events writer refusals pushed rs → (app : ℕ) → length (filter (of_writer writer) (order app events)) ≡ queued_in app rs
+of_one first events writer refusals pushed rs owned app = elim (cases_eq owned.app app) [
   | inl same ↦
       let here : filter (of_writer writer) (order app events) ≡ map nr (with_answer answer.Queued rs) = subst (λ (a : ℕ). filter (of_writer writer) (order a events) ≡ map nr (with_answer answer.Queued rs)) same owned.account.in_order in
       ap length here ∙ length-map (with_answer answer.Queued rs) nr ∙ ap (λ (x : List Record). answered answer.Queued x) (sym (all_in owned.app app rs owned.belongs.own same))
@@ -111,9 +131,9 @@ all_so : {A : Type 0} (P : Type 0) → P → (xs : List A) → AllByRecursion (�
 all_so P p [] = tt
 all_so P p (x ∷ xs) = (p, all_so P p xs)
 
-module _ (first : ℕ) (events : List Event) (pending refusals : ℕ → ℕ) (records : List (List Record)) (accounted : IsAccounted first events pending refusals records) where
+module _ (first : ℕ) (events : List Event) (pending refusals : ℕ → ℕ) (pushed : List (List Claimed)) (records : List (List Record)) (accounted : IsAccounted first events pending refusals pushed records) where
   one_writer : (app writer : ℕ) → length (filter (of_writer writer) (order app events)) ≡ queued_in app (records_by writer records)
-  one_writer app writer = of_one first events writer (refusals writer) (records_by writer records) (accounted.writers writer) app
+  one_writer app writer = of_one first events writer (refusals writer) (claims_by writer pushed) (records_by writer records) (accounted.writers writer) app
 
   in_range : (app writer : ℕ) → AllByRecursion (λ (x : ℕ × ℕ). (1 ≤ writer) × (writer < 1 + length records)) (filter (of_writer writer) (order app events))
   in_range app writer = elim (no_writer records writer) [

@@ -1,6 +1,7 @@
 -- Lines on which no bytes come, and what is done for requests and messages, make no mark of bytes.
 use Rattle.std.proofs.Common.{◌≡◌, ℕ, ◌+◌, Bool, true, false, cond, ltb, List, [], ◌∷◌, ◌++◌, refl}
 use Rattle.std.specs.Prelude.{map, count_by, slice_get, take, unwrap_or, is_some, negsuc, ◌&&◌}
+use Rattle.dl_bytes.specs.Claim.{Claimed}
 use Rattle.dl_bytes.specs.Limits.{message_limit}
 use Rattle.dl_bytes.specs.Bytes.{IsBytes}
 use Rattle.dl_bytes.specs.Level.{passes}
@@ -14,6 +15,7 @@ use Rattle.dl_events.specs.declared.event.Event.TheVariants as event
 use Rattle.dl_events.specs.declared.event.Why.{Why}
 use Rattle.dl_events.specs.declared.event.Why.TheVariants as why
 use Rattle.dl_script_lines.specs.declared.line.CallLine.{CallLine}
+use Rattle.dl_script_lines.specs.declared.line.ClaimLine.{ClaimLine}
 use Rattle.dl_script_lines.specs.declared.step.LevelEvents.TheVariants as levels
 use Rattle.dl_script_lines.specs.declared.step.Step.{Step}
 use Rattle.dl_script_lines.specs.declared.step.Step.TheVariants as line
@@ -21,9 +23,9 @@ use Rattle.dl_model.specs.declared.registry.LevelChange.{LevelChange}
 use Rattle.dl_model.specs.Setting.{Setting}
 use Rattle.dl_model.specs.Reply.{Need, Nothing, Folder, Queue}
 use Rattle.dl_model.specs.Journal.{is_connect, is_close, is_request_of, need_after}
-use Rattle.dl_model.specs.Marks.{Call, Mark, HasApp, HasContext, HasWriter, Filtered, Passed, Queued, Refused, Counted, Noted, Clocked, LevelsWait, Fed, Heard, Answered, Injected, Handed, journal, number_of, app_of_writer, to_push, to_count, queued, taken, is_full, is_later, pending, moment_at, moment, is_answer, injections, fed, heard}
-use Rattle.dl_model.specs.Steps.{Act, in_sequence, just, for_some, when, changes, level_noted, note_levels, note_levels_now, note, loaded, load, push, count, finish, begin_call, whole_call, take_log, take_losses, is_open, close, close_malformed, connect, served, request_now, ask, new_requests, receive, new_messages, tell, hear, take_injection, on_app, act_of}
-use Rattle.dl_promises.proofs.Relations.{AreAll, Keeps, turns, each, and_one, asked_for, where_so}
+use Rattle.dl_model.specs.Marks.{Call, Mark, HasApp, HasContext, HasWriter, Filtered, Passed, Queued, Refused, Counted, HasClaim, Announced, HeldBack, Noted, Clocked, LevelsWait, Fed, Heard, Answered, Injected, Handed, journal, number_of, app_of_writer, to_push, to_count, to_announce, unannounced, pushes, taken, is_full, is_later, pending, moment_at, moment, is_answer, injections, fed, heard}
+use Rattle.dl_model.specs.Steps.{Act, in_sequence, just, for_some, when, changes, level_noted, note_levels, note_levels_now, note, loaded, load, push, count, finish, begin_call, whole_call, claim_made, claim, announce, announce_all, event_taken, take_log, take_losses, is_open, close, close_malformed, connect, served, request_now, ask, new_requests, receive, new_messages, tell, hear, take_injection, on_app, act_of}
+use Rattle.dl_promises.proofs.Relations.{AreAll, Keeps, turns, each, and_one, asked_for, where_so, announced}
 use Rattle.dl_promises.proofs.Unfed.{is_other}
 
 -- a mark that bytes came on a channel has bytes
@@ -77,10 +79,22 @@ module _ (R : List Mark → Mark → Type 0) (others : (done : List Mark) (mark 
   whole_other : (setting : Setting) (call : CallLine) → Keeps R (whole_call setting call)
   whole_other setting call = turns R (begin_call setting call ∷ finish call.writer ∷ []) (begin_other setting call, (finish_other call.writer, tt))
 
+  claim_other : (asked : ClaimLine) → Keeps R (claim asked)
+  claim_other asked done = asked_for R (claim_made asked done) (λ c. just (HasClaim c)) done (λ c e. (others done (HasClaim c) refl, tt))
+
+  announce_other : (writer : ℕ) → Keeps R (announce writer)
+  announce_other writer done =
+      asked_for R (to_announce writer done) (λ c. just (cond (is_full c.app done) (HeldBack c) (Announced c))) done (λ c e. (by_test c (is_full c.app done), tt)) where
+        by_test : (c : Claimed) (b : Bool) → R done (cond b (HeldBack c) (Announced c))
+        by_test c true = others done (HeldBack c) refl
+        by_test c false = others done (Announced c) refl
+
+  announce_all_other : (writer : ℕ) → Keeps R (announce_all writer)
+  announce_all_other writer done = announced R writer (announce_other writer) (unannounced writer done) done
+
   take_log_other : (setting : Setting) (app : ℕ) → Keeps R (take_log setting app)
   take_log_other setting app done =
-      asked_for R (slice_get (queued app done) (taken app done)) (λ c. note setting (λ now. event.Log app c.item.writer c.item.call (moment now))) done
-      (λ c e. note_other setting (λ now. event.Log app c.item.writer c.item.call (moment now)) done)
+      asked_for R (slice_get (pushes app done) (taken app done)) (λ what. note setting (event_taken app what)) done (λ what e. note_other setting (event_taken app what) done)
 
   take_losses_other : (setting : Setting) (app : ℕ) → Keeps R (take_losses setting app)
   take_losses_other setting app done =
@@ -171,6 +185,10 @@ module _ (R : List Mark → Mark → Type 0) (others : (done : List Mark) (mark 
           tt,
         ),
       )
+  line_other setting answers (line.Claim asked) so = turns R (finish asked.writer ∷ claim asked ∷ []) (finish_other asked.writer, (claim_other asked, tt))
+  line_other setting answers (line.Announce writer) so = turns R (finish writer ∷ announce writer ∷ []) (finish_other writer, (announce_other writer, tt))
+  line_other setting answers (line.Register asked) so =
+      turns R (finish asked.writer ∷ claim asked ∷ announce_all asked.writer ∷ []) (finish_other asked.writer, (claim_other asked, (announce_all_other asked.writer, tt)))
   line_other setting answers (line.Take apid) so = on_app_other apid (take_log setting) (take_log_other setting)
   line_other setting answers (line.Losses apid) so = on_app_other apid (take_losses setting) (take_losses_other setting)
   line_other setting answers (line.Levels levels.Later) so = λ d. (others d (LevelsWait true) refl, tt)

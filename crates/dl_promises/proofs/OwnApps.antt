@@ -1,10 +1,11 @@
 -- A writer belongs to one application: so do all its calls.
-use Rattle.std.proofs.Common.{◌≡◌, ℕ, zero, suc, ◌+◌, ◌-◌, ◌<◌, Bool, true, false, cond, eqb, ltb, List, [], ◌∷◌, ◌++◌, length, Some, None, refl, ap, subst, ◌∙◌, length-append, arith}
-use Rattle.std.specs.Prelude.{slice_get, position, not}
+use Rattle.std.proofs.Common.{◌≡◌, ℕ, zero, suc, ◌+◌, ◌-◌, ◌<◌, ◌≤◌, Bool, true, false, cond, eqb, ltb, List, [], ◌∷◌, ◌++◌, length, Some, None, refl, sym, ap, subst, ◌∙◌, length-append, arith, inl, inr}
+use Rattle.std.specs.Prelude.{slice_get, position, not, ◌⊎◌}
 use Rattle.std.specs.List.{filter_map, prefix_len, AllByRecursion}
 use Rattle.std.specs.Str.{bytes_eq}
-use Rattle.std.proofs.lemmas.Bool.{ltb-true, lt-ltb}
+use Rattle.std.proofs.lemmas.Bool.{eq-eqb, ltb-true, lt-ltb, ne_eqb, cases_eq}
 use Rattle.std.proofs.lemmas.List.Elements.{filter_map-append}
+use Rattle.std.proofs.lemmas.Option.{slice_get_within}
 use Rattle.dl_bytes.specs.declared.item.Item.{Item}
 use Rattle.dl_events.specs.declared.record.Record.{Record}
 use Rattle.dl_events.specs.declared.record.Answer.TheVariants as answer
@@ -65,6 +66,18 @@ writer_more done mark writer apid e = by_test (eqb writer 0) e where
   by_test false e =
       ap (λ (ws : List (List ℕ)). slice_get ws (writer - 1)) (filter_map-append writer_of done (mark ∷ []))
       ∙ slice_get-more (writers done) (filter_map writer_of (mark ∷ [])) (writer - 1) apid e
+
+-- a writer that has an application is one of those that were declared
+pub in_range : (marks : List Mark) (writer : ℕ) (apid : List ℕ) → app_of_writer writer marks ≡ Some apid → (1 ≤ writer) × (writer < 1 + length (writers marks))
+in_range marks writer apid e = by_zero (cases_eq writer 0) where
+  by_zero : (writer ≡ 0) ⊎ (writer ≡ 0 → ⊥) → (1 ≤ writer) × (writer < 1 + length (writers marks))
+  by_zero (inl same) =
+      let none : app_of_writer writer marks ≡ None = ap (λ (b : Bool). cond b None (slice_get (writers marks) (writer - 1))) (eq-eqb writer 0 same) in
+      absurd cc
+  by_zero (inr apart) =
+      let there : slice_get (writers marks) (writer - 1) ≡ Some apid = sym (ap (λ (b : Bool). cond b None (slice_get (writers marks) (writer - 1))) (ne_eqb writer 0 apart)) ∙ e in
+      let lt = slice_get_within (writers marks) (writer - 1) apid there in
+      (omega (arith, apart), omega (arith, apart, lt))
 
 -- ---- each call is of its writer's application
 

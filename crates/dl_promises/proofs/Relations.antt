@@ -1,12 +1,12 @@
 -- Marks of which each stands in a relation to those before it.
-use Rattle.std.proofs.Common.{◌≡◌, ℕ, zero, suc, Bool, true, false, List, [], ◌∷◌, ◌++◌, Option, Some, None, refl, sym, subst, append_assoc}
+use Rattle.std.proofs.Common.{◌≡◌, ℕ, zero, suc, Bool, true, false, cond, List, [], ◌∷◌, ◌++◌, Option, Some, None, refl, sym, subst, append_assoc}
 use Rattle.std.specs.Prelude.{map, replicate}
 use Rattle.std.specs.List.{AllByRecursion}
 use Rattle.std.proofs.lemmas.List.{append-nil}
 use Rattle.dl_model.specs.Setting.{Setting}
 use Rattle.dl_model.specs.Marks.{Mark}
 use Rattle.dl_model.specs.Runs.{RestsOn, AreFounded}
-use Rattle.dl_model.specs.Steps.{Act, in_sequence, for_some, when}
+use Rattle.dl_model.specs.Steps.{Act, in_sequence, for_some, when, announce, is_held_back, announce_upto}
 
 abbrev pub AreAll : (List Mark → Mark → Type 0) → List Mark → List Mark → Type 0
 AreAll R before [] = Unit {0}
@@ -36,7 +36,12 @@ pub weaker : (R S : List Mark → Mark → Type 0) → ((done : List Mark) (mark
 weaker R S f before [] all = tt
 weaker R S f before (mark ∷ marks) all = (f before mark all.0, weaker R S f (before ++ mark ∷ []) marks all.1)
 
--- what rests on what is before it, and stands in the relation besides
+-- what rests on what is before it
+pub as_all : (setting : Setting) (before marks : List Mark) → AreFounded setting before marks → AreAll (RestsOn setting) before marks
+as_all setting before [] founded = tt
+as_all setting before (mark ∷ marks) founded = (founded.0, as_all setting (before ++ mark ∷ []) marks founded.1)
+
+-- and stands in the relation besides
 pub with_founded : (setting : Setting) (R : List Mark → Mark → Type 0) (before marks : List Mark) → AreFounded setting before marks → AreAll R before marks →
     AreAll (λ done mark. RestsOn setting done mark × R done mark) before marks
 with_founded setting R before [] founded all = tt
@@ -71,3 +76,15 @@ asked_for R (Some x) act done all = all x refl
 pub where_so : (R : List Mark → Mark → Type 0) (b : Bool) (act : Act) (done : List Mark) → (b ≡ true → AreAll R done (act done)) → AreAll R done (when b act done)
 where_so R true act done is = is refl
 where_so R false act done is = tt
+
+-- claims that are pushed in turn
+unless_so : (R : List Mark → Mark → Type 0) (b : Bool) (before marks : List Mark) → AreAll R before marks → AreAll R before (cond b [] marks)
+unless_so R true before marks all = tt
+unless_so R false before marks all = all
+
+pub announced : (R : List Mark → Mark → Type 0) (writer : ℕ) → Keeps R (announce writer) → (more : ℕ) → Keeps R (announce_upto more writer)
+announced R writer one zero done = tt
+announced R writer one (suc more) done =
+    let step = announce writer done in
+    both R done step (cond (is_held_back step) [] (announce_upto more writer (done ++ step))) (one done)
+    (unless_so R (is_held_back step) (done ++ step) (announce_upto more writer (done ++ step)) (announced R writer one more (done ++ step)))

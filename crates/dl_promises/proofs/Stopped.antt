@@ -17,16 +17,15 @@ use Rattle.dl_model.specs.Setting.{Setting}
 use Rattle.dl_model.specs.Journal.{IsOpen, IsSettled, comes_or_goes, is_connect}
 use Rattle.dl_model.specs.Marks.{Mark, Noted, event_of, journal}
 use Rattle.dl_model.specs.Report.{closed_of, why_of}
-use Rattle.dl_model.specs.Replay.{source_of}
 use Rattle.dl_model.specs.Steps.{close, in_sequence, is_open, level_noted, note, note_levels, run, when}
 use Rattle.dl_promises.proofs.Alls.{by_end}
 use Rattle.dl_promises.proofs.Relations.{AreAll, holds_on}
-use Rattle.dl_promises.proofs.ClientStays.{AllSpeak, all_speak, came_more, first_speak, opened, opened-one, opened_is}
+use Rattle.dl_promises.proofs.ClientStays.{AllSpeak, came_more, first_speak, opened, opened-one, opened_is}
 use Rattle.dl_promises.proofs.Drained.{drained, levelled, whole_is, word_note}
 use Rattle.dl_promises.proofs.LevelsInForce.{settled_close}
 use Rattle.dl_promises.proofs.LevelTurns.{levels_in_turn}
 use Rattle.dl_promises.proofs.Turns.{Going, Turn, close_in_turn, going_levels, ready, stops, stops_in_turn}
-use Rattle.dl_promises.proofs.WellFormed.{plain, run_well_formed}
+use Rattle.dl_promises.proofs.WellFormed.{plain, run_stands, stand_and_speak}
 
 -- ---- no Level event is owed
 
@@ -37,6 +36,7 @@ settled_on setting done (Noted (event.Level slot level)) settled turn = let owes
 settled_on setting done (Noted (event.Connect client)) settled turn = absurd turn.1
 settled_on setting done (Noted (event.Request client frame answer)) settled turn = absurd turn.1
 settled_on setting done (Noted (event.Log app writer call moment)) settled turn = absurd turn.1
+settled_on setting done (Noted (event.Claim claim moment)) settled turn = absurd turn.1
 settled_on setting done (Noted (event.Lost app count moment)) settled turn = absurd turn.1
 settled_on setting done (Noted (event.User channel msg moment)) settled turn = absurd turn.1
 settled_on setting done mark settled turn = subst (IsSettled setting) (sym (plain done mark refl)) settled
@@ -66,6 +66,7 @@ shut_on setting client done (Noted (event.Level slot level)) shut turn =
 shut_on setting client done (Noted (event.Connect other)) shut turn = absurd turn.1
 shut_on setting client done (Noted (event.Request other frame answer)) shut turn = absurd turn.1
 shut_on setting client done (Noted (event.Log app writer call moment)) shut turn = absurd turn.1
+shut_on setting client done (Noted (event.Claim claim moment)) shut turn = absurd turn.1
 shut_on setting client done (Noted (event.Lost app count moment)) shut turn = absurd turn.1
 shut_on setting client done (Noted (event.User channel msg moment)) shut turn = absurd turn.1
 shut_on setting client done mark shut turn = ap (opened client) (plain done mark refl) ∙ shut
@@ -135,6 +136,7 @@ all_numbered before (e ∷ events) numbered all =
       says : (e : Event) → AllSpeak before (e ∷ events) → Says before e
       says (event.Connect other) speaks client of_client comes = sym (eqb-true other client of_client) ∙ speaks.0
       says (event.Close other cause) speaks client of_client comes = absurd cc
+      says (event.Claim claim moment) speaks client of_client comes = absurd cc
       says (event.Level slot level) speaks client of_client comes = absurd cc
       says (event.Request other frame answer) speaks client of_client comes = absurd cc
       says (event.Log app writer call moment) speaks client of_client comes = absurd cc
@@ -145,7 +147,7 @@ all_numbered before (e ∷ events) numbered all =
 
 run_speaks : (setting : Setting) (answers : List Done) (steps : List Step) → AllSpeak [] (journal (run setting answers steps))
 run_speaks setting answers steps =
-    all_speak setting (source_of setting []) [] (journal (run setting answers steps)) (run_well_formed setting (source_of setting []) answers steps)
+    stand_and_speak setting [] (run setting answers steps) (run_stands setting answers steps)
 
 shut_from : (setting : Setting) (client : ℕ) (before : List Mark) → AllSpeak [] (journal before) → opened client (journal (before ++ stops setting before)) ≡ false
 shut_from setting client before speaks = stop_each setting client (count_by is_connect (journal before)) 1 before (by_open (opened client (journal before)) refl) where
@@ -232,6 +234,7 @@ close_step client events e has shut came = by_event e refl where
         let open_now : opened client (events ++ e ∷ []) ≡ true = opened-one client events e ∙ ap (λ (x : Event). cond (comes_or_goes client x) (is_connect x) (opened client events)) (sym same) ∙ ap (λ (b : Bool). cond b true (opened client events)) is in
         absurd cc
     by_test false is = later (ap (comes_or_goes client) (sym same) ∙ is)
+  by_event (event.Claim claim moment) same = later (ap (comes_or_goes client) (sym same))
   by_event (event.Level slot level) same = later (ap (comes_or_goes client) (sym same))
   by_event (event.Request other frame answer) same = later (ap (comes_or_goes client) (sym same))
   by_event (event.Log app writer call moment) same = later (ap (comes_or_goes client) (sym same))

@@ -1,5 +1,5 @@
 -- What is stored is what is admitted, and how long it is.
-use Rattle.std.proofs.Common.{◌≡◌, ℕ, ◌+◌, ◌≤◌, List, [], ◌∷◌, ◌++◌, length, drop, map, refl, sym, ap, ◌∙◌, length-append, arith}
+use Rattle.std.proofs.Common.{◌≡◌, ℕ, ◌≤◌, List, [], ◌∷◌, ◌++◌, length, drop, map, refl, sym, ap, ◌∙◌, length-append, arith}
 use Rattle.std.specs.List.{AllByRecursion}
 use Rattle.std.proofs.Math.Seq.{drop-append_seam}
 use Rattle.std.proofs.lemmas.List.{map-append}
@@ -42,6 +42,7 @@ event_without : (source : FrameSource) (e : Event) → length source.ecu ≡ 4 �
 event_without source (event.Log app writer call moment) four = all_without source.ecu moment (frames_of source (event.Log app writer call moment)) four
 event_without source (event.Lost app count moment) four = all_without source.ecu moment (frames_of source (event.Lost app count moment)) four
 event_without source (event.User channel msg moment) four = all_without source.ecu moment (frames_of source (event.User channel msg moment)) four
+event_without source (event.Claim claim moment) four = refl
 event_without source (event.Level slot level) four = refl
 event_without source (event.Connect client) four = refl
 event_without source (event.Request client frame answer) four = refl
@@ -96,6 +97,7 @@ event_len : (source : FrameSource) (e : Event) → AreShort source (e ∷ []) �
 event_len source (event.Log app writer call moment) short = (stored_len source.ecu moment (source.frame writer call) short.ecu (short.frames writer call), tt)
 event_len source (event.Lost app count moment) short = all_stored_len source.ecu moment (frames_of source (event.Lost app count moment)) short.ecu (records_len source.ecu (source.apid app) (counters count) short.ecu (short.apids app))
 event_len source (event.User channel msg moment) short = all_stored_len source.ecu moment (user_frames source.ecu msg) short.ecu (user_len source.ecu msg short.ecu short.messages.0)
+event_len source (event.Claim claim moment) short = tt
 event_len source (event.Level slot level) short = tt
 event_len source (event.Connect client) short = tt
 event_len source (event.Request client frame answer) short = tt

@@ -5,6 +5,7 @@ use Rattle.std.specs.List.{filter_map, cons_option, range_with_len}
 use Rattle.std.proofs.lemmas.Bool.{ltb-true, and_parts}
 use Rattle.std.proofs.lemmas.List.{append-nil}
 use Rattle.std.proofs.lemmas.List.Elements.{filter_map-append}
+use Rattle.dl_bytes.specs.Claim.{Claimed}
 use Rattle.dl_bytes.specs.Limits.{message_limit}
 use Rattle.dl_bytes.specs.declared.outcome.Done.{Done}
 use Rattle.dl_bytes.specs.declared.outcome.Done.TheVariants as did
@@ -18,6 +19,7 @@ use Rattle.dl_events.specs.declared.event.Event.TheVariants as event
 use Rattle.dl_events.specs.declared.event.Why.{Why}
 use Rattle.dl_events.specs.declared.event.Why.TheVariants as why
 use Rattle.dl_script_lines.specs.declared.line.CallLine.{CallLine}
+use Rattle.dl_script_lines.specs.declared.line.ClaimLine.{ClaimLine}
 use Rattle.dl_script_lines.specs.declared.step.LevelEvents.TheVariants as levels
 use Rattle.dl_script_lines.specs.declared.step.Step.{Step}
 use Rattle.dl_script_lines.specs.declared.step.Step.TheVariants as line
@@ -27,10 +29,10 @@ use Rattle.dl_model.specs.Setting.{Setting}
 use Rattle.dl_model.specs.Registry.{slot_of}
 use Rattle.dl_model.specs.Reply.{Need, Nothing, Folder, Queue, MayAnswer}
 use Rattle.dl_model.specs.Journal.{slots_of, owed, is_connect, is_close, comes_or_goes, IsOpen, is_request_of, is_slow, is_stop, IsSettled, MayRequest, need_after}
-use Rattle.dl_model.specs.Marks.{Call, Mark, HasApp, HasContext, Filtered, Passed, Queued, Refused, Counted, Noted, Fed, Heard, Handed, Injected, Answered, is_answer, journal, event_of, apps, number_of, place_of, writer_numbers, app_of_writer, calls_of, passed_of, to_push, to_count, queued, taken, held_by, is_full, is_later, pending, moment, fed, injections}
-use Rattle.dl_model.specs.Steps.{Act, in_sequence, just, for_some, when, level_noted, note_levels, note_levels_now, changes, note, loaded, load, push, count, finish, begin_call, whole_call, take_log, take_losses, is_open, close, connect, served, request_now, ask, new_requests, close_malformed, receive, new_messages, tell, hear, take_injection, on_app, act_of, drain, after_lines}
+use Rattle.dl_model.specs.Marks.{Call, Mark, HasApp, HasContext, Filtered, Passed, Queued, Refused, Counted, HasClaim, Announced, HeldBack, Noted, Fed, Heard, Handed, Injected, Answered, is_answer, journal, event_of, apps, number_of, named_place, writer_numbers, app_of_writer, calls_of, passed_of, to_push, to_count, to_announce, unannounced, Pushed, OfCall, OfClaim, pushes, taken, held_by, is_full, is_later, pending, moment, fed, injections}
+use Rattle.dl_model.specs.Steps.{Act, in_sequence, just, for_some, when, level_noted, note_levels, note_levels_now, changes, note, loaded, load, push, count, finish, begin_call, whole_call, claim_made, claim, announce, announce_all, event_taken, take_log, take_losses, is_open, close, connect, served, request_now, ask, new_requests, close_malformed, receive, new_messages, tell, hear, take_injection, on_app, act_of, drain, after_lines}
 use Rattle.dl_laws.proofs.Lists.{last_that-one, count_by-append}
-use Rattle.dl_promises.proofs.Relations.{AreAll, both, turns, each, and_one, repeated, asked_for, where_so, Keeps}
+use Rattle.dl_promises.proofs.Relations.{AreAll, both, turns, each, and_one, repeated, asked_for, where_so, announced, Keeps}
 use Rattle.dl_promises.proofs.ClientStays.{is_open_in}
 use Rattle.dl_promises.proofs.WriterRuns.{IsOwn}
 use Rattle.dl_promises.proofs.LevelTurns.{levels_in_turn}
@@ -280,11 +282,11 @@ loaded_own setting call done c e = by_writer (app_of_writer call.writer done) re
   by_place apid app is_writer is_app (Some place) e =
       subst (λ x. IsOwn x done) (some_call (made apid app place) c e) (record { apid = apid; of_writer = is_writer; number = is_app })
 
-  by_app : (apid : List ℕ) → app_of_writer call.writer done ≡ Some apid → (o : Option ℕ) → number_of apid done ≡ o → (o >>= λ app. place_of apid call.ctid done >>= λ place. Some (made apid app place)) ≡ Some c → IsOwn c done
+  by_app : (apid : List ℕ) → app_of_writer call.writer done ≡ Some apid → (o : Option ℕ) → number_of apid done ≡ o → (o >>= λ app. named_place call.writer apid call.ctid done >>= λ place. Some (made apid app place)) ≡ Some c → IsOwn c done
   by_app apid is_writer None is e = absurd cc
-  by_app apid is_writer (Some app) is e = by_place apid app is_writer is (place_of apid call.ctid done) e
+  by_app apid is_writer (Some app) is e = by_place apid app is_writer is (named_place call.writer apid call.ctid done) e
 
-  by_writer : (o : Option (List ℕ)) → app_of_writer call.writer done ≡ o → (o >>= λ apid. number_of apid done >>= λ app. place_of apid call.ctid done >>= λ place. Some (made apid app place)) ≡ Some c → IsOwn c done
+  by_writer : (o : Option (List ℕ)) → app_of_writer call.writer done ≡ o → (o >>= λ apid. number_of apid done >>= λ app. named_place call.writer apid call.ctid done >>= λ place. Some (made apid app place)) ≡ Some c → IsOwn c done
   by_writer None is e = absurd cc
   by_writer (Some apid) is e = by_app apid is (number_of apid done) refl e
 
@@ -315,10 +317,27 @@ begin_in_turn setting call = turns (Turn setting NoStop) (finish call.writer ∷
 whole_in_turn : (setting : Setting) (call : CallLine) → Keeps (Turn setting NoStop) (whole_call setting call)
 whole_in_turn setting call = turns (Turn setting NoStop) (begin_call setting call ∷ finish call.writer ∷ []) (begin_in_turn setting call, (finish_in_turn setting NoStop call.writer, tt))
 
+claim_in_turn : (setting : Setting) (asked : ClaimLine) → Keeps (Turn setting NoStop) (claim asked)
+claim_in_turn setting asked done = asked_for (Turn setting NoStop) (claim_made asked done) (λ c. just (HasClaim c)) done (λ c e. (tt, tt))
+
+announce_in_turn : (setting : Setting) (writer : ℕ) → Keeps (Turn setting NoStop) (announce writer)
+announce_in_turn setting writer done =
+    asked_for (Turn setting NoStop) (to_announce writer done) (λ c. just (cond (is_full c.app done) (HeldBack c) (Announced c))) done (λ c e. (by_test c (is_full c.app done), tt)) where
+      by_test : (c : Claimed) (b : Bool) → Turn setting NoStop done (cond b (HeldBack c) (Announced c))
+      by_test c true = tt
+      by_test c false = tt
+
+announce_all_in_turn : (setting : Setting) (writer : ℕ) → Keeps (Turn setting NoStop) (announce_all writer)
+announce_all_in_turn setting writer done = announced (Turn setting NoStop) writer (announce_in_turn setting writer) (unannounced writer done) done
+
+taken_in_turn : (setting : Setting) (app : ℕ) (now : List Mark) (what : Pushed) → IsSettled setting (journal now) → TurnOf setting (journal now) (event_taken app what now) × NoStop (event_taken app what now)
+taken_in_turn setting app now (OfCall c) settled = (settled, refl)
+taken_in_turn setting app now (OfClaim c) settled = (settled, refl)
+
 take_log_in_turn : (setting : Setting) (app : ℕ) → Keeps (Turn setting NoStop) (take_log setting app)
 take_log_in_turn setting app done =
-    asked_for (Turn setting NoStop) (slice_get (queued app done) (taken app done)) (λ c. note setting (λ now. event.Log app c.item.writer c.item.call (moment now))) done
-    (λ c e. note_in_turn setting NoStop stops_none (λ now. event.Log app c.item.writer c.item.call (moment now)) done (λ settled. (settled, refl)))
+    asked_for (Turn setting NoStop) (slice_get (pushes app done) (taken app done)) (λ what. note setting (event_taken app what)) done
+    (λ what e. note_in_turn setting NoStop stops_none (event_taken app what) done (taken_in_turn setting app (ready setting done) what))
 
 take_losses_in_turn : (setting : Setting) (app : ℕ) → Keeps (Turn setting NoStop) (take_losses setting app)
 take_losses_in_turn setting app done =
@@ -359,6 +378,13 @@ line_in_turn setting answers (line.Log call) =
         tt,
       ),
     )
+line_in_turn setting answers (line.Claim asked) =
+    turns (Turn setting NoStop) (finish asked.writer ∷ claim asked ∷ []) (finish_in_turn setting NoStop asked.writer, (claim_in_turn setting asked, tt))
+line_in_turn setting answers (line.Announce writer) =
+    turns (Turn setting NoStop) (finish writer ∷ announce writer ∷ []) (finish_in_turn setting NoStop writer, (announce_in_turn setting writer, tt))
+line_in_turn setting answers (line.Register asked) =
+    turns (Turn setting NoStop) (finish asked.writer ∷ claim asked ∷ announce_all asked.writer ∷ [])
+    (finish_in_turn setting NoStop asked.writer, (claim_in_turn setting asked, (announce_all_in_turn setting asked.writer, tt)))
 line_in_turn setting answers (line.Take apid) = on_app_in_turn setting apid (take_log setting) (take_log_in_turn setting)
 line_in_turn setting answers (line.Losses apid) = on_app_in_turn setting apid (take_losses setting) (take_losses_in_turn setting)
 line_in_turn setting answers (line.Levels levels.Later) = λ _. (tt, tt)

@@ -2,15 +2,16 @@
 use Rattle.std.proofs.Common.{◌≡◌, ℕ, ◌+◌, ◌-◌, Bool, true, false, cond, eqb, leb, List, [], ◌∷◌, ◌++◌, length, Option, Some, None, refl, sym, ap, ◌∙◌, arith}
 use Rattle.std.specs.Prelude.{map, count_by, slice_get, unwrap_or, position}
 use Rattle.std.specs.List.{filter, filter_map, cons_option, after_last, range_with_len, AllByRecursion}
-use Rattle.std.specs.Option.{option_map_or, option_and_then}
+use Rattle.std.specs.Option.{option_map, option_map_or, option_and_then, option_or}
 use Rattle.std.specs.Str.{bytes_eq}
 use Rattle.std.proofs.lemmas.List.{append-nil}
 use Rattle.std.proofs.lemmas.List.Elements.{filter-append}
+use Rattle.dl_bytes.specs.Claim.{Claimed}
 use Rattle.dl_bytes.specs.declared.moment.Moment.{Moment}
 use Rattle.dl_script_lines.specs.declared.line.AppLine.{AppLine}
 use Rattle.dl_script_lines.specs.declared.line.ContextLine.{ContextLine}
 use Rattle.dl_model.specs.Along.{last_that}
-use Rattle.dl_model.specs.Marks.{Call, Mark, Fed, Heard, event_of, journal, record_of, app_of, apps, number_of, context_of, place_of, writer_of, writers, writer_numbers, app_of_writer, call_of, is_step_of, is_load, is_passed, calls_of, passed_of, passed, refused, to_push, to_count, queued_of, queued, is_log_of, taken, capacity_of, held_by, is_full, is_counted_of, is_lost_of, pending, clocked, moment_at, moment, waits_of, is_later, is_answer, is_injected, is_handed, injections}
+use Rattle.dl_model.specs.Marks.{Mark, Fed, Heard, event_of, journal, record_of, app_of, apps, number_of, context_of, contexts_of, place_of, claim_of, claims_of, claims_on, announced_of, announced_by, to_announce, unannounced, claimed_place, named_place, next_place, writer_of, writers, writer_numbers, app_of_writer, call_of, is_step_of, is_load, is_passed, calls_of, passed_of, passed, refused, to_push, to_count, Pushed, pushed_of, pushes, queued_of, queued, is_taken_of, taken, capacity_of, held_by, is_full, is_counted_of, is_lost_of, pending, clocked, moment_at, moment, waits_of, is_later, is_answer, is_injected, is_handed, injections}
 use Rattle.dl_model.specs.Steps.{Act, in_sequence, for_some, when}
 use Rattle.dl_laws.proofs.Lists.{last_that-one, after_last-one, count_by-append}
 use Rattle.dl_promises.proofs.Alls.{by_end}
@@ -133,6 +134,43 @@ waits_blind = gives_blind waits_of none where
   none (Heard channel bytes) e = refl
   none _ e = absurd cc
 
+pub pushes_blind : (app : ℕ) → Blind (pushes app)
+pushes_blind app = gives_blind (pushed_of app) none where
+  none : (mark : Mark) → is_other mark ≡ false → pushed_of app mark ≡ None
+  none (Fed client bytes) e = refl
+  none (Heard channel bytes) e = refl
+  none _ e = absurd cc
+
+made_blind : Blind (filter_map claim_of)
+made_blind = gives_blind claim_of none where
+  none : (mark : Mark) → is_other mark ≡ false → claim_of mark ≡ None
+  none (Fed client bytes) e = refl
+  none (Heard channel bytes) e = refl
+  none _ e = absurd cc
+
+announced_blind : Blind (filter_map announced_of)
+announced_blind = gives_blind announced_of none where
+  none : (mark : Mark) → is_other mark ≡ false → announced_of mark ≡ None
+  none (Fed client bytes) e = refl
+  none (Heard channel bytes) e = refl
+  none _ e = absurd cc
+
+claims_of_blind : (writer : ℕ) → Blind (claims_of writer)
+claims_of_blind writer done = ap (filter (λ (claim : Claimed). eqb claim.writer writer)) (made_blind done)
+
+announced_by_blind : (writer : ℕ) → Blind (announced_by writer)
+announced_by_blind writer done = ap (filter (λ (claim : Claimed). eqb claim.writer writer)) (announced_blind done)
+
+pub to_announce_blind : (writer : ℕ) → Blind (to_announce writer)
+to_announce_blind writer done =
+    ap (λ (cs : List Claimed). slice_get cs (length (announced_by writer done))) (claims_of_blind writer done)
+    ∙ ap (λ (cs : List Claimed). slice_get (claims_of writer (unfed done)) (length cs)) (announced_by_blind writer done)
+
+pub unannounced_blind : (writer : ℕ) → Blind (unannounced writer)
+unannounced_blind writer done =
+    ap (λ (cs : List Claimed). length cs - length (announced_by writer done)) (claims_of_blind writer done)
+    ∙ ap (λ (cs : List Claimed). length (claims_of writer (unfed done)) - length cs) (announced_by_blind writer done)
+
 pub queued_blind : (app : ℕ) → Blind (queued app)
 queued_blind app = gives_blind (queued_of app) none where
   none : (mark : Mark) → is_other mark ≡ false → queued_of app mark ≡ None
@@ -158,10 +196,10 @@ pub to_count_blind : (writer : ℕ) → Blind (to_count writer)
 to_count_blind writer done = ap (option_and_then refused) (last_blind (is_step_of writer) (no_step writer) done)
 
 pub taken_blind : (app : ℕ) → Blind (taken app)
-taken_blind app done = ap (count_by (is_log_of app)) (journal_blind done)
+taken_blind app done = ap (count_by (is_taken_of app)) (journal_blind done)
 
 pub held_blind : (app : ℕ) → Blind (held_by app)
-held_blind app done = ap (λ (cs : List Call). length cs - taken app done) (queued_blind app done) ∙ ap (λ (n : ℕ). length (queued app (unfed done)) - n) (taken_blind app done)
+held_blind app done = ap (λ (ps : List Pushed). length ps - taken app done) (pushes_blind app done) ∙ ap (λ (n : ℕ). length (pushes app (unfed done)) - n) (taken_blind app done)
 
 capacity_blind : (app : ℕ) → Blind (λ done. capacity_of done app)
 capacity_blind app done = ap (λ (lines : List AppLine). option_map_or (λ (line : AppLine). line.capacity) (slice_get lines app) 0) (apps_blind done)
@@ -219,6 +257,16 @@ number_blind apid done = ap (position (λ (app : AppLine). bytes_eq app.apid api
 pub place_blind : (apid ctid : List ℕ) → Blind (place_of apid ctid)
 place_blind apid ctid done =
     ap (λ (cs : List ContextLine). position (λ (context : ContextLine). bytes_eq context.ctid ctid) (filter (λ (context : ContextLine). bytes_eq context.apid apid) cs)) (contexts_blind done)
+
+pub named_place_blind : (writer : ℕ) (apid ctid : List ℕ) → Blind (named_place writer apid ctid)
+named_place_blind writer apid ctid done =
+    ap (λ (cs : List Claimed). option_or (option_map (λ (claim : Claimed). claim.place) (last_that (λ (claim : Claimed). bytes_eq claim.ctid ctid) cs)) (place_of apid ctid done)) (claims_of_blind writer done)
+    ∙ ap (option_or (claimed_place writer ctid (unfed done))) (place_blind apid ctid done)
+
+pub next_place_blind : (apid : List ℕ) (app : ℕ) → Blind (next_place apid app)
+next_place_blind apid app done =
+    ap (λ (cs : List ContextLine). length (filter (λ (context : ContextLine). bytes_eq context.apid apid) cs) + length (claims_on app done)) (contexts_blind done)
+    ∙ ap (λ (cs : List Claimed). length (contexts_of apid (unfed done)) + length (filter (λ (claim : Claimed). eqb claim.app app) cs)) (made_blind done)
 
 pub writer_numbers_blind : Blind writer_numbers
 writer_numbers_blind done = ap (λ (ws : List (List ℕ)). range_with_len 1 (length ws)) (writers_blind done)

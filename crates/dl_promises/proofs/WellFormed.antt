@@ -17,6 +17,8 @@ use Rattle.dl_model.specs.Frames.{FrameSource}
 use Rattle.dl_model.specs.Journal.{is_stop, is_slow, IsRunning, IsSlowAsTold, IsInTurn, AreInTurn, IsWellFormed}
 use Rattle.dl_model.specs.Marks.{Mark, Noted, journal, event_of}
 use Rattle.dl_model.specs.Steps.{Act, in_sequence, act_of, note_levels, end_of, after_lines, run}
+use Rattle.dl_promises.specs.PresentClaims.{IsThere, AreThere, ClaimsArePresent}
+use Rattle.dl_promises.proofs.ClientStays.{Speaks, AllSpeak}
 use Rattle.dl_promises.proofs.Relations.{AreAll, both, weaker}
 use Rattle.dl_promises.proofs.Turns.{TurnOf, NoStop, Going, Turn, finishes, drains, stops, before_stop, lines_in_turn, before_stop_in_turn, stops_in_turn}
 
@@ -55,16 +57,17 @@ no_slow : (setting : Setting) (source : FrameSource) (before : List Event) (clie
 no_slow setting source before client (why.Slow room need) events none = absurd cc
 no_slow setting source before client _ events none = tt
 
-while_running : (setting : Setting) (source : FrameSource) (before : List Event) (e : Event) (events : List Event) → TurnOf setting before e → IsRunning before → IsInTurn setting source before e events
-while_running setting source before (event.Level slot level) events turn running = turn
-while_running setting source before (event.Connect client) events turn running =
+while_running : (setting : Setting) (source : FrameSource) (before : List Event) (e : Event) (events : List Event) → TurnOf setting before e → IsRunning before → IsThere setting before e → IsInTurn setting source before e events
+while_running setting source before (event.Level slot level) events turn running there = turn
+while_running setting source before (event.Connect client) events turn running there =
     record { settled = turn.settled; running = running; number = turn.number; limit = turn.limit; at_most = turn.at_most }
-while_running setting source before (event.Request client frame answer) events turn running = turn
-while_running setting source before (event.Close client cause) events turn running =
+while_running setting source before (event.Request client frame answer) events turn running there = turn
+while_running setting source before (event.Close client cause) events turn running there =
     record { settled = turn.settled; is_open = turn.is_open; slow = no_slow setting source before client cause events turn.not_slow }
-while_running setting source before (event.Log app writer call moment) events turn running = (turn, running)
-while_running setting source before (event.Lost app count moment) events turn running = (turn, running)
-while_running setting source before (event.User channel msg moment) events turn running = (turn, running)
+while_running setting source before (event.Claim claim moment) events turn running there = record { settled = turn; running = running; there = there }
+while_running setting source before (event.Log app writer call moment) events turn running there = (turn, running)
+while_running setting source before (event.Lost app count moment) events turn running there = (turn, running)
+while_running setting source before (event.User channel msg moment) events turn running there = (turn, running)
 
 at_stop : (setting : Setting) (source : FrameSource) (before : List Event) (e : Event) (events : List Event) → TurnOf setting before e → Going e → IsInTurn setting source before e events
 at_stop setting source before (event.Level slot level) events turn going = turn
@@ -72,22 +75,43 @@ at_stop setting source before (event.Close client cause) events turn going =
     record { settled = turn.settled; is_open = turn.is_open; slow = no_slow setting source before client cause events turn.not_slow }
 at_stop setting source before _ events turn going = absurd going
 
-event_stands : (setting : Setting) (source : FrameSource) (done : List Mark) (e : Event) (events : List Event) → Stands setting done (Noted e) → IsInTurn setting source (journal done) e events
-event_stands setting source done e events (inl is) = while_running setting source (journal done) e events is.0.0 is.1
-event_stands setting source done e events (inr is) = at_stop setting source (journal done) e events is.0 is.1
+event_stands : (setting : Setting) (source : FrameSource) (done : List Mark) (e : Event) (events : List Event) → Stands setting done (Noted e) → IsThere setting (journal done) e → IsInTurn setting source (journal done) e events
+event_stands setting source done e events (inl is) there = while_running setting source (journal done) e events is.0.0 is.1 there
+event_stands setting source done e events (inr is) there = at_stop setting source (journal done) e events is.0 is.1
 
 -- a mark that is no event changes nothing
 pub plain : (done : List Mark) (mark : Mark) → event_of mark ≡ None → journal (done ++ mark ∷ []) ≡ journal done
 plain done mark none = filter_map-append event_of done (mark ∷ []) ∙ ap (λ (o : Option Event). journal done ++ cons_option o []) none ∙ append-nil (journal done)
 
-pub stand_in_turn : (setting : Setting) (source : FrameSource) (before marks : List Mark) → AreAll (Stands setting) before marks → AreInTurn setting source (journal before) (journal marks)
-stand_in_turn setting source before [] all = tt
-stand_in_turn setting source before (Noted e ∷ marks) all = (
-  event_stands setting source before e (journal marks) all.0,
-  subst (λ b. AreInTurn setting source b (journal marks)) (filter_map-append event_of before (Noted e ∷ [])) (stand_in_turn setting source (before ++ Noted e ∷ []) marks all.1),
+pub stand_in_turn : (setting : Setting) (source : FrameSource) (before marks : List Mark) → AreAll (Stands setting) before marks → AreThere setting (journal before) (journal marks) → AreInTurn setting source (journal before) (journal marks)
+stand_in_turn setting source before [] all there = tt
+stand_in_turn setting source before (Noted e ∷ marks) all there =
+    let more = filter_map-append event_of before (Noted e ∷ []) in (
+      event_stands setting source before e (journal marks) all.0 there.0,
+      subst (λ b. AreInTurn setting source b (journal marks)) more
+          (stand_in_turn setting source (before ++ Noted e ∷ []) marks all.1 (subst (λ b. AreThere setting b (journal marks)) (sym more) there.1)),
+    )
+stand_in_turn setting source before (mark ∷ marks) all there =
+    let same = plain before mark refl in
+    subst (λ b. AreInTurn setting source b (journal marks)) same
+    (stand_in_turn setting source (before ++ mark ∷ []) marks all.1 (subst (λ b. AreThere setting b (journal marks)) (sym same) there))
+
+-- what each event says of clients holds of every run
+event_speaks : (setting : Setting) (done : List Mark) (e : Event) → Stands setting done (Noted e) → Speaks (journal done) e
+event_speaks setting done (event.Connect client) (inl is) = is.0.0.number
+event_speaks setting done (event.Connect client) (inr is) = is.0.number
+event_speaks setting done (event.Close client cause) (inl is) = is.0.0.is_open
+event_speaks setting done (event.Close client cause) (inr is) = is.0.is_open
+event_speaks setting done _ stands = tt
+
+pub stand_and_speak : (setting : Setting) (before marks : List Mark) → AreAll (Stands setting) before marks → AllSpeak (journal before) (journal marks)
+stand_and_speak setting before [] all = tt
+stand_and_speak setting before (Noted e ∷ marks) all = (
+  event_speaks setting before e all.0,
+  subst (λ b. AllSpeak b (journal marks)) (filter_map-append event_of before (Noted e ∷ [])) (stand_and_speak setting (before ++ Noted e ∷ []) marks all.1),
 )
-stand_in_turn setting source before (mark ∷ marks) all =
-    subst (λ b. AreInTurn setting source b (journal marks)) (plain before mark refl) (stand_in_turn setting source (before ++ mark ∷ []) marks all.1)
+stand_and_speak setting before (mark ∷ marks) all =
+    subst (λ b. AllSpeak b (journal marks)) (plain before mark refl) (stand_and_speak setting (before ++ mark ∷ []) marks all.1)
 
 -- ---- no event of the stop
 
@@ -114,8 +138,10 @@ run_stands setting answers steps =
     (both (Stands setting) [] begun ended (stand_while_running setting [] begun (before_stop_in_turn setting answers steps) refl)
     (weaker (Turn setting Going) (Stands setting) (λ done mark turn. inr turn) begun ended (stops_in_turn setting begun)))
 
-pub lines_well_formed : (setting : Setting) (source : FrameSource) (answers : List Done) (steps : List Step) → IsWellFormed setting source (journal (after_lines setting answers steps))
+pub lines_well_formed : (setting : Setting) (source : FrameSource) (answers : List Done) (steps : List Step) →
+    ClaimsArePresent setting (journal (after_lines setting answers steps)) → IsWellFormed setting source (journal (after_lines setting answers steps))
 lines_well_formed setting source answers steps = stand_in_turn setting source [] (after_lines setting answers steps) (lines_stand setting answers steps)
 
-pub run_well_formed : (setting : Setting) (source : FrameSource) (answers : List Done) (steps : List Step) → IsWellFormed setting source (journal (run setting answers steps))
+pub run_well_formed : (setting : Setting) (source : FrameSource) (answers : List Done) (steps : List Step) →
+    ClaimsArePresent setting (journal (run setting answers steps)) → IsWellFormed setting source (journal (run setting answers steps))
 run_well_formed setting source answers steps = stand_in_turn setting source [] (run setting answers steps) (run_stands setting answers steps)

@@ -1,6 +1,7 @@
 -- What each fate of a call says: of its level, its ring, the buffer, and the streams of the clients.
 use Rattle.std.specs.Prelude.{◌≡◌, ◌<◌, ◌≤◌, ◌+◌, ◌%◌, ℕ, Bool, true, false, not, List, ◌∷◌, ◌++◌, length, count_by, slice_get, Option, Some, None, if◌then◌else◌}
 use Rattle.std.specs.List.{AllByRecursion}
+use Rattle.dl_bytes.specs.Claim.{Claimed}
 use Rattle.dl_bytes.specs.Level.{severity_number, passes}
 use Rattle.dl_events.specs.declared.event.Event.{Event}
 use Rattle.dl_events.specs.declared.record.Record.{Record}
@@ -108,10 +109,11 @@ pub record AreNeighbours (setting : Setting) (source : FrameSource) (buffer clie
   pub first : ℕ
   pub writer : ℕ
   pub refusals : ℕ
+  pub pushed : List Claimed
   pub earlier : List Record
   pub later : List Record
   pub formed : IsWellFormed setting source events
-  pub account : IsOwnedSoFar first events writer refusals (earlier ++ one ∷ (between ++ two ∷ later))
+  pub account : IsOwnedSoFar first events writer refusals pushed (earlier ++ one ∷ (between ++ two ∷ later))
   pub heard_one : is_in_stream (what_became_of source buffer client events one) ≡ true
   pub heard_two : is_in_stream (what_became_of source buffer client events two) ≡ true
   pub none_between : AllByRecursion (λ r. is_in_stream (what_became_of source buffer client events r) ≡ false) between

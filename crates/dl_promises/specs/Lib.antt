@@ -9,3 +9,5 @@ pub mod GivenLast
 pub mod RegistryCases
 pub mod Fates
 pub mod Causes
+pub mod PresentClaims
+pub mod WaitingClaims

@@ -1,7 +1,7 @@
 -- A setting and a registry of the examples on registries.
 use Rattle.std.specs.Prelude.{ℕ, [], ◌∷◌, codes, None}
 use Rattle.dl_bytes.specs.declared.conf.StoredLevel.{StoredLevel}
-use Rattle.dl_model.specs.declared.registry.Context.{Context}
+use Rattle.dl_model.specs.declared.context.Context.{Context}
 use Rattle.dl_model.specs.Registry.{Registry}
 use Rattle.dl_model.specs.RegistryExamples.{defaults, id}
 use Rattle.dl_model.specs.Setting.{Setting}
@@ -16,7 +16,7 @@ twice_stored = record defaults { stored = record { level = None; own = stored_as
 
 -- a context that follows the default level
 abbrev pub at_place : ℕ → Context
-at_place place = record { place = place; own = None; position = 0; text = [] }
+at_place place = record { place = place; further = []; own = None; position = 0; text = [] }
 
 -- the last application, with a context in its forty-first place and one in its last
 abbrev pub last_slots : Registry

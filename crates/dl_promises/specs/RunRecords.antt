@@ -5,7 +5,7 @@ use Rattle.dl_events.specs.declared.event.Event.TheVariants.{Level}
 use Rattle.dl_events.specs.declared.record.Record.{Record}
 use Rattle.dl_events.specs.declared.record.Answer.TheVariants as answer
 use Rattle.dl_model.specs.Setting.{Setting}
-use Rattle.dl_model.specs.Marks.{Call, Mark, Refused, is_load, call_of, journal, recorded, held_by, capacity_of}
+use Rattle.dl_model.specs.Marks.{Call, Mark, Refused, HeldBack, is_load, call_of, journal, recorded, held_by, capacity_of}
 use Rattle.dl_model.specs.Journal.{slots_of}
 
 -- ---- levels
@@ -17,9 +17,10 @@ is_level_of slot _ = false
 
 -- ---- of a run of steps
 
--- a push of this writer that its ring refused
+-- a push of this writer, of a call or of a claim, that its ring refused
 abbrev pub is_refusal_of : ℕ → Mark → Bool
 is_refusal_of writer (Refused call) = call.item.writer == writer
+is_refusal_of writer (HeldBack claim) = claim.writer == writer
 is_refusal_of writer _ = false
 
 -- how many pushes of a writer its ring refused
@@ -45,7 +46,7 @@ pub record IsSeen (setting : Setting) (done : List Mark) (r : Record) : Type 0 w
   pub loaded : IsLoadedIn setting done call
 
 -- A lost call met a full ring: the push that refused it stands among these marks, and before it the ring of its
--- application held as many calls as it can.
+-- application held as many calls and claims as it can.
 pub record MetFullRing (done : List Mark) (r : Record) : Type 0 where
   pub call : Call
   pub is : r ≡ recorded call answer.Lost

@@ -1,6 +1,7 @@
 //! Laws on journals with their records, where they are accounted: nothing is lost unsaid.
 
 ghost use Rattle.std.specs.Prelude.{◌≡◌, ◌<◌, ◌≤◌, ◌+◌, ℕ, List, [], ◌∷◌, ◌++◌, length, count_by};
+ghost use Rattle.dl_bytes.specs.Claim.{Claimed};
 ghost use Rattle.dl_bytes.specs.Level.{severity_number};
 ghost use Rattle.dl_bytes.specs.declared.conf.AppSpec.{AppSpec};
 ghost use Rattle.dl_bytes.specs.declared.moment.Moment.{Moment};
@@ -28,30 +29,30 @@ pub fn nothing_is_lost_unsaid()
     ensures answers { (app : ℕ) (records : List (List Record)) →
         answered Queued (records_of_app app records) + answered Filtered (records_of_app app records) + answered Lost (records_of_app app records)
         ≡ length (records_of_app app records) }
-    ensures admitted { (first : ℕ) (events : List Event) (pending refusals : ℕ → ℕ) (records : List (List Record)) →
-        IsAccounted first events pending refusals records → (app : ℕ) →
+    ensures admitted { (first : ℕ) (events : List Event) (pending refusals : ℕ → ℕ) (pushed : List (List Claimed)) (records : List (List Record)) →
+        IsAccounted first events pending refusals pushed records → (app : ℕ) →
         count_by (is_log_of app) events ≡ answered Queued (records_of_app app records) }
-    ensures told { (first : ℕ) (events : List Event) (pending refusals : ℕ → ℕ) (records : List (List Record)) →
-        IsAccounted first events pending refusals records → (app : ℕ) →
+    ensures told { (first : ℕ) (events : List Event) (pending refusals : ℕ → ℕ) (pushed : List (List Claimed)) (records : List (List Record)) →
+        IsAccounted first events pending refusals pushed records → (app : ℕ) →
         reported app events + pending app ≡ answered Lost (records_of_app app records) }
-    ensures calls { (first : ℕ) (events : List Event) (pending refusals : ℕ → ℕ) (records : List (List Record)) →
-        IsAccounted first events pending refusals records → (app : ℕ) →
+    ensures calls { (first : ℕ) (events : List Event) (pending refusals : ℕ → ℕ) (pushed : List (List Claimed)) (records : List (List Record)) →
+        IsAccounted first events pending refusals pushed records → (app : ℕ) →
         length (records_of_app app records)
         ≡ count_by (is_log_of app) events + answered Filtered (records_of_app app records) + (reported app events + pending app) }
 {}
 
 /// What is admitted was logged: each Log event is a call that its writer's record says its ring took, of this application.
 pub fn what_is_admitted_was_logged()
-    ensures { (first : ℕ) (events : List Event) (pending refusals : ℕ → ℕ) (records : List (List Record)) → IsAccounted first events pending refusals records →
+    ensures { (first : ℕ) (events : List Event) (pending refusals : ℕ → ℕ) (pushed : List (List Claimed)) (records : List (List Record)) → IsAccounted first events pending refusals pushed records →
         (app writer call : ℕ) (moment : Moment) (before after : List Event) → events ≡ before ++ Log app writer call moment ∷ after → WasLogged records app writer call }
 {}
 
 /// A client that was there throughout, so that nothing was admitted before it came or after it went, hears each queued call once, of each
 /// writer in order; and the overflow records of an application in its stream add up to its lost calls.
 pub fn a_client_hears_all()
-    ensures { (setting : Setting) (records : List (List Record)) (specs : List AppSpec) (refusals : ℕ → ℕ) (client : ℕ) (cause : Why) (before middle after : List Event) →
+    ensures { (setting : Setting) (records : List (List Record)) (specs : List AppSpec) (refusals : ℕ → ℕ) (pushed : List (List Claimed)) (client : ℕ) (cause : Why) (before middle after : List Event) →
         IsWellFormed setting (source_of_records setting records specs) (before ++ Connect client ∷ (middle ++ Close client cause ∷ after)) →
-        IsAccounted setting.first (before ++ Connect client ∷ (middle ++ Close client cause ∷ after)) (λ app. 0) refusals records →
+        IsAccounted setting.first (before ++ Connect client ∷ (middle ++ Close client cause ∷ after)) (λ app. 0) refusals pushed records →
         admitted (source_of_records setting records specs) before ≡ [] → admitted (source_of_records setting records specs) after ≡ [] →
         HearsAll setting records specs (before ++ Connect client ∷ (middle ++ Close client cause ∷ after))
         (stream (source_of_records setting records specs) setting.buffer client (before ++ Connect client ∷ (middle ++ Close client cause ∷ after))) }

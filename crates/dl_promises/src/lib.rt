@@ -4,6 +4,7 @@
 
 pub mod accounts;
 pub mod causes;
+pub mod claims;
 pub mod cutting;
 pub mod files;
 pub mod journals;

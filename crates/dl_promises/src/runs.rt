@@ -8,20 +8,23 @@ ghost use Rattle.dl_script_lines.specs.declared.step.Step.{Step};
 ghost use Rattle.dl_model.specs.Accounts.{AreCounted, NeverFall, with_answer};
 ghost use Rattle.dl_model.specs.Frames.{FrameSource};
 ghost use Rattle.dl_model.specs.Journal.{IsOpen, IsSettled, IsWellFormed, is_connect};
-ghost use Rattle.dl_model.specs.Marks.{journal, records_of, records, pending, calls_of, held_by, capacity_of, is_log_of};
+ghost use Rattle.dl_model.specs.Marks.{claims, journal, records_of, records, pending, calls_of, held_by, capacity_of, is_log_of};
+ghost use Rattle.dl_model.specs.Accounts.{claims as claims_noted};
 ghost use Rattle.dl_model.specs.Report.{answered, reported, records_of_app, why_of};
 ghost use Rattle.dl_model.specs.Setting.{Setting};
 ghost use Rattle.dl_model.specs.Steps.{after_lines, run};
 ghost use Rattle.dl_model.specs.WholeAccounts.{IsAccounted, IsAccountedSoFar};
+ghost use Rattle.dl_promises.specs.PresentClaims.{ClaimsArePresent};
 ghost use Rattle.dl_promises.specs.RunRecords.{IsSeen, MetFullRing, refusals_of};
 
-/// Whatever lines a script has, its journal is well-formed, after the lines and at the end: Level events are just those
-/// that are owed, in their order, and each event of a client stands while the client may have it.
+/// Whatever lines a script has, its journal is well-formed, after the lines and at the end, where its claims are of applications
+/// that are there: Level events are just those that are owed, in their order, and each event of a client stands while the client may
+/// have it.
 pub fn runs_are_well_formed()
     ensures lines { (setting : Setting) (source : FrameSource) (answers : List Done) (steps : List Step) →
-        IsWellFormed setting source (journal (after_lines setting answers steps)) }
+        ClaimsArePresent setting (journal (after_lines setting answers steps)) → IsWellFormed setting source (journal (after_lines setting answers steps)) }
     ensures whole { (setting : Setting) (source : FrameSource) (answers : List Done) (steps : List Step) →
-        IsWellFormed setting source (journal (run setting answers steps)) }
+        ClaimsArePresent setting (journal (run setting answers steps)) → IsWellFormed setting source (journal (run setting answers steps)) }
 {}
 
 /// A finished run owes nothing: no Level event is owed, nobody is open, and every client that came has its Close.
@@ -32,15 +35,16 @@ pub fn a_finished_run_owes_nothing()
         client ≤ count_by is_connect (journal (run setting answers steps)) → is_some (why_of client (journal (run setting answers steps))) ≡ true }
 {}
 
-/// Every run is accounted. After any lines of a script each writer has its account, but for calls that wait in a ring, and
+/// Every run is accounted. After any lines of a script each writer has its account, but for calls and claims that wait in a ring, and
 /// what is told of losses, with those that are pending, are the lost calls. At the end nothing waits and none is pending:
-/// every call that was begun has its record, every queued one was admitted, and every lost one is told.
+/// every call that was begun has its record, every queued one was admitted, every lost one is told, and every claim that a ring took
+/// was noted. No two claims of an application are on the same place.
 pub fn runs_are_accounted()
     ensures so_far { (setting : Setting) (answers : List Done) (steps : List Step) →
         IsAccountedSoFar setting.first (journal (after_lines setting answers steps)) (λ app. pending app (after_lines setting answers steps))
-        (refusals_of (after_lines setting answers steps)) (records (after_lines setting answers steps)) }
+        (refusals_of (after_lines setting answers steps)) (claims (after_lines setting answers steps)) (records (after_lines setting answers steps)) }
     ensures whole { (setting : Setting) (answers : List Done) (steps : List Step) →
-        IsAccounted setting.first (journal (run setting answers steps)) (λ app. 0) (refusals_of (run setting answers steps)) (records (run setting answers steps)) }
+        IsAccounted setting.first (journal (run setting answers steps)) (λ app. 0) (refusals_of (run setting answers steps)) (claims (run setting answers steps)) (records (run setting answers steps)) }
     ensures finished { (setting : Setting) (answers : List Done) (steps : List Step) (writer : ℕ) →
         length (records_of writer (run setting answers steps)) ≡ calls_of writer (run setting answers steps) }
 {}
@@ -57,8 +61,8 @@ pub fn reports_add_up()
         reported app (journal (run setting answers steps)) ≡ answered Lost (records_of_app app (records (run setting answers steps))) }
 {}
 
-/// No ring ever holds more calls than it can, and a lost call met a full one: before the push that refused it, its ring held
-/// as many calls as it can. So an application with a lost call has at least as many queued ones as its ring holds.
+/// No ring ever holds more calls and claims than it can, and a lost call met a full one: before the push that refused it, its ring
+/// held as many as it can. So an application with a lost call has at least as many queued ones and claims together as its ring holds.
 pub fn lost_calls_met_a_full_ring()
     ensures room { (setting : Setting) (answers : List Done) (steps : List Step) (app : ℕ) →
         held_by app (after_lines setting answers steps) ≤ capacity_of (after_lines setting answers steps) app }
@@ -66,7 +70,8 @@ pub fn lost_calls_met_a_full_ring()
         AllByRecursion (MetFullRing (run setting answers steps)) (with_answer Lost (records_of writer (run setting answers steps))) }
     ensures queued { (setting : Setting) (answers : List Done) (steps : List Step) (app : ℕ) →
         0 < answered Lost (records_of_app app (records (run setting answers steps))) →
-        capacity_of (run setting answers steps) app ≤ answered Queued (records_of_app app (records (run setting answers steps))) }
+        capacity_of (run setting answers steps) app
+        ≤ answered Queued (records_of_app app (records (run setting answers steps))) + length (claims_noted app (journal (run setting answers steps))) }
 {}
 
 /// The message counter of a call is the number of its writer's earlier calls that passed their level, modulo 256.

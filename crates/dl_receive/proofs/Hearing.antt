@@ -30,6 +30,7 @@ event_stays : (source : FrameSource) (client : ℕ) (before : List Event) (e : E
 event_stays source client before (event.Connect other) none = rw none refl
 event_stays source client before (event.Close other why) none = rw none refl
 event_stays source client before (event.Request other frame done) none = refl
+event_stays source client before (event.Claim claim moment) none = refl
 event_stays source client before (event.Level slot level) none = refl
 event_stays source client before (event.Log app writer call moment) none = refl
 event_stays source client before (event.Lost app count moment) none = admits_stay client (frames_of source (event.Lost app count moment))
@@ -159,6 +160,7 @@ event_waits source client done before (event.Request other frame answer) shut no
           ∙ ap (λ (o : Option (List ℕ)). waiting before ++ filter_map (λ (p : Option (List ℕ)). p) (o ∷ [])) (sym (ap (λ b. cond b (Some reply) None) none)),
       any_open-reply other reply before ∙ shut,
     )
+event_waits source client done before (event.Claim claim moment) shut none = nothing_waits client before shut
 event_waits source client done before (event.Level slot level) shut none = nothing_waits client before shut
 event_waits source client done before (event.Log app writer call moment) shut none = frames_wait client before (source.frame writer call ∷ []) shut
 event_waits source client done before (event.Lost app count moment) shut none = frames_wait client before (frames_of source (event.Lost app count moment)) shut

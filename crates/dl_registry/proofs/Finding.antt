@@ -1,11 +1,11 @@
 -- The value that has a number, among entries whose numbers are apart.
-use Rattle.std.proofs.Common.{◌≡◌, inl, inr, ℕ, Bool, true, false, cond, List, [], ◌∷◌, ◌++◌, map, reverse, Option, Some, None, is_some, ◌≢◌, refl, sym, ap, subst, ◌∙◌, true≢false}
-use Rattle.std.specs.Prelude.{nat_eq, ◌||◌, ◌==◌}
-use Rattle.std.specs.List.{AllByRecursion, IsDistinct, find, list_any}
+use Rattle.std.proofs.Common.{◌≡◌, inl, inr, ℕ, Bool, true, false, cond, List, [], ◌∷◌, ◌++◌, map, Option, Some, None, refl, sym, ap, subst, ◌∙◌, true≢false}
+use Rattle.std.specs.Prelude.{nat_eq, ◌==◌}
+use Rattle.std.specs.List.{AllByRecursion, IsDistinct, find}
 use Rattle.std.specs.Map.{lookup, set_value, remove_entry, values_of}
 use Rattle.std.specs.Option.{option_map, option_or}
 use Rattle.std.proofs.lemmas.Bool.Decides.{eqb_tells}
-use Rattle.std.proofs.lemmas.List.{map-append, reverse-append}
+use Rattle.std.proofs.lemmas.List.{map-append}
 use Rattle.std.proofs.lemmas.List.Folds.{find-append}
 use Rattle.std.proofs.lemmas.Map.Keys.{IsDistinct-head, IsDistinct-tail}
 
@@ -106,39 +106,3 @@ module _ {A : Type 0} (f : A → ℕ) where
         let other : nat_eq (f e.1) (f v) ≡ false = of_found (λ y. nat_eq (f e.1) y ≡ false) test es v is (IsDistinct-head nat_eq (f e.1) (numbers_of es) apart) in
         ap (cond (f e.1 == n) (Some e.1)) (rest is)
         ∙ either_first (f e.1) (f v) n (Some e.1) None (valued n es) other
-
-  -- the last value that has the number, where numbers are apart, is the first
-  pub valued-reverse : (n : ℕ) (es : List (List ℕ × A)) → IsDistinct nat_eq (numbers_of es) → find (λ x. f x == n) (reverse (values_of es)) ≡ valued n es
-  valued-reverse n [] apart = refl
-  valued-reverse n (e ∷ es) apart =
-      ap (find (λ x. f x == n)) (reverse-append (e.1 ∷ []) (values_of es))
-      ∙ (find-append (λ x. f x == n) (reverse (values_of es)) (e.1 ∷ [])
-      ∙ (ap (λ o. option_or o (cond (f e.1 == n) (Some e.1) None)) (valued-reverse n es (IsDistinct-tail nat_eq (f e.1) (numbers_of es) apart))
-      ∙ elim (eqb_tells (f e.1) n) [
-        | inl same ↦
-            let none : valued n es ≡ None = valued-absent n es (subst (λ k. AllByRecursion (λ y. nat_eq k y ≡ false) (numbers_of es)) same.1 (IsDistinct-head nat_eq (f e.1) (numbers_of es) apart)) in
-            ap (λ o. option_or o (cond (f e.1 == n) (Some e.1) None)) none ∙ (ap (λ t. cond t (Some e.1) None) same.0 ∙ sym (ap (λ t. cond t (Some e.1) (valued n es)) same.0))
-        | inr other ↦
-            ap (λ t. option_or (valued n es) (cond t (Some e.1) None)) other.0 ∙ (or_none (valued n es) ∙ sym (ap (λ t. cond t (Some e.1) (valued n es)) other.0))
-      ]))
-    where
-      or_none : {B : Type 0} (o : Option B) → option_or o None ≡ o
-      or_none None = refl
-      or_none (Some x) = refl
-
-  -- whether a value has the number, by the numbers
-  pub valued_tells : (n : ℕ) (es : List (List ℕ × A)) → is_some (valued n es) ≡ list_any (nat_eq n) (numbers_of es)
-  valued_tells n [] = refl
-  valued_tells n (e ∷ es) = elim (eqb_tells (f e.1) n) [
-    | inl here ↦ ap (λ t. is_some (cond t (Some e.1) (valued n es))) here.0 ∙ sym (ap (λ k. nat_eq n k || list_any (nat_eq n) (numbers_of es)) here.1 ∙ ap (λ b. b || list_any (nat_eq n) (numbers_of es)) (nat_eq_same n))
-    | inr other ↦ ap (λ t. is_some (cond t (Some e.1) (valued n es))) other.0 ∙ (valued_tells n es ∙ sym (ap (λ b. b || list_any (nat_eq n) (numbers_of es)) (apart n (f e.1) other.1)))
-  ]
-    where
-      apart : (a b : ℕ) → b ≢ a → nat_eq a b ≡ false
-      apart a b other = elim (eqb_tells a b) [ inl same ↦ absurd (other (sym same.1)) | inr is ↦ is.0 ]
-
-  pub valued-free : (n : ℕ) (es : List (List ℕ × A)) → list_any (nat_eq n) (numbers_of es) ≡ false → valued n es ≡ None
-  valued-free n es free = none (valued n es) (valued_tells n es ∙ free) where
-    none : (o : Option A) → is_some o ≡ false → o ≡ None
-    none None is = refl
-    none (Some x) is = absurd (true≢false is)

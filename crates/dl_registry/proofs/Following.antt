@@ -6,11 +6,12 @@ use Rattle.std.specs.Option.{option_and_then, option_map, option_or}
 use Rattle.std.specs.Result.{result_ok, result_unwrap_or}
 use Rattle.std.proofs.lemmas.Bool.Decides.{eqb_tells}
 use Rattle.std.proofs.lemmas.List.{get_or-set_same, get_or-set_other, length-set, length-replicate}
+use Rattle.dl_bytes.specs.Claim.{Claimed}
 use Rattle.dl_bytes.specs.declared.moment.Moment.{Moment}
 use Rattle.dl_bytes.specs.declared.outcome.Done.{Done}
 use Rattle.dl_bytes.specs.declared.user.UserMsg.{UserMsg}
 use Rattle.dl_events.specs.declared.event.Event.{Event}
-use Rattle.dl_events.specs.declared.event.Event.TheVariants.{User, Level, Request}
+use Rattle.dl_events.specs.declared.event.Event.TheVariants.{User, Claim, Level, Request}
 use Rattle.dl_model.specs.declared.registry.LevelChange.{LevelChange}
 use Rattle.dl_model.specs.declared.registry.RegistryFault.{RegistryFault}
 use Rattle.dl_model.specs.declared.registry.RegistryFault.TheVariants as fault
@@ -22,7 +23,7 @@ use Rattle.dl_model.specs.Registry.{Registry, applied, change_at, first_change, 
 use Rattle.dl_model.specs.Reply.{asked, served}
 use Rattle.dl_model.specs.Setting.{Setting}
 use Rattle.dl_model.proofs.OneMore.{registry-one, slot-one, slot-other, level_for-own}
-use Rattle.dl_registry.specs.Kept.{Kept, Applies, Sets, IsAfter, made, slots, owed_change, with_change}
+use Rattle.dl_registry.specs.Kept.{Kept, Applies, Claims, Sets, IsAfter, made, slots, owed_change, with_change}
 use Rattle.dl_slots.proofs.Waiting.{same_everywhere}
 use Rattle.dl_slots.specs.Table.{held_at, held_after, raised, unset}
 
@@ -54,6 +55,10 @@ pub message_follows : (setting : Setting) (events : List Event) (channel : ℕ) 
 message_follows setting events channel msg moment result old new is call memory =
     let left = applied_registry (applied (slots old) old.registry channel msg) old new result call memory in
     after_event setting events (User channel msg moment) old new is (λ slot. refl) left.0 left.1 left.2
+
+pub claim_follows : (setting : Setting) (events : List Event) (claim : Claimed) (moment : Moment) (old new : Kept) → IsAfter setting events old → Claims claim old new → IsAfter setting (events ++ Claim claim moment ∷ []) new
+claim_follows setting events claim moment old new is call =
+    after_event setting events (Claim claim moment) old new is (λ slot. refl) (ap (λ (k : Kept). k.first) call) (ap (λ (k : Kept). k.held) call) (ap (λ (k : Kept). k.registry) call)
 
 -- ---- changes
 

@@ -3,12 +3,13 @@ use Rattle.std.proofs.Common.{◌≡◌, ℕ, ◌+◌, ◌*◌, ◌≤◌, Bool,
 use Rattle.std.specs.List.{filter, filter_map, flat_map}
 use Rattle.std.proofs.lemmas.List.Elements.{filter_map-append}
 use Rattle.std.proofs.lemmas.List.{length-map, map-append}
-use Rattle.dl_model.specs.declared.registry.Context.{Context}
+use Rattle.dl_model.specs.declared.context.Context.{Context}
 use Rattle.dl_model.specs.Registry.{App, Registry, ArePlaced, IsInOrder, matches, matching, matching_in, numbers, places}
 use Rattle.byteorder.specs.Endian.{little_bytes}
 use Rattle.dl_model.specs.Reply.{app_info, info_body, is_listed, listed}
 use Rattle.dl_model.proofs.Numbered.{IsNumbered-length}
 use Rattle.dl_registry.specs.Info.{info_of}
+use Rattle.dl_registry.proofs.Messages.{fewer_contexts}
 
 length-filter : {A : Type 0} (p : A → Bool) (xs : List A) → length (filter p xs) ≤ length xs
 length-filter p [] = omega arith
@@ -31,7 +32,7 @@ matching-most apid ctid (e ∷ es) placed =
       length-append (matching_in apid ctid e) (flat_map (matching_in apid ctid) es),
       matching_in-most apid ctid e,
       IsNumbered-length 64 (places e.1.contexts) placed.0,
-      length-map e.1.contexts (λ (x : List ℕ × Context). x.1.place),
+      fewer_contexts e.1.contexts,
       matching-most apid ctid es placed.1,
     )
 

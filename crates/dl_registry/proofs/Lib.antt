@@ -2,6 +2,8 @@ pub mod Finding
 pub mod Numbers
 pub mod Waiting
 pub mod Entries
+pub mod Placing
+pub mod Giving
 pub mod Fitting
 pub mod Messages
 pub mod Releveling

@@ -7,76 +7,67 @@ use Rattle.std.specs.Option.{option_map, option_or}
 use Rattle.std.proofs.lemmas.Bool.{cases_lt}
 use Rattle.std.proofs.lemmas.Bool.Decides.{eqb_tells}
 use Rattle.std.proofs.lemmas.List.{reverse-append}
-use Rattle.std.proofs.lemmas.Map.Keys.{IsDistinct-head, IsDistinct-tail, IsDistinct-cons}
-use Rattle.dl_model.specs.declared.registry.Context.{Context}
+use Rattle.std.proofs.lemmas.List.Folds.{find-append}
+use Rattle.std.proofs.lemmas.Map.Keys.{IsDistinct-head, IsDistinct-tail}
+use Rattle.dl_model.specs.declared.context.Context.{Context}
 use Rattle.dl_model.specs.declared.registry.Slot.{Slot}
 use Rattle.dl_bytes.specs.Limits.{last_version}
-use Rattle.dl_model.specs.Registry.{App, Registry, ArePlaced, IsInOrder, IsNumbered, Relevel, effective, level_at, numbers, places, releveled, releveled_app, releveled_context, slot_of, wears, wears_app, wears_context}
+use Rattle.dl_model.specs.Registry.{App, Registry, ArePlaced, IsInOrder, IsNumbered, Relevel, effective, has_place, is_worn, level_at, numbers, places, places_of, releveled, releveled_app, releveled_context, slot_of, wears, wears_app, wears_context}
 use Rattle.dl_model.proofs.Order.{in_order-releveled}
 use Rattle.dl_registry.specs.Kept.{Fits}
-use Rattle.dl_registry.specs.Refresh.{level_in_app, level_in_apps}
+use Rattle.dl_registry.specs.Refresh.{has_slot, level_in_app, level_in_apps}
 use Rattle.dl_slots.specs.Table.{Table, held_at, wanted_at}
-use Rattle.dl_registry.proofs.Finding.{numbers_of, valued, valued-absent, valued-reverse}
-use Rattle.dl_registry.proofs.Fitting.{level_of, fits, place_of}
+use Rattle.dl_model.proofs.Placed.{all-left, all-right}
+use Rattle.dl_registry.proofs.Finding.{valued, valued-absent}
+use Rattle.dl_registry.proofs.Placing.{placed, placed-reverse}
+use Rattle.dl_registry.proofs.Fitting.{level_of, fits, same_tests, other_tests}
 
 -- ---- the contexts of one application
 
--- searches by the number alone find the same, where they agree at each number
-found_alike : {A : Type 0} (f : A → ℕ) (p q : ℕ → Bool) (es : List (List ℕ × A)) → AllByRecursion (λ n. p n ≡ q n) (numbers_of f es) → find (λ x. p (f x)) (values_of es) ≡ find (λ x. q (f x)) (values_of es)
-found_alike f p q [] all = refl
-found_alike f p q (e ∷ es) all = ap (λ b. cond b (Some e.1) (find (λ x. p (f x)) (values_of es))) all.0 ∙ ap (cond (q (f e.1)) (Some e.1)) (found_alike f p q es all.1)
+-- a search from the end finds the same by two tests that agree
+alike_reverse : (p q : Context → Bool) (es : List (List ℕ × Context)) → AllByRecursion (λ (e : List ℕ × Context). p e.1 ≡ q e.1) es → find p (reverse (values_of es)) ≡ find q (reverse (values_of es))
+alike_reverse p q [] all = refl
+alike_reverse p q (e ∷ es) all =
+    one_more p ∙ (ap (λ o. option_or o (cond (p e.1) (Some e.1) None)) (alike_reverse p q es all.1) ∙ (ap (λ b. option_or (find q (reverse (values_of es))) (cond b (Some e.1) None)) all.0 ∙ sym (one_more q)))
+  where
+    one_more : (t : Context → Bool) → find t (reverse (values_of (e ∷ es))) ≡ option_or (find t (reverse (values_of es))) (cond (t e.1) (Some e.1) None)
+    one_more t = ap (find t) (reverse-append (e.1 ∷ []) (values_of es)) ∙ find-append t (reverse (values_of es)) (e.1 ∷ [])
 
-found_nowhere : {A : Type 0} (f : A → ℕ) (p : ℕ → Bool) (es : List (List ℕ × A)) → AllByRecursion (λ n. p n ≡ false) (numbers_of f es) → find (λ x. p (f x)) (values_of es) ≡ None
-found_nowhere f p [] all = refl
-found_nowhere f p (e ∷ es) all = ap (λ b. cond b (Some e.1) (find (λ x. p (f x)) (values_of es))) all.0 ∙ found_nowhere f p es all.1
+none_passes : (xs : List Context) → find (λ x. false) xs ≡ None
+none_passes [] = refl
+none_passes (x ∷ xs) = none_passes xs
 
 each : (P Q : ℕ → Type 0) → ((n : ℕ) → P n → Q n) → (ns : List ℕ) → AllByRecursion P ns → AllByRecursion Q ns
 each P Q step [] all = tt
 each P Q step (n ∷ ns) all = (step n all.0, each P Q step ns all.1)
 
--- places that are apart give slots that are apart
-other_slot : (number a b : ℕ) → nat_eq a b ≡ false → nat_eq (slot_of number a) (slot_of number b) ≡ false
-other_slot number a b is = elim (eqb_tells (slot_of number a) (slot_of number b)) [
-  | inl same ↦ elim (eqb_tells a b) [ inl here ↦ absurd (true≢false (sym here.0 ∙ is)) | inr there ↦ absurd (there.1 (omega (arith, same.1))) ]
-  | inr there ↦ there.0
-]
+tests_here : (number slot : ℕ) → number ≡ slot / 64 → (es : List (List ℕ × Context)) → AllByRecursion (λ n. n < 64) (places es)
+    → AllByRecursion (λ (e : List ℕ × Context). has_slot number slot e.1 ≡ has_place (slot % 64) e.1) es
+tests_here number slot here [] below = tt
+tests_here number slot here (e ∷ es) below = (
+  sym (same_tests number slot here (places_of e.1) (all-left (λ n. n < 64) (places_of e.1) (places es) below)),
+  tests_here number slot here es (all-right (λ n. n < 64) (places_of e.1) (places es) below),
+)
 
-other_slots : (number place : ℕ) (es : List (List ℕ × Context)) → AllByRecursion (λ y. nat_eq place y ≡ false) (places es)
-    → AllByRecursion (λ y. nat_eq (slot_of number place) y ≡ false) (numbers_of (λ (c : Context). slot_of number c.place) es)
-other_slots number place [] all = tt
-other_slots number place (e ∷ es) all = (other_slot number place e.1.place all.0, other_slots number place es all.1)
-
-slots_apart : (number : ℕ) (es : List (List ℕ × Context)) → IsDistinct nat_eq (places es) → IsDistinct nat_eq (numbers_of (λ (c : Context). slot_of number c.place) es)
-unfolding IsDistinct
-slots_apart number [] apart = tt
-slots_apart number (e ∷ es) apart =
-    IsDistinct-cons nat_eq (slot_of number e.1.place) (numbers_of (λ (c : Context). slot_of number c.place) es)
-    (other_slots number e.1.place es (IsDistinct-head nat_eq e.1.place (places es) apart))
-    (slots_apart number es (IsDistinct-tail nat_eq e.1.place (places es) apart))
-
-here_test : (number slot : ℕ) → number ≡ slot / 64 → (place : ℕ) → place < 64 → (slot_of number place == slot) ≡ (place == slot % 64)
-here_test number slot here place below = elim (eqb_tells place (slot % 64)) [
-  | inl a ↦ elim (eqb_tells (slot_of number place) slot) [ inl b ↦ b.0 ∙ sym a.0 | inr b ↦ absurd (b.1 (omega (arith, here, a.1))) ]
-  | inr a ↦ elim (eqb_tells (slot_of number place) slot) [ inl b ↦ absurd (a.1 (omega (arith, here, b.1))) | inr b ↦ b.0 ∙ sym a.0 ]
-]
-
-there_test : (number slot : ℕ) → number ≢ slot / 64 → (place : ℕ) → place < 64 → (slot_of number place == slot) ≡ false
-there_test number slot there place below = elim (eqb_tells (slot_of number place) slot) [ inl b ↦ absurd (there (omega (arith, b.1))) | inr b ↦ b.0 ]
+tests_there : (number slot : ℕ) → number ≢ slot / 64 → (es : List (List ℕ × Context)) → AllByRecursion (λ n. n < 64) (places es)
+    → AllByRecursion (λ (e : List ℕ × Context). has_slot number slot e.1 ≡ false) es
+tests_there number slot there [] below = tt
+tests_there number slot there (e ∷ es) below = (
+  other_tests number slot there (places_of e.1) (all-left (λ n. n < 64) (places_of e.1) (places es) below),
+  tests_there number slot there es (all-right (λ n. n < 64) (places_of e.1) (places es) below),
+)
 
 -- what is written of an application is its level at each of its slots
 level_in_app-is : (level : ℕ) (app : App) (slot : ℕ) → IsNumbered 64 (places app.contexts) → level_in_app level app slot ≡ cond (app.number == slot / 64) (level_of level (Some app) slot) None
-level_in_app-is level app slot is =
-    ap (option_map (effective level)) (valued-reverse (λ (c : Context). slot_of app.number c.place) slot app.contexts (slots_apart app.number app.contexts is.apart))
-    ∙ elim (eqb_tells app.number (slot / 64)) [
-      | inl here ↦
-          ap (option_map (effective level)) (found_alike place_of (λ n. slot_of app.number n == slot) (λ n. n == slot % 64) app.contexts
-          (each (λ n. n < 64) (λ n. (slot_of app.number n == slot) ≡ (n == slot % 64)) (here_test app.number slot here.1) (places app.contexts) is.below))
-          ∙ sym (ap (λ b. cond b (level_of level (Some app) slot) None) here.0)
-      | inr there ↦
-          ap (option_map (effective level)) (found_nowhere place_of (λ n. slot_of app.number n == slot) app.contexts
-          (each (λ n. n < 64) (λ n. (slot_of app.number n == slot) ≡ false) (there_test app.number slot there.1) (places app.contexts) is.below))
-          ∙ sym (ap (λ b. cond b (level_of level (Some app) slot) None) there.0)
-    ]
+level_in_app-is level app slot is = elim (eqb_tells app.number (slot / 64)) [
+  | inl here ↦
+      ap (option_map (effective level)) (alike_reverse (has_slot app.number slot) (has_place (slot % 64)) app.contexts (tests_here app.number slot here.1 app.contexts is.below)
+      ∙ placed-reverse places_of (slot % 64) app.contexts is.apart)
+      ∙ sym (ap (λ b. cond b (level_of level (Some app) slot) None) here.0)
+  | inr there ↦
+      ap (option_map (effective level)) (alike_reverse (has_slot app.number slot) (λ x. false) app.contexts (tests_there app.number slot there.1 app.contexts is.below) ∙ none_passes (reverse (values_of app.contexts)))
+      ∙ sym (ap (λ b. cond b (level_of level (Some app) slot) None) there.0)
+]
 
 -- ---- all applications
 
@@ -118,12 +109,12 @@ level_in_apps-is level (e ∷ es) slot apart placed =
 -- ---- the same slots have contexts, before and after
 
 context_stays : (old new : ℕ) (relevel : Relevel) (apid : List ℕ) (place : ℕ) (es : List (List ℕ × Context))
-    → is_some (option_map (effective new) (valued place_of place (map (releveled_context relevel apid) es))) ≡ is_some (option_map (effective old) (valued place_of place es))
+    → is_some (option_map (effective new) (placed places_of place (map (releveled_context relevel apid) es))) ≡ is_some (option_map (effective old) (placed places_of place es))
 context_stays old new relevel apid place [] = refl
-context_stays old new relevel apid place (e ∷ es) = by (e.1.place == place) (context_stays old new relevel apid place es) where
+context_stays old new relevel apid place (e ∷ es) = by (has_place place e.1) (context_stays old new relevel apid place es) where
   by : (b : Bool)
-      → is_some (option_map (effective new) (valued place_of place (map (releveled_context relevel apid) es))) ≡ is_some (option_map (effective old) (valued place_of place es))
-      → is_some (option_map (effective new) (cond b (Some (releveled_context relevel apid e).1) (valued place_of place (map (releveled_context relevel apid) es)))) ≡ is_some (option_map (effective old) (cond b (Some e.1) (valued place_of place es)))
+      → is_some (option_map (effective new) (placed places_of place (map (releveled_context relevel apid) es))) ≡ is_some (option_map (effective old) (placed places_of place es))
+      → is_some (option_map (effective new) (cond b (Some (releveled_context relevel apid e).1) (placed places_of place (map (releveled_context relevel apid) es)))) ≡ is_some (option_map (effective old) (cond b (Some e.1) (placed places_of place es)))
   by true rest = refl
   by false rest = rest
 
@@ -154,27 +145,41 @@ same_levels worn a b is none = elim (eqb_tells a b) [
   | inr other ↦ absurd (true≢false (sym (ap (λ w. w && not (a == b)) is ∙ ap not other.0) ∙ none))
 ]
 
+-- a slot at the last version wears the context that has it
+worn_at : (slots : ℕ → Slot) (number slot : ℕ) → number ≡ slot / 64 → (slots slot).version ≡ last_version → (ns : List ℕ) → list_any (nat_eq (slot % 64)) ns ≡ true
+    → list_any (λ place. (slots (slot_of number place)).version == last_version) ns ≡ true
+worn_at slots number slot here last [] is = absurd (true≢false (sym is))
+worn_at slots number slot here last (n ∷ ns) is = elim (eqb_tells (slot % 64) n) [
+  | inl same ↦
+      let at : slot ≡ slot_of number n = omega (arith, same.1, here) in
+      let worn : ((slots (slot_of number n)).version == last_version) ≡ true = elim (eqb_tells (slots (slot_of number n)).version last_version) [
+        | inl so ↦ so.0
+        | inr other ↦ absurd (other.1 (ap (λ k. (slots k).version) (sym at) ∙ last))
+      ] in
+      ap (λ b. b || list_any (λ place. (slots (slot_of number place)).version == last_version) ns) worn
+  | inr other ↦
+      ap (λ b. ((slots (slot_of number n)).version == last_version) || b) (worn_at slots number slot here last ns (sym (ap (λ b. b || list_any (nat_eq (slot % 64)) ns) other.0) ∙ is))
+      ∙ or_true ((slots (slot_of number n)).version == last_version)
+]
+  where
+    or_true : (b : Bool) → (b || true) ≡ true
+    or_true true = refl
+    or_true false = refl
+
 context_keeps : (slots : ℕ → Slot) (old new : ℕ) (relevel : Relevel) (app : List ℕ × App) (slot : ℕ) → app.1.number ≡ slot / 64 → (slots slot).version ≡ last_version
     → (es : List (List ℕ × Context)) → list_any (wears_context slots old new relevel app) es ≡ false
-    → option_map (effective new) (valued place_of (slot % 64) (map (releveled_context relevel app.0) es)) ≡ option_map (effective old) (valued place_of (slot % 64) es)
+    → option_map (effective new) (placed places_of (slot % 64) (map (releveled_context relevel app.0) es)) ≡ option_map (effective old) (placed places_of (slot % 64) es)
 context_keeps slots old new relevel app slot number last [] none = refl
-context_keeps slots old new relevel app slot number last (e ∷ es) none = elim (eqb_tells e.1.place (slot % 64)) [
-  | inl here ↦
-      let at : slot ≡ slot_of app.1.number e.1.place = omega (arith, here.1, number) in
-      let worn : ((slots (slot_of app.1.number e.1.place)).version == last_version) ≡ true = elim (eqb_tells (slots (slot_of app.1.number e.1.place)).version last_version) [
-        | inl is ↦ is.0
-        | inr other ↦ absurd (other.1 (ap (λ n. (slots n).version) (sym at) ∙ last))
-      ] in
-      let same : effective old e.1 ≡ effective new (releveled_context relevel app.0 e).1 =
-      same_levels ((slots (slot_of app.1.number e.1.place)).version == last_version) (effective old e.1) (effective new (releveled_context relevel app.0 e).1) worn
-      (or_first (wears_context slots old new relevel app e) (list_any (wears_context slots old new relevel app) es) none) in
-      ap (λ b. option_map (effective new) (cond b (Some (releveled_context relevel app.0 e).1) (valued place_of (slot % 64) (map (releveled_context relevel app.0) es)))) here.0
-      ∙ (ap Some (sym same) ∙ sym (ap (λ b. option_map (effective old) (cond b (Some e.1) (valued place_of (slot % 64) es))) here.0))
-  | inr other ↦
-      ap (λ b. option_map (effective new) (cond b (Some (releveled_context relevel app.0 e).1) (valued place_of (slot % 64) (map (releveled_context relevel app.0) es)))) other.0
-      ∙ (context_keeps slots old new relevel app slot number last es (or_second (wears_context slots old new relevel app e) (list_any (wears_context slots old new relevel app) es) none)
-      ∙ sym (ap (λ b. option_map (effective old) (cond b (Some e.1) (valued place_of (slot % 64) es))) other.0))
-]
+context_keeps slots old new relevel app slot number last (e ∷ es) none =
+    by (has_place (slot % 64) e.1) refl (context_keeps slots old new relevel app slot number last es (or_second (wears_context slots old new relevel app e) (list_any (wears_context slots old new relevel app) es) none))
+  where
+    by : (b : Bool) → has_place (slot % 64) e.1 ≡ b
+        → option_map (effective new) (placed places_of (slot % 64) (map (releveled_context relevel app.0) es)) ≡ option_map (effective old) (placed places_of (slot % 64) es)
+        → option_map (effective new) (cond b (Some (releveled_context relevel app.0 e).1) (placed places_of (slot % 64) (map (releveled_context relevel app.0) es))) ≡ option_map (effective old) (cond b (Some e.1) (placed places_of (slot % 64) es))
+    by true here rest =
+        ap Some (sym (same_levels (is_worn slots app.1.number e.1) (effective old e.1) (effective new (releveled_context relevel app.0 e).1) (worn_at slots app.1.number slot number last (places_of e.1) here)
+        (or_first (wears_context slots old new relevel app e) (list_any (wears_context slots old new relevel app) es) none)))
+    by false here rest = rest
 
 app_keeps : (slots : ℕ → Slot) (old new : ℕ) (relevel : Relevel) (slot : ℕ) → (slots slot).version ≡ last_version
     → (es : List (List ℕ × App)) → list_any (wears_app slots old new relevel) es ≡ false

@@ -1,7 +1,7 @@
 -- What a change leaves of an application and its contexts.
-use Rattle.std.specs.Prelude.{ℕ, zero, suc, List, [], ◌∷◌, slice_set, slice_get}
+use Rattle.std.specs.Prelude.{ℕ, zero, suc, List, [], ◌∷◌, ◌++◌, slice_set, slice_get}
 use Rattle.std.specs.Option.{option_map_or}
-use Rattle.dl_model.specs.declared.registry.Context.{Context}
+use Rattle.dl_model.specs.declared.context.Context.{Context}
 use Rattle.std.specs.Map.{lookup, set_value}
 use Rattle.std.specs.Str.{bytes_eq}
 use Rattle.dl_model.specs.Registry.{App, Relevel, context_of, with_context, without, keep_own, set_matching}
@@ -14,6 +14,10 @@ told_again pid text app = record app { pid = pid; text = text }
 
 abbrev pub context_told_again : ℕ → List ℕ → Context → Context
 context_told_again position text context = record context { position = position; text = text }
+
+-- with one place more
+abbrev pub placed_again : ℕ → Context → Context
+placed_again place context = record context { further = context.further ++ place ∷ [] }
 
 -- without its context of this id
 abbrev pub without_context : List ℕ → App → App

@@ -1,8 +1,10 @@
 -- What contracts see of the registry, and what its calls leave.
-use Rattle.std.specs.Prelude.{ℕ, ◌≡◌, ◌==◌, List, [], length, replicate, Option, Some, None, unwrap_or, Result, Ok, Err, IsOk}
-use Rattle.std.specs.Option.{option_map}
+use Rattle.std.specs.Prelude.{ℕ, ◌≡◌, ◌==◌, true, false, List, [], length, replicate, Option, Some, None, unwrap_or, Result, Ok, Err, IsOk}
+use Rattle.std.specs.Option.{option_and_then, option_map}
 use Rattle.std.specs.List.{find}
 use Rattle.std.specs.Map.{values_of}
+use Rattle.dl_bytes.specs.Claim.{Claimed}
+use Rattle.dl_bytes.specs.Limits.{last_version}
 use Rattle.dl_bytes.specs.declared.conf.Stored.{Stored}
 use Rattle.dl_events.specs.declared.event.Event.{Event}
 use Rattle.dl_model.specs.declared.registry.LevelChange.{LevelChange}
@@ -11,7 +13,7 @@ use Rattle.dl_model.specs.declared.registry.RegistryFault.TheVariants as fault
 use Rattle.dl_model.specs.declared.registry.SetFault.{SetFault}
 use Rattle.dl_model.specs.declared.registry.Slot.{Slot}
 use Rattle.dl_model.specs.Journal.{registry_of, slots_of}
-use Rattle.dl_model.specs.Registry.{Registry, IsInOrder, level_at, context_named, context_at, slot_of, next_change}
+use Rattle.dl_model.specs.Registry.{App, Registry, IsInOrder, app_of, claimed, context_claimed, context_of, is_free, level_at, context_named, context_at, slot_of, next_change}
 use Rattle.dl_model.specs.Setting.{Setting}
 use Rattle.dl_slots.specs.Table.{Table, held_at, held_after, wanted_at, unset, IsFresh}
 
@@ -74,6 +76,25 @@ Applies outcome old (Err refusal) new = (outcome ≡ Err refusal) × (new ≡ ol
 abbrev pub Sets : {A : Type 0} → Result Registry SetFault → Kept → Result A SetFault → Kept → Type 0
 Sets outcome old (Ok done) new = (outcome ≡ Ok new.registry) × (new ≡ with_registry old new.registry)
 Sets outcome old (Err refusal) new = (outcome ≡ Err refusal) × (new ≡ old)
+
+-- A claim leaves what the definition says; one that changes nothing leaves all as it is.
+abbrev pub Claims : Claimed → Kept → Kept → Type 0
+Claims claim old new = new ≡ with_registry old (unwrap_or (claimed (slots old) old.registry claim) old.registry)
+
+-- the same where its application is the one of this process that has the id
+abbrev pub ClaimsIn : List ℕ → Claimed → Kept → Kept → Type 0
+ClaimsIn apid claim old new =
+    new ≡ with_registry old (unwrap_or (option_and_then (context_claimed (slots old) old.registry apid claim) (app_of old.registry 0 apid)) old.registry)
+
+-- A claim changes something: its application is there, its place is free, and its slot is not at the last version. A context that is
+-- there has this own level.
+pub record CanClaim (kept : Kept) (apid : List ℕ) (number : ℕ) (claim : Claimed) (own : Option (Option ℕ)) : Type 0 where
+  pub app : App
+  pub there : app_of kept.registry 0 apid ≡ Some app
+  pub number_is : app.number ≡ number
+  pub free : is_free claim.place app.contexts ≡ true
+  pub fresh : ((slots kept (slot_of app.number claim.place)).version == last_version) ≡ false
+  pub own_is : option_map (λ context. context.own) (context_of app claim.ctid) ≡ own
 
 -- ---- what always holds
 

@@ -1,14 +1,18 @@
 -- The effective levels of contexts, slot by slot, as they are written into the table: of several for one slot the last.
-use Rattle.std.specs.Prelude.{ℕ, ◌==◌, List, [], ◌∷◌, reverse, Option, None}
-use Rattle.std.specs.List.{find}
+use Rattle.std.specs.Prelude.{ℕ, ◌==◌, Bool, List, [], ◌∷◌, reverse, Option, None}
+use Rattle.std.specs.List.{find, list_any}
 use Rattle.std.specs.Map.{values_of}
 use Rattle.std.specs.Option.{option_map, option_or}
-use Rattle.dl_model.specs.declared.registry.Context.{Context}
-use Rattle.dl_model.specs.Registry.{App, effective, slot_of}
+use Rattle.dl_model.specs.declared.context.Context.{Context}
+use Rattle.dl_model.specs.Registry.{App, effective, places_of, slot_of}
+
+-- a context has the slot, by the number of its application
+abbrev pub has_slot : ℕ → ℕ → Context → Bool
+has_slot number slot context = list_any (λ place. slot == slot_of number place) (places_of context)
 
 -- of these contexts of an application
 abbrev pub level_among : ℕ → ℕ → List Context → ℕ → Option ℕ
-level_among level number contexts slot = option_map (effective level) (find (λ context. slot_of number context.place == slot) contexts)
+level_among level number contexts slot = option_map (effective level) (find (has_slot number slot) contexts)
 
 -- of an application, its last context first
 abbrev pub level_in_app : ℕ → App → ℕ → Option ℕ

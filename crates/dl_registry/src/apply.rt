@@ -1,21 +1,25 @@
 //! User messages: who comes, who tells itself anew, and who goes.
 
-ghost use Rattle.std.specs.Prelude.{◌≡◌, ◌||◌, if◌then◌else◌, Ok, Err, None, IfSome, IsSomeAnd};
+ghost use Rattle.std.specs.Prelude.{◌≡◌, ◌||◌, ◌==◌, ℕ, false, if◌then◌else◌, Ok, Err, None, IfSome, IsSomeAnd};
+ghost use Rattle.std.specs.List.{list_any};
+ghost use Rattle.std.specs.Option.{option_map_or};
 ghost use Rattle.dl_model.specs.declared.registry.RegistryFault.TheVariants as fault;
 ghost use Rattle.std.specs.Map.{lookup};
 ghost use Rattle.std.specs.Str.{bytes_eq};
 ghost use Rattle.dl_bytes.specs.Id.{zero_id};
 ghost use Rattle.dl_bytes.specs.declared.user.UserMsg.TheVariants as msgs;
-ghost use Rattle.dl_model.specs.Registry.{applied, app_of, app_registered, app_unregistered, context_of, context_registered, context_unregistered, for_app};
+ghost use Rattle.dl_model.specs.Registry.{applied, app_of, app_registered, app_unregistered, context_of, context_registered, context_unregistered, for_app, slot_of as slot_number};
 ghost use Rattle.dl_registry.specs.Change.{changed_app, changed_context, told_again, context_told_again};
 ghost use Rattle.dl_registry.specs.Kept.{Applies, slots};
+ghost use Rattle.dl_registry.specs.Refresh.{has_slot};
+ghost use Rattle.dl_slots.specs.Table.{wanted_at};
 
 use crate::application::Application;
 use crate::apps;
-use crate::registry::{LAST_VERSION, Registry, copied, own_for};
+use crate::registry::{LAST_VERSION, Registry, copied, described, own_for};
 use dl_bytes::{Bytes, Id, OwnLevel, UserMsg};
-use dl_model::{Context, RegistryFault};
-use dl_slots::slot_of;
+use dl_model::{Context, Places, RegistryFault};
+use dl_slots::{SlotTable, slot_of};
 
 /// Whether an id has no letter.
 fn is_zero(id: Id) -> bool
@@ -100,7 +104,7 @@ impl Registry {
             return Err(RegistryFault::AppsFull);
         };
         let text = copied(self.alloc, text)?;
-        let app = Application::make(self.alloc, channel, number, pid, text);
+        let app = Application::make(self.alloc, channel, number, pid, text)?;
         apps::add_app(&mut self.apps, apid, app)?;
         Ok(())
     }
@@ -155,7 +159,7 @@ impl Registry {
     ) -> Result<(), RegistryFault>
         ensures { Applies (Ok (record self.old.registry { apps = changed_app apid (changed_context ctid (context_told_again position text.now)) self.old.registry.apps })) self.old result self.new }
     {
-        let text = copied(self.alloc, text)?;
+        let text = described(self.alloc, text)?;
         apps::tell_context(&mut self.apps, apid, ctid, position, text);
         Ok(())
     }
@@ -182,15 +186,16 @@ impl Registry {
             return Err(RegistryFault::Worn);
         }
         let own = own_for(&self.stored, apid, ctid, own);
-        let text = copied(self.alloc, text)?;
+        let text = described(self.alloc, text)?;
         let context = Context {
             place,
+            further: Places::none(),
             own,
             position,
             text,
         };
         let level = own.effective(self.level);
-        apps::add_context(&mut self.apps, apid, ctid, context)?;
+        apps::add_context(&mut self.apps, apid, ctid, context);
         self.table.give(slot, level);
         Ok(())
     }
@@ -202,12 +207,44 @@ impl Registry {
         let Some(app) = self.app_of(channel, apid) else {
             return Err(RegistryFault::UnknownApp);
         };
-        let Some(context) = app.context(ctid) else {
+        if app.context(ctid).is_none() {
             return Err(RegistryFault::UnknownContext);
-        };
-        let slot = slot_of(app.number(), context.place);
-        apps::remove_context(&mut self.apps, apid, ctid);
-        self.table.clear(slot);
+        }
+        let number = app.number();
+        let gone = apps::remove_context(&mut self.apps, apid, ctid)?;
+        clear_gone(&mut self.table, number, &gone);
         Ok(())
+    }
+}
+
+/// No context has the places of one that is gone.
+fn clear_gone(table: &mut SlotTable, number: u8, gone: &Option<Context>)
+    ensures first { table.new.first ≡ table.old.first }
+    ensures held { table.new.held ≡ table.old.held }
+    ensures levels { (slot : ℕ) → wanted_at table.new slot ≡ (if option_map_or (has_slot number slot) gone.now false then None else wanted_at table.old slot) }
+{
+    if let Some(context) = gone {
+        clear_context(table, number, context);
+    }
+}
+
+/// No context has the places of this one any more, which was of the application that has this number.
+fn clear_context(table: &mut SlotTable, number: u8, context: &Context)
+    ensures first { table.new.first ≡ table.old.first }
+    ensures held { table.new.held ≡ table.old.held }
+    ensures levels { (slot : ℕ) → wanted_at table.new slot ≡ (if has_slot number slot context.now then None else wanted_at table.old slot) }
+{
+    table.clear(slot_of(number, context.place));
+    clear_places(table, number, context.further.all());
+}
+
+/// No context has these places of an application any more.
+fn clear_places(table: &mut SlotTable, number: u8, places: &[u8])
+    ensures first { table.new.first ≡ table.old.first }
+    ensures held { table.new.held ≡ table.old.held }
+    ensures levels { (slot : ℕ) → wanted_at table.new slot ≡ (if list_any (λ place. slot == slot_number number place) places.now then None else wanted_at table.old slot) }
+{
+    for place in places {
+        table.clear(slot_of(number, *place));
     }
 }

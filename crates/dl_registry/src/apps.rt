@@ -1,17 +1,17 @@
 //! The applications by their ids, in the order in which they came.
 
-ghost use Rattle.std.specs.Prelude.{◌≡◌, ◌==◌, ◌++◌, ◌∷◌, ◌<◌, ◌≤◌, [], OnOk, OnErr, IfSome, IsSome, None, length, map, slice_get};
+ghost use Rattle.std.specs.Prelude.{◌≡◌, ◌==◌, ◌++◌, ◌∷◌, ◌<◌, ◌≤◌, [], OnOk, OnErr, IfOk, IfSome, IsSome, None, length, map, slice_get};
 ghost use Rattle.std.specs.List.{find, list_any, position};
 ghost use Rattle.std.specs.Map.{lookup, remove_entry, values_of};
 ghost use Rattle.std.specs.Option.{option_and_then, option_map};
 ghost use Rattle.std.specs.Str.{bytes_eq};
 ghost use Rattle.dl_model.specs.Registry.{IsNumbered, numbers, least_free, context_of, of_channel, with_new_context, without, releveled_app};
-ghost use Rattle.dl_registry.specs.Change.{changed_app, told_again, changed_context, context_told_again, without_context, relevel_of, changed_entry};
+ghost use Rattle.dl_registry.specs.Change.{changed_app, told_again, changed_context, context_told_again, placed_again, without_context, relevel_of, changed_entry};
 
 use crate::application::Application;
 use crate::relevel::Relevel;
 use dl_bytes::{Bytes, Id, OutOfMemory};
-use dl_model::Context;
+use dl_model::{Context, Description};
 use indexmap::IndexMap;
 
 /// Applications by their ids.
@@ -30,6 +30,23 @@ pub fn free_number(apps: &Apps) -> Option<u8>
         }
     }
     None
+}
+
+/// The id of the application that has this number.
+pub fn apid_numbered(apps: &Apps, number: u8) -> Option<Id>
+    ensures { result ≡ option_map (λ entry. entry.0) (find (λ entry. entry.1.number == number) apps.now.entries) }
+{
+    match place_numbered(apps, number) {
+        Some(place) => id_at(apps, place),
+        None => None,
+    }
+}
+
+/// The place of the application that has this number.
+fn place_numbered(apps: &Apps, number: u8) -> Option<usize>
+    ensures { result ≡ position (λ app. app.number == number) (values_of apps.now.entries) }
+{
+    apps.values().position(|app| app.number() == number)
 }
 
 /// Whether an application has this number.
@@ -78,7 +95,7 @@ pub fn tell_app(apps: &mut Apps, apid: Id, pid: u32, text: Bytes)
 }
 
 /// A context of the application of this id tells itself anew.
-pub fn tell_context(apps: &mut Apps, apid: Id, ctid: Id, position: u32, text: Bytes)
+pub fn tell_context(apps: &mut Apps, apid: Id, ctid: Id, position: u32, text: Description)
     ensures { apps.new.entries ≡ changed_app apid (changed_context ctid (context_told_again position text)) apps.old.entries }
 {
     if let Some(app) = apps.get_mut(&apid) {
@@ -96,15 +113,23 @@ pub fn add_app(apps: &mut Apps, apid: Id, app: Application) -> Result<(), OutOfM
     Ok(())
 }
 
-/// A context that was not there comes, as the last of its application.
-pub fn add_context(apps: &mut Apps, apid: Id, ctid: Id, context: Context) -> Result<(), OutOfMemory>
-    requires { IfSome (lookup (bytes_eq apid) apps.old.entries) (λ app. context_of app ctid ≡ None) }
-    ensures added { OnOk result (apps.new.entries ≡ changed_app apid (λ app. with_new_context app ctid context) apps.old.entries) }
-    ensures unchanged { OnErr result (apps.new.entries ≡ changed_app apid (λ app. app) apps.old.entries) }
+/// A context of the application of this id gets a further place.
+pub fn add_place(apps: &mut Apps, apid: Id, ctid: Id, place: u8)
+    requires { IfSome (lookup (bytes_eq apid) apps.old.entries) (λ app. IfSome (context_of app ctid) (λ context. length context.further < 63)) }
+    ensures { apps.new.entries ≡ changed_app apid (changed_context ctid (placed_again place)) apps.old.entries }
 {
-    match apps.get_mut(&apid) {
-        Some(app) => app.add_context(ctid, context),
-        None => Ok(()),
+    if let Some(app) = apps.get_mut(&apid) {
+        app.add_place(ctid, place);
+    }
+}
+
+/// A context that was not there comes, as the last of its application.
+pub fn add_context(apps: &mut Apps, apid: Id, ctid: Id, context: Context)
+    requires { IfSome (lookup (bytes_eq apid) apps.old.entries) (λ app. (context_of app ctid ≡ None) × (length app.contexts < 64)) }
+    ensures { apps.new.entries ≡ changed_app apid (λ app. with_new_context app ctid context) apps.old.entries }
+{
+    if let Some(app) = apps.get_mut(&apid) {
+        app.add_context(ctid, context);
     }
 }
 
@@ -116,13 +141,16 @@ pub fn remove_app(apps: &mut Apps, apid: Id)
     apps.shift_remove(&apid);
 }
 
-/// A context of the application of this id goes.
-pub fn remove_context(apps: &mut Apps, apid: Id, ctid: Id)
-    ensures gone { apps.new.entries ≡ changed_app apid (without_context ctid) apps.old.entries }
-    ensures once { IfSome (lookup (bytes_eq apid) apps.old.entries) (λ app. remove_entry (bytes_eq ctid) app.contexts ≡ without ctid app.contexts) }
+/// A context of the application of this id goes, and is given back.
+pub fn remove_context(apps: &mut Apps, apid: Id, ctid: Id) -> Result<Option<Context>, OutOfMemory>
+    ensures context { IfOk result (λ gone. gone ≡ option_and_then (λ app. context_of app ctid) (lookup (bytes_eq apid) apps.old.entries)) }
+    ensures gone { OnOk result (apps.new.entries ≡ changed_app apid (without_context ctid) apps.old.entries) }
+    ensures unchanged { OnErr result (apps.new.entries ≡ changed_app apid (λ app. app) apps.old.entries) }
+    ensures once { OnOk result (IfSome (lookup (bytes_eq apid) apps.old.entries) (λ app. remove_entry (bytes_eq ctid) app.contexts ≡ without ctid app.contexts)) }
 {
-    if let Some(app) = apps.get_mut(&apid) {
-        app.remove_context(ctid);
+    match apps.get_mut(&apid) {
+        Some(app) => app.remove_context(ctid),
+        None => Ok(None),
     }
 }
 

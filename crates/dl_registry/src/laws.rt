@@ -2,6 +2,7 @@
 //! events that they stand for.
 
 ghost use Rattle.std.specs.Prelude.{◌≡◌, ◌≢◌, ◌<◌, ◌≤◌, ℕ, ℤ, List, [], ◌∷◌, ◌++◌, Option, Some, Result, Ok, Err, IsErr};
+ghost use Rattle.dl_bytes.specs.Claim.{Claimed};
 ghost use Rattle.dl_bytes.specs.Level.{own_level_of};
 ghost use Rattle.dl_bytes.specs.declared.moment.Moment.{Moment};
 ghost use Rattle.dl_bytes.specs.declared.outcome.Done.{Done};
@@ -9,7 +10,7 @@ ghost use Rattle.dl_bytes.specs.declared.outcome.Done.TheVariants as done;
 ghost use Rattle.dl_bytes.specs.declared.user.UserMsg.{UserMsg};
 ghost use Rattle.dl_control.specs.declared.request.Request.TheVariants.{SetLogLevel, SetDefault, Reset, Store};
 ghost use Rattle.dl_events.specs.declared.event.Event.{Event};
-ghost use Rattle.dl_events.specs.declared.event.Event.TheVariants.{User, Level, Request};
+ghost use Rattle.dl_events.specs.declared.event.Event.TheVariants.{User, Claim, Level, Request};
 ghost use Rattle.dl_model.specs.declared.registry.LevelChange.{LevelChange};
 ghost use Rattle.dl_model.specs.declared.registry.RegistryFault.{RegistryFault};
 ghost use Rattle.dl_model.specs.declared.registry.RegistryFault.TheVariants as fault;
@@ -18,7 +19,7 @@ ghost use Rattle.dl_model.specs.Journal.{owed};
 ghost use Rattle.dl_model.specs.Registry.{applied, own_set, default_set, reset, level_at};
 ghost use Rattle.dl_model.specs.Reply.{asked, now_stored};
 ghost use Rattle.dl_model.specs.Setting.{Setting};
-ghost use Rattle.dl_registry.specs.Kept.{Kept, Applies, Sets, IsAfter, made, slots, owed_change, with_change, with_registry};
+ghost use Rattle.dl_registry.specs.Kept.{Kept, Applies, Claims, Sets, IsAfter, made, slots, owed_change, with_change, with_registry};
 
 /// What `make` gives is what the empty journal leaves.
 pub fn made_is_the_beginning()
@@ -31,6 +32,13 @@ pub fn messages_are_events()
     ensures { (setting : Setting) (events : List Event) (channel : ℕ) (msg : UserMsg) (moment : Moment) (result : Result (Unit {0}) RegistryFault) (old new : Kept) →
         IsAfter setting events old → Applies (applied (slots old) old.registry channel msg) old result new → result ≢ Err fault.OutOfMemory →
         IsAfter setting (events ++ User channel msg moment ∷ []) new }
+{}
+
+/// A claim that `claim` was given is its Claim event, whether it changed something or not: what is kept is what the longer journal
+/// leaves.
+pub fn claims_are_events()
+    ensures { (setting : Setting) (events : List Event) (claim : Claimed) (moment : Moment) (old new : Kept) →
+        IsAfter setting events old → Claims claim old new → IsAfter setting (events ++ Claim claim moment ∷ []) new }
 {}
 
 /// What `next_change` gives is the Level event that the journal owes: the effective level of the context that has its slot.

@@ -1,12 +1,14 @@
 //! Levels that clients set: own levels, the default level, and both again as at the beginning.
 
-ghost use Rattle.std.specs.Prelude.{◌≡◌, ◌<◌, ◌≤◌, ℕ, is_ok, [], length, reverse, IfOk};
+ghost use Rattle.std.specs.Prelude.{◌≡◌, ◌==◌, ◌<◌, ◌≤◌, ℕ, is_ok, if◌then◌else◌, [], length, reverse, IfOk, Some};
+ghost use Rattle.std.specs.List.{list_any};
 ghost use Rattle.std.specs.Map.{values_of};
 ghost use Rattle.std.specs.Option.{option_or};
-ghost use Rattle.dl_model.specs.Registry.{wears, wears_app, wears_context, unless_worn, matching, own_set, default_set, reset, no_own};
+ghost use Rattle.dl_bytes.specs.Limits.{last_version};
+ghost use Rattle.dl_model.specs.Registry.{slot_of as slot_number, is_worn, wears, wears_app, wears_context, unless_worn, matching, own_set, default_set, reset, no_own};
 ghost use Rattle.dl_registry.specs.Change.{relevel_of};
 ghost use Rattle.dl_registry.specs.Kept.{Sets, slots};
-ghost use Rattle.dl_registry.specs.Refresh.{level_in_app, level_in_apps};
+ghost use Rattle.dl_registry.specs.Refresh.{has_slot, level_in_app, level_in_apps};
 ghost use Rattle.dl_slots.specs.Table.{wanted_at};
 
 use crate::application::Application;
@@ -93,7 +95,31 @@ impl Registry {
         count as u32
     }
 
-    /// Whether a context's slot is at its last version, and these levels would change its effective level.
+    /// Whether a slot is at its last version.
+    fn is_last(&self, slot: u16) -> bool
+        ensures { result ≡ ((slots self.now slot).version == last_version) }
+    {
+        self.table.held(slot).version == LAST_VERSION
+    }
+
+    /// Whether a slot of a context is, by the number of its application.
+    fn is_worn(&self, number: u8, context: &Context) -> bool
+        ensures { result ≡ is_worn (slots self.now) number context.now }
+    {
+        self.is_last(slot_of(number, context.place))
+            || self.is_any_last(number, context.further.all())
+    }
+
+    /// Whether a slot of these places of an application is.
+    fn is_any_last(&self, number: u8, places: &[u8]) -> bool
+        ensures { result ≡ list_any (λ place. (slots self.now (slot_number number place)).version == last_version) places.now }
+    {
+        places
+            .iter()
+            .any(|place| self.is_last(slot_of(number, *place)))
+    }
+
+    /// Whether a slot of a context is at its last version, and these levels would change its effective level.
     fn wears_context(
         &self,
         new: &NewLevels,
@@ -104,9 +130,8 @@ impl Registry {
     ) -> bool
         ensures { result ≡ wears_context (slots self.now) self.now.registry.level new.now.level (relevel_of new.now.own) (apid, app.now) (ctid, context.now) }
     {
-        let slot = slot_of(app.number(), context.place);
         let own = new.own.own(apid, ctid, context.own);
-        self.table.held(slot).version == LAST_VERSION
+        self.is_worn(app.number(), context)
             && context.own.effective(self.level) != own.effective(new.level)
     }
 
@@ -182,6 +207,29 @@ fn refresh_app(table: &mut SlotTable, level: Level, app: &Application)
 {
     let number = app.number();
     for context in app.contexts().values() {
-        table.give(slot_of(number, context.place), context.own.effective(level));
+        give_places(table, number, context, context.own.effective(level));
+    }
+}
+
+/// This level goes to each slot of a context.
+fn give_places(table: &mut SlotTable, number: u8, context: &Context, level: Level)
+    ensures first { table.new.first ≡ table.old.first }
+    ensures held { table.new.held ≡ table.old.held }
+    ensures outside { (slot : ℕ) → 1024 ≤ slot → wanted_at table.new slot ≡ wanted_at table.old slot }
+    ensures levels { (slot : ℕ) → slot < 1024 → wanted_at table.new slot ≡ (if has_slot number slot context.now then Some level else wanted_at table.old slot) }
+{
+    table.give(slot_of(number, context.place), level);
+    give_further(table, number, context.further.all(), level);
+}
+
+/// This level goes to the slots of these places of an application.
+fn give_further(table: &mut SlotTable, number: u8, places: &[u8], level: Level)
+    ensures first { table.new.first ≡ table.old.first }
+    ensures held { table.new.held ≡ table.old.held }
+    ensures outside { (slot : ℕ) → 1024 ≤ slot → wanted_at table.new slot ≡ wanted_at table.old slot }
+    ensures levels { (slot : ℕ) → slot < 1024 → wanted_at table.new slot ≡ (if list_any (λ place. slot == slot_number number place) places.now then Some level else wanted_at table.old slot) }
+{
+    for place in places {
+        table.give(slot_of(number, *place), level);
     }
 }

@@ -7,6 +7,7 @@
 mod application;
 mod apply;
 mod apps;
+mod claims;
 mod info;
 pub mod laws;
 mod levels;

@@ -11,7 +11,7 @@ ghost use Rattle.dl_registry.specs.Kept.{slots, made, owed_change, with_change, 
 use crate::application::Application;
 use crate::apps::{Apps, first_of_channel};
 use dl_bytes::{Bytes, Id, Level, OutOfMemory, OwnLevel, Sequence, Stored, StoredLevel};
-use dl_model::{LevelChange, Slot};
+use dl_model::{Description, LevelChange, Slot};
 use dl_slots::{SlotTable, slot_of};
 use indexmap::IndexMap;
 use std::alloc::Global;
@@ -45,6 +45,13 @@ pub(crate) fn copied(alloc: Global, text: &Bytes) -> Result<Bytes, OutOfMemory>
     ensures { IfOk result (λ copy. copy ≡ text.now) }
 {
     Ok(Bytes::over(Vec::from_slice(alloc, text.all())?))
+}
+
+/// A copy of a description that a context tells.
+pub(crate) fn described(alloc: Global, text: &Bytes) -> Result<Description, OutOfMemory>
+    ensures { IfOk result (λ copy. copy ≡ text.now) }
+{
+    Ok(Description::told(copied(alloc, text)?))
 }
 
 /// The own level of this level.

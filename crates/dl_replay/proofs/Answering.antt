@@ -11,7 +11,7 @@ use Rattle.dl_script_lines.specs.declared.step.Step.{Step}
 use Rattle.dl_script_lines.specs.declared.step.Step.TheVariants as line
 use Rattle.dl_model.specs.Journal.{is_request_of, need_after}
 use Rattle.dl_model.specs.Marks.{Mark, Noted, Answered, Fed, is_answer, journal}
-use Rattle.dl_model.specs.Reply.{asked, Need, Nothing, Folder, Queue}
+use Rattle.dl_model.specs.Reply.{Need, Nothing, Folder, Queue}
 use Rattle.dl_model.specs.Setting.{Setting}
 use Rattle.dl_model.specs.Steps.{Act, act_of, ask, close, close_malformed, end_of, note_levels, note_levels_now, in_sequence, is_open, just, new_requests, receive, request_now, run, served, when}
 use Rattle.dl_world.specs.Played.{is_failed}

@@ -18,6 +18,7 @@ told_by_closes client (event.Close other why ∷ events) = ap (λ t. cons_option
 told_by_closes client (event.Log app writer call moment ∷ events) = told_by_closes client events
 told_by_closes client (event.Lost app count moment ∷ events) = told_by_closes client events
 told_by_closes client (event.User channel msg moment ∷ events) = told_by_closes client events
+told_by_closes client (event.Claim claim moment ∷ events) = told_by_closes client events
 told_by_closes client (event.Level slot level ∷ events) = told_by_closes client events
 told_by_closes client (event.Connect other ∷ events) = told_by_closes client events
 told_by_closes client (event.Request other frame done ∷ events) = told_by_closes client events

@@ -117,6 +117,7 @@ fn count_event(
         })?,
         Event::Log { .. }
         | Event::User { .. }
+        | Event::Claim { .. }
         | Event::Level { .. }
         | Event::Connect { .. }
         | Event::Request { .. } => {}

@@ -11,7 +11,7 @@ use Rattle.dl_bytes.specs.Limits.{last_version}
 use Rattle.dl_bytes.specs.declared.user.UserMsg.{UserMsg}
 use Rattle.dl_bytes.specs.declared.user.UserMsg.TheVariants.{Log, RegisterApp, UnregisterApp, RegisterContext, UnregisterContext, LogLevel, Injection, Overflow}
 use Rattle.dl_model.specs.declared.registry.LevelChange.{LevelChange}
-use Rattle.dl_model.specs.declared.registry.Context.{Context}
+use Rattle.dl_model.specs.declared.context.Context.{Context}
 use Rattle.dl_model.specs.declared.registry.RegistryFault.{RegistryFault}
 use Rattle.dl_model.specs.declared.registry.RegistryFault.TheVariants as fault
 use Rattle.dl_model.specs.declared.registry.Slot.{Slot}
@@ -95,10 +95,11 @@ module _ (limit : ℕ) (r : Registry) (below : AllByRecursion (λ n. n < limit) 
   context_below slots apid ctid position own text app (Some context) found =
       with_same (length r.apps + 0) apid app (with_context app ctid (record context { position = position; text = text })) (omega arith) found refl
   context_below slots apid ctid position own text app None found =
-      ifok_if (AreBelow limit (length r.apps + 0)) (nat_le 64 (length app.contexts)) fault.ContextsFull _
+      ifok_if (AreBelow limit (length r.apps + 0)) (nat_le 64 (length (places app.contexts))) fault.ContextsFull _
       (ifok_if (AreBelow limit (length r.apps + 0)) ((slots (slot_of app.number (least_free (places app.contexts)))).version == last_version) fault.Worn _
       (with_same (length r.apps + 0) apid app (with_new_context app ctid (record {
         place = least_free (places app.contexts);
+        further = [];
         own = option_or (stored_level r.stored apid ctid) own;
         position = position;
         text = text;

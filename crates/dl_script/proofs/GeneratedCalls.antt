@@ -22,6 +22,7 @@ abbrev pub declared_with : ℕ → Declared
 declared_with n = record {
   apps = app_id 1 ∷ app_id 2 ∷ app_id 3 ∷ app_id 4 ∷ [];
   contexts = both 1 ++ both 2 ++ both 3 ++ both 4;
+  places = [];
   writers = app_id 1 ∷ app_id 1 ∷ app_id 2 ∷ app_id 2 ∷ app_id 3 ∷ app_id 3 ∷ app_id 4 ∷ app_id 4 ∷ [];
   clients = record { sent = 0; leaves = false } ∷ [];
   calls = n;
@@ -74,14 +75,14 @@ abbrev pub Stays : ℕ → List Step → ℕ → Type 0
 Stays n steps count = Goes (declared_with n) steps (declared_with n) count
 
 nothing_stays : (n count : ℕ) → Stays n [] count
-nothing_stays n count = record { follow = tt; leads = refl; texts = tt; few = omega arith }
+nothing_stays n count = record { follow = tt; leads = refl; bounds = tt; few = omega arith }
 
 call_goes : (n i x : ℕ) → n < 1000000 → Goes (declared_with n) (call_at i x).0 (declared_with (n + 1)) 1
 unfolding call_at
 call_goes n i x room = record {
   follow = (call_may n (draw 8 x).0 (draw 2 (draw 8 x).1).0 (draw_below 8 x (omega arith)) room, tt);
   leads = refl;
-  texts = (tt, tt);
+  bounds = (tt, tt);
   few = lit≤ tt;
 }
 
@@ -96,7 +97,7 @@ take_stays n x =
     let t : ℕ × ℕ = draw 2 x in
     let g : ℕ × ℕ = draw 4 t.1 in
     either_stays n 1 (eqb t.0 0) (step.Take (app_id (1 + g.0)) ∷ [], g.1) ([], t.1)
-    (record { follow = (app_may n g.0 (draw_below 4 t.1 (omega arith)), tt); leads = refl; texts = (tt, tt); few = lit≤ tt })
+    (record { follow = (app_may n g.0 (draw_below 4 t.1 (omega arith)), tt); leads = refl; bounds = (tt, tt); few = lit≤ tt })
     (nothing_stays n 1)
 
 losses_stay : (n i : ℕ) → Stays n (losses_at i) 4
@@ -106,7 +107,7 @@ losses_stay n i = by_test (eqb (i % 1000) 0) where
   by_test true = record {
     follow = (refl, (refl, (refl, (refl, tt))));
     leads = refl;
-    texts = (tt, (tt, (tt, (tt, tt))));
+    bounds = (tt, (tt, (tt, (tt, tt))));
     few = lit≤ tt;
   }
   by_test false = nothing_stays n 4
@@ -116,7 +117,7 @@ unfolding request_at
 request_stays n i x =
     let v : ℕ × ℕ = draw 6 x in
     either_stays n 1 (eqb (i % 2000) 0) (step.Bytes 1 (level_request (1 + v.0)) ∷ [], v.1) ([], x)
-    (record { follow = (refl, tt); leads = refl; texts = (tt, tt); few = lit≤ tt })
+    (record { follow = (refl, tt); leads = refl; bounds = (tt, tt); few = lit≤ tt })
     (nothing_stays n 1)
 
 -- all of them

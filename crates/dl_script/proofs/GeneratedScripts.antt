@@ -1,10 +1,12 @@
 -- The steps that a number makes can be played.
-use Rattle.std.proofs.Common.{◌≡◌, ℕ, zero, suc, ◌+◌, ◌*◌, ◌≤◌, ◌++◌, length, refl, ap, arith}
+use Rattle.std.proofs.Common.{◌≡◌, ◌≢◌, ℕ, zero, suc, ◌+◌, ◌*◌, ◌≤◌, ◌++◌, length, refl, ap, arith}
 use Rattle.std.proofs.Math.Dec.{lit≤}
+use Rattle.dl_bytes.specs.Id.{zero_id}
 use Rattle.dl_script.specs.Earlier.{nothing}
-use Rattle.dl_script.specs.Generated.{turn, turns, started, generated}
+use Rattle.dl_script.specs.Generated.{app_id, turn, turns, started, generated}
 use Rattle.dl_script.specs.Playable.{IsPlayable}
 use Rattle.dl_script.proofs.GeneratedCalls.{declared_with, turn_goes}
+use Rattle.dl_script.proofs.ReadFields.{first_of}
 use Rattle.dl_script.proofs.StepRuns.{Goes, behind, restated}
 
 started_goes : Goes nothing started (declared_with 0) 21
@@ -12,17 +14,20 @@ unfolding started
 started_goes = record {
   follow = (refl, (refl, (refl, (refl, (refl, (refl, (refl, (refl, (refl, (refl, (refl, (refl, (refl, (refl, (refl, (refl, (refl, (refl, (refl, (refl, (refl, tt)))))))))))))))))))));
   leads = refl;
-  texts = (short, (short, (short, (tt, (tt, (short, (short, (short, (tt, (tt, (short, (short, (short, (tt, (tt, (short, (short, (short, (tt, (tt, (tt, tt)))))))))))))))))))));
+  bounds = (app 1, (short, (short, (tt, (tt, (app 2, (short, (short, (tt, (tt, (app 3, (short, (short, (tt, (tt, (app 4, (short, (short, (tt, (tt, (tt, tt)))))))))))))))))))));
   few = lit≤ tt;
 } where
   short : 0 ≤ 255
   short = lit≤ tt
 
+  app : (k : ℕ) → (app_id k ≢ zero_id) × (0 ≤ 255)
+  app k = (λ zero. (let none : 71 ≡ 0 = ap first_of zero in omega (arith, none)), short)
+
 turns_go : (calls i x n : ℕ) → n + calls ≤ 1000000 → Goes (declared_with n) (turns calls i x) (declared_with (n + calls)) (7 * calls)
 unfolding turns
 turns_go zero i x n room =
     let same : n ≡ n + zero = omega arith in
-    record { follow = tt; leads = ap declared_with same; texts = tt; few = omega arith }
+    record { follow = tt; leads = ap declared_with same; bounds = tt; few = omega arith }
 turns_go (suc calls) i x n room =
     let first : Goes (declared_with n) (turn i x).0 (declared_with (n + 1)) 7 = turn_goes n i x (omega arith) in
     let others : Goes (declared_with (n + 1)) (turns calls (i + 1) (turn i x).1) (declared_with (n + 1 + calls)) (7 * calls) =
@@ -37,7 +42,7 @@ all_go number calls room =
     behind nothing (declared_with 0) (declared_with (0 + calls)) started (turns calls 1 number) 21 (7 * calls) started_goes (turns_go calls 1 number 0 (omega arith))
 
 pub generated_plays : (number calls : ℕ) → calls ≤ 1000000 → IsPlayable (generated number calls)
-generated_plays number calls room = let goes = all_go number calls room in record { follows = goes.follow; texts = goes.texts }
+generated_plays number calls room = let goes = all_go number calls room in record { follows = goes.follow; bounds = goes.bounds }
 
 pub generated_bounded : (number calls : ℕ) → calls ≤ 1000000 → length (generated number calls) ≤ 21 + 7 * calls
 generated_bounded number calls room = (all_go number calls room).few

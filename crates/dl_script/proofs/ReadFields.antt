@@ -1,4 +1,4 @@
--- What is read of fields is in its range: ids have names, numbers are within their bounds, descriptions have at most 255 bytes.
+-- What is read of fields is in its range: ids have names, numbers are within their bounds, descriptions have at most 255 bytes, or 48.
 use Rattle.std.proofs.Common.{◌≡◌, ◌≢◌, ℕ, ◌≤◌, Bool, true, false, cond, eqb, leb, ltb, ◌&&◌, List, [], ◌∷◌, length, Option, Some, None, Result, Ok, Err, refl, ap, arith}
 use Rattle.std.proofs.Math.Dec.{lit≤}
 use Rattle.std.proofs.lemmas.Bool.{and_parts, leb-true}
@@ -11,7 +11,7 @@ use Rattle.dl_bytes.specs.declared.id.IdFault.{IdFault}
 use Rattle.dl_bytes.specs.declared.id.IdFault.TheVariants.{NotAscii}
 use Rattle.dl_script_fields.specs.Argument.{behind_quote, unescaped}
 use Rattle.dl_script_fields.specs.Kind.{is_of_form, formed}
-use Rattle.dl_script_fields.specs.Line.{short, text_field, text_fields, app_line, call_line, context_line, payload_fields}
+use Rattle.dl_script_fields.specs.Line.{short, brief, text_field, text_fields, app_line, call_line, claim_line, context_line, payload_fields}
 use Rattle.dl_script_fields.specs.Argument.{is_argument}
 use Rattle.dl_script_fields.specs.Value.{id_field, number_field, ordinal_field, severity_field, level_field, unsigned_field}
 use Rattle.dl_script_fields.specs.declared.kind.ScriptKind.TheVariants as wrong
@@ -28,6 +28,12 @@ short_is text = by_test (leb (length text) 255) refl where
   by_test true is = given (leb-true (length text) 255 is)
   by_test false is = refused
 
+brief_is : (text : List ℕ) → Gives (λ brief_text. length brief_text ≤ 48) (brief text)
+brief_is text = by_test (leb (length text) 48) refl where
+  by_test : (b : Bool) → leb (length text) 48 ≡ b → Gives (λ brief_text. length brief_text ≤ 48) (cond b (Ok text) (Err wrong.Text))
+  by_test true is = given (leb-true (length text) 48 is)
+  by_test false is = refused
+
 text_short : (field : List ℕ) → Gives IsShort (text_field field)
 text_short field = then (ok_or (behind_quote field) wrong.Fields) (λ quoted. then (ok_or (unescaped quoted) wrong.Fields) short_is)
 
@@ -41,7 +47,7 @@ texts_short (field ∷ more ∷ fields) = refused
 abbrev pub IsNamed : List ℕ → Type 0
 IsNamed id = id ≢ zero_id
 
-abbrev first_of : List ℕ → ℕ
+abbrev pub first_of : List ℕ → ℕ
 first_of [] = 0
 first_of (b ∷ bytes) = b
 
@@ -68,7 +74,7 @@ id_named field = either_way (list_any (λ b. eqb b 34) field) refused (by_fault 
 abbrev pub IsWithin : ℕ → ℕ → ℕ → Type 0
 IsWithin low high n = (low ≤ n) × (n ≤ high)
 
-number_within_is : (low high : ℕ) (field : List ℕ) → Gives (IsWithin low high) (number_field low high field)
+pub number_within_is : (low high : ℕ) (field : List ℕ) → Gives (IsWithin low high) (number_field low high field)
 number_within_is low high field = by_number (unsigned_field 32 field) where
   by_test : (n : ℕ) (b : Bool) → (leb low n && leb n high) ≡ b → Gives (IsWithin low high) (ok_or (cond b (Some n) None) wrong.Number)
   by_test n false is = refused
@@ -101,6 +107,19 @@ context_in_range (apid ∷ ctid ∷ level ∷ texts) =
     (λ app has_name. then_so (id_named ctid)
     (λ context has_name_too. then (level_field level)
     (λ own. then_so (texts_short texts) (λ text is. given (has_name, has_name_too, is))))))
+
+pub claim_in_range : (fields : List (List ℕ)) → Gives (λ asked. IsNamed asked.ctid × (length asked.text ≤ 48)) (claim_line fields)
+unfolding claim_line
+claim_in_range [] = refused
+claim_in_range (writer ∷ []) = refused
+claim_in_range (writer ∷ ctid ∷ []) = refused
+claim_in_range (writer ∷ ctid ∷ level ∷ texts) =
+    then (formed (is_of_form (text_fields texts)))
+    (λ well. then (ordinal_field 8 writer)
+    (λ w. then_so (id_named ctid)
+    (λ context has_name. then (level_field level)
+    (λ own. then (text_fields texts)
+    (λ text. then_so (brief_is text) (λ brief_text is. given (has_name, is)))))))
 
 pub call_in_range : (low high : ℕ) (fields : List (List ℕ)) → Gives (λ call. IsWithin low high call.number) (call_line low high fields)
 unfolding call_line

@@ -22,7 +22,7 @@ use Rattle.dl_script.specs.declared.claim.Claim.{Claim}
 use Rattle.dl_script.specs.declared.error.ScriptError.{ScriptError}
 use Rattle.dl_script.specs.declared.error.ScriptError.TheVariants.{Fault}
 use Rattle.dl_script.specs.declared.read.Read.{Read}
-use Rattle.dl_script.specs.Playable.{HasShortText, IsPlayable, IsInRange, IsRunnable}
+use Rattle.dl_script.specs.Playable.{IsInBounds, IsPlayable, IsInRange, IsRunnable}
 use Rattle.dl_script.proofs.ReadResults.{Gives, given, refused, then_so, either_way}
 use Rattle.dl_script.proofs.ReadSteps.{line_read}
 use Rattle.dl_script.proofs.ReadScenarios.{scenario_line_read}
@@ -123,11 +123,11 @@ module _ {A : Type 0} (line_of : List ℕ → Result (Read A) ScriptKind) (claim
 
 -- ---- step scripts
 
-step_told : (text : List ℕ) (steps : List Step) → steps_of text ≡ Ok steps → IsTold step_of step_claim HasShortText line_read (length text) steps
-step_told text steps is = is_told step_of step_claim HasShortText line_read text steps is
+step_told : (text : List ℕ) (steps : List Step) → steps_of text ≡ Ok steps → IsTold step_of step_claim IsInBounds line_read (length text) steps
+step_told text steps is = is_told step_of step_claim IsInBounds line_read text steps is
 
 pub read_plays : (text : List ℕ) (steps : List Step) → steps_of text ≡ Ok steps → IsPlayable steps
-read_plays text steps is = let t = step_told text steps is in record { follows = t.follow; texts = t.fine }
+read_plays text steps is = let t = step_told text steps is in record { follows = t.follow; bounds = t.fine }
 
 pub read_bounded : (text : List ℕ) (steps : List Step) → steps_of text ≡ Ok steps → (length steps ≤ length text) × (length text ≤ size_limit)
 read_bounded text steps is = let t = step_told text steps is in (t.few, t.short)

@@ -1,4 +1,4 @@
--- What a line says has the claim of its step, and short texts.
+-- What a line says has the claim of its step, and is in its bounds.
 use Rattle.std.proofs.Common.{◌≡◌, ℕ, List, [], ◌∷◌, Option, Some, None, refl}
 use Rattle.std.specs.Prelude.{IfSome, option_map}
 use Rattle.std.specs.Option.{ok_or}
@@ -19,13 +19,13 @@ use Rattle.dl_script.specs.declared.claim.Claim.TheVariants as claim
 use Rattle.dl_script.specs.declared.read.Read.{Read}
 use Rattle.dl_script.specs.declared.word.StepWord.{StepWord}
 use Rattle.dl_script.specs.declared.word.StepWord.TheVariants as word
-use Rattle.dl_script.specs.Playable.{HasShortText}
+use Rattle.dl_script.specs.Playable.{IsInBounds}
 use Rattle.dl_script.proofs.ReadResults.{Gives, given, refused, then, then_so, either_way}
-use Rattle.dl_script.proofs.ReadFields.{app_in_range, context_in_range}
+use Rattle.dl_script.proofs.ReadFields.{app_in_range, context_in_range, claim_in_range, number_within_is}
 
--- a step with this claim and with short texts
+-- a step with this claim that is in its bounds
 abbrev pub Has : Claim → Step → Type 0
-Has claim s = (claim ≡ step_claim s) × HasShortText s
+Has claim s = (claim ≡ step_claim s) × IsInBounds s
 
 -- what was read is a step with its claim, or its arguments don't fit
 abbrev pub IsRead : Read Step → Type 0
@@ -44,12 +44,12 @@ user_has : (fields : List (List ℕ)) → Gives (Has claim.User) (user_line fiel
 unfolding user_line
 user_has [] = refused
 user_has (channel ∷ []) = refused
-user_has (channel ∷ hex ∷ []) = then (number_field 1 16 channel) (λ c. then (hex_field hex) (λ bytes. given (refl, tt)))
+user_has (channel ∷ hex ∷ []) = then_so (number_within_is 1 16 channel) (λ c within. then (hex_field hex) (λ bytes. given (refl, within.0)))
 user_has (channel ∷ hex ∷ more ∷ fields) = refused
 
 -- ---- log calls
 
--- each step that is made so has the claim of a call, and no text
+-- each step that is made so has the claim of a call, and no bound
 abbrev MakesCalls : (CallLine → Step) → Type 0
 MakesCalls make = (call : CallLine) → Has (claim.Calls call.writer call.ctid 1) (make call)
 
@@ -65,7 +65,7 @@ called_read make makes call = by_payload call.payload where
 
 word_read : (w : StepWord) (fields : List (List ℕ)) → Gives IsRead (step_by_word w fields)
 unfolding step_by_word
-word_read word.App fields = then_so (app_in_range fields) (λ app is. given (refl, is.3))
+word_read word.App fields = then_so (app_in_range fields) (λ app is. given (refl, (is.0, is.3)))
 word_read word.Context fields = then_so (context_in_range fields) (λ context is. given (refl, is.2))
 word_read word.Writer fields = then (id_line fields) (λ apid. given (refl, tt))
 word_read word.Clock fields = then_so (clock_has fields) (λ clock is. given is)
@@ -74,6 +74,9 @@ word_read word.Push fields = then (writer_line fields) (λ writer. given (refl, 
 word_read word.Count fields = then (writer_line fields) (λ writer. given (refl, tt))
 word_read word.Call fields = then (call_line 0 4294967295 fields) (λ call. given (called_read step.Call (λ line. (refl, tt)) call))
 word_read word.Log fields = then (call_line 0 4294967295 fields) (λ call. given (called_read step.Log (λ line. (refl, tt)) call))
+word_read word.Claim fields = then_so (claim_in_range fields) (λ asked is. given (refl, is))
+word_read word.Announce fields = then (writer_line fields) (λ writer. given (refl, tt))
+word_read word.Register fields = then_so (claim_in_range fields) (λ asked is. given (refl, is))
 word_read word.Take fields = then (id_line fields) (λ apid. given (refl, tt))
 word_read word.Losses fields = then (id_line fields) (λ apid. given (refl, tt))
 word_read word.Levels fields = then (levels_line fields) (λ levels. given (refl, tt))

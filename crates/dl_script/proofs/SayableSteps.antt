@@ -9,6 +9,7 @@ use Rattle.dl_bytes.specs.declared.level.Severity.TheVariants.{Fatal, Error, War
 use Rattle.dl_bytes.specs.Payload.{Arguments}
 use Rattle.dl_script_lines.specs.declared.line.AppLine.{AppLine}
 use Rattle.dl_script_lines.specs.declared.line.CallLine.{CallLine}
+use Rattle.dl_script_lines.specs.declared.line.ClaimLine.{ClaimLine}
 use Rattle.dl_script_lines.specs.declared.line.ContextLine.{ContextLine}
 use Rattle.dl_script_lines.specs.declared.scenario.ScenarioLine.{ScenarioLine}
 use Rattle.dl_script_lines.specs.declared.scenario.ScenarioLine.TheVariants as scenario
@@ -16,9 +17,9 @@ use Rattle.dl_script_lines.specs.declared.step.Step.{Step}
 use Rattle.dl_script_lines.specs.declared.step.Step.TheVariants as step
 use Rattle.dl_script_fields.specs.Joined.{parted_by_blanks}
 use Rattle.dl_script_fields.specs.Spelling.{spelling}
-use Rattle.dl_script_fields.specs.Spells.{SpellsNumber, SpellsBytes, SpellsLevel, SpellsTexts, IsShortText, SpellsApp, SpellsContext, SpellsCall, SpellsSent, severity_word, levels_word, quoted}
+use Rattle.dl_script_fields.specs.Spells.{SpellsNumber, SpellsBytes, SpellsLevel, SpellsTexts, IsShortText, SpellsApp, SpellsContext, SpellsClaim, SpellsCall, SpellsSent, severity_word, levels_word, quoted}
 use Rattle.dl_script_fields.proofs.SpelledFields.{decimal_spells, hex_spells}
-use Rattle.dl_script.specs.Spelled.{step_word_for, SpellsLog, SpellsFields, SpellsStep, SpellsScenarioFields, SpellsScenarioLine, scenario_word_for, HasName, HasBytes, HasArguments, IsSayableApp, IsSayableContext, IsSayableCall, IsSayableStep, IsSayableScenarioLine}
+use Rattle.dl_script.specs.Spelled.{step_word_for, SpellsLog, SpellsFields, SpellsStep, SpellsScenarioFields, SpellsScenarioLine, scenario_word_for, HasName, HasBytes, HasArguments, IsSayableApp, IsSayableContext, IsSayableClaim, IsSayableCall, IsSayableStep, IsSayableScenarioLine}
 
 number_spells : (low high n : ℕ) → high < 10 ^ 64 → low ≤ n → n ≤ high → SpellsNumber low high (decimal n) n
 number_spells low high n small above below = decimal_spells low high n above below (omega arith)
@@ -52,6 +53,11 @@ context_spells context is =
     let level = level_spells context.level is.2 in
     (is.0.0 ∷ is.1.0 ∷ level.0 ∷ quoted context.text ∷ [], (is.0.1, is.1.1, level.1, text_spells context.text is.3))
 
+claim_spells : (asked : ClaimLine) → IsSayableClaim asked → (fields : List (List ℕ)) × SpellsClaim fields asked
+claim_spells asked is =
+    let level = level_spells asked.level is.2 in
+    (decimal asked.writer ∷ is.1.0 ∷ level.0 ∷ quoted asked.text ∷ [], (number_spells 0 255 asked.writer (lit< tt) (omega arith) is.0, is.1.1, level.1, text_spells asked.text is.3, is.4))
+
 call_spells : (low high : ℕ) → high < 10 ^ 64 → (writer : ℕ) (ctid : List ℕ) (severity : Severity) (number : ℕ) (payload : Arguments)
     → writer ≤ 255 → HasName ctid → low ≤ number → number ≤ high → HasArguments payload → (fields : List (List ℕ)) × SpellsCall low high fields writer ctid severity number payload
 call_spells low high small writer ctid severity number payload fits name above below has = (
@@ -79,6 +85,9 @@ fields_for (step.Push writer) is = (decimal writer ∷ [], number_spells 0 255 w
 fields_for (step.Count writer) is = (decimal writer ∷ [], number_spells 0 255 writer (lit< tt) (omega arith) is)
 fields_for (step.Call call) is = log_spells call is
 fields_for (step.Log call) is = log_spells call is
+fields_for (step.Claim asked) is = claim_spells asked is
+fields_for (step.Announce writer) is = (decimal writer ∷ [], number_spells 0 255 writer (lit< tt) (omega arith) is)
+fields_for (step.Register asked) is = claim_spells asked is
 fields_for (step.Take apid) is = (is.0 ∷ [], is.1)
 fields_for (step.Losses apid) is = (is.0 ∷ [], is.1)
 fields_for (step.Levels levels) is = (levels_word levels ∷ [], refl)

@@ -5,7 +5,7 @@ use Rattle.dl_script_lines.specs.declared.step.Step.{Step}
 use Rattle.dl_script_lines.specs.declared.step.Step.TheVariants as step
 use Rattle.dl_script_fields.specs.Line.{call_line}
 use Rattle.dl_script_fields.specs.declared.line.Call.{Call}
-use Rattle.dl_script_fields.proofs.SpelledLines.{AreGood, nothing_says, nothing_good, app_says, app_good, context_says, context_good, apid_says, apid_good, call_says, call_good, clock_says, clock_good, writer_says, writer_good, levels_say, levels_good, client_says, client_good, sent_says, sent_good, user_says, user_good}
+use Rattle.dl_script_fields.proofs.SpelledLines.{AreGood, nothing_says, nothing_good, app_says, app_good, context_says, context_good, claim_says, claim_good, apid_says, apid_good, call_says, call_good, clock_says, clock_good, writer_says, writer_good, levels_say, levels_good, client_says, client_good, sent_says, sent_good, user_says, user_good}
 use Rattle.dl_script.specs.Line.{says, step_word, step_by_word, step_of}
 use Rattle.dl_script.specs.Spelled.{step_word_for, SpellsLog, SpellsFields, SpellsStep, step_claim}
 use Rattle.dl_script.specs.declared.word.StepWord.{StepWord}
@@ -24,6 +24,9 @@ kind_for (step.Push writer) = word.Push
 kind_for (step.Count writer) = word.Count
 kind_for (step.Call call) = word.Call
 kind_for (step.Log call) = word.Log
+kind_for (step.Claim asked) = word.Claim
+kind_for (step.Announce writer) = word.Announce
+kind_for (step.Register asked) = word.Register
 kind_for (step.Take apid) = word.Take
 kind_for (step.Losses apid) = word.Losses
 kind_for (step.Levels levels) = word.Levels
@@ -44,6 +47,9 @@ word_is (step.Push writer) = record { letters = refl; plain = refl; known = refl
 word_is (step.Count writer) = record { letters = refl; plain = refl; known = refl; noted = λ more. refl }
 word_is (step.Call call) = record { letters = refl; plain = refl; known = refl; noted = λ more. refl }
 word_is (step.Log call) = record { letters = refl; plain = refl; known = refl; noted = λ more. refl }
+word_is (step.Claim asked) = record { letters = refl; plain = refl; known = refl; noted = λ more. refl }
+word_is (step.Announce writer) = record { letters = refl; plain = refl; known = refl; noted = λ more. refl }
+word_is (step.Register asked) = record { letters = refl; plain = refl; known = refl; noted = λ more. refl }
 word_is (step.Take apid) = record { letters = refl; plain = refl; known = refl; noted = λ more. refl }
 word_is (step.Losses apid) = record { letters = refl; plain = refl; known = refl; noted = λ more. refl }
 word_is (step.Levels levels) = record { letters = refl; plain = refl; known = refl; noted = λ more. refl }
@@ -69,6 +75,9 @@ fields_good (step.Push writer) fields are = writer_good fields writer are
 fields_good (step.Count writer) fields are = writer_good fields writer are
 fields_good (step.Call call) fields are = log_good fields call are
 fields_good (step.Log call) fields are = log_good fields call are
+fields_good (step.Claim asked) fields are = claim_good fields asked are
+fields_good (step.Announce writer) fields are = writer_good fields writer are
+fields_good (step.Register asked) fields are = claim_good fields asked are
 fields_good (step.Take apid) fields are = apid_good fields apid are
 fields_good (step.Losses apid) fields are = apid_good fields apid are
 fields_good (step.Levels levels) fields are = levels_good fields levels are
@@ -96,6 +105,9 @@ fields_say (step.Push writer) fields are = then _ _ _ (writer_says fields writer
 fields_say (step.Count writer) fields are = then _ _ _ (writer_says fields writer are)
 fields_say (step.Call call) fields are = then _ _ _ (log_says fields call are)
 fields_say (step.Log call) fields are = then _ _ _ (log_says fields call are)
+fields_say (step.Claim asked) fields are = then _ _ _ (claim_says fields asked are)
+fields_say (step.Announce writer) fields are = then _ _ _ (writer_says fields writer are)
+fields_say (step.Register asked) fields are = then _ _ _ (claim_says fields asked are)
 fields_say (step.Take apid) fields are = then _ _ _ (apid_says fields apid are)
 fields_say (step.Losses apid) fields are = then _ _ _ (apid_says fields apid are)
 fields_say (step.Levels levels) fields are = then _ _ _ (levels_say fields levels are)

@@ -4,7 +4,7 @@ use Rattle.std.specs.List.{AllByRecursion}
 use Rattle.dl_script_lines.specs.declared.step.Step.{Step}
 use Rattle.dl_script.specs.Earlier.{Declared, noted}
 use Rattle.dl_script.specs.Spelled.{MayFollow, step_claim}
-use Rattle.dl_script.specs.Playable.{HasShortText}
+use Rattle.dl_script.specs.Playable.{IsInBounds}
 
 -- what is declared after steps
 abbrev pub after : Declared → List Step → Declared
@@ -15,7 +15,7 @@ after known (s ∷ steps) = after (noted known (step_claim s)) steps
 pub record Goes (known : Declared) (steps : List Step) (later : Declared) (count : ℕ) : Type 0 where
   pub follow : MayFollow step_claim known steps
   pub leads : after known steps ≡ later
-  pub texts : AllByRecursion HasShortText steps
+  pub bounds : AllByRecursion IsInBounds steps
   pub few : length steps ≤ count
 
 follow_more : (known : Declared) (xs ys : List Step) → MayFollow step_claim known xs → MayFollow step_claim (after known xs) ys → MayFollow step_claim known (xs ++ ys)
@@ -26,16 +26,16 @@ after_more : (known : Declared) (xs ys : List Step) → after known (xs ++ ys) �
 after_more known [] ys = refl
 after_more known (x ∷ xs) ys = after_more (noted known (step_claim x)) xs ys
 
-texts_more : (xs ys : List Step) → AllByRecursion HasShortText xs → AllByRecursion HasShortText ys → AllByRecursion HasShortText (xs ++ ys)
-texts_more [] ys texts more = more
-texts_more (x ∷ xs) ys texts more = (texts.0, texts_more xs ys texts.1 more)
+bounds_more : (xs ys : List Step) → AllByRecursion IsInBounds xs → AllByRecursion IsInBounds ys → AllByRecursion IsInBounds (xs ++ ys)
+bounds_more [] ys bounds more = more
+bounds_more (x ∷ xs) ys bounds more = (bounds.0, bounds_more xs ys bounds.1 more)
 
 -- steps behind others
 pub behind : (known next later : Declared) (xs ys : List Step) (m n : ℕ) → Goes known xs next m → Goes next ys later n → Goes known (xs ++ ys) later (m + n)
 behind known next later xs ys m n first second = record {
   follow = follow_more known xs ys first.follow (subst (λ (k : Declared). MayFollow step_claim k ys) (sym first.leads) second.follow);
   leads = after_more known xs ys ∙ subst (λ (k : Declared). after k ys ≡ later) (sym first.leads) second.leads;
-  texts = texts_more xs ys first.texts second.texts;
+  bounds = bounds_more xs ys first.bounds second.bounds;
   few = omega (arith, first.few, second.few, length-append xs ys);
 }
 
@@ -44,6 +44,6 @@ pub restated : (known later other : Declared) (steps : List Step) (m n : ℕ) �
 restated known later other steps m n same le goes = record {
   follow = goes.follow;
   leads = goes.leads ∙ same;
-  texts = goes.texts;
+  bounds = goes.bounds;
   few = omega (arith, goes.few);
 }

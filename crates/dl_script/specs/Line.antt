@@ -11,7 +11,7 @@ use Rattle.dl_script_lines.specs.declared.scenario.ScenarioLine.TheVariants as s
 use Rattle.dl_text.specs.Lines.{is_blank}
 use Rattle.dl_script_fields.specs.Fields.{worded, fields_of}
 use Rattle.dl_script_fields.specs.Kind.{◌>>=◌}
-use Rattle.dl_script_fields.specs.Line.{app_line, context_line, id_line, call_line, clock_line, writer_line, levels_line, bare_line, client_line, bytes_line, user_line, leave_line, line_in}
+use Rattle.dl_script_fields.specs.Line.{app_line, context_line, claim_line, id_line, call_line, clock_line, writer_line, levels_line, bare_line, client_line, bytes_line, user_line, leave_line, line_in}
 use Rattle.dl_script_fields.specs.Value.{is_word}
 use Rattle.dl_script_fields.specs.declared.kind.ScriptKind.{ScriptKind}
 use Rattle.dl_script_fields.specs.declared.kind.ScriptKind.TheVariants as wrong
@@ -50,6 +50,9 @@ step_by_word word.Push fields = writer_line fields >>= λ writer. Ok (says (clai
 step_by_word word.Count fields = writer_line fields >>= λ writer. Ok (says (claim.OfWriter writer) (step.Count writer))
 step_by_word word.Call fields = call_line 0 4294967295 fields >>= λ call. Ok (called step.Call call)
 step_by_word word.Log fields = call_line 0 4294967295 fields >>= λ call. Ok (called step.Log call)
+step_by_word word.Claim fields = claim_line fields >>= λ asked. Ok (says (claim.Place asked.writer asked.ctid) (step.Claim asked))
+step_by_word word.Announce fields = writer_line fields >>= λ writer. Ok (says (claim.OfWriter writer) (step.Announce writer))
+step_by_word word.Register fields = claim_line fields >>= λ asked. Ok (says (claim.Place asked.writer asked.ctid) (step.Register asked))
 step_by_word word.Take fields = id_line fields >>= λ apid. Ok (says (claim.OfApp apid) (step.Take apid))
 step_by_word word.Losses fields = id_line fields >>= λ apid. Ok (says (claim.OfApp apid) (step.Losses apid))
 step_by_word word.Levels fields = levels_line fields >>= λ levels. Ok (says claim.Nothing (step.Levels levels))
@@ -82,6 +85,9 @@ step_word field =
     else if is_word field (codes "count") then Some word.Count
     else if is_word field (codes "call") then Some word.Call
     else if is_word field (codes "log") then Some word.Log
+    else if is_word field (codes "claim") then Some word.Claim
+    else if is_word field (codes "announce") then Some word.Announce
+    else if is_word field (codes "register") then Some word.Register
     else if is_word field (codes "take") then Some word.Take
     else if is_word field (codes "losses") then Some word.Losses
     else if is_word field (codes "levels") then Some word.Levels

@@ -2,6 +2,7 @@
 use Rattle.std.specs.Prelude.{◌≢◌, ◌≤◌, List, length}
 use Rattle.std.specs.List.{AllByRecursion}
 use Rattle.dl_bytes.specs.Id.{zero_id}
+use Rattle.dl_script_lines.specs.declared.line.ClaimLine.{ClaimLine}
 use Rattle.dl_script_lines.specs.declared.scenario.ScenarioLine.{ScenarioLine}
 use Rattle.dl_script_lines.specs.declared.scenario.ScenarioLine.TheVariants as scenario
 use Rattle.dl_script_lines.specs.declared.step.Step.{Step}
@@ -9,16 +10,24 @@ use Rattle.dl_script_lines.specs.declared.step.Step.TheVariants as step
 use Rattle.dl_script.specs.Earlier.{nothing}
 use Rattle.dl_script.specs.Spelled.{MayFollow, scenario_claim, step_claim}
 
--- descriptions have at most 255 bytes
-abbrev pub HasShortText : Step → Type 0
-HasShortText (step.App app) = length app.text ≤ 255
-HasShortText (step.Context context) = length context.text ≤ 255
-HasShortText _ = Unit {0}
+-- a claim is for a context with a name, and has a description of at most 48 bytes
+abbrev pub IsClaimInBounds : ClaimLine → Type 0
+IsClaimInBounds asked = (asked.ctid ≢ zero_id) × (length asked.text ≤ 48)
+
+-- An application has a name, and other descriptions have at most 255 bytes. User messages come on channels from 1 on: channel 0 is
+-- this process's own.
+abbrev pub IsInBounds : Step → Type 0
+IsInBounds (step.App app) = (app.apid ≢ zero_id) × (length app.text ≤ 255)
+IsInBounds (step.Context context) = length context.text ≤ 255
+IsInBounds (step.Claim asked) = IsClaimInBounds asked
+IsInBounds (step.Register asked) = IsClaimInBounds asked
+IsInBounds (step.User channel bytes) = 1 ≤ channel
+IsInBounds _ = Unit {0}
 
 -- each step may follow those before it: what it names was declared, nothing is declared twice, and no limit is passed
 pub record IsPlayable (steps : List Step) : Type 0 where
   pub follows : MayFollow step_claim nothing steps
-  pub texts : AllByRecursion HasShortText steps
+  pub bounds : AllByRecursion IsInBounds steps
 
 -- in a scenario too; applications and contexts have names, a ring holds 1 to 4096 calls, and a line asks for one call at least
 abbrev pub IsInRange : ScenarioLine → Type 0

@@ -6,6 +6,7 @@ use Rattle.dl_bytes.specs.Payload.{Arguments}
 use Rattle.dl_args.specs.declared.arg.Arg.{Arg}
 use Rattle.dl_script_lines.specs.declared.line.AppLine.{AppLine}
 use Rattle.dl_script_lines.specs.declared.line.CallLine.{CallLine}
+use Rattle.dl_script_lines.specs.declared.line.ClaimLine.{ClaimLine}
 use Rattle.dl_script_lines.specs.declared.line.ContextLine.{ContextLine}
 use Rattle.dl_script_lines.specs.declared.scenario.ScenarioLine.{ScenarioLine}
 use Rattle.dl_script_lines.specs.declared.scenario.ScenarioLine.TheVariants as scenario
@@ -13,7 +14,7 @@ use Rattle.dl_script_lines.specs.declared.step.Step.{Step}
 use Rattle.dl_script_lines.specs.declared.step.Step.TheVariants as step
 use Rattle.dl_script_fields.specs.Argument.{payload_of}
 use Rattle.dl_script_fields.specs.Joined.{parted_by_blanks}
-use Rattle.dl_script_fields.specs.Spells.{SpellsId, IsShortText, IsSaid, SpellsNothing, SpellsApp, SpellsContext, SpellsApid, SpellsCall, SpellsClock, SpellsWriter, SpellsLevels, SpellsClient, SpellsSent, SpellsUser, SpellsLeave}
+use Rattle.dl_script_fields.specs.Spells.{SpellsId, IsShortText, IsSaid, SpellsNothing, SpellsApp, SpellsContext, SpellsClaim, SpellsApid, SpellsCall, SpellsClock, SpellsWriter, SpellsLevels, SpellsClient, SpellsSent, SpellsUser, SpellsLeave}
 use Rattle.dl_script.specs.Earlier.{Declared, refusal, noted}
 use Rattle.dl_script.specs.declared.claim.Claim.{Claim}
 use Rattle.dl_script.specs.declared.claim.Claim.TheVariants as claim
@@ -31,6 +32,9 @@ step_word_for (step.Push writer) = codes "push"
 step_word_for (step.Count writer) = codes "count"
 step_word_for (step.Call call) = codes "call"
 step_word_for (step.Log call) = codes "log"
+step_word_for (step.Claim asked) = codes "claim"
+step_word_for (step.Announce writer) = codes "announce"
+step_word_for (step.Register asked) = codes "register"
 step_word_for (step.Take apid) = codes "take"
 step_word_for (step.Losses apid) = codes "losses"
 step_word_for (step.Levels levels) = codes "levels"
@@ -56,6 +60,9 @@ SpellsFields fields (step.Push writer) = SpellsWriter fields writer
 SpellsFields fields (step.Count writer) = SpellsWriter fields writer
 SpellsFields fields (step.Call call) = SpellsLog fields call
 SpellsFields fields (step.Log call) = SpellsLog fields call
+SpellsFields fields (step.Claim asked) = SpellsClaim fields asked
+SpellsFields fields (step.Announce writer) = SpellsWriter fields writer
+SpellsFields fields (step.Register asked) = SpellsClaim fields asked
 SpellsFields fields (step.Take apid) = SpellsApid fields apid
 SpellsFields fields (step.Losses apid) = SpellsApid fields apid
 SpellsFields fields (step.Levels levels) = SpellsLevels fields levels
@@ -81,6 +88,9 @@ step_claim (step.Push writer) = claim.OfWriter writer
 step_claim (step.Count writer) = claim.OfWriter writer
 step_claim (step.Call call) = claim.Calls call.writer call.ctid 1
 step_claim (step.Log call) = claim.Calls call.writer call.ctid 1
+step_claim (step.Claim asked) = claim.Place asked.writer asked.ctid
+step_claim (step.Announce writer) = claim.OfWriter writer
+step_claim (step.Register asked) = claim.Place asked.writer asked.ctid
 step_claim (step.Take apid) = claim.OfApp apid
 step_claim (step.Losses apid) = claim.OfApp apid
 step_claim (step.Levels levels) = claim.Nothing
@@ -165,6 +175,10 @@ IsSayableApp app = HasName app.apid × (1 ≤ app.capacity) × (app.capacity ≤
 abbrev pub IsSayableContext : ContextLine → Type 0
 IsSayableContext context = HasName context.apid × HasName context.ctid × IfSome context.level (λ level. level ≤ 6) × IsShortText context.text
 
+-- a claim; its writer's number is of 8 bits
+abbrev pub IsSayableClaim : ClaimLine → Type 0
+IsSayableClaim asked = (asked.writer ≤ 255) × HasName asked.ctid × IfSome asked.level (λ level. level ≤ 6) × IsShortText asked.text × (length asked.text ≤ 48)
+
 -- a log call; its numbers are of 8 and of 32 bits
 abbrev pub IsSayableCall : CallLine → Type 0
 IsSayableCall call = (call.writer ≤ 255) × HasName call.ctid × (call.at ≤ 4294967295) × HasArguments call.payload
@@ -180,6 +194,9 @@ IsSayableStep (step.Push writer) = writer ≤ 255
 IsSayableStep (step.Count writer) = writer ≤ 255
 IsSayableStep (step.Call call) = IsSayableCall call
 IsSayableStep (step.Log call) = IsSayableCall call
+IsSayableStep (step.Claim asked) = IsSayableClaim asked
+IsSayableStep (step.Announce writer) = writer ≤ 255
+IsSayableStep (step.Register asked) = IsSayableClaim asked
 IsSayableStep (step.Take apid) = HasName apid
 IsSayableStep (step.Losses apid) = HasName apid
 IsSayableStep (step.Levels levels) = Unit {0}

@@ -14,8 +14,8 @@ use crate::scratch::Scratch;
 use crate::word::{ScenarioWord, StepWord, scenario_word, step_word};
 use dl_bytes::Payload;
 use dl_script_fields::{
-    Call, LineError, ScriptKind, app, app_id, bare, client_bytes, client_number, clock, context,
-    cut_into, leave, levels, log_call, user, worded, writer_number,
+    Call, LineError, ScriptKind, app, app_id, bare, claim, client_bytes, client_number, clock,
+    context, cut_into, leave, levels, log_call, user, worded, writer_number,
 };
 use dl_script_lines::{ScenarioLine, Step};
 use std::alloc::Global;
@@ -134,6 +134,35 @@ fn log_step(alloc: Global, payload: &mut Payload, fields: &[&str]) -> Result<Rea
     Ok(logged(call))
 }
 
+/// `claim`
+#[tactic(auto, unfolding(crate::specs::Line::step_by_word))]
+fn claim_step(alloc: Global, fields: &[&str]) -> Result<Read<Step>, LineError>
+    ensures { Says (λ x. x) result (step_by_word word.Claim (texts fields.now)) }
+{
+    let asked = claim(alloc, fields)?;
+    let (writer, ctid) = (asked.writer, asked.ctid);
+    Ok(says(Claim::Place { writer, ctid }, Step::Claim(asked)))
+}
+
+/// `announce`
+#[tactic(auto, unfolding(crate::specs::Line::step_by_word))]
+fn announce_step(fields: &[&str]) -> Result<Read<Step>, LineError>
+    ensures { Says (λ x. x) result (step_by_word word.Announce (texts fields.now)) }
+{
+    let writer = writer_number(fields)?;
+    Ok(says(Claim::OfWriter { writer }, Step::Announce { writer }))
+}
+
+/// `register`
+#[tactic(auto, unfolding(crate::specs::Line::step_by_word))]
+fn register_step(alloc: Global, fields: &[&str]) -> Result<Read<Step>, LineError>
+    ensures { Says (λ x. x) result (step_by_word word.Register (texts fields.now)) }
+{
+    let asked = claim(alloc, fields)?;
+    let (writer, ctid) = (asked.writer, asked.ctid);
+    Ok(says(Claim::Place { writer, ctid }, Step::Register(asked)))
+}
+
 /// `take`
 #[tactic(auto, unfolding(crate::specs::Line::step_by_word))]
 fn take_step(fields: &[&str]) -> Result<Read<Step>, LineError>
@@ -234,6 +263,9 @@ fn step_by_word(
         StepWord::Count => count_step(fields),
         StepWord::Call => call_step(alloc, payload, fields),
         StepWord::Log => log_step(alloc, payload, fields),
+        StepWord::Claim => claim_step(alloc, fields),
+        StepWord::Announce => announce_step(fields),
+        StepWord::Register => register_step(alloc, fields),
         StepWord::Take => take_step(fields),
         StepWord::Losses => losses_step(fields),
         StepWord::Levels => levels_step(fields),

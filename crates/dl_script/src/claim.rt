@@ -1,7 +1,7 @@
 //! What lines declare, and what they ask of the lines before them.
 
-ghost use Rattle.std.specs.Prelude.{◌≡◌, ◌<◌, ◌+◌, IfSome, length, count_by, is_some};
-ghost use Rattle.dl_script.specs.Earlier.{nothing, is_app, is_of, is_context, numbered, logs_under, Admits};
+ghost use Rattle.std.specs.Prelude.{◌≡◌, ◌<◌, ◌+◌, IfSome, nat_le, length, count_by, is_some};
+ghost use Rattle.dl_script.specs.Earlier.{nothing, is_app, is_of, is_on, is_context, is_claimed_on, places_on, claims_for, numbered, logs_under, Admits};
 ghost use Rattle.dl_script.specs.declared.claim.Claim.TheVariants as claim;
 
 use dl_bytes::{APP_LIMIT, CALL_LIMIT, CLIENT_LIMIT, CONTEXT_LIMIT, Id, WRITER_LIMIT};
@@ -24,6 +24,8 @@ pub enum Claim {
     Context { apid: Id, ctid: Id },
     /// It declares a writer of an application.
     Writer { apid: Id },
+    /// A writer claims a place of its application for a context.
+    Place { writer: u8, ctid: Id },
     /// A writer logs so many calls under a context of its application.
     Calls { writer: u8, ctid: Id, count: u32 },
     /// It names a writer.
@@ -53,6 +55,17 @@ pub struct ContextName {
     pub ctid: Id,
 }
 
+/// A place that a writer claims.
+#[derive(Clone, Copy, Debug)]
+pub struct PlaceName {
+    /// The writer's number.
+    pub writer: u8,
+    /// Its application's id.
+    pub apid: Id,
+    /// The id of the context that is to have it.
+    pub ctid: Id,
+}
+
 /// A client as lines declare it.
 #[derive(Clone, Copy, Debug)]
 pub struct Client {
@@ -67,6 +80,7 @@ pub struct Client {
 pub struct Known {
     apps: Vec<Id>,
     contexts: IndexSet<ContextName>,
+    places: Vec<PlaceName>,
     writers: Vec<Id>,
     clients: Vec<Client>,
     calls: u64,
@@ -82,6 +96,7 @@ impl Model for Known {
     ghost view = { λ k. record {
       apps = k.apps.items;
       contexts = k.contexts.keys;
+      places = k.places.items;
       writers = k.writers.items;
       clients = k.clients.items;
       calls = k.calls;
@@ -99,6 +114,7 @@ impl Known {
         Known {
             apps: Vec::new(alloc),
             contexts: IndexSet::new(alloc),
+            places: Vec::new(alloc),
             writers: Vec::new(alloc),
             clients: Vec::new(alloc),
             calls: 0,
@@ -115,6 +131,7 @@ impl Known {
             Claim::App { apid } => self.app(apid),
             Claim::Context { apid, ctid } => self.context(apid, ctid),
             Claim::Writer { apid } => self.writer(apid),
+            Claim::Place { writer, ctid } => self.place(writer, ctid),
             Claim::Calls {
                 writer,
                 ctid,
@@ -164,15 +181,58 @@ impl Known {
         count
     }
 
+    /// Whether a place of an application is claimed.
+    fn is_claimed_on(&self, apid: &Id) -> bool
+        ensures { result ≡ is_claimed_on self.now apid.now }
+    {
+        self.places.iter().any(|place| place.apid == *apid)
+    }
+
+    /// How many places of an application are claimed.
+    fn claims_on(&self, apid: &Id) -> usize
+        ensures { result ≡ count_by (is_on apid.now) self.now.places }
+    {
+        let mut count = 0;
+        for place in self.places.iter() {
+            if place.apid == *apid {
+                count += 1;
+            }
+        }
+        count
+    }
+
+    /// Whether an application has as many contexts and claims as it can have places.
+    fn is_full(&self, apid: &Id) -> bool
+        ensures { result ≡ nat_le 64 (places_on self.now apid.now) }
+    {
+        self.contexts_of(apid).saturating_add(self.claims_on(apid)) >= CONTEXT_LIMIT
+    }
+
+    /// Whether a writer claims a place for this id.
+    fn claims_for(&self, writer: u8, ctid: &Id) -> bool
+        ensures { result ≡ claims_for self.now writer ctid.now }
+    {
+        self.places
+            .iter()
+            .any(|place| place.writer == writer && place.ctid == *ctid)
+    }
+
+    /// The application of a writer.
+    fn owner(&self, writer: u8) -> Option<Id>
+        ensures { result ≡ numbered self.now.writers writer }
+    {
+        if writer == 0 {
+            return None;
+        }
+        self.writers.get(writer as usize - 1).copied()
+    }
+
     /// Whether a writer names a context of its application.
     fn logs_under(&self, writer: u8, ctid: &Id) -> bool
         ensures { result ≡ logs_under self.now writer ctid.now }
     {
-        if writer == 0 {
-            return false;
-        }
-        match self.writers.get(writer as usize - 1) {
-            Some(apid) => self.is_context(apid, ctid),
+        match self.owner(writer) {
+            Some(apid) => self.is_context(&apid, ctid) || self.claims_for(writer, ctid),
             None => false,
         }
     }
@@ -209,7 +269,7 @@ impl Known {
     fn context(&mut self, apid: Id, ctid: Id) -> Result<(), LineError>
         ensures { Admits (claim.Context apid ctid) result self.old self.new }
     {
-        if self.user {
+        if self.user || self.is_claimed_on(&apid) {
             return Err(LineError::Fault(ScriptKind::Order));
         }
         if !self.is_app(&apid) {
@@ -218,7 +278,7 @@ impl Known {
         if self.is_context(&apid, &ctid) {
             return Err(LineError::Fault(ScriptKind::Twice));
         }
-        if self.contexts_of(&apid) >= CONTEXT_LIMIT {
+        if self.is_full(&apid) {
             return Err(LineError::Fault(ScriptKind::Limit));
         }
         self.contexts.insert(ContextName { apid, ctid })?;
@@ -236,6 +296,20 @@ impl Known {
             return Err(LineError::Fault(ScriptKind::Limit));
         }
         self.writers.push(apid)?;
+        Ok(())
+    }
+
+    /// A writer claims a place of its application.
+    fn place(&mut self, writer: u8, ctid: Id) -> Result<(), LineError>
+        ensures { Admits (claim.Place writer ctid) result self.old self.new }
+    {
+        let Some(apid) = self.owner(writer) else {
+            return Err(LineError::Fault(ScriptKind::Unknown));
+        };
+        if self.is_full(&apid) {
+            return Err(LineError::Fault(ScriptKind::Limit));
+        }
+        self.places.push(PlaceName { writer, apid, ctid })?;
         Ok(())
     }
 

@@ -45,8 +45,9 @@ pub fn a_script_says_what_its_lines_spell()
         → length (text_of lines) ≤ size_limit → scenario_of (text_of lines) ≡ Ok scenario }
 {}
 
-/// A script that is read can be played: each of its steps may follow those before it, and its descriptions are short. It has
-/// no more steps than its text has bytes.
+/// A script that is read can be played: each of its steps may follow those before it, its applications and the contexts that
+/// writers claim have names, its descriptions are short, and its user messages come on channels from 1 on. It has no more
+/// steps than its text has bytes.
 pub fn what_is_read_can_be_played()
     ensures playable { (text : List ℕ) (steps : List Step) → steps_of text ≡ Ok steps → IsPlayable steps }
     ensures bounded { (text : List ℕ) (steps : List Step) → steps_of text ≡ Ok steps → (length steps ≤ length text) × (length text ≤ size_limit) }

@@ -8,6 +8,7 @@ use Rattle.dl_bytes.specs.Payload.{Arguments}
 use Rattle.dl_bytes.specs.declared.level.Severity.{Severity}
 use Rattle.dl_args.specs.declared.arg.Arg.{Arg}
 use Rattle.dl_script_lines.specs.declared.line.AppLine.{AppLine}
+use Rattle.dl_script_lines.specs.declared.line.ClaimLine.{ClaimLine}
 use Rattle.dl_script_lines.specs.declared.line.ContextLine.{ContextLine}
 use Rattle.dl_script_lines.specs.declared.step.LevelEvents.{LevelEvents}
 use Rattle.dl_script_lines.specs.declared.step.LevelEvents.TheVariants.{Later, Now}
@@ -15,9 +16,9 @@ use Rattle.dl_script_lines.specs.declared.step.Step.TheVariants as step
 use Rattle.dl_script_fields.specs.Argument.{is_argument, arguments_of, payload_of}
 use Rattle.dl_script_fields.specs.Joined.{is_field, parted_by_blanks}
 use Rattle.dl_script_fields.specs.Kind.{◌>>=◌, is_of_form}
-use Rattle.dl_script_fields.specs.Line.{text_field, text_fields, payload_fields, app_line, context_line, id_line, call_line, clock_line, writer_line, levels_line, bare_line, client_line, bytes_line, user_line, leave_line}
+use Rattle.dl_script_fields.specs.Line.{text_field, text_fields, payload_fields, app_line, context_line, claim_line, id_line, call_line, clock_line, writer_line, levels_line, bare_line, client_line, bytes_line, user_line, leave_line}
 use Rattle.dl_script_fields.specs.Spelling.{spelling}
-use Rattle.dl_script_fields.specs.Spells.{is_letter, IsShortText, IsSaid, SpellsTexts, SpellsArguments, SpellsNothing, SpellsApp, SpellsContext, SpellsApid, SpellsCall, SpellsClock, SpellsWriter, SpellsLevels, SpellsClient, SpellsSent, SpellsUser, SpellsLeave, quoted, levels_word}
+use Rattle.dl_script_fields.specs.Spells.{is_letter, IsShortText, IsSaid, SpellsTexts, SpellsArguments, SpellsNothing, SpellsApp, SpellsContext, SpellsClaim, SpellsApid, SpellsCall, SpellsClock, SpellsWriter, SpellsLevels, SpellsClient, SpellsSent, SpellsUser, SpellsLeave, quoted, levels_word}
 use Rattle.dl_script_fields.proofs.Letters.{ascii, is_whole, whole-append, letters_whole, IsGood, letters_good}
 use Rattle.dl_script_fields.proofs.QuotedFields.{one_byte, quoted_good}
 use Rattle.dl_script_fields.proofs.SpelledArguments.{argument_good}
@@ -100,6 +101,21 @@ context_good (apid ∷ []) context is = absurd is
 context_good (apid ∷ ctid ∷ []) context is = absurd is
 context_good (apid ∷ ctid ∷ level ∷ texts) context is =
     (id_good apid context.apid is.0, (id_good ctid context.ctid is.1, (level_good level context.level is.2, texts_good texts context.text is.3)))
+
+pub claim_says : (fields : List (List ℕ)) (claim : ClaimLine) → SpellsClaim fields claim → claim_line fields ≡ Ok claim
+unfolding claim_line
+claim_says [] claim is = absurd is
+claim_says (w ∷ []) claim is = absurd is
+claim_says (w ∷ ctid ∷ []) claim is = absurd is
+claim_says (w ∷ ctid ∷ level ∷ texts) claim is =
+    rw (texts_say texts claim.text is.3, ordinal_says 8 0 255 w claim.writer (lit< tt) is.0, id_says ctid claim.ctid is.1, level_says level claim.level is.2, le-leb (length claim.text) 48 is.4) refl
+
+pub claim_good : (fields : List (List ℕ)) (claim : ClaimLine) → SpellsClaim fields claim → AreGood fields
+claim_good [] claim is = absurd is
+claim_good (w ∷ []) claim is = absurd is
+claim_good (w ∷ ctid ∷ []) claim is = absurd is
+claim_good (w ∷ ctid ∷ level ∷ texts) claim is =
+    (number_good 0 255 w claim.writer is.0, (id_good ctid claim.ctid is.1, (level_good level claim.level is.2, texts_good texts claim.text is.3)))
 
 pub apid_says : (fields : List (List ℕ)) (apid : List ℕ) → SpellsApid fields apid → id_line fields ≡ Ok apid
 unfolding id_line

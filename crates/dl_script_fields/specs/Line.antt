@@ -6,6 +6,7 @@ use Rattle.dl_bytes.specs.Payload.{Arguments}
 use Rattle.dl_script_lines.specs.declared.line.AppLine.{AppLine}
 use Rattle.dl_script_lines.specs.declared.line.ContextLine.{ContextLine}
 use Rattle.dl_script_lines.specs.declared.line.CallLine.{CallLine}
+use Rattle.dl_script_lines.specs.declared.line.ClaimLine.{ClaimLine}
 use Rattle.dl_script_lines.specs.declared.step.LevelEvents.{LevelEvents}
 use Rattle.dl_script_lines.specs.declared.step.LevelEvents.TheVariants.{Later, Now}
 use Rattle.dl_script_lines.specs.declared.step.Step.{Step}
@@ -35,6 +36,10 @@ abbrev pub text_fields : List (List ℕ) → Result (List ℕ) ScriptKind
 text_fields [] = Ok []
 text_fields (field ∷ []) = text_field field
 text_fields _ = Err wrong.Fields
+
+-- a text of at most 48 bytes, as a claim keeps it
+abbrev pub brief : List ℕ → Result (List ℕ) ScriptKind
+brief text = if nat_le (length text) 48 then Ok text else Err wrong.Text
 
 -- pairs of hexadecimal digits
 abbrev pub hex_field : List ℕ → Result (List ℕ) ScriptKind
@@ -66,6 +71,18 @@ context_line (apid ∷ ctid ∷ level ∷ texts) = do
   text ← text_fields texts
   Ok (record { apid = apid; ctid = ctid; level = level; text = text })
 context_line _ = Err wrong.Fields
+
+-- `W CTID LEVEL [TEXT]`, as `claim` and `register` have it
+unfoldable pub claim_line : List (List ℕ) → Result ClaimLine ScriptKind
+claim_line (writer ∷ ctid ∷ level ∷ texts) = do
+  well ← formed (is_of_form (text_fields texts))
+  writer ← ordinal_field 8 writer
+  ctid ← id_field ctid
+  level ← level_field level
+  text ← text_fields texts
+  text ← brief text
+  Ok (record { writer = writer; ctid = ctid; level = level; text = text })
+claim_line _ = Err wrong.Fields
 
 -- `APID`, as `writer`, `take`, `losses` and `inject` have it
 unfoldable pub id_line : List (List ℕ) → Result (List ℕ) ScriptKind

@@ -12,6 +12,7 @@ use Rattle.dl_bytes.specs.declared.level.Severity.TheVariants.{Fatal, Error, War
 use Rattle.dl_args.specs.declared.arg.Arg.{Arg}
 use Rattle.dl_args.specs.declared.arg.Arg.TheVariants as arg
 use Rattle.dl_script_lines.specs.declared.line.AppLine.{AppLine}
+use Rattle.dl_script_lines.specs.declared.line.ClaimLine.{ClaimLine}
 use Rattle.dl_script_lines.specs.declared.line.ContextLine.{ContextLine}
 use Rattle.dl_script_lines.specs.declared.step.LevelEvents.{LevelEvents}
 use Rattle.dl_script_lines.specs.declared.step.LevelEvents.TheVariants.{Later, Now}
@@ -117,6 +118,12 @@ abbrev pub SpellsContext : List (List ℕ) → ContextLine → Type 0
 SpellsContext (apid ∷ ctid ∷ level ∷ texts) context =
     SpellsId apid context.apid × SpellsId ctid context.ctid × SpellsLevel level context.level × SpellsTexts texts context.text
 SpellsContext _ context = ⊥
+
+-- `W CTID LEVEL [TEXT]`, with a text of at most 48 bytes
+abbrev pub SpellsClaim : List (List ℕ) → ClaimLine → Type 0
+SpellsClaim (w ∷ ctid ∷ level ∷ texts) claim =
+    SpellsNumber 0 255 w claim.writer × SpellsId ctid claim.ctid × SpellsLevel level claim.level × SpellsTexts texts claim.text × (length claim.text ≤ 48)
+SpellsClaim _ claim = ⊥
 
 -- `APID`
 abbrev pub SpellsApid : List (List ℕ) → List ℕ → Type 0

@@ -27,15 +27,15 @@ pub enum ScriptKind {
     Number,
     /// A field isn't pairs of hexadecimal digits, one pair at least.
     Hex,
-    /// A text has more than 255 bytes.
+    /// A text has more than 255 bytes, or that of a claim more than 48.
     Text,
-    /// An application or a context stands behind a `user` line.
+    /// An application or a context stands behind a `user` line, or a context behind a claim on its application.
     Order,
     /// The line names an application, a context, a writer or a client that no earlier line declares.
     Unknown,
     /// The application or the context is declared already, or the client leaves already.
     Twice,
-    /// A limit is passed: of applications, contexts, writers, clients, calls, or bytes that a client sends.
+    /// A limit is passed: of applications, contexts with claims, writers, clients, calls, or bytes that a client sends.
     Limit,
     /// The arguments don't fit a log call: they have more than 1390 bytes, or are more than 255.
     Payload,

@@ -11,6 +11,6 @@ mod value;
 pub use cut::{cut_into, fields, worded};
 pub use kind::{LineError, ScriptKind};
 pub use line::{
-    Call, app, app_id, bare, client_bytes, client_number, clock, context, leave, levels, log_call,
-    user, writer_number,
+    Call, app, app_id, bare, claim, client_bytes, client_number, clock, context, leave, levels,
+    log_call, user, writer_number,
 };

@@ -5,13 +5,15 @@ ghost use Rattle.std.specs.List.{list_all};
 ghost use Rattle.dl_script_fields.specs.Argument.{is_argument};
 ghost use Rattle.dl_script_fields.specs.Fields.{texts};
 ghost use Rattle.dl_script_fields.specs.Kind.{Says, is_of_form, formed};
-ghost use Rattle.dl_script_fields.specs.Line.{text_field, text_fields, hex_field, payload_fields, app_line, context_line, id_line, call_line, clock_line, writer_line, levels_of, levels_line, bare_line, client_line, bytes_line, user_line, leave_line, line_in};
+ghost use Rattle.dl_script_fields.specs.Line.{text_field, text_fields, hex_field, payload_fields, app_line, context_line, id_line, call_line, clock_line, writer_line, brief, claim_line, levels_of, levels_line, bare_line, client_line, bytes_line, user_line, leave_line, line_in};
 
 use crate::argument::{add, behind_quote, has_form, is_closed, raw, unescape};
 use crate::kind::{LineError, ScriptKind};
 use crate::value::{client, count, id, number, own_level, severity, writer};
-use dl_bytes::{Bytes, Id, Payload, Severity, TEXT_LIMIT};
-use dl_script_lines::{AppLine, CallArguments, CallLine, ContextLine, LevelEvents, Step};
+use dl_bytes::{Bytes, ClaimText, Id, Payload, Severity, TEXT_LIMIT};
+use dl_script_lines::{
+    AppLine, CallArguments, CallLine, ClaimLine, ContextLine, LevelEvents, Step,
+};
 use std::alloc::Global;
 
 /// A log call, or several, as a line has them.
@@ -121,6 +123,37 @@ pub fn context(alloc: Global, fields: &[&str]) -> Result<ContextLine, LineError>
     let text = optional_text(alloc, text)?;
     Ok(ContextLine {
         apid,
+        ctid,
+        level,
+        text,
+    })
+}
+
+/// The text of a claim.
+fn claim_text(text: &[u8]) -> Result<ClaimText, ScriptKind>
+    ensures { result ≡ brief text.now }
+{
+    ClaimText::of(text).ok_or(ScriptKind::Text)
+}
+
+/// `W CTID LEVEL [TEXT]`
+#[tactic(auto, unfolding(crate::specs::Line::claim_line))]
+pub fn claim(alloc: Global, fields: &[&str]) -> Result<ClaimLine, LineError>
+    ensures { Says (λ x. x) result (claim_line (texts fields.now)) }
+{
+    let [writer_number, ctid, level, text @ ..] = fields else {
+        return Err(LineError::Fault(ScriptKind::Fields));
+    };
+    if !are_optional_text(text) {
+        return Err(LineError::Fault(ScriptKind::Fields));
+    }
+    let writer = writer(writer_number)?;
+    let ctid = id(ctid)?;
+    let level = own_level(level)?;
+    let text = optional_text(alloc, text)?;
+    let text = claim_text(text.all())?;
+    Ok(ClaimLine {
+        writer,
         ctid,
         level,
         text,

@@ -8,6 +8,6 @@ mod scenario;
 mod step;
 
 pub use arguments::CallArguments;
-pub use line::{AppLine, CallLine, ContextLine};
+pub use line::{AppLine, CallLine, ClaimLine, ContextLine};
 pub use scenario::{Scenario, ScenarioLine};
 pub use step::{LevelEvents, Step, StepList};

@@ -1,7 +1,7 @@
 //! What lines of both scripts have in common.
 
 use crate::arguments::CallArguments;
-use dl_bytes::{Bytes, Id, OwnLevel, Severity};
+use dl_bytes::{Bytes, ClaimText, Id, OwnLevel, Severity};
 
 /// `app ID CAPACITY [TEXT]`: an application of channel 0, with its ring.
 #[derive(Debug, Drop)]
@@ -25,6 +25,19 @@ pub struct ContextLine {
     pub level: OwnLevel,
     /// Its description, at most 255 bytes; empty where the line has none.
     pub text: Bytes,
+}
+
+/// `W CTID LEVEL [TEXT]`: a writer claims a place for a context of its application.
+#[derive(Debug, Drop)]
+pub struct ClaimLine {
+    /// The writer's number, 1 to 32.
+    pub writer: u8,
+    /// The context's id.
+    pub ctid: Id,
+    /// The level that it asks for; none for `default`.
+    pub level: OwnLevel,
+    /// Its description, at most 48 bytes; empty where the line has none.
+    pub text: ClaimText,
 }
 
 /// `W CTID SEV AT ARG..`: a log call.

@@ -1,6 +1,6 @@
 //! The lines of a step script.
 
-use crate::line::{AppLine, CallLine, ContextLine};
+use crate::line::{AppLine, CallLine, ClaimLine, ContextLine};
 use dl_bytes::{Bytes, Id, Sequence};
 
 /// The lines of a step script, in order. Contracts see a list.
@@ -50,7 +50,16 @@ pub enum Step {
     Call(CallLine),
     /// `log`: a whole log call, and one take of the application's ring.
     Log(CallLine),
-    /// `take`: the daemon takes one log call of an application's ring.
+    /// `claim`: a writer claims the next place of its application for a context. The claim waits.
+    Claim(ClaimLine),
+    /// `announce`: the writer's first claim that waits goes into its application's ring.
+    Announce {
+        /// The writer's number, 1 to 32.
+        writer: u8,
+    },
+    /// `register`: a claim, and all that wait go into the ring until it refuses one.
+    Register(ClaimLine),
+    /// `take`: the daemon takes one log call or one claim of an application's ring.
     Take {
         /// The application's id.
         apid: Id,

@@ -12,11 +12,11 @@ use Rattle.dl_bytes.specs.declared.outcome.Done.TheVariants as done
 use Rattle.dl_control.specs.declared.request.Request.{Request}
 use Rattle.dl_control.specs.declared.request.Request.TheVariants.{SetLogLevel, GetLogInfo, GetDefault, Store, Reset, SetDefault, Version, Inject, Other}
 use Rattle.dl_control.specs.declared.request.RequestFault.{RequestFault}
-use Rattle.dl_model.specs.declared.registry.Context.{Context}
+use Rattle.dl_model.specs.declared.context.Context.{Context}
 use Rattle.dl_model.specs.declared.registry.SetFault.{SetFault}
 use Rattle.dl_model.specs.declared.registry.SetFault.TheVariants as set
 use Rattle.dl_model.specs.declared.registry.Slot.{Slot}
-use Rattle.dl_model.specs.Registry.{App, Registry, Relevel, keep_own, matching, no_own, nothing_stored, own_set, default_set, releveled, releveled_app, releveled_context, set_matching, unless_worn, wears}
+use Rattle.dl_model.specs.Registry.{App, Registry, Relevel, has_place, keep_own, matching, no_own, nothing_stored, own_set, default_set, releveled, releveled_app, releveled_context, set_matching, unless_worn, wears}
 use Rattle.dl_model.specs.Reply.{default_requested, now_stored, own_requested, reset_requested, served, where_done}
 use Rattle.dl_model.specs.Setting.{Setting}
 use Rattle.dl_registry.specs.Kept.{channel_at, position_at}
@@ -56,12 +56,12 @@ releveled_channel relevel (e ∷ apps) number = by (e.1.number == number) (relev
   by false rest = rest
 
 abbrev found_in : List (List ℕ × Context) → ℕ → Option Context
-found_in contexts place = find (λ (context : Context). context.place == place) (values_of contexts)
+found_in contexts place = find (has_place place) (values_of contexts)
 
 releveled_position : (relevel : Relevel) (apid : List ℕ) (contexts : List (List ℕ × Context)) (place : ℕ)
     → option_map (λ (c : Context). c.position) (found_in (map (releveled_context relevel apid) contexts) place) ≡ option_map (λ (c : Context). c.position) (found_in contexts place)
 releveled_position relevel apid [] place = refl
-releveled_position relevel apid (e ∷ contexts) place = by (e.1.place == place) (releveled_position relevel apid contexts place) where
+releveled_position relevel apid (e ∷ contexts) place = by (has_place place e.1) (releveled_position relevel apid contexts place) where
   by : (b : Bool) → option_map (λ (c : Context). c.position) (found_in (map (releveled_context relevel apid) contexts) place) ≡ option_map (λ (c : Context). c.position) (found_in contexts place)
       → option_map (λ (c : Context). c.position) (cond b (Some (releveled_context relevel apid e).1) (found_in (map (releveled_context relevel apid) contexts) place))
       ≡ option_map (λ (c : Context). c.position) (cond b (Some e.1) (found_in contexts place))

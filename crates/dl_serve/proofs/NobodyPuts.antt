@@ -1,12 +1,13 @@
 -- Nothing is put for a channel of which no message is an event.
 use Rattle.std.proofs.Common.{◌≡◌, ◌≢◌, ℕ, Bool, true, false, cond, not, List, [], ◌∷◌, ◌++◌, length, Option, Some, None, Result, Ok, Err, IfSome, refl, sym, ap, subst, ◌∙◌, append-nil, append_assoc}
-use Rattle.std.specs.Prelude.{nat_le, ◌==◌, ◌/◌, ◌||◌}
+use Rattle.std.specs.Prelude.{nat_le, unwrap_or, ◌==◌, ◌/◌, ◌||◌}
 use Rattle.std.specs.List.{AllByRecursion, concat, find}
 use Rattle.std.specs.Map.{lookup, set_value, values_of}
 use Rattle.std.specs.Option.{option_and_then, option_map}
 use Rattle.std.specs.Result.{result_ok, result_unwrap_or}
 use Rattle.std.specs.Str.{bytes_eq}
 use Rattle.std.proofs.lemmas.Bool.{ne_eqb}
+use Rattle.dl_bytes.specs.Claim.{Claimed}
 use Rattle.dl_bytes.specs.Id.{zero_id}
 use Rattle.dl_bytes.specs.Limits.{app_limit, context_limit, last_version}
 use Rattle.dl_bytes.specs.declared.user.UserMsg.{UserMsg}
@@ -18,10 +19,10 @@ use Rattle.dl_events.specs.declared.event.Event.TheVariants as event
 use Rattle.dl_model.proofs.OneMore.{registry-one}
 use Rattle.dl_model.specs.Along.{along_from}
 use Rattle.dl_model.specs.Journal.{registry_of, slots_of, step}
-use Rattle.dl_model.specs.Registry.{App, Registry, app_of, app_registered, app_unregistered, applied, context_of, context_registered, context_unregistered, for_app, of_channel, places, least_free, slot_of, without}
+use Rattle.dl_model.specs.Registry.{App, Registry, apid_numbered, app_of, app_registered, app_unregistered, applied, claimed, context_claimed, context_of, context_registered, context_unregistered, for_app, is_free, of_channel, places, least_free, slot_of, with_claim, without}
 use Rattle.dl_model.specs.Reply.{asked}
 use Rattle.dl_model.specs.Setting.{Setting}
-use Rattle.dl_model.specs.declared.registry.Context.{Context}
+use Rattle.dl_model.specs.declared.context.Context.{Context}
 use Rattle.dl_model.specs.declared.registry.RegistryFault.{RegistryFault}
 use Rattle.dl_model.specs.declared.registry.RegistryFault.TheVariants.{ZeroId, Taken, AppsFull, ContextsFull, Worn}
 use Rattle.dl_model.specs.declared.registry.Slot.{Slot}
@@ -98,7 +99,7 @@ module _ (channel : ℕ) where
     context_came : (apid ctid : List ℕ) (position : ℕ) (own : Option ℕ) (text : List ℕ) (app : App) (o : Option Context) → app.channel ≢ channel → LeavesApart (context_registered slots r apid ctid position own text app o)
     context_came apid ctid position own text app (Some context) apart = set_apart apid r.apps _ apart all
     context_came apid ctid position own text app None apart =
-        err_or (nat_le context_limit (length app.contexts)) ContextsFull _
+        err_or (nat_le context_limit (length (places app.contexts))) ContextsFull _
         (err_or ((slots (slot_of app.number (least_free (places app.contexts)))).version == last_version) Worn _ (set_apart apid r.apps _ apart all))
 
     context_went : (apid ctid : List ℕ) (app : App) (o : Option Context) → app.channel ≢ channel → LeavesApart (context_unregistered r apid ctid app o)
@@ -122,9 +123,46 @@ module _ (channel : ℕ) where
     left_so (Ok new) is = is
     left_so (Err e) is = all
 
+  -- ---- claims
+
+  module _ (slots : ℕ → Slot) (r : Registry) (claim : Claimed) (all : AreApart channel r.apps) where
+    abbrev ClaimsApart : Option Registry → Type 0
+    ClaimsApart left = IfSome left (λ (new : Registry). AreApart channel new.apps)
+
+    none_or : (b : Bool) (left : Option Registry) → ClaimsApart left → ClaimsApart (cond b None left)
+    none_or true left is = tt
+    none_or false left is = is
+
+    claimed_in : (apid : List ℕ) (app : App) → app.channel ≢ channel → ClaimsApart (context_claimed slots r apid claim app)
+    claimed_in apid app apart =
+        none_or (not (is_free claim.place app.contexts)) _
+        (none_or ((slots (slot_of app.number claim.place)).version == last_version) _
+        (set_apart apid r.apps (with_claim r.stored apid claim app (context_of app claim.ctid)) (kept (context_of app claim.ctid)) all))
+      where
+        kept : (o : Option Context) → (with_claim r.stored apid claim app o).channel ≢ channel
+        kept None = apart
+        kept (Some context) = apart
+
+    claimed_of : (apid : List ℕ) (o : Option App) → IfSome o (λ (app : App). app.channel ≢ channel) → ClaimsApart (option_and_then (context_claimed slots r apid claim) (option_and_then (of_channel 0) o))
+    claimed_of apid None apart = tt
+    claimed_of apid (Some app) apart = by (app.channel == 0) where
+      by : (b : Bool) → ClaimsApart (option_and_then (context_claimed slots r apid claim) (cond b (Some app) None))
+      by true = claimed_in apid app apart
+      by false = tt
+
+    claimed_by_id : (o : Option (List ℕ)) → ClaimsApart (option_and_then (λ apid. option_and_then (context_claimed slots r apid claim) (app_of r 0 apid)) o)
+    claimed_by_id None = tt
+    claimed_by_id (Some apid) = claimed_of apid (lookup (bytes_eq apid) r.apps) (looked_up apid r.apps all)
+
+    claimed_apart : (left : Option Registry) → ClaimsApart left → AreApart channel (unwrap_or left r).apps
+    claimed_apart None is = all
+    claimed_apart (Some new) is = is
+
   step_apart : (setting : Setting) (slots : ℕ → Slot) (r : Registry) (e : Event) → IsNotOf channel e → AreApart channel r.apps → AreApart channel (step setting slots r e).apps
   step_apart setting slots r (event.User from msg moment) other all = left_so slots r from other all (applied slots r from msg) (applied_apart slots r from other all msg)
   step_apart setting slots r (event.Request client frame answer) other all = (names_served setting slots r (asked frame) answer).apart channel all
+  step_apart setting slots r (event.Claim claim moment) other all =
+      claimed_apart slots r claim all (claimed slots r claim) (claimed_by_id slots r claim all (apid_numbered r claim.app))
   step_apart setting slots r (event.Level slot level) other all = all
   step_apart setting slots r (event.Close client why) other all = all
   step_apart setting slots r (event.Log app writer call moment) other all = all
@@ -154,6 +192,7 @@ module _ (channel : ℕ) where
   none_at setting past (event.Request client frame answer) all = refl
   none_at setting past (event.Close client why) all = refl
   none_at setting past (event.Log app writer call moment) all = refl
+  none_at setting past (event.Claim claim moment) all = refl
   none_at setting past (event.Lost app count moment) all = refl
   none_at setting past (event.Connect client) all = refl
 

@@ -38,6 +38,7 @@ silent channel other [] apart own = refl
 silent channel other (event.User from msg moment ∷ events) apart own =
     elim (eqb_tells from other) [ inl same ↦ absurd (apart (sym same.1 ∙ own.0)) | inr differs ↦ rw differs.0 (silent channel other events apart own.1) ]
 silent channel other (event.Log app writer call moment ∷ events) apart own = silent channel other events apart own.1
+silent channel other (event.Claim claim moment ∷ events) apart own = silent channel other events apart own.1
 silent channel other (event.Lost app count moment ∷ events) apart own = silent channel other events apart own.1
 silent channel other (event.Level slot level ∷ events) apart own = silent channel other events apart own.1
 silent channel other (event.Connect client ∷ events) apart own = silent channel other events apart own.1
@@ -49,6 +50,7 @@ pub clients_silent : (other : ℕ) (events : List Event) → AllByRecursion IsOf
 clients_silent other [] all = refl
 clients_silent other (event.User from msg moment ∷ events) all = absurd all.0
 clients_silent other (event.Log app writer call moment ∷ events) all = absurd all.0
+clients_silent other (event.Claim claim moment ∷ events) all = absurd all.0
 clients_silent other (event.Lost app count moment ∷ events) all = absurd all.0
 clients_silent other (event.Level slot level ∷ events) all = clients_silent other events all.1
 clients_silent other (event.Connect client ∷ events) all = absurd all.0

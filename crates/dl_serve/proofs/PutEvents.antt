@@ -96,6 +96,7 @@ quiet_puts setting from channel past [] all = refl
 quiet_puts setting from channel past (event.User other msg moment ∷ more) all = quiet_puts setting from channel (past ++ event.User other msg moment ∷ []) more all.1
 quiet_puts setting from channel past (event.Close client why ∷ more) all = quiet_puts setting from channel (past ++ event.Close client why ∷ []) more all.1
 quiet_puts setting from channel past (event.Log app writer call moment ∷ more) all = quiet_puts setting from channel (past ++ event.Log app writer call moment ∷ []) more all.1
+quiet_puts setting from channel past (event.Claim claim moment ∷ more) all = quiet_puts setting from channel (past ++ event.Claim claim moment ∷ []) more all.1
 quiet_puts setting from channel past (event.Lost app count moment ∷ more) all = quiet_puts setting from channel (past ++ event.Lost app count moment ∷ []) more all.1
 quiet_puts setting from channel past (event.Connect client ∷ more) all = quiet_puts setting from channel (past ++ event.Connect client ∷ []) more all.1
 quiet_puts setting from channel past (event.Request client frame answer ∷ more) all = quiet_puts setting from channel (past ++ event.Request client frame answer ∷ []) more all.1
@@ -106,6 +107,7 @@ quiet_own from [] all = tt
 quiet_own from (event.User other msg moment ∷ more) all = (all.0, quiet_own from more all.1)
 quiet_own from (event.Close client why ∷ more) all = (tt, quiet_own from more all.1)
 quiet_own from (event.Log app writer call moment ∷ more) all = (tt, quiet_own from more all.1)
+quiet_own from (event.Claim claim moment ∷ more) all = (tt, quiet_own from more all.1)
 quiet_own from (event.Lost app count moment ∷ more) all = (tt, quiet_own from more all.1)
 quiet_own from (event.Connect client ∷ more) all = (tt, quiet_own from more all.1)
 quiet_own from (event.Request client frame answer ∷ more) all = (tt, quiet_own from more all.1)
@@ -204,6 +206,7 @@ clients_put setting channel registry past (event.Request client frame answer ∷
 clients_put setting channel registry past (event.Close client why ∷ more) outboxes same all =
     clients_put setting channel registry (past ++ event.Close client why ∷ []) more outboxes (subst (NamesSame registry) (sym (registry-one setting past (event.Close client why))) same) all.1
 clients_put setting channel registry past (event.Log app writer call moment ∷ more) outboxes same all = absurd all.0
+clients_put setting channel registry past (event.Claim claim moment ∷ more) outboxes same all = absurd all.0
 clients_put setting channel registry past (event.Lost app count moment ∷ more) outboxes same all = absurd all.0
 clients_put setting channel registry past (event.User from msg moment ∷ more) outboxes same all = absurd all.0
 clients_put setting channel registry past (event.Connect client ∷ more) outboxes same all = absurd all.0

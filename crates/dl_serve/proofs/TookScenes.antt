@@ -38,6 +38,7 @@ pub own_not : (channel other : ℕ) (events : List Event) → other ≢ channel 
 own_not channel other [] apart own = tt
 own_not channel other (event.User from msg moment ∷ events) apart own = (λ same. apart (sym same ∙ own.0), own_not channel other events apart own.1)
 own_not channel other (event.Log app writer call moment ∷ events) apart own = (tt, own_not channel other events apart own.1)
+own_not channel other (event.Claim claim moment ∷ events) apart own = (tt, own_not channel other events apart own.1)
 own_not channel other (event.Lost app count moment ∷ events) apart own = (tt, own_not channel other events apart own.1)
 own_not channel other (event.Level slot level ∷ events) apart own = (tt, own_not channel other events apart own.1)
 own_not channel other (event.Connect client ∷ events) apart own = (tt, own_not channel other events apart own.1)

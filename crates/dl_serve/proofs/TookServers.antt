@@ -57,6 +57,7 @@ pub clients_not : (channel : ℕ) (events : List Event) → AllByRecursion IsOfC
 clients_not channel [] all = tt
 clients_not channel (event.User from msg moment ∷ events) all = absurd all.0
 clients_not channel (event.Log app writer call moment ∷ events) all = absurd all.0
+clients_not channel (event.Claim claim moment ∷ events) all = absurd all.0
 clients_not channel (event.Lost app count moment ∷ events) all = absurd all.0
 clients_not channel (event.Level slot level ∷ events) all = (tt, clients_not channel events all.1)
 clients_not channel (event.Connect client ∷ events) all = absurd all.0

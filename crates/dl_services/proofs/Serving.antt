@@ -7,7 +7,7 @@ use Rattle.dl_control.specs.declared.request.Request.{Request}
 use Rattle.dl_control.specs.declared.request.Request.TheVariants.{Store, Reset, Inject}
 use Rattle.dl_control.specs.declared.request.RequestFault.{RequestFault}
 use Rattle.dl_bytes.specs.Payload.{Arguments}
-use Rattle.dl_model.specs.declared.registry.Context.{Context}
+use Rattle.dl_model.specs.declared.context.Context.{Context}
 use Rattle.dl_model.specs.Registry.{App, reset}
 use Rattle.dl_model.specs.Reply.{bare, inject_status, injected}
 use Rattle.dl_model.specs.Setting.{Setting}

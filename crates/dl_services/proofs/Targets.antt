@@ -6,8 +6,9 @@ use Rattle.std.specs.Map.{lookup, values_of}
 use Rattle.std.specs.Option.{option_and_then, option_map}
 use Rattle.std.specs.Str.{bytes_eq}
 use Rattle.std.proofs.lemmas.Bool.Decides.{eqb_tells}
-use Rattle.dl_model.specs.declared.registry.Context.{Context}
-use Rattle.dl_model.specs.Registry.{App, Registry, IsInOrder, IsNumbered, ArePlaced, context_of, places, slot_of, of_channel}
+use Rattle.dl_model.specs.declared.context.Context.{Context}
+use Rattle.dl_model.specs.Registry.{App, Registry, IsInOrder, IsNumbered, ArePlaced, context_of, places, places_of, slot_of, of_channel}
+use Rattle.dl_model.proofs.Placed.{all-right}
 use Rattle.dl_registry.specs.Kept.{slot_named, channel_at}
 use Rattle.dl_registry.proofs.Finding.{valued-found}
 use Rattle.dl_services.specs.Wish.{target_of, number_and_place}
@@ -19,6 +20,14 @@ found-all f P test [] v found all = absurd (cc found)
 found-all f P test (e ∷ es) v found all = by (test e.0) found (λ is. found-all f P test es v is all.1) where
   by : (b : Bool) → cond b (Some e.1) (lookup test es) ≡ Some v → (lookup test es ≡ Some v → P (f v)) → P (f v)
   by true is rest = let same : e.1 ≡ v = cc is in subst (λ x. P (f x)) same all.0
+  by false is rest = rest is
+
+-- the place of a context that was found is below 64
+found-below : (test : List ℕ → Bool) (es : List (List ℕ × Context)) (v : Context) → lookup test es ≡ Some v → AllByRecursion (λ n. n < 64) (places es) → v.place < 64
+found-below test [] v found all = absurd (cc found)
+found-below test (e ∷ es) v found all = by (test e.0) found (λ is. found-below test es v is (all-right (λ n. n < 64) (places_of e.1) (places es) all)) where
+  by : (b : Bool) → cond b (Some e.1) (lookup test es) ≡ Some v → (lookup test es ≡ Some v → v.place < 64) → v.place < 64
+  by true is rest = let same : e.1 ≡ v = cc is in subst (λ (x : Context). x.place < 64) same all.0
   by false is rest = rest is
 
 -- an application that was found has its contexts at places of their own
@@ -60,7 +69,7 @@ pub slot_number : (registry : Registry) (apid ctid : List ℕ) (slot : ℕ) → 
 slot_number registry apid ctid slot order s =
     let number : s.app.number < 16 = found-all (λ (app : App). app.number) (λ n. n < 16) (bytes_eq apid) registry.apps s.app s.app_is order.numbered.below in
     let placed = found-placed (bytes_eq apid) registry.apps s.app s.app_is order.placed in
-    let place : s.context.place < 64 = found-all (λ (context : Context). context.place) (λ n. n < 64) (bytes_eq ctid) s.app.contexts s.context s.context_is placed.below in
+    let place : s.context.place < 64 = found-below (bytes_eq ctid) s.app.contexts s.context s.context_is placed.below in
     let is : 64 * s.app.number + s.context.place ≡ slot = s.slot_is in
     (number, place, (omega arith), (omega arith))
 

@@ -4,7 +4,7 @@ ghost use Rattle.std.specs.Prelude.{◌≡◌, ◌<◌, ◌∷◌, [], ◌++◌,
 ghost use Rattle.std.specs.Result.{result_ok};
 ghost use Rattle.byteorder.specs.Endian.{little_bytes};
 ghost use Rattle.dl_bytes.specs.Payload.{Arguments};
-ghost use Rattle.dl_model.specs.declared.registry.Context.{Context};
+ghost use Rattle.dl_model.specs.declared.context.Context.{Context};
 ghost use Rattle.dl_model.specs.Registry.{App, reset};
 ghost use Rattle.dl_model.specs.Reply.{bare, own_requested, default_requested, status_of, done_status, reset_status, inject_status, info_reply, now_stored, where_done, version_name};
 ghost use Rattle.dl_registry.specs.Kept.{slots, with_registry};

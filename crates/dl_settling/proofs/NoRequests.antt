@@ -42,6 +42,7 @@ none_injected setting app past [] none = record { injected = refl; refused = ref
 none_injected setting app past (e ∷ events) none = one_none setting app past events e (by_event e none.0).0 (by_event e none.0).1 (none_injected setting app (past ++ e ∷ []) events none.1) where
   by_event : (e : Event) → AsksNothing e → (injected_at setting app past e ≡ []) × (refused_at setting app past e ≡ [])
   by_event (event.Log app writer call moment) none = (refl, refl)
+  by_event (event.Claim claim moment) none = (refl, refl)
   by_event (event.Lost app count moment) none = (refl, refl)
   by_event (event.User channel msg moment) none = (refl, refl)
   by_event (event.Level slot level) none = (refl, refl)

@@ -59,6 +59,7 @@ module _ (source : FrameSource) (buffer client : ℕ) (frames : List (List ℕ))
   stands_one past (event.Lost app count moment) is so =
       one_more past (event.Lost app count moment) (stands_each source.ecu buffer client frames (traffic source past) (frames_of source (event.Lost app count moment)) so)
   stands_one past (event.Close other cause) is so = one_more past (event.Close other cause) (stands_closed source.ecu buffer client other frames (traffic source past) so)
+  stands_one past (event.Claim claim moment) is so = absurd is
   stands_one past (event.User channel msg moment) is so = absurd is
   stands_one past (event.Level slot level) is so = absurd is
   stands_one past (event.Connect other) is so = absurd is

@@ -4,12 +4,13 @@ use Rattle.std.specs.List.{AllByRecursion, filter_map}
 use Rattle.std.proofs.lemmas.List.{length-map}
 use Rattle.std.proofs.lemmas.List.Elements.{filter_map-append}
 use Rattle.std.proofs.lemmas.List.Sums.{sum_by-append}
+use Rattle.dl_bytes.specs.Claim.{Claimed}
 use Rattle.dl_bytes.specs.declared.conf.AppSpec.{AppSpec}
 use Rattle.dl_events.specs.declared.event.Event.{Event}
 use Rattle.dl_events.specs.declared.event.Event.TheVariants as event
 use Rattle.dl_levels.specs.declared.history.Change.{Change}
 use Rattle.dl_losses.specs.Losses.{reported_of}
-use Rattle.dl_model.specs.Accounts.{logged_of, order}
+use Rattle.dl_model.specs.Accounts.{claim_of, claims, logged_of, order}
 use Rattle.dl_model.specs.Journal.{IsWellFormed}
 use Rattle.dl_model.specs.Report.{lost_of, reported}
 use Rattle.dl_outside.specs.Links.{Links}
@@ -55,6 +56,7 @@ of_drain [] is = record { of_stop = tt; asks = tt; levels = refl }
 of_drain (event.Log app writer call moment ∷ more) is = let rest = of_drain more is.1 in record { of_stop = (tt, rest.of_stop); asks = (tt, rest.asks); levels = rest.levels }
 of_drain (event.Lost app count moment ∷ more) is = let rest = of_drain more is.1 in record { of_stop = (tt, rest.of_stop); asks = (tt, rest.asks); levels = rest.levels }
 of_drain (event.Close client cause ∷ more) is = let rest = of_drain more is.1 in record { of_stop = (tt, rest.of_stop); asks = (tt, rest.asks); levels = rest.levels }
+of_drain (event.Claim claim moment ∷ more) is = absurd is.0
 of_drain (event.User channel msg moment ∷ more) is = absurd is.0
 of_drain (event.Level slot level ∷ more) is = absurd is.0
 of_drain (event.Connect client ∷ more) is = absurd is.0
@@ -65,13 +67,15 @@ pub record AreOfClients (more : List Event) : Type 0 where
   pub of_stop : AllByRecursion IsOfStop more
   pub calls : (app : ℕ) → order app more ≡ []
   pub losses : (app : ℕ) → reported app more ≡ 0
+  pub unclaimed : (app : ℕ) → claims app more ≡ []
 
 of_clients : (more : List Event) → AllByRecursion IsOfClients more → AreOfClients more
-of_clients [] is = record { of_stop = tt; calls = λ app. refl; losses = λ app. refl }
-of_clients (event.Request other frame answer ∷ more) is = let rest = of_clients more is.1 in record { of_stop = (tt, rest.of_stop); calls = rest.calls; losses = rest.losses }
-of_clients (event.Level slot level ∷ more) is = let rest = of_clients more is.1 in record { of_stop = (tt, rest.of_stop); calls = rest.calls; losses = rest.losses }
-of_clients (event.Close client cause ∷ more) is = let rest = of_clients more is.1 in record { of_stop = (tt, rest.of_stop); calls = rest.calls; losses = rest.losses }
+of_clients [] is = record { of_stop = tt; calls = λ app. refl; losses = λ app. refl; unclaimed = λ app. refl }
+of_clients (event.Request other frame answer ∷ more) is = let rest = of_clients more is.1 in record { of_stop = (tt, rest.of_stop); calls = rest.calls; losses = rest.losses; unclaimed = rest.unclaimed }
+of_clients (event.Level slot level ∷ more) is = let rest = of_clients more is.1 in record { of_stop = (tt, rest.of_stop); calls = rest.calls; losses = rest.losses; unclaimed = rest.unclaimed }
+of_clients (event.Close client cause ∷ more) is = let rest = of_clients more is.1 in record { of_stop = (tt, rest.of_stop); calls = rest.calls; losses = rest.losses; unclaimed = rest.unclaimed }
 of_clients (event.Log app writer call moment ∷ more) is = absurd is.0
+of_clients (event.Claim claim moment ∷ more) is = absurd is.0
 of_clients (event.Lost app count moment ∷ more) is = absurd is.0
 of_clients (event.User channel msg moment ∷ more) is = absurd is.0
 of_clients (event.Connect client ∷ more) is = absurd is.0
@@ -84,6 +88,7 @@ tells_on : (past more : List Event) (took : Took) → AreOfClients more → Tell
 tells_on past more took none told = record {
   admitted = λ app. filter_map-append (logged_of app) past more ∙ ap (λ (ns : List (ℕ × ℕ)). order app past ++ ns) (none.calls app) ∙ append-nil (order app past) ∙ told.admitted app;
   losses = λ app. sum_by-append (lost_of app) past more ∙ ap (λ (n : ℕ). reported app past + n) (none.losses app) ∙ add_none (reported app past) ∙ told.losses app;
+  unclaimed = λ app. filter_map-append (claim_of app) past more ∙ ap (λ (cs : List Claimed). cs ++ claims app more) (told.unclaimed app) ∙ none.unclaimed app;
 }
 
 -- ---- what was taken, while clients are closed

@@ -69,6 +69,7 @@ pub fn passing_call<'r>(
         } => passing(filter, calls.record_of(*writer, *call)?, *moment),
         Event::Lost { .. }
         | Event::User { .. }
+        | Event::Claim { .. }
         | Event::Level { .. }
         | Event::Connect { .. }
         | Event::Request { .. }

@@ -87,6 +87,7 @@ one_frame source writer call (event.Request client frame done) is = absurd cc
 one_frame source writer call (event.Close client why) is = absurd cc
 one_frame source writer call (event.Level slot level) is = absurd cc
 one_frame source writer call (event.Lost app count moment) is = absurd cc
+one_frame source writer call (event.Claim claim moment) is = absurd cc
 one_frame source writer call (event.User channel msg moment) is = absurd cc
 
 module _ (source : FrameSource) (size max_size : ℕ) (old : List StoredFile) (writer call : ℕ) where

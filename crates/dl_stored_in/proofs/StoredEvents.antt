@@ -35,6 +35,7 @@ pub event_lengths : (source : FrameSource) (e : Event) (n size : ℕ) → length
 event_lengths source (event.Log app writer call moment) n size four are = lengths source.ecu moment (frames_of source (event.Log app writer call moment)) n size four are
 event_lengths source (event.Lost app count moment) n size four are = lengths source.ecu moment (frames_of source (event.Lost app count moment)) n size four are
 event_lengths source (event.User channel msg moment) n size four are = lengths source.ecu moment (frames_of source (event.User channel msg moment)) n size four are
+event_lengths source (event.Claim claim moment) n size four are = no_frames n size are
 event_lengths source (event.Level slot level) n size four are = no_frames n size are
 event_lengths source (event.Connect client) n size four are = no_frames n size are
 event_lengths source (event.Request client frame answer) n size four are = no_frames n size are

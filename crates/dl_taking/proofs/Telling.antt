@@ -5,14 +5,16 @@ use Rattle.std.proofs.lemmas.Bool.Decides.{eqb_tells}
 use Rattle.std.proofs.lemmas.List.{map-append}
 use Rattle.std.proofs.lemmas.List.Elements.{filter_map-append}
 use Rattle.std.proofs.lemmas.List.Sums.{sum_by-append}
+use Rattle.dl_bytes.specs.Claim.{Claimed}
 use Rattle.dl_bytes.specs.declared.conf.AppSpec.{AppSpec}
 use Rattle.dl_bytes.specs.declared.item.Item.{Item}
 use Rattle.dl_events.specs.declared.event.Event.{Event}
+use Rattle.dl_events.specs.declared.event.Event.TheVariants as event
 use Rattle.dl_losses.specs.Losses.{report, reported_of}
 use Rattle.dl_losses.proofs.Sums.{reported_else, reported_more}
-use Rattle.dl_model.specs.Accounts.{logged_of, name_of, order}
+use Rattle.dl_model.specs.Accounts.{claim_of, claims, logged_of, name_of, order}
 use Rattle.dl_model.specs.Report.{lost_of, reported}
-use Rattle.dl_admission.specs.Telling.{TellOf}
+use Rattle.dl_admission.specs.Telling.{IsTaken, TellOf}
 use Rattle.dl_admission.proofs.Told.{calls_tell, losses_tell}
 use Rattle.dl_taking.specs.Side.{Side}
 use Rattle.dl_taking.specs.Takes.{Reports, TakesSome, TellAllTaken, owned}
@@ -24,6 +26,22 @@ order_more app past more = filter_map-append (logged_of app) past more
 
 reported_both : (app : ℕ) (past more : List Event) → reported app (past ++ more) ≡ reported app past + reported app more
 reported_both app past more = sum_by-append (lost_of app) past more
+
+-- no claim is among what was taken
+unclaimed : (app : ℕ) (events : List Event) → AllByRecursion IsTaken events → claims app events ≡ []
+unclaimed app [] are = refl
+unclaimed app (event.Log other writer call moment ∷ events) are = unclaimed app events are.1
+unclaimed app (event.Lost other count moment ∷ events) are = unclaimed app events are.1
+unclaimed app (event.Close client cause ∷ events) are = unclaimed app events are.1
+unclaimed app (event.Claim claim moment ∷ events) are = absurd are.0
+unclaimed app (event.User channel msg moment ∷ events) are = absurd are.0
+unclaimed app (event.Level slot level ∷ events) are = absurd are.0
+unclaimed app (event.Connect client ∷ events) are = absurd are.0
+unclaimed app (event.Request client frame answer ∷ events) are = absurd are.0
+
+still_unclaimed : (app : ℕ) (past more : List Event) → claims app past ≡ [] → AllByRecursion IsTaken more → claims app (past ++ more) ≡ []
+still_unclaimed app past more none are =
+    filter_map-append (claim_of app) past more ∙ ap (λ (cs : List Claimed). cs ++ claims app more) none ∙ unclaimed app more are
 
 pub own_app : (app : ℕ) (items : List Item) → AllByRecursion (λ item. item.app ≡ app) (map (owned app) items)
 own_app app [] = tt
@@ -37,6 +55,7 @@ calls_more : (app : ℕ) (items : List Item) (past more : List Event) (took : To
 calls_more app items past more took tell told = record {
   admitted = λ other. order_more other past more ∙ by_app other (eqb_tells other app);
   losses = λ other. omega (arith, reported_both other past more, told.losses other, none other (eqb_tells other app));
+  unclaimed = λ other. still_unclaimed other past more (told.unclaimed other) tell.kinds;
 } where
   by_app : (other : ℕ) → ((eqb other app ≡ true) × (other ≡ app)) ⊎ ((eqb other app ≡ false) × (other ≢ app))
       → order other past ++ order other more ≡ map name_of (cond (eqb other app) (took.taken other ++ items) (took.taken other))
@@ -68,6 +87,7 @@ losses_more app count past more took tell told = record {
       order_more other past more ∙ ap (λ (ns : List (ℕ × ℕ)). ns ++ order other more) (told.admitted other)
       ∙ ap (λ (ns : List (ℕ × ℕ)). map name_of (took.taken other) ++ ns) (no_calls other (eqb_tells other app)) ∙ append-nil (map name_of (took.taken other));
   losses = λ other. reported_both other past more ∙ by_app other (eqb_tells other app);
+  unclaimed = λ other. still_unclaimed other past more (told.unclaimed other) tell.kinds;
 } where
   no_calls : (other : ℕ) → ((eqb other app ≡ true) × (other ≡ app)) ⊎ ((eqb other app ≡ false) × (other ≢ app)) → order other more ≡ []
   no_calls other (inl same) = ap (λ (n : ℕ). order n more) same.1 ∙ tell.admitted

@@ -1,11 +1,11 @@
 -- What is taken, and admitted.
-use Rattle.std.specs.Prelude.{◌≡◌, ◌<◌, ◌≤◌, ◌==◌, ◌^◌, ℕ, List, length, map, if◌then◌else◌}
+use Rattle.std.specs.Prelude.{◌≡◌, ◌<◌, ◌≤◌, ◌==◌, ◌^◌, ℕ, List, [], length, map, if◌then◌else◌}
 use Rattle.dl_bytes.specs.declared.conf.AppSpec.{AppSpec}
 use Rattle.dl_bytes.specs.declared.item.Item.{Item}
 use Rattle.dl_bytes.specs.declared.moment.Moment.{Moment}
 use Rattle.dl_events.specs.declared.event.Event.{Event}
 use Rattle.dl_losses.specs.Losses.{reported_of}
-use Rattle.dl_model.specs.Accounts.{name_of, order}
+use Rattle.dl_model.specs.Accounts.{claims, name_of, order}
 use Rattle.dl_model.specs.Report.{reported}
 use Rattle.dl_desk.specs.Lists.{At}
 use Rattle.dl_admission.specs.Admission.{Logs, Tells, Uses}
@@ -39,7 +39,9 @@ pub record Reports (specs : List AppSpec) (app count : ℕ) (old new : Side) : T
 
 -- ---- a journal that tells just what was taken
 
--- The events admit of each application the calls that were taken of its ring, in their order, and tell as many lost calls as were reported.
+-- The events admit of each application the calls that were taken of its ring, in their order, and tell as many lost calls as were reported;
+-- no claim is among them.
 pub record TellAllTaken (events : List Event) (took : Took) : Type 0 where
   pub admitted : (app : ℕ) → order app events ≡ map name_of (took.taken app)
   pub losses : (app : ℕ) → reported app events ≡ reported_of app took.reported
+  pub unclaimed : (app : ℕ) → claims app events ≡ []

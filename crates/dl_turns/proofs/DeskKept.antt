@@ -16,7 +16,7 @@ use Rattle.dl_control.specs.declared.request.RequestFault.{RequestFault}
 use Rattle.dl_model.specs.Registry.{App, Registry, Relevel, app_of, context_of, default_set, keep_own, matching, no_own, nothing_stored, numbers, own_set, releveled, releveled_app, set_matching, unless_worn, wears}
 use Rattle.dl_model.specs.Reply.{apid_of, asked, ctid_of, default_requested, now_stored, own_requested, reset_requested, served, where_done}
 use Rattle.dl_model.specs.Setting.{Setting}
-use Rattle.dl_model.specs.declared.registry.Context.{Context}
+use Rattle.dl_model.specs.declared.context.Context.{Context}
 use Rattle.dl_model.specs.declared.registry.SetFault.{SetFault}
 use Rattle.dl_model.specs.declared.registry.SetFault.TheVariants as set
 use Rattle.dl_model.specs.declared.registry.Slot.{Slot}

@@ -19,7 +19,7 @@ use Rattle.dl_outside.specs.Told.{FolderTold}
 use Rattle.dl_desk.specs.Told.{PostTold, with_set}
 use Rattle.dl_bytes.specs.Limits.{last_version}
 use Rattle.dl_model.specs.Registry.{App, Registry, effective, level_at, numbers}
-use Rattle.dl_model.specs.declared.registry.Context.{Context}
+use Rattle.dl_model.specs.declared.context.Context.{Context}
 use Rattle.dl_model.specs.declared.registry.LevelChange.{LevelChange}
 use Rattle.dl_model.specs.declared.registry.Slot.{Slot}
 use Rattle.dl_registry.specs.Kept.{Kept, owed_change, slots, with_change}

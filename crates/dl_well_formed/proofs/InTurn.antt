@@ -3,6 +3,7 @@ use Rattle.std.proofs.Common.{◌≡◌, ℕ, ◌+◌, ◌≤◌, false, List, �
 use Rattle.std.specs.Prelude.{◌⊎◌, IsSome, IsSomeAnd, IfSome}
 use Rattle.std.specs.List.{concat}
 use Rattle.std.specs.Option.{option_and_then}
+use Rattle.dl_bytes.specs.Claim.{Claimed}
 use Rattle.dl_bytes.specs.declared.moment.Moment.{Moment}
 use Rattle.dl_bytes.specs.declared.user.UserMsg.{UserMsg}
 use Rattle.dl_events.specs.declared.event.Event.{Event}
@@ -13,6 +14,7 @@ use Rattle.dl_model.specs.declared.registry.LevelChange.{LevelChange}
 use Rattle.dl_model.specs.Backlog.{outbox_limit, size_of}
 use Rattle.dl_model.specs.ClientStream.{sent, stream, traffic}
 use Rattle.dl_model.specs.Frames.{FrameSource}
+use Rattle.dl_model.specs.Registry.{Registry, apid_numbered, app_of}
 use Rattle.dl_model.specs.Journal.{is_slow, IsFramesNeed, IsInTurn, IsReplyNeed, IsSettled, IsSlowAsTold}
 use Rattle.dl_model.specs.Setting.{Setting}
 use Rattle.dl_registry.specs.Kept.{owed_change}
@@ -21,11 +23,12 @@ use Rattle.dl_hub.specs.State.{Client, Waiting, client_of, outbox_of}
 use Rattle.dl_hub.proofs.Following.{bytes_of}
 use Rattle.dl_core.specs.State.{Core}
 use Rattle.dl_core.specs.Follows.{IsAfter, Run, source_of}
+use Rattle.dl_core.specs.Registering.{HasAppOf}
 use Rattle.dl_well_formed.specs.Next.{CanEnd, ComesBeforeFrames, ComesInTurn, ComesWhileRunning, IsReplySize}
 use Rattle.dl_well_formed.proofs.OpenClients.{its_stream, open_by_journal}
 use Rattle.dl_well_formed.proofs.Replies.{reply_is}
 
--- ---- messages and levels
+-- ---- messages, claims and levels
 
 pub settled : (core : Core) → owed_change core.registry ≡ None → (run : Run) (past : List Event) (taken : ℕ → List ℕ) → IsAfter run past taken core → IsSettled run.setting past
 settled core none run past taken is = sym (change_is_owed run.setting past core.registry is.registry) ∙ none
@@ -38,6 +41,13 @@ lost_in_turn core app count moment later none = λ run past taken is running. (s
 
 pub user_in_turn : (core : Core) (channel : ℕ) (msg : UserMsg) (moment : Moment) (later : List Event) → owed_change core.registry ≡ None → ComesWhileRunning (event.User channel msg moment) later core
 user_in_turn core channel msg moment later none = λ run past taken is running. (settled core none run past taken is, running)
+
+pub claim_in_turn : (core : Core) (claim : Claimed) (moment : Moment) (later : List Event) → HasAppOf claim core.registry → owed_change core.registry ≡ None → ComesWhileRunning (event.Claim claim moment) later core
+claim_in_turn core claim moment later there none = λ run past taken is running. record {
+  settled = settled core none run past taken is;
+  running = running;
+  there = subst (λ (r : Registry). IsSome (option_and_then (app_of r 0) (apid_numbered r claim.app))) is.registry.registry there;
+}
 
 pub level_in_turn : (core : Core) (next : LevelChange) (later : List Event) → owed_change core.registry ≡ Some next → ComesInTurn (event.Level next.slot next.level) later core
 level_in_turn core next later owes = λ run past taken is. sym (change_is_owed run.setting past core.registry is.registry) ∙ owes

@@ -1,12 +1,14 @@
-//! Log calls, reports of lost calls, user messages and Level events in their turn, and events one after the other.
+//! Log calls, reports of lost calls, user messages, claims and Level events in their turn, and events one after the other.
 
 ghost use Rattle.std.specs.Prelude.{◌≡◌, ◌++◌, ℕ, List, [], ◌∷◌, None, Some};
+ghost use Rattle.dl_bytes.specs.Claim.{Claimed};
 ghost use Rattle.dl_bytes.specs.declared.moment.Moment.{Moment};
 ghost use Rattle.dl_bytes.specs.declared.user.UserMsg.{UserMsg};
 ghost use Rattle.dl_events.specs.declared.event.Event.{Event};
 ghost use Rattle.dl_events.specs.declared.event.Event.TheVariants as event;
 ghost use Rattle.dl_model.specs.declared.registry.LevelChange.{LevelChange};
 ghost use Rattle.dl_registry.specs.Kept.{owed_change};
+ghost use Rattle.dl_core.specs.Registering.{HasAppOf};
 ghost use Rattle.dl_core.specs.State.{Core};
 ghost use Rattle.dl_well_formed.specs.Next.{ComeInTurn, ComesInTurn, ComesWhileRunning, Makes, StaysFormed};
 
@@ -18,6 +20,12 @@ pub fn messages_come_in_turn()
         → ComesWhileRunning (event.Lost app count moment) later core }
     ensures user { (core : Core) (channel : ℕ) (msg : UserMsg) (moment : Moment) (later : List Event) → owed_change core.registry ≡ None
         → ComesWhileRunning (event.User channel msg moment) later core }
+{}
+
+/// A claim stands in its turn where its application is there, as one of this process, and no Level event is owed, while the daemon runs.
+pub fn claims_come_in_turn()
+    ensures { (core : Core) (claim : Claimed) (moment : Moment) (later : List Event) → HasAppOf claim core.registry → owed_change core.registry ≡ None
+        → ComesWhileRunning (event.Claim claim moment) later core }
 {}
 
 /// The Level event that is owed stands in its turn.

@@ -5,6 +5,7 @@ use Rattle.dl_bytes.specs.declared.conf.AppSpec.{AppSpec}
 use Rattle.dl_bytes.specs.declared.outcome.Backlog.{Backlog}
 use Rattle.dl_bytes.specs.declared.outcome.Ends.{Ends}
 use Rattle.dl_call_lines.specs.Calls.{calls_in}
+use Rattle.dl_call_lines.specs.Claims.{claims_in}
 use Rattle.dl_call_lines.specs.Told.{owners_in}
 use Rattle.dl_call_timeline.specs.Timeline.{timeline}
 use Rattle.dl_events.specs.declared.event.Event.{Event}
@@ -25,13 +26,13 @@ use Rattle.dl_replay.proofs.Answering.{said_yes}
 use Rattle.dl_picture.specs.Picture.{picture}
 use Rattle.dl_why.specs.Cases.{cases_of}
 use Rattle.dl_why.specs.Explained.{drawn, drawn_of, explained, explained_of, no_trace}
-use Rattle.dl_why.specs.Rows.{rows_of, storage_words}
+use Rattle.dl_why.specs.Rows.{more_words, rows_of}
 
 -- the text of what a run left
 abbrev pub text_by : Setting → List StoredFile → List ℕ → List Step → List (List Record) → List Event → List AppSpec → Ends → Backlog → List ℕ
 text_by setting stood text steps records events specs ends backlog =
     let source = source_of_records setting records specs in
-    rows_of source setting.buffer records events specs (storage_words setting stood source events) (calls_in text steps) ++ report records events specs ends backlog None
+    rows_of source setting.buffer records events specs (more_words setting stood source events (claims_in text steps)) (calls_in text steps) ++ report records events specs ends backlog None
 
 -- the picture of what a run left
 abbrev pub picture_by : Setting → List ℕ → List Step → List (List Record) → List Event → List AppSpec → List ℕ

@@ -46,6 +46,7 @@ logs_none writer call (event.Request client frame done) none = refl
 logs_none writer call (event.Close client why) none = refl
 logs_none writer call (event.Level slot level) none = refl
 logs_none writer call (event.Lost app count moment) none = refl
+logs_none writer call (event.Claim claim moment) none = refl
 logs_none writer call (event.User channel msg moment) none = refl
 
 pub quiet : {S : Type 0} (source : FrameSource) (buffer client : ℕ) (target : CallName → law.Fate) (found : hash.HashMap CallName Fate S) (before after : List Event) (e : Event) → is_log e ≡ false →

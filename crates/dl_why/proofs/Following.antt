@@ -100,6 +100,7 @@ puts_frames : (source : FrameSource) (buffer client : ℕ) (events : List Event)
 puts_frames source buffer client events (event.Connect other) comes goes asks = absurd cc
 puts_frames source buffer client events (event.Close other why) comes goes asks = absurd cc
 puts_frames source buffer client events (event.Request other frame done) comes goes asks = absurd cc
+puts_frames source buffer client events (event.Claim claim moment) comes goes asks = admits source.ecu buffer client (traffic source events) []
 puts_frames source buffer client events (event.Level slot level) comes goes asks = admits source.ecu buffer client (traffic source events) []
 puts_frames source buffer client events (event.Log app writer call moment) comes goes asks =
     admits source.ecu buffer client (traffic source events) (frames_of source (event.Log app writer call moment))

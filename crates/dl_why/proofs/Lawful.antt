@@ -34,16 +34,16 @@ module _ (source : FrameSource) (buffer : ℕ) (events : List Event) where
 
   module _ (specs : List AppSpec) (absent : Fates) (clients : List Fates) (is_absent : absent.client ≡ nobody) (tells : TellWhole source buffer events absent)
       (all : AllByRecursion (TellWhole source buffer events) clients) (came : map (λ (fates : Fates). fates.client) clients ≡ clients_in events)
-      (found storage : Record → List ℕ) (stored : (r : Record) → found r ≡ storage r) where
-    row_is : (at : CallAt) (r : Record) → row_by specs absent clients found at r ≡ row_of source buffer events specs storage at r
+      (found more : CallAt → Record → List ℕ) (same : (at : CallAt) (r : Record) → found at r ≡ more at r) where
+    row_is : (at : CallAt) (r : Record) → row_by specs absent clients found at r ≡ row_of source buffer events specs more at r
     row_is at r =
         let own : fate_in absent r ≡ what_became_of source buffer nobody events r = fate_is absent r tells ∙ ap (λ (client : ℕ). what_became_of source buffer client events r) is_absent in
         let all_heard = flat_map (λ client. heard_words client (what_became_of source buffer client events r)) (clients_in events) in
         let heard : heard_by clients r ≡ flat_map (λ (client : ℕ). heard_words client (what_became_of source buffer client events r)) (clients_in events) =
         heard_is clients r all ∙ ap (flat_map (λ (client : ℕ). heard_words client (what_became_of source buffer client events r))) came in
-        ap (λ (fate : Fate). place_words at.line r ++ name_words r ++ fate_words specs at.told r fate (heard_by clients r) ++ found r ++ codes "\n") own
-        ∙ ap (λ (text : List ℕ). place_words at.line r ++ name_words r ++ fate_words specs at.told r (what_became_of source buffer nobody events r) text ++ found r ++ codes "\n") heard
-        ∙ ap (λ (text : List ℕ). place_words at.line r ++ name_words r ++ fate_words specs at.told r (what_became_of source buffer nobody events r) all_heard ++ text ++ codes "\n") (stored r)
+        ap (λ (fate : Fate). place_words at.line r ++ name_words r ++ fate_words specs at.told r fate (heard_by clients r) ++ found at r ++ codes "\n") own
+        ∙ ap (λ (text : List ℕ). place_words at.line r ++ name_words r ++ fate_words specs at.told r (what_became_of source buffer nobody events r) text ++ found at r ++ codes "\n") heard
+        ∙ ap (λ (text : List ℕ). place_words at.line r ++ name_words r ++ fate_words specs at.told r (what_became_of source buffer nobody events r) all_heard ++ text ++ codes "\n") (same at r)
 
-    pub rows_are : (records : List (List Record)) (calls : List CallAt) → rows_by records specs absent clients found calls ≡ rows_of source buffer records events specs storage calls
+    pub rows_are : (records : List (List Record)) (calls : List CallAt) → rows_by records specs absent clients found calls ≡ rows_of source buffer records events specs more calls
     rows_are records calls = ap (λ (row : CallAt → Record → List ℕ). along (λ (before : List CallAt) (at : CallAt). option_map_or (row at) (record_at records before at) []) calls) (λ i at r. row_is at r i)

@@ -3,6 +3,7 @@ use Rattle.std.specs.Prelude.{ℕ, false, List, [], ◌++◌, None}
 use Rattle.dl_bytes.specs.declared.outcome.TraceState.{TraceState}
 use Rattle.dl_script_lines.specs.declared.step.Step.{Step}
 use Rattle.dl_call_lines.specs.Calls.{calls_in}
+use Rattle.dl_call_lines.specs.Claims.{claims_in}
 use Rattle.dl_call_lines.specs.Told.{owners_in}
 use Rattle.dl_call_timeline.specs.Timeline.{timeline}
 use Rattle.dl_model.specs.Marks.{Mark, journal, records}
@@ -13,7 +14,7 @@ use Rattle.dl_model.specs.TraceFiles.{StoredFile}
 use Rattle.dl_model.specs.WholeAccounts.{source_of_records}
 use Rattle.dl_picture.specs.Picture.{picture}
 use Rattle.dl_why.specs.Cases.{cases_of}
-use Rattle.dl_why.specs.Rows.{rows_of, storage_words}
+use Rattle.dl_why.specs.Rows.{more_words, rows_of}
 
 -- the run stores nothing itself, so its report tells nothing of a trace
 abbrev pub no_trace : TraceState
@@ -23,7 +24,7 @@ no_trace = record { files = []; end = None }
 abbrev pub explained_of : Setting → List StoredFile → List ℕ → List Step → List Mark → List ℕ
 explained_of setting stood text steps done =
     let source = source_of_records setting (records done) (specs_of done) in
-    rows_of source setting.buffer (records done) (journal done) (specs_of done) (storage_words setting stood source (journal done)) (calls_in text steps)
+    rows_of source setting.buffer (records done) (journal done) (specs_of done) (more_words setting stood source (journal done) (claims_in text steps)) (calls_in text steps)
     ++ report_of setting done no_trace false
 
 -- the same of the run of these steps, in which each Store and each Reset is served

@@ -1,3 +1,4 @@
+pub mod Claims
 pub mod Rows
 pub mod Followed
 pub mod Found

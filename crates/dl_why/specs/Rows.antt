@@ -16,9 +16,11 @@ use Rattle.dl_model.specs.TraceFiles.{StoredFile, trace_name}
 use Rattle.dl_model.specs.WholeAccounts.{record_named}
 use Rattle.dl_promises.specs.Fates.{Fate, Filtered, RingFull, InRing, InStream, InBacklog, BufferFull, ForOthers, what_became_of}
 use Rattle.dl_call_lines.specs.declared.call.CallAt.{CallAt}
+use Rattle.dl_call_lines.specs.declared.claims.ClaimAt.{ClaimAt}
 use Rattle.dl_stored_in.specs.StoredIn.{place_of_call}
 use Rattle.dl_stored_in.specs.declared.place.StoredPlace.{StoredPlace}
 use Rattle.dl_stored_in.specs.declared.place.StoredPlace.TheVariants.{InFile, Removed, TraceEnded}
+use Rattle.dl_why.specs.Claims.{claim_words, slots_claimed}
 
 -- ---- words
 
@@ -33,7 +35,7 @@ level_word level =
     else if level == 5 then codes "debug"
     else codes "verbose"
 
--- how many calls the ring of an application holds
+-- how many calls and claims the ring of an application holds
 unfoldable pub capacity_in : List AppSpec → ℕ → ℕ
 capacity_in specs app = option_map_or (λ spec. spec.capacity) (slice_get specs app) 0
 
@@ -52,7 +54,7 @@ lead_words ForOthers = codes "sent"
 abbrev pub level_words : Record → List ℕ
 level_words r = level_word r.held ++ codes ", version " ++ decimal r.version
 
--- the ring that was full: it held as many calls as it can
+-- the ring that was full: it held as many calls and claims as it can
 abbrev pub ring_words : List AppSpec → Record → List ℕ
 ring_words specs r = id_text r.item.apid ++ codes " held " ++ decimal (capacity_in specs r.item.app) ++ codes " of " ++ decimal (capacity_in specs r.item.app)
 
@@ -109,6 +111,10 @@ abbrev pub storage_words : Setting → List StoredFile → FrameSource → List 
 storage_words setting stood source events r =
     if length setting.directory == 0 then [] else option_map_or (stored_words setting.directory) (place_of_call setting stood source events r) []
 
+-- what is said besides of a call: of the claim that it names, and where its frame is stored
+abbrev pub more_words : Setting → List StoredFile → FrameSource → List Event → List ClaimAt → CallAt → Record → List ℕ
+more_words setting stood source events claims at r = claim_words claims (slots_claimed events) at r ++ storage_words setting stood source events r
+
 -- ---- rows
 
 -- the line that begins a call, its writer, and its number
@@ -128,12 +134,12 @@ abbrev pub clients_in : List Event → List ℕ
 clients_in events = range_with_len 1 (count_by is_connect events)
 
 -- The row of a call. What became of it is said by the law of causes, for each client; the line that tells of a lost one is the call's own (`told`).
--- Where its frame is stored is the last part.
-abbrev pub row_of : FrameSource → (buffer : ℕ) → List Event → List AppSpec → (Record → List ℕ) → CallAt → Record → List ℕ
-row_of source buffer events specs storage at r =
+-- What is said besides is the last part.
+abbrev pub row_of : FrameSource → (buffer : ℕ) → List Event → List AppSpec → (CallAt → Record → List ℕ) → CallAt → Record → List ℕ
+row_of source buffer events specs more at r =
     place_words at.line r ++ name_words r
     ++ fate_words specs at.told r (what_became_of source buffer nobody events r) (flat_map (λ client. heard_words client (what_became_of source buffer client events r)) (clients_in events))
-    ++ storage r ++ codes "\n"
+    ++ more at r ++ codes "\n"
 
 -- the call of the same writer
 abbrev pub is_by : ℕ → CallAt → Bool
@@ -144,6 +150,6 @@ abbrev pub record_at : List (List Record) → List CallAt → CallAt → Option 
 record_at records before at = record_named records at.writer (1 + count_by (is_by at.writer) before)
 
 -- the rows of the calls of a script, in the order of its lines
-abbrev pub rows_of : FrameSource → (buffer : ℕ) → List (List Record) → List Event → List AppSpec → (Record → List ℕ) → List CallAt → List ℕ
-rows_of source buffer records events specs storage calls =
-    along (λ before at. option_map_or (row_of source buffer events specs storage at) (record_at records before at) []) calls
+abbrev pub rows_of : FrameSource → (buffer : ℕ) → List (List Record) → List Event → List AppSpec → (CallAt → Record → List ℕ) → List CallAt → List ℕ
+rows_of source buffer records events specs more calls =
+    along (λ before at. option_map_or (row_of source buffer events specs more at) (record_at records before at) []) calls

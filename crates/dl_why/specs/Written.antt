@@ -11,9 +11,11 @@ use Rattle.dl_events.specs.declared.event.Event.{Event}
 use Rattle.dl_model.specs.Frames.{FrameSource}
 use Rattle.dl_model.specs.Setting.{Setting}
 use Rattle.dl_model.specs.TraceFiles.{StoredFile}
+use Rattle.dl_why.specs.Claims.{claim_words}
 use Rattle.dl_why.specs.Found.{TellsWhole, name_of, or_later, same_call}
 use Rattle.dl_why.specs.Rows.{fate_words, heard_words, is_by, name_words, place_words, record_at, stored_words}
 use Rattle.dl_call_lines.specs.declared.call.CallAt.{CallAt}
+use Rattle.dl_call_lines.specs.declared.claims.ClaimAt.{ClaimAt}
 use Rattle.dl_stored_in.specs.Found.{IsOf, stored_by}
 use Rattle.dl_stored_in.specs.declared.calls.Rotation.{Rotation}
 use Rattle.dl_stored_in.specs.declared.calls.StoredCalls.{StoredCalls}
@@ -32,12 +34,16 @@ heard_by clients r = flat_map (λ (fates : Fates). heard_words fates.client (fat
 abbrev pub storage_by : List ℕ → Option StoredCalls → Record → List ℕ
 storage_by directory found r = option_map_or (λ calls. option_map_or (stored_words directory) (stored_by calls r) []) found []
 
-abbrev pub row_by : List AppSpec → Fates → List Fates → (Record → List ℕ) → CallAt → Record → List ℕ
-row_by specs nobody clients storage at r = place_words at.line r ++ name_words r ++ fate_words specs at.told r (fate_in nobody r) (heard_by clients r) ++ storage r ++ codes "\n"
+-- what is said besides, by what was found
+abbrev pub more_by : List ClaimAt → List ℕ → List ℕ → Option StoredCalls → CallAt → Record → List ℕ
+more_by claims taken directory found at r = claim_words claims taken at r ++ storage_by directory found r
 
-abbrev pub rows_by : List (List Record) → List AppSpec → Fates → List Fates → (Record → List ℕ) → List CallAt → List ℕ
-rows_by records specs nobody clients storage calls =
-    along (λ before at. option_map_or (row_by specs nobody clients storage at) (record_at records before at) []) calls
+abbrev pub row_by : List AppSpec → Fates → List Fates → (CallAt → Record → List ℕ) → CallAt → Record → List ℕ
+row_by specs nobody clients more at r = place_words at.line r ++ name_words r ++ fate_words specs at.told r (fate_in nobody r) (heard_by clients r) ++ more at r ++ codes "\n"
+
+abbrev pub rows_by : List (List Record) → List AppSpec → Fates → List Fates → (CallAt → Record → List ℕ) → List CallAt → List ℕ
+rows_by records specs nobody clients more calls =
+    along (λ before at. option_map_or (row_by specs nobody clients more at) (record_at records before at) []) calls
 
 abbrev pub same_writer : WriterName → WriterName → Bool
 same_writer a b = a.number == b.number

@@ -9,27 +9,29 @@ ghost use Rattle.dl_model.specs.WholeAccounts.{records_by, source_of_records};
 ghost use Rattle.dl_left.specs.Clients.{ComeAndGo};
 ghost use Rattle.dl_script.specs.Playable.{IsPlayable};
 ghost use Rattle.dl_call_lines.specs.Calls.{calls_in};
+ghost use Rattle.dl_call_lines.specs.Claims.{claims_in};
 ghost use Rattle.dl_call_lines.specs.Told.{owners_in};
 ghost use Rattle.dl_call_timeline.specs.Timeline.{timeline};
 ghost use Rattle.dl_picture.specs.Picture.{picture};
 ghost use Rattle.dl_why.specs.Cases.{cases_of};
 ghost use Rattle.dl_why.specs.Program.{drawing_of, text_of};
 ghost use Rattle.dl_core.specs.Settings.{setting_of};
-ghost use Rattle.dl_why.specs.Rows.{rows_of, storage_words};
+ghost use Rattle.dl_why.specs.Rows.{more_words, rows_of};
 ghost use Rattle.dl_why.specs.Written.{IsRotating};
 
 use crate::cases::find_cases;
 use crate::findings::push_findings;
 use crate::script::Script;
 use dl_bytes::{Id, OutOfMemory};
-use dl_call_lines::{calls_in, owners_in};
+use dl_call_lines::{calls_in, claims_in, owners_in};
 use dl_call_timeline::timeline_of;
 use dl_left::Sources;
 use dl_left::laws::{clients_come_and_go, records_account_for_a_journal};
 use dl_memory::MemoryFolder;
 use dl_picture::draw;
-use dl_promises::runs::{runs_are_accounted, runs_are_well_formed};
+use dl_promises::runs::runs_are_accounted;
 use dl_report::report;
+use dl_script_runs::laws::scripts_are_well_formed;
 use dl_startup::{Setup, unserved};
 use dl_stored_in::Rotation;
 use dl_world::{Played, play};
@@ -52,11 +54,13 @@ fn text_of_played(
     requires clients { ComeAndGo played.now.events.events }
     ensures { (setting : Setting) (stood : List StoredFile) → setting.ecu ≡ ecu → IsRotating setting stood directory.now rotation
         → let source = source_of_records setting played.now.records played.now.specs in IfOk result (λ text. text.items ≡
-        rows_of source buffer played.now.records played.now.events.events played.now.specs (storage_words setting stood source played.now.events.events)
+        rows_of source buffer played.now.records played.now.events.events played.now.specs
+        (more_words setting stood source played.now.events.events (claims_in script.now.text.items script.now.steps))
         (calls_in script.now.text.items script.now.steps)
         ++ report played.now.records played.now.events.events played.now.specs played.now.ends played.now.backlog None) }
 {
     let calls = calls_in(alloc, &script.text, script.steps.all())?;
+    let claims = claims_in(alloc, &script.text, script.steps.all())?;
     let events = played.events.events();
     let specs = played.specs.all();
     let sources = Sources {
@@ -66,7 +70,7 @@ fn text_of_played(
     };
     let mut text = Vec::new(alloc);
     push_findings(
-        alloc, &mut text, &sources, events, buffer, directory, rotation, &calls,
+        alloc, &mut text, &sources, events, buffer, directory, rotation, &calls, &claims,
     )?;
     let report = report(
         alloc,
@@ -163,7 +167,7 @@ pub fn explain(
         return Err(OutOfMemory);
     }
     runs_are_accounted();
-    runs_are_well_formed();
+    scripts_are_well_formed();
     records_account_for_a_journal();
     clients_come_and_go();
     let text = text_of_played(

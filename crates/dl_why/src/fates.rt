@@ -52,6 +52,7 @@ fn next_behind(event: &Event, behind: &[Event], next: Option<u32>) -> Option<u32
         Event::Log { .. }
         | Event::Lost { .. }
         | Event::User { .. }
+        | Event::Claim { .. }
         | Event::Level { .. }
         | Event::Request { .. }
         | Event::Close { .. } => next,

@@ -10,13 +10,14 @@ ghost use Rattle.dl_model.specs.TraceFiles.{StoredFile};
 ghost use Rattle.dl_model.specs.WholeAccounts.{records_by, source_of_records};
 ghost use Rattle.dl_left.specs.Clients.{ComeAndGo};
 ghost use Rattle.dl_left.specs.Losses.{told};
-ghost use Rattle.dl_why.specs.Rows.{rows_of, storage_words};
+ghost use Rattle.dl_why.specs.Rows.{more_words, rows_of, storage_words};
 ghost use Rattle.dl_why.specs.Written.{IsRotating, TellWhole, storage_by};
 
+use crate::claims::slots_claimed;
 use crate::fates::{Fates, find_fates};
 use crate::rows::{Findings, push_rows};
 use dl_bytes::{AppSpec, Id, OutOfMemory};
-use dl_call_lines::CallAt;
+use dl_call_lines::{CallAt, ClaimAt};
 use dl_events::{Event, RecordList};
 use dl_left::Sources;
 use dl_stored_in::{Rotation, StoredCalls, find_stored};
@@ -100,8 +101,8 @@ fn find_storage(
     }
 }
 
-/// Adds the rows of the calls of a script, by what its run left: its records, its events and its applications. A trace is kept by this rotation in
-/// this directory, or none is.
+/// Adds the rows of the calls of a script, by what its run left: its records, its events and its applications. These lines claim places. A trace is
+/// kept by this rotation in this directory, or none is.
 pub fn push_findings(
     alloc: Global,
     text: &mut Vec<u8>,
@@ -111,13 +112,14 @@ pub fn push_findings(
     directory: &[u8],
     rotation: Option<Rotation>,
     calls: &[CallAt],
+    claims: &[ClaimAt],
 ) -> Result<(), OutOfMemory>
     requires numbered { (number : ℕ) → AreNumbered (records_by number sources.now.records.now) }
     requires clients { ComeAndGo events.now }
     ensures { (setting : Setting) (stood : List StoredFile) → setting.ecu ≡ sources.now.ecu → IsRotating setting stood directory.now rotation
         → let source = source_of_records setting sources.now.records.now sources.now.specs.now in
         OnOk result (text.new.items ≡ text.old.items
-        ++ rows_of source buffer sources.now.records.now events.now sources.now.specs.now (storage_words setting stood source events.now) calls.now) }
+        ++ rows_of source buffer sources.now.records.now events.now sources.now.specs.now (more_words setting stood source events.now claims.now) calls.now) }
 {
     if told_losses(events)? >= 1 << 63 {
         return Err(OutOfMemory);
@@ -126,6 +128,8 @@ pub fn push_findings(
         specs: sources.specs,
         nobody: find_fates(alloc, NOBODY, sources, events, buffer)?,
         clients: find_all(alloc, sources, events, buffer)?,
+        claims,
+        taken: slots_claimed(alloc, events)?,
         directory,
         stored: find_storage(alloc, sources, events, directory, rotation)?,
     };

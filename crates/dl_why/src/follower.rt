@@ -88,9 +88,11 @@ impl Follower {
             Event::Connect { client } => self.own(*client, due(self.waiting.backlog)),
             Event::Request { client, .. } => self.own(*client, self.while_open(1)),
             Event::Close { .. } => 0,
-            Event::Log { .. } | Event::Lost { .. } | Event::User { .. } | Event::Level { .. } => {
-                self.while_open(admitted_by(sources, event).frames)
-            }
+            Event::Log { .. }
+            | Event::Lost { .. }
+            | Event::User { .. }
+            | Event::Claim { .. }
+            | Event::Level { .. } => self.while_open(admitted_by(sources, event).frames),
         }
     }
 

@@ -2,6 +2,7 @@
 #![tactic(auto)]
 
 mod cases;
+mod claims;
 mod drawing;
 mod explanation;
 mod fate;

@@ -10,14 +10,15 @@ ghost use Rattle.dl_model.specs.WholeAccounts.{records_by};
 ghost use Rattle.dl_promises.specs.Fates.{InRing};
 ghost use Rattle.dl_why.specs.Found.{or_later, said, same_call};
 ghost use Rattle.dl_why.specs.Rows.{capacity_in, fate_words, heard_words, is_by, lead_words, level_word, level_words, line_words, lost_words, name_words, place_words, ring_words, shown_words, told_words};
-ghost use Rattle.dl_why.specs.Written.{KeepsCounts, fate_in, heard_by, row_by, rows_by, same_writer, storage_by};
+ghost use Rattle.dl_why.specs.Written.{KeepsCounts, fate_in, heard_by, more_by, row_by, rows_by, same_writer};
 ghost use Rattle.dl_call_lines.specs.declared.call.CallAt.{CallAt};
 
+use crate::claims::push_claim;
 use crate::fate::{CallName, Fate};
 use crate::fates::Fates;
 use crate::storage::push_storage;
 use dl_bytes::{AppSpec, Id, Level, OutOfMemory, Severity};
-use dl_call_lines::CallAt;
+use dl_call_lines::{CallAt, ClaimAt};
 use dl_events::{Answer, Record, RecordList};
 use dl_left::record_of;
 use dl_stored_in::StoredCalls;
@@ -88,7 +89,7 @@ fn level_word(level: Level) -> &'static [u8]
     }
 }
 
-/// How many calls the ring of an application holds.
+/// How many calls and claims the ring of an application holds.
 #[tactic(auto, unfolding(crate::specs::Rows::capacity_in))]
 fn capacity_in(specs: &[AppSpec], app: u8) -> u16
     ensures { result ≡ capacity_in specs.now app }
@@ -264,8 +265,8 @@ fn push_names(text: &mut Vec<u8>, call: &Record) -> Result<(), OutOfMemory>
     text.extend_from_slice(b": ")
 }
 
-/// What rows are made of: the applications, what became of each call for a client that never comes and for those that came, and where the
-/// frames of calls are stored.
+/// What rows are made of: the applications, what became of each call for a client that never comes and for those that came, the claims and
+/// those that the daemon took, and where the frames of calls are stored.
 #[derive(Drop)]
 pub struct Findings<'s> {
     /// The applications.
@@ -274,6 +275,10 @@ pub struct Findings<'s> {
     pub nobody: Fates,
     /// For each client that came.
     pub clients: Vec<Fates>,
+    /// The lines that claim places.
+    pub claims: &'s [ClaimAt],
+    /// The slots of the claims that the daemon took.
+    pub taken: Vec<u16>,
     /// The directory of the trace files.
     pub directory: &'s [u8],
     /// Where the frames of calls are stored, where a trace is kept.
@@ -294,6 +299,20 @@ fn push_fate(
     push_shown(text, findings.specs, &findings.clients, told, call, fate)
 }
 
+/// Adds what is said besides of a call: of the claim that it names, and where its frame is stored.
+fn push_more(
+    text: &mut Vec<u8>,
+    findings: &Findings<'_>,
+    at: &CallAt,
+    call: &Record,
+) -> Result<(), OutOfMemory>
+    ensures { OnOk result (text.new.items ≡ text.old.items
+        ++ more_by findings.now.claims.now findings.now.taken.items findings.now.directory.now findings.now.stored at.now call.now) }
+{
+    push_claim(text, findings.claims, &findings.taken, at, call)?;
+    push_storage(text, findings.directory, &findings.stored, call)
+}
+
 /// Adds the row of a call, where it has a record.
 fn push_row(
     text: &mut Vec<u8>,
@@ -302,7 +321,7 @@ fn push_row(
     call: Option<&Record>,
 ) -> Result<(), OutOfMemory>
     ensures { OnOk result (text.new.items ≡ text.old.items ++ option_map_or (λ r. row_by findings.now.specs.now findings.now.nobody findings.now.clients.items
-        (storage_by findings.now.directory.now findings.now.stored) at.now r.now) call.entry []) }
+        (more_by findings.now.claims.now findings.now.taken.items findings.now.directory.now findings.now.stored) at.now r.now) call.entry []) }
 {
     let Some(call) = call else {
         return Ok(());
@@ -310,7 +329,7 @@ fn push_row(
     push_place(text, at.line, call)?;
     push_names(text, call)?;
     push_fate(text, findings, at.told, call)?;
-    push_storage(text, findings.directory, &findings.stored, call)?;
+    push_more(text, findings, at, call)?;
     text.extend_from_slice(b"\n")
 }
 
@@ -347,7 +366,7 @@ pub fn push_rows(
 ) -> Result<(), OutOfMemory>
     requires { (number : ℕ) → AreNumbered (records_by number records.now) }
     ensures { OnOk result (text.new.items ≡ text.old.items ++ rows_by records.now findings.now.specs.now findings.now.nobody findings.now.clients.items
-        (storage_by findings.now.directory.now findings.now.stored) calls.now) }
+        (more_by findings.now.claims.now findings.now.taken.items findings.now.directory.now findings.now.stored) calls.now) }
 {
     let mut counts = HashMap::new(alloc);
     for at in calls {

@@ -1,13 +1,15 @@
--- The steps of log calls up to their rings and counts: marks that the daemon, the clients and the clock don't see.
-use Rattle.std.proofs.Common.{◌≡◌, ℕ, Bool, true, false, cond, List, [], ◌∷◌, ◌++◌, Option, Some, None, refl, sym, ap, subst, ◌∙◌, append_assoc}
+-- The steps of log calls and claims up to their rings and counts: marks that the daemon, the clients and the clock don't see.
+use Rattle.std.proofs.Common.{◌≡◌, ℕ, zero, suc, Bool, true, false, cond, List, [], ◌∷◌, ◌++◌, Option, Some, None, refl, sym, ap, subst, ◌∙◌, append_assoc}
 use Rattle.std.specs.Prelude.{if◌then◌else◌}
 use Rattle.std.specs.List.{filter_map, flat_map, AllByRecursion}
 use Rattle.std.proofs.lemmas.List.{append-nil}
 use Rattle.dl_bytes.specs.Level.{passes}
+use Rattle.dl_bytes.specs.Claim.{Claimed}
 use Rattle.dl_script_lines.specs.declared.line.CallLine.{CallLine}
+use Rattle.dl_script_lines.specs.declared.line.ClaimLine.{ClaimLine}
 use Rattle.dl_model.specs.Setting.{Setting}
-use Rattle.dl_model.specs.Marks.{Call, Mark, Filtered, Passed, Queued, Refused, Counted, event_of, app_of, clocked, waits_of, fed_of, heard_of, journal, to_push, to_count, is_full}
-use Rattle.dl_model.specs.Steps.{Act, just, for_some, loaded, load, push, count, finish, begin_call}
+use Rattle.dl_model.specs.Marks.{Call, Mark, Filtered, Passed, Queued, Refused, Counted, HasClaim, Announced, HeldBack, event_of, app_of, clocked, waits_of, fed_of, heard_of, journal, to_push, to_count, to_announce, unannounced, is_full}
+use Rattle.dl_model.specs.Steps.{Act, just, for_some, loaded, load, push, count, finish, begin_call, claim_made, claim, announce, announce_upto, announce_all, is_held_back}
 use Rattle.dl_laws.proofs.Founded.{finished}
 use Rattle.dl_world_calls.specs.Follows as calls
 use Rattle.dl_world_calls.specs.Injections.{AreAfter, is_no_injection}
@@ -94,6 +96,38 @@ load_steps setting call done =
       by_level : (c : Call) (b : Bool) → IsStep (cond b (Passed c) (Filtered c))
       by_level c true = of_passed c
       by_level c false = of_filtered c
+
+-- ---- claims
+
+of_claim : (c : Claimed) → IsStep (HasClaim c)
+of_claim c = record { no_event = refl; no_app = refl; no_clock = refl; no_wait = refl; no_request = refl; unfed = λ number. refl; unheard = λ channel. refl; no_injection = refl }
+
+of_announced : (c : Claimed) → IsStep (Announced c)
+of_announced c = record { no_event = refl; no_app = refl; no_clock = refl; no_wait = refl; no_request = refl; unfed = λ number. refl; unheard = λ channel. refl; no_injection = refl }
+
+of_held_back : (c : Claimed) → IsStep (HeldBack c)
+of_held_back c = record { no_event = refl; no_app = refl; no_clock = refl; no_wait = refl; no_request = refl; unfed = λ number. refl; unheard = λ channel. refl; no_injection = refl }
+
+pub claim_steps : (line : ClaimLine) (done : List Mark) → AreSteps (claim line done)
+claim_steps line done = asked (claim_made line done) (λ c. just (HasClaim c)) done (λ c. (of_claim c, tt))
+
+pub announce_steps : (writer : ℕ) (done : List Mark) → AreSteps (announce writer done)
+announce_steps writer done = asked (to_announce writer done) (λ c. just (if is_full c.app done then HeldBack c else Announced c)) done (λ c. (by_room c (is_full c.app done), tt)) where
+  by_room : (c : Claimed) (b : Bool) → IsStep (cond b (HeldBack c) (Announced c))
+  by_room c true = of_held_back c
+  by_room c false = of_announced c
+
+upto_steps : (count writer : ℕ) (done : List Mark) → AreSteps (announce_upto count writer done)
+upto_steps zero writer done = tt
+upto_steps (suc count) writer done =
+    let step = announce writer done in
+    both_steps step (cond (is_held_back step) [] (announce_upto count writer (done ++ step))) (announce_steps writer done) (by_refusal (is_held_back step) (upto_steps count writer (done ++ step))) where
+      by_refusal : (b : Bool) → AreSteps (announce_upto count writer (done ++ announce writer done)) → AreSteps (cond b [] (announce_upto count writer (done ++ announce writer done)))
+      by_refusal true later = tt
+      by_refusal false later = later
+
+pub announce_all_steps : (writer : ℕ) (done : List Mark) → AreSteps (announce_all writer done)
+announce_all_steps writer done = upto_steps (unannounced writer done) writer done
 
 -- ---- a world after such marks
 

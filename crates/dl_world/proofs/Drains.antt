@@ -56,13 +56,13 @@ drains_nobody world told app over =
 
 -- ---- a writer's application
 
-writer_ids : (done : List Mark) (kept : Calls) (writer : ℕ) → calls.IsAfter done kept → app_of_writer writer done ≡ option_map (λ (w : Writer). w.apid) (writer_of kept writer)
+pub writer_ids : (done : List Mark) (kept : Calls) (writer : ℕ) → calls.IsAfter done kept → app_of_writer writer done ≡ option_map (λ (w : Writer). w.apid) (writer_of kept writer)
 writer_ids done kept writer is = by_number (eqb writer 0) where
   by_number : (b : Bool) → cond b None (slice_get (writers done) (writer - 1)) ≡ option_map (λ (w : Writer). w.apid) (cond b None (slice_get kept.writers (writer - 1)))
   by_number true = refl
   by_number false = ap (λ (xs : List (List ℕ)). slice_get xs (writer - 1)) (sym is.writers_are) ∙ slice_get-map (λ (w : Writer). w.apid) kept.writers (writer - 1)
 
-owned_at : (done : List Mark) (kept : Calls) (writer : ℕ) (w : Writer) → calls.IsAfter done kept → writer_of kept writer ≡ Some w → IsOwned done w
+pub owned_at : (done : List Mark) (kept : Calls) (writer : ℕ) (w : Writer) → calls.IsAfter done kept → writer_of kept writer ≡ Some w → IsOwned done w
 owned_at done kept writer w is e = by_number (eqb writer 0) e where
   by_number : (b : Bool) → cond b None (slice_get kept.writers (writer - 1)) ≡ Some w → IsOwned done w
   by_number true e = absurd cc

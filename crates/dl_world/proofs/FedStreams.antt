@@ -17,8 +17,6 @@ use Rattle.dl_message.proofs.Pieces.{bad_no_piece, bad_stays}
 use Rattle.dl_core.specs.Serving.{IsRequest}
 use Rattle.dl_world.specs.Fed.{Waits, IsShut, IsFedBy, Stands, made_whole}
 use Rattle.dl_world.proofs.FedClients.{limit_stays}
-use Rattle.dl_lemmas.proofs.Lists.{empty_of}
-use Rattle.dl_world.proofs.Coming.{fed_nothing}
 use Rattle.dl_lemmas.proofs.Options.{is_some_of, some_of}
 
 -- ---- the one cut of a stream

@@ -1,5 +1,5 @@
 -- What is handed out at the end of a run.
-use Rattle.std.proofs.Common.{◌≡◌, ◌≢◌, ℕ, zero, suc, ◌+◌, ◌-◌, ◌<◌, ◌≤◌, Bool, true, false, cond, eqb, get_or, List, [], ◌∷◌, ◌++◌, length, map, Option, Some, None, refl, sym, ap, subst, ◌∙◌, ◌⊎◌, inl, inr, arith}
+use Rattle.std.proofs.Common.{◌≡◌, ◌≢◌, ℕ, zero, suc, ◌+◌, ◌-◌, ◌<◌, ◌≤◌, Bool, true, false, cond, eqb, get_or, List, [], ◌∷◌, ◌++◌, length, map, take, Option, Some, None, refl, sym, ap, subst, ◌∙◌, ◌⊎◌, inl, inr, arith}
 use Rattle.std.specs.Prelude.{IfSome, IsSomeAnd, slice_get}
 use Rattle.std.specs.List.{range_with_len}
 use Rattle.std.specs.Option.{option_map_or}
@@ -14,7 +14,7 @@ use Rattle.dl_bytes.specs.declared.outcome.LinkEnd.{LinkEnd}
 use Rattle.dl_script_lines.specs.declared.line.AppLine.{AppLine}
 use Rattle.dl_model.specs.Backlog.{fitting, left, refused, size_of, waiting}
 use Rattle.dl_model.specs.ClientStream.{sent, traffic}
-use Rattle.dl_model.specs.Marks.{Mark, journal, records, records_of}
+use Rattle.dl_model.specs.Marks.{Mark, announced_by, claims, journal, records, records_of}
 use Rattle.dl_model.specs.Replay.{clients, specs_of}
 use Rattle.dl_frames.proofs.FramesBehind.{length-concat}
 use Rattle.dl_world_calls.specs.State.{App, Writer}
@@ -92,6 +92,12 @@ module _ (run : Run) (done : List Mark) (w : World) (after : IsAfter run done w)
       sym (numbered (λ (writer : Writer). writer.records) (λ (n : ℕ). records_of n done) 1 w.calls.writers no_writer
       (λ place below. (after.so_far.calls_so.each_writer (1 + place)).records_are ∙ ap (λ (writer : Writer). writer.records) (writer_is place below)))
       ∙ ap (λ (k : ℕ). map (λ (n : ℕ). records_of n done) (range_with_len 1 k)) (writers_many ∙ ap length after.so_far.calls_so.writers_are)
+
+  pub claims_left : map (λ (writer : Writer). take writer.announced writer.claims) w.calls.writers ≡ claims done
+  claims_left =
+      sym (numbered (λ (writer : Writer). take writer.announced writer.claims) (λ (n : ℕ). announced_by n done) 1 w.calls.writers no_writer
+      (λ place below. (after.so_far.calls_so.each_claimer (1 + place)).announced_are ∙ ap (λ (writer : Writer). take writer.announced writer.claims) (writer_is place below)))
+      ∙ ap (λ (k : ℕ). map (λ (n : ℕ). announced_by n done) (range_with_len 1 k)) (writers_many ∙ ap length after.so_far.calls_so.writers_are)
 
   abbrev spec_of : AppLine → AppSpec
   spec_of line = record { apid = line.apid; capacity = line.capacity; text = line.text }

@@ -7,6 +7,7 @@ pub mod OneMark
 pub mod Turning
 pub mod Ends
 pub mod Leaving
+pub mod ClaimedPlaces
 pub mod Knowing
 pub mod Lines
 pub mod Whole
@@ -43,3 +44,5 @@ pub mod Receiving
 pub mod Takes
 pub mod Drains
 pub mod ToldEvents
+pub mod ClaimEvents
+pub mod ClaimLines

@@ -2,7 +2,7 @@
 use Rattle.std.proofs.Common.{◌≡◌, ◌≢◌, ◌⊎◌, inl, inr, ℕ, zero, suc, ◌<◌, ◌≤◌, Bool, true, false, cond, eqb, get_or, List, [], ◌∷◌, ◌++◌, length, Option, Some, None, refl, sym, ap, subst, ◌∙◌, arith}
 use Rattle.std.specs.Prelude.{slice_get}
 use Rattle.std.specs.List.{cons_option}
-use Rattle.std.specs.Option.{option_map, option_map_or}
+use Rattle.std.specs.Option.{option_and_then, option_map, option_map_or}
 use Rattle.std.proofs.lemmas.Option.{slice_get-map}
 use Rattle.std.proofs.lemmas.List.{length-map}
 use Rattle.std.proofs.lemmas.Bool.Decides.{eqb_tells}
@@ -15,10 +15,10 @@ use Rattle.dl_events.specs.declared.event.Event.TheVariants as event
 use Rattle.dl_events.specs.Journal as notes
 use Rattle.dl_events.specs.Journal.{Journaled}
 use Rattle.dl_message.specs.Frames.{log_message}
-use Rattle.dl_model.specs.Marks.{Call, Mark, Queued, Noted, queued_of, queued, taken, journal, moment, apps, apid_of}
+use Rattle.dl_model.specs.Marks.{Mark, Queued, Announced, Noted, Pushed, OfCall, OfClaim, pushed_of, pushes, taken, journal, moment, apps, apid_of}
 use Rattle.dl_model.specs.Steps.{just}
 use Rattle.dl_frames.specs.Frames.{TellsLen}
-use Rattle.dl_world_calls.specs.State.{Calls, next_item}
+use Rattle.dl_world_calls.specs.State.{Calls, as_held, item_held, next_item}
 use Rattle.dl_world_calls.specs.Follows as calls
 use Rattle.dl_world_calls.proofs.Places.{there}
 use Rattle.dl_script_lines.specs.declared.line.AppLine.{AppLine}
@@ -27,7 +27,7 @@ use Rattle.dl_frames.proofs.OneCall.{given_in_rings}
 use Rattle.dl_frames.proofs.Spellings.{log_tells}
 use Rattle.dl_hub.proofs.Following.{one_of}
 use Rattle.dl_core.specs.Admission.{log_event, GivesFrame, GivesApid}
-use Rattle.dl_core.specs.Follows.{Run, Adds, HoldsTrace, source_of}
+use Rattle.dl_core.specs.Follows.{Run, Adds, HoldsTrace}
 use Rattle.dl_core.specs.State.{Core}
 use Rattle.dl_world.specs.Fed.{CanBeTold}
 use Rattle.dl_outside.specs.Told.{FolderTold}
@@ -72,20 +72,31 @@ does_event make old mid new told told_now fails keeps still puts takes = record 
 
 -- ---- log calls
 
-queued_here : (app : ℕ) (mark : Mark) (c : Call) → queued_of app mark ≡ Some c → c.item.app ≡ app
-queued_here app (Queued d) c e = by (eqb_tells d.item.app app) e where
-  by : ((eqb d.item.app app ≡ true) × (d.item.app ≡ app)) ⊎ ((eqb d.item.app app ≡ false) × (d.item.app ≢ app)) → cond (eqb d.item.app app) (Some d) None ≡ Some c → c.item.app ≡ app
-  by (inl same) e = let it : d ≡ c = one_of (ap (λ (b : Bool). cond b (Some d) None) (sym same.0) ∙ e) in ap (λ (k : Call). k.item.app) (sym it) ∙ same.1
-  by (inr apart) e = absurd (let bad : ◌≡◌ {A = Option Call} None (Some c) = ap (λ (b : Bool). cond b (Some d) None) (sym apart.0) ∙ e in cc)
-queued_here app _ c e = absurd cc
+-- the application of what a ring took
+abbrev pub app_pushed : Pushed → ℕ
+app_pushed (OfCall call) = call.item.app
+app_pushed (OfClaim claim) = claim.app
 
-queued_at : (app : ℕ) (done : List Mark) (place : ℕ) (c : Call) → slice_get (queued app done) place ≡ Some c → c.item.app ≡ app
-queued_at app [] place c e = absurd cc
-queued_at app (mark ∷ done) place c e = by (queued_of app mark) refl place e (λ later. queued_at app done later c) where
-  by : (o : Option Call) → queued_of app mark ≡ o → (place : ℕ) → slice_get (cons_option o (queued app done)) place ≡ Some c
-      → ((later : ℕ) → slice_get (queued app done) later ≡ Some c → c.item.app ≡ app) → c.item.app ≡ app
+-- what is put where a number is this one
+one_if : (n app : ℕ) (what got : Pushed) → app_pushed what ≡ n → cond (eqb n app) (Some what) None ≡ Some got → app_pushed got ≡ app
+one_if n app what got is e = by (eqb_tells n app) where
+  by : ((eqb n app ≡ true) × (n ≡ app)) ⊎ ((eqb n app ≡ false) × (n ≢ app)) → app_pushed got ≡ app
+  by (inl same) = let it : what ≡ got = one_of (ap (λ (b : Bool). cond b (Some what) None) (sym same.0) ∙ e) in ap app_pushed (sym it) ∙ is ∙ same.1
+  by (inr apart) = absurd (let bad : ◌≡◌ {A = Option Pushed} None (Some got) = ap (λ (b : Bool). cond b (Some what) None) (sym apart.0) ∙ e in cc)
+
+pushed_here : (app : ℕ) (mark : Mark) (what : Pushed) → pushed_of app mark ≡ Some what → app_pushed what ≡ app
+pushed_here app (Queued call) what e = one_if call.item.app app (OfCall call) what refl e
+pushed_here app (Announced claim) what e = one_if claim.app app (OfClaim claim) what refl e
+pushed_here app _ what e = absurd cc
+
+-- what a ring took is of its application
+pub pushed_at : (app : ℕ) (done : List Mark) (place : ℕ) (what : Pushed) → slice_get (pushes app done) place ≡ Some what → app_pushed what ≡ app
+pushed_at app [] place what e = absurd cc
+pushed_at app (mark ∷ done) place what e = by (pushed_of app mark) refl place e (λ later. pushed_at app done later what) where
+  by : (o : Option Pushed) → pushed_of app mark ≡ o → (place : ℕ) → slice_get (cons_option o (pushes app done)) place ≡ Some what
+      → ((later : ℕ) → slice_get (pushes app done) later ≡ Some what → app_pushed what ≡ app) → app_pushed what ≡ app
   by None is place e again = again place e
-  by (Some d) is zero e again = queued_here app mark c (is ∙ e)
+  by (Some d) is zero e again = pushed_here app mark what (is ∙ e)
   by (Some d) is (suc place) e again = again place e
 
 no_turn_log : (app writer call : ℕ) (at : Moment) → IsNoTurn (event.Log app writer call at)
@@ -103,13 +114,15 @@ record IsNextCall (run : Run) (done : List Mark) (app : ℕ) (item : Item) : Typ
   frame_is : run.frame item.writer item.call ≡ log_message run.setting.ecu item
 
 next_call : (run : Run) (done : List Mark) (old : World) (app : ℕ) (item : Item) → IsAfter run done old → IsRunOf run done → app < length old.calls.apps → next_item old.calls app ≡ Some item → IsNextCall run done app item
-next_call run done old app item after is_run known next = by (slice_get (queued app done) (taken app done)) refl (sym (next_tells done old.calls app known after.so_far.calls_so) ∙ next) where
-  by : (o : Option Call) → slice_get (queued app done) (taken app done) ≡ o → option_map (λ (c : Call). c.item) o ≡ Some item → IsNextCall run done app item
-  by None at is = absurd cc
-  by (Some call) at is =
-      let same : call.item ≡ item = one_of is in
-      subst (λ (i : Item). IsNextCall run done app i) same
-      (record { app_is = queued_at app done (taken app done) call at; frame_is = given_in_rings run.setting.ecu run.frame done is_run.frames app (taken app done) call at })
+next_call run done old app item after is_run known next =
+    by (slice_get (pushes app done) (taken app done)) refl (sym (ap (option_and_then item_held) (next_tells done old.calls app known after.so_far.calls_so)) ∙ next) where
+      by : (o : Option Pushed) → slice_get (pushes app done) (taken app done) ≡ o → option_and_then item_held (option_map as_held o) ≡ Some item → IsNextCall run done app item
+      by None at is = absurd cc
+      by (Some (OfClaim claim)) at is = absurd cc
+      by (Some (OfCall call)) at is =
+          let same : call.item ≡ item = one_of is in
+          subst (λ (i : Item). IsNextCall run done app i) same
+          (record { app_is = pushed_at app done (taken app done) (OfCall call) at; frame_is = given_in_rings run.setting.ecu run.frame done is_run.frames app (taken app done) call at })
 
 module _ (old new : World) (app : ℕ) (item : Item) (core_now : Core) (made kept : Journaled) (calls_now : Calls) (told told_now : FolderTold)
     (known : app < length old.calls.apps) (next : next_item old.calls app ≡ Some item) (sizes : HasSizes item) (made_is : made.events ≡ old.journal.events)

@@ -12,7 +12,7 @@ use Rattle.dl_control.specs.declared.request.Request.{Request}
 use Rattle.dl_control.specs.declared.request.Request.TheVariants.{Store, Reset, Inject}
 use Rattle.dl_control.specs.declared.request.RequestFault.{RequestFault}
 use Rattle.dl_events.specs.declared.event.Event.{Event}
-use Rattle.dl_model.specs.declared.registry.Context.{Context}
+use Rattle.dl_model.specs.declared.context.Context.{Context}
 use Rattle.dl_model.specs.declared.registry.Slot.{Slot}
 use Rattle.dl_model.specs.Journal.{registry_of, slots_of}
 use Rattle.dl_model.specs.Registry.{App, Registry, IsInOrder, app_of, context_of, reset}
@@ -21,7 +21,6 @@ use Rattle.dl_model.specs.Setting.{Setting}
 use Rattle.dl_model.proofs.Order.{app_of_found, in_order-registry_of}
 use Rattle.dl_services.specs.Wish.{wanted, removes, sends}
 use Rattle.dl_services.specs.declared.wish.Want.TheVariants as want
-use Rattle.dl_services.proofs.Requests.{wants-needs}
 
 -- ---- needs
 

@@ -14,7 +14,7 @@ use Rattle.dl_bytes.specs.declared.outcome.TraceState.{TraceState}
 use Rattle.dl_script_lines.specs.declared.step.Step.{Step}
 use Rattle.dl_script.specs.Earlier.{nothing}
 use Rattle.dl_model.specs.Setting.{Setting}
-use Rattle.dl_model.specs.Marks.{Mark, HasApp, HasContext, HasWriter, Filtered, Passed, Queued, Refused, Counted, Noted, Clocked, LevelsWait, Fed, Heard, Answered, Injected, Handed, apid_of, call_of, journal}
+use Rattle.dl_model.specs.Marks.{Mark, HasApp, HasContext, HasWriter, Filtered, Passed, Queued, Refused, Counted, HasClaim, Announced, HeldBack, Noted, Clocked, LevelsWait, Fed, Heard, Answered, Injected, Handed, apid_of, call_of, journal}
 use Rattle.dl_model.specs.Replay.{frame_of_call}
 use Rattle.dl_model.specs.Steps.{after_lines, run}
 use Rattle.dl_model.specs.TraceFiles.{StoredFile}
@@ -26,7 +26,7 @@ use Rattle.dl_outside.specs.Folder.{Files}
 use Rattle.dl_trace.specs.Made.{IsMade}
 use Rattle.dl_trace.specs.Stands.{HasFiles}
 use Rattle.dl_trace.specs.State as traces
-use Rattle.dl_trace.specs.State.{Trace, listed}
+use Rattle.dl_trace.specs.State.{Trace}
 use Rattle.dl_core.specs.Settings.{setting_of}
 use Rattle.dl_core.specs.Serving.{stored_name}
 use Rattle.dl_core.specs.State.{Core}
@@ -36,7 +36,7 @@ use Rattle.dl_folders.specs.Files.{directory_of}
 use Rattle.dl_world.specs.Follows.{IsRunOf, IsAfter, Goes, Does, BeginWith, answer_of, answers_in, is_failure, failures_of}
 use Rattle.dl_world.specs.Known.{MayCome}
 use Rattle.dl_world.specs.Left.{IsLeft, told_of}
-use Rattle.dl_script.specs.Playable.{HasShortText, IsPlayable}
+use Rattle.dl_script.specs.Playable.{IsInBounds, IsPlayable}
 use Rattle.dl_folders.specs.Later.{trace_failures}
 use Rattle.dl_world.specs.Played.{frames_in, files_with, IsTraced, TellsOf, Holds, is_failed, IsPlayed}
 use Rattle.dl_world.specs.Stored.{HoldsStored}
@@ -67,6 +67,9 @@ by_answer (Passed call) = refl
 by_answer (Queued call) = refl
 by_answer (Refused call) = refl
 by_answer (Counted call) = refl
+by_answer (HasClaim claim) = refl
+by_answer (Announced claim) = refl
+by_answer (HeldBack claim) = refl
 by_answer (Noted e) = refl
 by_answer (Clocked moment) = refl
 by_answer (LevelsWait later) = refl
@@ -129,7 +132,7 @@ module _ (conf : Conf) (kept : Stored) (handed : Option Trace) (stood : List Sto
     known = known_after nothing (take place steps);
     is_known = lines_known setting does.answered (take place steps) nothing [] nothing_known;
     admitted = may_come steps nothing place step playable.follows is;
-    text = all_at HasShortText steps place step playable.texts is;
+    bounds = all_at IsInBounds steps place step playable.bounds is;
   }
 
   -- after all
@@ -215,6 +218,7 @@ module _ (conf : Conf) (kept : Stored) (handed : Option Trace) (stood : List Sto
         done = done;
         run_is = refl;
         records_are = left.records_are;
+        claims_are = left.claims_are;
         events_are = left.events_are;
         streams_are = left.streams_are;
         specs_are = left.specs_are;

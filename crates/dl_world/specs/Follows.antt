@@ -3,11 +3,12 @@ use Rattle.std.specs.Prelude.{◌≡◌, ℕ, ◌+◌, ◌-◌, ◌^◌, ◌<◌
 use Rattle.std.specs.List.{filter_map, AllByRecursion}
 use Rattle.std.specs.Option.{option_map_or}
 use Rattle.dl_bytes.specs.Limits.{client_limit}
+use Rattle.dl_bytes.specs.Claim.{Claimed}
 use Rattle.dl_bytes.specs.declared.item.Item.{Item}
 use Rattle.dl_bytes.specs.declared.outcome.Done.{Done}
 use Rattle.dl_bytes.specs.declared.outcome.Done.TheVariants as did
 use Rattle.dl_events.specs.declared.event.Event.{Event}
-use Rattle.dl_events.specs.declared.event.Event.TheVariants.{Log}
+use Rattle.dl_events.specs.declared.event.Event.TheVariants.{Log, Claim}
 use Rattle.dl_message.specs.Frames.{log_message}
 use Rattle.dl_events.specs.declared.event.Why.{Why}
 use Rattle.dl_events.specs.declared.event.Why.TheVariants as why
@@ -21,7 +22,7 @@ use Rattle.dl_frames.specs.FrameLengths.{CarriesLen}
 use Rattle.dl_frames.specs.FramesPut.{IsPut}
 use Rattle.dl_world_calls.specs.Follows as calls
 use Rattle.dl_world_calls.specs.Injections.{AreAfter}
-use Rattle.dl_world_calls.specs.State.{next_item}
+use Rattle.dl_world_calls.specs.State.{Held, HeldCall, HeldClaim, next_claim, next_held, next_item}
 use Rattle.dl_outside.specs.Told.{FolderTold}
 use Rattle.dl_hub.specs.State.{HasPlace, Waiting, outbox_of, is_open}
 use Rattle.dl_trace.specs.State.{Trace}
@@ -154,10 +155,24 @@ next_level setting done = take 1 (note_levels setting done)
 abbrev pub noting : (List Mark → Event) → Setting → Act
 noting make setting done = Noted (make done) ∷ []
 
--- the next item of an application's ring, which is there, is noted as a log call that was taken
-abbrev pub NotesNext : ℕ → World → World → FolderTold → FolderTold → Type 0
-NotesNext app old new told told_now = (item : Item) → next_item old.calls app ≡ Some item
+-- where a log call is next in an application's ring, it is noted as taken
+abbrev pub NotesNextCall : ℕ → World → World → FolderTold → FolderTold → Type 0
+NotesNextCall app old new told told_now = (item : Item) → next_item old.calls app ≡ Some item
     → Does (λ setting answers. noting (λ now. Log app item.writer item.call (moment now)) setting) old new told told_now
+
+-- so is a claim that is next
+abbrev pub NotesNextClaim : ℕ → World → World → Type 0
+NotesNextClaim app old new = (claim : Claimed) → next_claim old.calls app ≡ Some claim → Doing (noting (λ now. Claim claim (moment now))) old new
+
+-- the event by which the daemon notes what it takes out of an application's ring
+abbrev pub event_held : ℕ → Held → List Mark → Event
+event_held app (HeldCall r) now = Log app r.item.writer r.item.call (moment now)
+event_held app (HeldClaim claim) now = Claim claim (moment now)
+
+-- what is next in an application's ring, a log call or a claim, is noted as taken
+abbrev pub NotesNext : ℕ → World → World → FolderTold → FolderTold → Type 0
+NotesNext app old new told told_now = (what : Held) → next_held old.calls app ≡ Some what
+    → Does (λ setting answers. noting (event_held app what) setting) old new told told_now
 
 -- ---- log calls
 

@@ -5,7 +5,7 @@ use Rattle.dl_bytes.specs.declared.outcome.LinkEnd.{LinkEnd}
 use Rattle.dl_bytes.specs.declared.outcome.TraceState.{TraceState}
 use Rattle.dl_model.specs.ClientStream.{traffic}
 use Rattle.dl_model.specs.Backlog.{left, size_of}
-use Rattle.dl_model.specs.Marks.{Mark, journal, records}
+use Rattle.dl_model.specs.Marks.{Mark, claims, journal, records}
 use Rattle.dl_model.specs.Replay.{clients, specs_of}
 use Rattle.dl_hub.specs.State.{Client, Hub, client_of}
 use Rattle.dl_trace.specs.State.{Trace}
@@ -35,10 +35,11 @@ told_of (Some trace) = trace.state
 abbrev pub link_after : Run → List Mark → ℕ → LinkEnd
 link_after run done number = let frames = stream_in run done number in record { client = number; frames = length frames; bytes = size_of frames; complete = true }
 
--- What is handed out is that of the marks: records and journal, what each client was sent, the applications, the ends of the links, the
+-- What is handed out is that of the marks: records, claims and journal, what each client was sent, the applications, the ends of the links, the
 -- backlog, and what the trace tells.
 pub record IsLeft (run : Run) (done : List Mark) (core : Core) (played : Played) : Type 0 where
   pub records_are : played.records ≡ records done
+  pub claims_are : played.claims ≡ claims done
   pub events_are : played.events.events ≡ journal done
   pub streams_are : played.streams ≡ map (stream_in run done) (clients done)
   pub specs_are : played.specs ≡ specs_of done

@@ -1,4 +1,4 @@
--- What a run of steps leaves: its records and its journal, what each client was sent, the backlog, and the trace files.
+-- What a run of steps leaves: its records, claims and journal, what each client was sent, the backlog, and the trace files.
 use Rattle.std.specs.Prelude.{◌≡◌, ℕ, ◌+◌, ◌-◌, ◌^◌, ◌<◌, ◌≤◌, min, Bool, true, false, List, [], ◌++◌, length, map, count_by, Option, Some, None, IfSome, IsSomeAnd, IfOk, Result}
 use Rattle.std.specs.FinMap as files
 use Rattle.dl_bytes.specs.declared.conf.Conf.{Conf}
@@ -9,7 +9,7 @@ use Rattle.dl_bytes.specs.declared.outcome.TraceEnd.TheVariants.{Spent}
 use Rattle.dl_bytes.specs.declared.outcome.TraceState.{TraceState}
 use Rattle.dl_script_lines.specs.declared.step.Step.{Step}
 use Rattle.dl_model.specs.Setting.{Setting}
-use Rattle.dl_model.specs.Marks.{Mark, Answered, journal, records}
+use Rattle.dl_model.specs.Marks.{Mark, Answered, claims, journal, records}
 use Rattle.dl_model.specs.Frames.{stored_frames}
 use Rattle.dl_model.specs.ClientStream.{traffic}
 use Rattle.dl_model.specs.Backlog.{left}
@@ -72,7 +72,7 @@ failures done state = count_by is_failed done + trace_failures state.end
 
 -- ---- the whole
 
--- A run was played: for some answers of the folder to the requests that asked it, records, journal, streams, backlog and trace files
+-- A run was played: for some answers of the folder to the requests that asked it, records, claims, journal, streams, backlog and trace files
 -- are those of the run of the steps. Where the folder failed at none of these requests, the stored configuration is what the journal made of
 -- the file that stood there. The folder's count of faults rose by as many as it failed, at least.
 pub record IsPlayed (setting : Setting) (stood : List StoredFile) (steps : List Step) (trace : Option Trace) (played : Played) (told told_now : FolderTold) : Type 0 where
@@ -80,6 +80,7 @@ pub record IsPlayed (setting : Setting) (stood : List StoredFile) (steps : List 
   pub done : List Mark
   pub run_is : done ≡ run setting answers steps
   pub records_are : played.records ≡ records done
+  pub claims_are : played.claims ≡ claims done
   pub events_are : played.events.events ≡ journal done
   pub streams_are : played.streams ≡ map (stream_of setting done) (clients done)
   pub specs_are : played.specs ≡ specs_of done

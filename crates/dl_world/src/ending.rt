@@ -22,7 +22,8 @@ use dl_outside::Folder;
 use std::alloc::Global;
 
 impl World {
-    /// Open calls are finished, rings and losses are emptied, Level events no longer wait, and the clients are closed.
+    /// Open calls are finished, rings and losses are emptied, Level events no longer wait, and the clients are closed. Claims that wait stay
+    /// unannounced.
     pub fn end<F: Folder>(&mut self, folder: &mut F) -> Result<(), OutOfMemory>
         ensures does { OnOk result (Does (λ setting answers. end_of setting) self.old self.new (F.told folder.old) (F.told folder.new)) }
         ensures leaves { Leaves self.old.core self.new.core (F.told folder.old) (F.told folder.new) }
@@ -83,9 +84,10 @@ impl World {
         let backlog = core.hub().backlog();
         let trace = trace_of(alloc, core);
         let streams = FrameList::over(clients.into_streams(alloc)?);
-        let (records, specs) = calls.into_parts()?;
+        let (records, claims, specs) = calls.into_parts()?;
         Ok(Played {
             records,
+            claims,
             events: journal,
             streams,
             specs,

@@ -1,6 +1,6 @@
 //! The lines of a script, each as what it does to the world.
 
-ghost use Rattle.std.specs.Prelude.{◌≡◌, ◌≤◌, ◌<◌, [], OnOk, IsSomeAnd, length};
+ghost use Rattle.std.specs.Prelude.{◌≡◌, ◌≤◌, ◌<◌, ◌+◌, [], OnOk, IsSomeAnd, length};
 ghost use Rattle.dl_script_lines.specs.declared.step.Step.TheVariants as line;
 ghost use Rattle.dl_model.specs.Marks.{Clocked, moment_at};
 ghost use Rattle.dl_model.specs.Steps.{act_of, just};
@@ -35,6 +35,9 @@ impl World {
             Step::Count { writer } => self.count(*writer),
             Step::Call(call) => self.whole_call(call),
             Step::Log(call) => self.log(call, folder),
+            Step::Claim(asked) => self.claim(asked),
+            Step::Announce { writer } => self.announce(*writer),
+            Step::Register(asked) => self.register(asked),
             Step::Take { apid } => self.take_of(*apid, folder),
             Step::Losses { apid } => self.losses_of(*apid, folder),
             Step::Levels(levels) => self.set_levels(*levels),
@@ -70,7 +73,7 @@ impl World {
         context: &ContextLine,
         folder: &mut F,
     ) -> Result<(), OutOfMemory>
-        requires few { IsSomeAnd (app_named self.old.calls context.now.apid) (λ app. length app.contexts < 64) }
+        requires few { IsSomeAnd (app_named self.old.calls context.now.apid) (λ app. length app.contexts + app.claimed < 64) }
         requires text { length context.now.text ≤ 255 }
         ensures does { OnOk result (Does (λ setting answers. act_of setting answers (line.Context context.now)) self.old self.new (F.told folder.old) (F.told folder.new)) }
         ensures leaves { Leaves self.old.core self.new.core (F.told folder.old) (F.told folder.new) }
@@ -120,7 +123,7 @@ impl World {
         Ok(())
     }
 
-    /// The daemon takes the next call of the ring of the application of this id.
+    /// The daemon takes the next call or claim of the ring of the application of this id.
     fn take_of<F: Folder>(&mut self, apid: Id, folder: &mut F) -> Result<(), OutOfMemory>
         ensures does { OnOk result (Does (λ setting answers. act_of setting answers (line.Take apid)) self.old self.new (F.told folder.old) (F.told folder.new)) }
         ensures leaves { Leaves self.old.core self.new.core (F.told folder.old) (F.told folder.new) }

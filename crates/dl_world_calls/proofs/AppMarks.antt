@@ -5,22 +5,21 @@ use Rattle.std.specs.List.{filter_map, after_last}
 use Rattle.std.proofs.lemmas.List.{append-nil, map-append}
 use Rattle.std.proofs.lemmas.List.Elements.{filter_map-append}
 use Rattle.dl_bytes.specs.declared.moment.Moment.{Moment}
+use Rattle.dl_events.specs.declared.event.Event.{Event}
 use Rattle.dl_events.specs.declared.event.Event.TheVariants as event
-use Rattle.dl_events.specs.declared.record.Record.{Record}
-use Rattle.dl_events.specs.declared.record.Answer.TheVariants as answers
-use Rattle.dl_model.specs.Marks.{Call, Mark, Queued, Counted, Noted, recorded, event_of, journal, queued, queued_of, taken, is_log_of, pending, is_counted_of, is_lost_of}
+use Rattle.dl_model.specs.Marks.{Call, Mark, Counted, Noted, Pushed, event_of, journal, pushes, pushed_of, taken, is_taken_of, pending, is_counted_of, is_lost_of}
 use Rattle.dl_laws.proofs.Lists.{after_last-one, count_by-append}
-use Rattle.dl_world_calls.specs.declared.queue.RecordPlace.{RecordPlace}
-use Rattle.dl_world_calls.specs.State.{App, Writer, record_at}
-use Rattle.dl_world_calls.specs.Follows.{as_queued, IsAppAfter}
+use Rattle.dl_world_calls.specs.declared.queue.Entry.{Entry}
+use Rattle.dl_world_calls.specs.State.{App, Writer, Held, held_at, as_held}
+use Rattle.dl_world_calls.specs.Follows.{as_pushed, IsAppAfter}
 
 -- ---- words of an application's marks, with one mark more
 
-queued-one : (number : ℕ) (done : List Mark) (mark : Mark) → queued number (done ++ mark ∷ []) ≡ queued number done ++ filter_map (queued_of number) (mark ∷ [])
-queued-one number done mark = filter_map-append (queued_of number) done (mark ∷ [])
+pushes-one : (number : ℕ) (done : List Mark) (mark : Mark) → pushes number (done ++ mark ∷ []) ≡ pushes number done ++ filter_map (pushed_of number) (mark ∷ [])
+pushes-one number done mark = filter_map-append (pushed_of number) done (mark ∷ [])
 
-taken-one : (number : ℕ) (done : List Mark) (mark : Mark) → taken number (done ++ mark ∷ []) ≡ taken number done + count_by (is_log_of number) (filter_map event_of (mark ∷ []))
-taken-one number done mark = ap (count_by (is_log_of number)) (filter_map-append event_of done (mark ∷ [])) ∙ count_by-append (is_log_of number) (journal done) (filter_map event_of (mark ∷ []))
+taken-one : (number : ℕ) (done : List Mark) (mark : Mark) → taken number (done ++ mark ∷ []) ≡ taken number done + count_by (is_taken_of number) (filter_map event_of (mark ∷ []))
+taken-one number done mark = ap (count_by (is_taken_of number)) (filter_map-append event_of done (mark ∷ [])) ∙ count_by-append (is_taken_of number) (journal done) (filter_map event_of (mark ∷ []))
 
 pending-one : (number : ℕ) (done : List Mark) (mark : Mark) → is_lost_of number mark ≡ false → pending number (done ++ mark ∷ []) ≡ pending number done + cond (is_counted_of number mark) 1 0
 pending-one number done mark e =
@@ -30,32 +29,32 @@ pending-one number done mark e =
 
 -- ---- records that stay where they are
 
--- each record of the one is where it was among the other
+-- each record and each claim of the one is where it was among the other
 abbrev pub Keeps : List Writer → List Writer → Type 0
-Keeps old new = (at : RecordPlace) (r : Record) → record_at old at ≡ Some r → record_at new at ≡ Some r
+Keeps old new = (at : Entry) (held : Held) → held_at old at ≡ Some held → held_at new at ≡ Some held
 
-kept : (old new : List Writer) (places : List RecordPlace) (calls : List Call) → Keeps old new → map (record_at old) places ≡ map as_queued calls → map (record_at new) places ≡ map as_queued calls
+kept : (old new : List Writer) (places : List Entry) (calls : List Pushed) → Keeps old new → map (held_at old) places ≡ map as_pushed calls → map (held_at new) places ≡ map as_pushed calls
 kept old new [] [] keeps e = refl
 kept old new [] (c ∷ calls) keeps e = absurd cc
 kept old new (at ∷ places) [] keeps e = absurd cc
 kept old new (at ∷ places) (c ∷ calls) keeps e =
-    let first : record_at old at ≡ as_queued c = cc in
-    let others : map (record_at old) places ≡ map as_queued calls = cc in
-    let first_now : record_at new at ≡ as_queued c = keeps at (recorded c answers.Queued) first in
+    let first : held_at old at ≡ as_pushed c = cc in
+    let others : map (held_at old) places ≡ map as_pushed calls = cc in
+    let first_now : held_at new at ≡ as_pushed c = keeps at (as_held c) first in
     rw (first_now, kept old new places calls keeps others) refl
 
 -- ---- a mark that is none of the application's
 
 pub record IsApart (number : ℕ) (mark : Mark) : Type 0 where
-  pub not_queued : queued_of number mark ≡ None
-  pub not_taken : count_by (is_log_of number) (filter_map event_of (mark ∷ [])) ≡ 0
+  pub not_pushed : pushed_of number mark ≡ None
+  pub not_taken : count_by (is_taken_of number) (filter_map event_of (mark ∷ [])) ≡ 0
   pub not_lost : is_lost_of number mark ≡ false
   pub not_counted : is_counted_of number mark ≡ false
 
-none_queued : (number : ℕ) (done : List Mark) (mark : Mark) → queued_of number mark ≡ None → queued number (done ++ mark ∷ []) ≡ queued number done
-none_queued number done mark e = queued-one number done mark ∙ rw e (append-nil (queued number done))
+none_pushed : (number : ℕ) (done : List Mark) (mark : Mark) → pushed_of number mark ≡ None → pushes number (done ++ mark ∷ []) ≡ pushes number done
+none_pushed number done mark e = pushes-one number done mark ∙ rw e (append-nil (pushes number done))
 
-none_taken : (number : ℕ) (done : List Mark) (mark : Mark) → count_by (is_log_of number) (filter_map event_of (mark ∷ [])) ≡ 0 → taken number (done ++ mark ∷ []) ≡ taken number done
+none_taken : (number : ℕ) (done : List Mark) (mark : Mark) → count_by (is_taken_of number) (filter_map event_of (mark ∷ [])) ≡ 0 → taken number (done ++ mark ∷ []) ≡ taken number done
 none_taken number done mark e = omega (arith, taken-one number done mark, e)
 
 none_counted : (number : ℕ) (done : List Mark) (mark : Mark) → is_lost_of number mark ≡ false → is_counted_of number mark ≡ false → pending number (done ++ mark ∷ []) ≡ pending number done
@@ -63,56 +62,58 @@ none_counted number done mark not_lost not_counted = pending-one number done mar
 
 pub app-stays : (done : List Mark) (old new : List Writer) (number : ℕ) (app : App) (mark : Mark) → IsApart number mark → Keeps old new → IsAppAfter done old number app → IsAppAfter (done ++ mark ∷ []) new number app
 app-stays done old new number app mark apart keeps is = record {
-  ring_is = kept old new app.ring.calls (queued number done) keeps is.ring_is ∙ ap (map as_queued) (sym (none_queued number done mark apart.not_queued));
+  ring_is = kept old new app.ring.entries (pushes number done) keeps is.ring_is ∙ ap (map as_pushed) (sym (none_pushed number done mark apart.not_pushed));
   taken_is = none_taken number done mark apart.not_taken ∙ is.taken_is;
   pending_is = none_counted number done mark apart.not_lost apart.not_counted ∙ is.pending_is;
   told_at_most = is.told_at_most;
 }
 
--- ---- its ring takes a call
+-- ---- its ring takes a call or a claim
 
-pub app-queues : (done : List Mark) (old new : List Writer) (number : ℕ) (app : App) (c : Call) (at : RecordPlace) → eqb c.item.app number ≡ true → Keeps old new → record_at new at ≡ as_queued c → IsAppAfter done old number app
-    → IsAppAfter (done ++ Queued c ∷ []) new number (record app { ring = record { calls = app.ring.calls ++ at ∷ []; gone = app.ring.gone } })
-app-queues done old new number app c at e keeps there is = record {
+pub app-pushes : (done : List Mark) (old new : List Writer) (number : ℕ) (app : App) (mark : Mark) (what : Pushed) (at : Entry) → pushed_of number mark ≡ Some what
+    → count_by (is_taken_of number) (filter_map event_of (mark ∷ [])) ≡ 0 → is_lost_of number mark ≡ false → is_counted_of number mark ≡ false
+    → Keeps old new → held_at new at ≡ as_pushed what → IsAppAfter done old number app
+    → IsAppAfter (done ++ mark ∷ []) new number (record app { ring = record { entries = app.ring.entries ++ at ∷ []; gone = app.ring.gone } })
+app-pushes done old new number app mark what at e not_taken not_lost not_counted keeps there is = record {
   ring_is =
-      map-append (record_at new) app.ring.calls (at ∷ [])
-      ∙ rw (kept old new app.ring.calls (queued number done) keeps is.ring_is, there)
-      (sym (ap (map as_queued) (queued-one number done (Queued c) ∙ rw e refl) ∙ map-append as_queued (queued number done) (c ∷ [])));
-  taken_is = none_taken number done (Queued c) refl ∙ is.taken_is;
-  pending_is = none_counted number done (Queued c) refl refl ∙ is.pending_is;
+      map-append (held_at new) app.ring.entries (at ∷ [])
+      ∙ rw (kept old new app.ring.entries (pushes number done) keeps is.ring_is, there)
+      (sym (ap (map as_pushed) (pushes-one number done mark ∙ rw e refl) ∙ map-append as_pushed (pushes number done) (what ∷ [])));
+  taken_is = none_taken number done mark not_taken ∙ is.taken_is;
+  pending_is = none_counted number done mark not_lost not_counted ∙ is.pending_is;
   told_at_most = is.told_at_most;
 }
 
 -- ---- a call of it is counted as lost
 
-pub app-loses : (done : List Mark) (old new : List Writer) (number : ℕ) (app : App) (c : Call) (at : RecordPlace) → eqb c.item.app number ≡ true → Keeps old new → IsAppAfter done old number app
-    → IsAppAfter (done ++ Counted c ∷ []) new number (record app { losses = record { calls = app.losses.calls ++ at ∷ []; gone = app.losses.gone } })
+pub app-loses : (done : List Mark) (old new : List Writer) (number : ℕ) (app : App) (c : Call) (at : Entry) → eqb c.item.app number ≡ true → Keeps old new → IsAppAfter done old number app
+    → IsAppAfter (done ++ Counted c ∷ []) new number (record app { losses = record { entries = app.losses.entries ++ at ∷ []; gone = app.losses.gone } })
 app-loses done old new number app c at e keeps is = record {
-  ring_is = kept old new app.ring.calls (queued number done) keeps is.ring_is ∙ ap (map as_queued) (sym (none_queued number done (Counted c) refl));
+  ring_is = kept old new app.ring.entries (pushes number done) keeps is.ring_is ∙ ap (map as_pushed) (sym (none_pushed number done (Counted c) refl));
   taken_is = none_taken number done (Counted c) refl ∙ is.taken_is;
   pending_is =
       let more : pending number (done ++ Counted c ∷ []) ≡ pending number done + 1 = pending-one number done (Counted c) refl ∙ rw e refl in
-      omega (arith, more, is.pending_is, is.told_at_most, length-append app.losses.calls (at ∷ []));
-  told_at_most = omega (arith, is.told_at_most, length-append app.losses.calls (at ∷ []));
+      omega (arith, more, is.pending_is, is.told_at_most, length-append app.losses.entries (at ∷ []));
+  told_at_most = omega (arith, is.told_at_most, length-append app.losses.entries (at ∷ []));
 }
 
--- ---- the daemon takes a call, or the count of losses
+-- ---- the daemon takes a call or a claim, or the count of losses
 
-pub app-logs : (done : List Mark) (writers : List Writer) (number : ℕ) (app : App) (other writer call : ℕ) (moment : Moment) → eqb other number ≡ true → IsAppAfter done writers number app
-    → IsAppAfter (done ++ Noted (event.Log other writer call moment) ∷ []) writers number (record app { ring = record { calls = app.ring.calls; gone = app.ring.gone + 1 } })
-app-logs done writers number app other writer call moment e is = let mark = Noted (event.Log other writer call moment) in record {
-  ring_is = is.ring_is ∙ ap (map as_queued) (sym (none_queued number done mark refl));
+pub app-takes : (done : List Mark) (writers : List Writer) (number : ℕ) (app : App) (e : Event) → is_taken_of number e ≡ true → is_lost_of number (Noted e) ≡ false → IsAppAfter done writers number app
+    → IsAppAfter (done ++ Noted e ∷ []) writers number (record app { ring = record { entries = app.ring.entries; gone = app.ring.gone + 1 } })
+app-takes done writers number app e takes not_lost is = record {
+  ring_is = is.ring_is ∙ ap (map as_pushed) (sym (none_pushed number done (Noted e) refl));
   taken_is =
-      let more : taken number (done ++ mark ∷ []) ≡ taken number done + 1 = taken-one number done mark ∙ rw e (omega arith) in
+      let more : taken number (done ++ Noted e ∷ []) ≡ taken number done + 1 = taken-one number done (Noted e) ∙ rw takes (omega arith) in
       omega (arith, more, is.taken_is);
-  pending_is = none_counted number done mark refl refl ∙ is.pending_is;
+  pending_is = none_counted number done (Noted e) not_lost refl ∙ is.pending_is;
   told_at_most = is.told_at_most;
 }
 
 pub app-tells : (done : List Mark) (writers : List Writer) (number : ℕ) (app : App) (other count : ℕ) (moment : Moment) → eqb other number ≡ true → IsAppAfter done writers number app
-    → IsAppAfter (done ++ Noted (event.Lost other count moment) ∷ []) writers number (record app { losses = record { calls = app.losses.calls; gone = length app.losses.calls } })
+    → IsAppAfter (done ++ Noted (event.Lost other count moment) ∷ []) writers number (record app { losses = record { entries = app.losses.entries; gone = length app.losses.entries } })
 app-tells done writers number app other count moment e is = let mark = Noted (event.Lost other count moment) in record {
-  ring_is = is.ring_is ∙ ap (map as_queued) (sym (none_queued number done mark refl));
+  ring_is = is.ring_is ∙ ap (map as_pushed) (sym (none_pushed number done mark refl));
   taken_is = none_taken number done mark refl ∙ is.taken_is;
   pending_is =
       let after : after_last (is_lost_of number) (done ++ mark ∷ []) ≡ [] = after_last-one (is_lost_of number) done mark ∙ rw e refl in

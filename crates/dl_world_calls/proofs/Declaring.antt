@@ -15,13 +15,15 @@ use Rattle.dl_script_lines.specs.declared.line.ContextLine.{ContextLine}
 use Rattle.dl_model.proofs.Presence.{bytes_tell}
 use Rattle.dl_model.specs.Marks.{Mark, HasApp, HasContext, HasWriter, app_of, context_of, writer_of, apps, contexts_of, number_of}
 use Rattle.dl_model.specs.Steps.{just}
+use Rattle.dl_world_calls.specs.declared.queue.OwnPlace.{OwnPlace}
 use Rattle.dl_world_calls.specs.State.{App, Writer, Calls, new_app, new_writer, numbered}
-use Rattle.dl_world_calls.specs.Follows.{no_app, no_writer, writer_at, line_of, is_named, contexts_in, IsOwned, IsWriterAfter, IsAppAfter, IsAfter, Does}
+use Rattle.dl_world_calls.specs.Follows.{no_app, no_writer, writer_at, line_of, is_named, contexts_in, IsOwned, IsWriterAfter, IsClaimerAfter, IsAppAfter, IsAfter, Does}
 use Rattle.dl_world_calls.proofs.WriterMarks.{stays}
 use Rattle.dl_world_calls.proofs.AppMarks.{Keeps, IsApart, app-stays}
-use Rattle.dl_world_calls.proofs.Places.{get_or-set, each_set, get_or-push, get_or-past, position_to_len, position-map, any_default}
-use Rattle.dl_world_calls.proofs.Following.{apps-same, writers-same, contexts-same, number-same, lines_set, owned_on}
+use Rattle.dl_world_calls.proofs.ClaimMarks.{claimers-stay, claimed-stay, same_kept}
+use Rattle.dl_world_calls.proofs.Places.{get_or-set, each_set, told_set, get_or-push, get_or-past, position_to_len, position-map, any_default}
 use Rattle.dl_lemmas.proofs.Lists.{get_more, position-more}
+use Rattle.dl_world_calls.proofs.Following.{apps-same, writers-same, contexts-same, number-same, lines_set, owned_on, held_keeps}
 
 same_of : (a b : List ℕ) → bytes_eq a b ≡ true → a ≡ b
 same_of a b e = elim (bytes_tell a b) as (λ _. a ≡ b) [ inl same ↦ same.1 | inr other ↦ absurd cc ]
@@ -78,6 +80,8 @@ app-declared done calls line spec same is = let mark = HasApp line in record {
         counts = own.counts;
       };
   each_writer = λ k. stays done k (writer_at calls.writers k) mark refl (is.each_writer k);
+  each_claimer = claimers-stay done mark calls.writers calls.writers (record { no_claim = refl; no_announcement = refl }) is.each_claimer (λ k. same_kept (writer_at calls.writers k));
+  claimed_are = claimed-stay done mark calls.apps (calls.apps ++ new_app spec ∷ []) refl is.claimed_are claimed_pushed;
   each_app = λ k. subst (IsAppAfter (done ++ mark ∷ []) calls.writers k) (sym (get_or-push calls.apps k (new_app spec) no_app))
       (each_set (IsAppAfter (done ++ mark ∷ []) calls.writers) (λ j. get_or calls.apps j no_app) (length calls.apps) (new_app spec)
       (fresh_app (done ++ mark ∷ []) calls.writers (length calls.apps) spec
@@ -87,24 +91,56 @@ app-declared done calls line spec same is = let mark = HasApp line in record {
       k);
 } where
   quiet_for : (j : ℕ) → IsApart j (HasApp line)
-  quiet_for j = record { not_queued = refl; not_taken = refl; not_lost = refl; not_counted = refl }
+  quiet_for j = record { not_pushed = refl; not_taken = refl; not_lost = refl; not_counted = refl }
+
+  -- nothing of it is claimed
+  claimed_pushed : (k : ℕ) → (get_or (calls.apps ++ new_app spec ∷ []) k no_app).claimed ≡ (get_or calls.apps k no_app).claimed
+  claimed_pushed k =
+      subst (λ (x : App). x.claimed ≡ (get_or calls.apps k no_app).claimed) (sym (get_or-push calls.apps k (new_app spec) no_app))
+      (each_set (λ j (x : App). x.claimed ≡ (get_or calls.apps j no_app).claimed) (λ j. get_or calls.apps j no_app) (length calls.apps) (new_app spec)
+      (ap (λ (x : App). x.claimed) (sym (get_or-past calls.apps no_app))) (λ j differs. refl) k)
 
 -- ---- a writer more
 
-new_writer_keeps : (ws : List Writer) (y : Writer) → Keeps ws (ws ++ y ∷ [])
-new_writer_keeps ws y at r e = by_test (eqb at.writer 0) e where
-  by_writer : (o : Option Writer) → slice_get ws (at.writer - 1) ≡ o → option_and_then (λ (writer : Writer). slice_get writer.records at.place) o ≡ Some r
-      → option_and_then (λ (writer : Writer). slice_get writer.records at.place) (slice_get (ws ++ y ∷ []) (at.writer - 1)) ≡ Some r
+own_more : {A : Type 0} (f : Writer → List A) (ws : List Writer) (y : Writer) (at : OwnPlace) (x : A)
+    → cond (eqb at.writer 0) None (option_and_then (λ (writer : Writer). slice_get (f writer) at.place) (slice_get ws (at.writer - 1))) ≡ Some x
+    → cond (eqb at.writer 0) None (option_and_then (λ (writer : Writer). slice_get (f writer) at.place) (slice_get (ws ++ y ∷ []) (at.writer - 1))) ≡ Some x
+own_more f ws y at x e = by_test (eqb at.writer 0) e where
+  by_writer : (o : Option Writer) → slice_get ws (at.writer - 1) ≡ o → option_and_then (λ (writer : Writer). slice_get (f writer) at.place) o ≡ Some x
+      → option_and_then (λ (writer : Writer). slice_get (f writer) at.place) (slice_get (ws ++ y ∷ []) (at.writer - 1)) ≡ Some x
   by_writer None is e = absurd cc
   by_writer (Some w) is e = rw (get_more ws (y ∷ []) (at.writer - 1) w is) e
 
-  by_test : (b : Bool) → cond b None (option_and_then (λ (writer : Writer). slice_get writer.records at.place) (slice_get ws (at.writer - 1))) ≡ Some r
-      → cond b None (option_and_then (λ (writer : Writer). slice_get writer.records at.place) (slice_get (ws ++ y ∷ []) (at.writer - 1))) ≡ Some r
+  by_test : (b : Bool) → cond b None (option_and_then (λ (writer : Writer). slice_get (f writer) at.place) (slice_get ws (at.writer - 1))) ≡ Some x
+      → cond b None (option_and_then (λ (writer : Writer). slice_get (f writer) at.place) (slice_get (ws ++ y ∷ []) (at.writer - 1))) ≡ Some x
   by_test true e = absurd cc
   by_test false e = by_writer (slice_get ws (at.writer - 1)) refl e
 
+new_writer_keeps : (ws : List Writer) (y : Writer) → Keeps ws (ws ++ y ∷ [])
+new_writer_keeps ws y = held_keeps ws (ws ++ y ∷ []) (own_more (λ (w : Writer). w.records) ws y) (own_more (λ (w : Writer). w.claims) ws y)
+
 fresh_writer : (done : List Mark) (k app : ℕ) (apid : List ℕ) → IsWriterAfter done k no_writer → IsWriterAfter done k (new_writer app apid)
 fresh_writer done k app apid is = record { begun = is.begun; counter = is.counter; push_is = is.push_is; count_is = is.count_is; records_are = is.records_are }
+
+fresh_claimer : (done : List Mark) (k app : ℕ) (apid : List ℕ) → IsClaimerAfter done k no_writer → IsClaimerAfter done k (new_writer app apid)
+fresh_claimer done k app apid is = record { claims_are = is.claims_are; own = tt {0}; announced_are = is.announced_are; announced_at_most = is.announced_at_most }
+
+-- a list of writers with one more
+each_more : (P : ℕ → Writer → Type 0) (ws : List Writer) (app : ℕ) (apid : List ℕ) → ((k : ℕ) → P k no_writer → P k (new_writer app apid)) → ((k : ℕ) → P k (writer_at ws k)) → (k : ℕ) → P k (writer_at (ws ++ new_writer app apid ∷ []) k)
+each_more P ws app apid fresh all zero = all 0
+each_more P ws app apid fresh all (suc j) =
+    let not_zero : eqb (suc j) 0 ≡ false = grind (arith, nat_tests) in
+    let back : suc j - 1 ≡ j = omega arith in
+    rw (not_zero, back, get_or-push ws j (new_writer app apid) no_writer)
+    (each_set (λ i. P (suc i)) (λ i. get_or ws i no_writer) (length ws) (new_writer app apid)
+    (fresh (suc (length ws)) (subst (P (suc (length ws))) (get_or-past ws no_writer) (at (length ws))))
+    (λ i differs. at i) j) where
+      at : (i : ℕ) → P (suc i) (get_or ws i no_writer)
+      at i =
+          let not_zero : eqb (suc i) 0 ≡ false = grind (arith, nat_tests) in
+          let back : suc i - 1 ≡ i = omega arith in
+          let all_at = all (suc i) in
+          rw (not_zero, back) at all_at
 
 -- the number of an application, in both words
 pub number_is : (done : List Mark) (calls : Calls) (apid : List ℕ) → map line_of calls.apps ≡ apps done → numbered calls apid ≡ number_of apid done
@@ -120,30 +156,14 @@ writer-declared done calls apid app known is = let mark = HasWriter apid in let 
   owned = All-append (IsOwned (done ++ mark ∷ [])) calls.writers (y ∷ [])
       (λ k d below. owned_on done mark refl (get_or calls.writers k d) (is.owned k d below))
       (All-cons (IsOwned (done ++ mark ∷ [])) y [] (record { app_is = number-same apid done mark refl ∙ sym (number_is done calls apid is.apps_are) ∙ known; pushes = tt {0}; counts = tt {0} }) (λ k d below. absurd (omega (arith, below))));
-  each_writer = each;
-  each_app = λ k. app-stays done calls.writers (calls.writers ++ y ∷ []) k (get_or calls.apps k no_app) mark
-      (record { not_queued = refl; not_taken = refl; not_lost = refl; not_counted = refl })
+  each_writer = each_more (IsWriterAfter (done ++ mark ∷ [])) calls.writers app apid (λ k. fresh_writer (done ++ mark ∷ []) k app apid) (λ k. stays done k (writer_at calls.writers k) mark refl (is.each_writer k));
+  each_claimer = each_more (IsClaimerAfter (done ++ mark ∷ [])) calls.writers app apid (λ k. fresh_claimer (done ++ mark ∷ []) k app apid)
+      (claimers-stay done mark calls.writers calls.writers (record { no_claim = refl; no_announcement = refl }) is.each_claimer (λ k. same_kept (writer_at calls.writers k)));
+  claimed_are = claimed-stay done mark calls.apps calls.apps refl is.claimed_are (λ k. refl);
+  each_app = λ k. app-stays done calls.writers (calls.writers ++ new_writer app apid ∷ []) k (get_or calls.apps k no_app) mark
+      (record { not_pushed = refl; not_taken = refl; not_lost = refl; not_counted = refl })
       (new_writer_keeps calls.writers y) (is.each_app k);
-} where
-  mark_now : Mark
-  mark_now = HasWriter apid
-
-  at : (j : ℕ) → IsWriterAfter (done ++ HasWriter apid ∷ []) (suc j) (get_or calls.writers j no_writer)
-  at j =
-      let not_zero : eqb (suc j) 0 ≡ false = grind (arith, nat_tests) in
-      let back : suc j - 1 ≡ j = omega arith in
-      let before = is.each_writer (suc j) in
-      stays done (suc j) (get_or calls.writers j no_writer) (HasWriter apid) refl (rw (not_zero, back) at before)
-
-  each : (k : ℕ) → IsWriterAfter (done ++ HasWriter apid ∷ []) k (writer_at (calls.writers ++ new_writer app apid ∷ []) k)
-  each zero = stays done 0 no_writer (HasWriter apid) refl (is.each_writer 0)
-  each (suc j) =
-      let not_zero : eqb (suc j) 0 ≡ false = grind (arith, nat_tests) in
-      let back : suc j - 1 ≡ j = omega arith in
-      rw (not_zero, back, get_or-push calls.writers j (new_writer app apid) no_writer)
-      (each_set (λ i. IsWriterAfter (done ++ HasWriter apid ∷ []) (suc i)) (λ i. get_or calls.writers i no_writer) (length calls.writers) (new_writer app apid)
-      (fresh_writer (done ++ HasWriter apid ∷ []) (suc (length calls.writers)) app apid (subst (IsWriterAfter (done ++ HasWriter apid ∷ []) (suc (length calls.writers))) (get_or-past calls.writers no_writer) (at (length calls.writers))))
-      (λ i differs. at i) j)
+}
 
 -- ---- a context more
 
@@ -155,6 +175,8 @@ context-declared done calls line a app known app_is is = record {
   contexts_are = λ apid. by_id apid (bytes_tell line.apid apid);
   owned = λ k d below. owned_on done mark refl (get_or calls.writers k d) (is.owned k d below);
   each_writer = λ k. stays done k (writer_at calls.writers k) mark refl (is.each_writer k);
+  each_claimer = claimers-stay done mark calls.writers calls.writers (record { no_claim = refl; no_announcement = refl }) is.each_claimer (λ k. same_kept (writer_at calls.writers k));
+  claimed_are = claimed-stay done mark calls.apps (set calls.apps a z) refl is.claimed_are (λ k. told_set (λ (x : App). x.claimed) calls.apps a k z no_app (ap (λ (x : App). x.claimed) app_is));
   each_app = λ k. subst (IsAppAfter (done ++ mark ∷ []) calls.writers k) (sym (get_or-set calls.apps a k z no_app at.1))
       (each_set (IsAppAfter (done ++ mark ∷ []) calls.writers) (λ j. get_or calls.apps j no_app) a z (same_counts a (subst (IsAppAfter (done ++ mark ∷ []) calls.writers a) (sym app_is) (stay a))) (λ j differs. stay j) k);
 } where
@@ -172,7 +194,7 @@ context-declared done calls line a app known app_is is = record {
 
   stay : (j : ℕ) → IsAppAfter (done ++ mark ∷ []) calls.writers j (get_or calls.apps j no_app)
   stay j = app-stays done calls.writers calls.writers j (get_or calls.apps j no_app) mark
-      (record { not_queued = refl; not_taken = refl; not_lost = refl; not_counted = refl }) (keeps_all calls.writers) (is.each_app j)
+      (record { not_pushed = refl; not_taken = refl; not_lost = refl; not_counted = refl }) (keeps_all calls.writers) (is.each_app j)
 
   same_counts : (j : ℕ) → IsAppAfter (done ++ mark ∷ []) calls.writers j app → IsAppAfter (done ++ mark ∷ []) calls.writers j z
   same_counts j is = record {

@@ -1,5 +1,6 @@
 pub mod WriterMarks
 pub mod AppMarks
+pub mod ClaimMarks
 pub mod Places
 pub mod Following
 pub mod Acts

@@ -2,11 +2,12 @@
 use Rattle.std.proofs.Common.{◌≡◌, ◌≢◌, ℕ, ◌+◌, ◌-◌, ◌%◌, ◌<◌, ◌⊎◌, inl, inr, Bool, true, false, cond, eqb, eq-eqb, get_or, set, List, [], ◌∷◌, ◌++◌, length, Option, Some, None, refl, sym, ap, subst, ◌∙◌, arith}
 use Rattle.std.specs.Prelude.{map, slice_get}
 use Rattle.std.specs.List.{position, position_or_len}
-use Rattle.std.specs.Option.{option_map}
+use Rattle.std.specs.Option.{option_map, option_or}
 use Rattle.std.specs.Str.{bytes_eq}
 use Rattle.std.proofs.lemmas.Option.{slice_get-map}
 use Rattle.std.proofs.lemmas.List.{append-nil}
 use Rattle.std.proofs.lemmas.Bool.Decides.{nat_tests, eqb_tells}
+use Rattle.dl_bytes.specs.Claim.{Claimed}
 use Rattle.dl_bytes.specs.Level.{passes}
 use Rattle.dl_bytes.specs.Number.{◌>>=◌}
 use Rattle.dl_bytes.specs.Context.{Context}
@@ -17,14 +18,15 @@ use Rattle.dl_model.specs.declared.registry.Slot.{Slot}
 use Rattle.dl_model.specs.Setting.{Setting}
 use Rattle.dl_model.specs.Registry.{slot_of}
 use Rattle.dl_model.specs.Journal.{slots_of}
-use Rattle.dl_model.specs.Marks.{Call, Mark, recorded, Filtered, Passed, journal, to_push, to_count, writers, app_of_writer, number_of, place_of, contexts_of, calls_of, passed_of}
+use Rattle.dl_model.specs.Marks.{Call, Mark, recorded, Filtered, Passed, journal, to_push, to_count, writers, app_of_writer, number_of, place_of, named_place, contexts_of, claims_of, calls_of, passed_of}
 use Rattle.dl_model.specs.Steps.{loaded, load}
-use Rattle.dl_world_calls.specs.State.{App, Writer, Calls, writer_of, named, context_in, begun, made_call}
-use Rattle.dl_world_calls.specs.Follows.{no_app, no_writer, is_named, IsOwned, IsWriterAfter, IsAfter}
+use Rattle.dl_world_calls.specs.State.{App, Writer, Calls, writer_of, claimed_place, place_named, named, context_in, begun, made_call}
+use Rattle.dl_world_calls.specs.Follows.{no_app, no_writer, is_named, IsOwned, IsWriterAfter, IsClaimerAfter, IsAfter}
 use Rattle.dl_world_calls.proofs.WriterMarks.{filters, passes_on}
 use Rattle.dl_world_calls.proofs.AppMarks.{app-stays}
+use Rattle.dl_world_calls.proofs.ClaimMarks.{claimed-stay}
 use Rattle.dl_world_calls.proofs.Places.{any_default, apart, there, found, position-map, position_to_len}
-use Rattle.dl_world_calls.proofs.Following.{goes_on, here, each_writer_now, names_now, owned_now, keeps_more}
+use Rattle.dl_world_calls.proofs.Following.{goes_on, here, claims_here, each_writer_now, claimers_now, names_now, owned_now, keeps_more}
 use Rattle.dl_world_calls.proofs.Declaring.{number_is}
 
 -- ---- what a call names
@@ -36,7 +38,7 @@ pub record IsNamed (calls : Calls) (line : CallLine) (context : Context) : Type 
   pub app_is : (get_or calls.writers (line.writer - 1) no_writer).app ≡ context.app
   pub apid_is : (get_or calls.writers (line.writer - 1) no_writer).apid ≡ context.apid
   pub app_below : context.app < length calls.apps
-  pub place_is : position (λ (id : List ℕ). bytes_eq id line.ctid) (get_or calls.apps context.app no_app).contexts ≡ Some context.place
+  pub place_is : place_named (get_or calls.apps context.app no_app) (get_or calls.writers (line.writer - 1) no_writer) line.ctid ≡ Some context.place
   pub ctid_is : context.ctid ≡ line.ctid
 
 abbrev context_with : ℕ → ℕ → List ℕ → List ℕ → Context
@@ -45,7 +47,7 @@ context_with app place apid ctid = record { app = app; place = place; apid = api
 pub named_is : (calls : Calls) (line : CallLine) (context : Context) → named calls line ≡ Some context → IsNamed calls line context
 named_is calls line context e = by_number (eqb_tells line.writer 0) where
   by_place : 0 < line.writer → (w : Writer) → slice_get calls.writers (line.writer - 1) ≡ Some w → (app : App) → slice_get calls.apps w.app ≡ Some app
-      → (o : Option ℕ) → position (λ (id : List ℕ). bytes_eq id line.ctid) app.contexts ≡ o
+      → (o : Option ℕ) → place_named app w line.ctid ≡ o
       → option_map (λ (place : ℕ). context_with w.app place w.apid line.ctid) o ≡ Some context → IsNamed calls line context
   by_place some w w_is app app_is None place_is e = absurd cc
   by_place some w w_is app app_is (Some place) place_is e =
@@ -58,22 +60,22 @@ named_is calls line context e = by_number (eqb_tells line.writer 0) where
         app_is = ap (λ (x : Writer). x.app) at.1;
         apid_is = ap (λ (x : Writer). x.apid) at.1;
         app_below = app_at.0;
-        place_is = rw app_at.1 place_is;
+        place_is = rw (app_at.1, at.1) place_is;
         ctid_is = refl;
       })
 
   by_app : 0 < line.writer → (w : Writer) → slice_get calls.writers (line.writer - 1) ≡ Some w → (o : Option App) → slice_get calls.apps w.app ≡ o
-      → (o >>= (λ (app : App). option_map (λ (place : ℕ). context_with w.app place w.apid line.ctid) (position (λ (id : List ℕ). bytes_eq id line.ctid) app.contexts))) ≡ Some context
+      → (o >>= (λ (app : App). option_map (λ (place : ℕ). context_with w.app place w.apid line.ctid) (place_named app w line.ctid))) ≡ Some context
       → IsNamed calls line context
   by_app some w w_is None app_is e = absurd cc
-  by_app some w w_is (Some app) app_is e = by_place some w w_is app app_is (position (λ (id : List ℕ). bytes_eq id line.ctid) app.contexts) refl e
+  by_app some w w_is (Some app) app_is e = by_place some w w_is app app_is (place_named app w line.ctid) refl e
 
-  by_writer : 0 < line.writer → (o : Option Writer) → slice_get calls.writers (line.writer - 1) ≡ o → (o >>= (λ (w : Writer). slice_get calls.apps w.app >>= (λ (app : App). option_map (λ (place : ℕ). context_with w.app place w.apid line.ctid) (position (λ (id : List ℕ). bytes_eq id line.ctid) app.contexts)))) ≡ Some context → IsNamed calls line context
+  by_writer : 0 < line.writer → (o : Option Writer) → slice_get calls.writers (line.writer - 1) ≡ o → (o >>= (λ (w : Writer). slice_get calls.apps w.app >>= (λ (app : App). option_map (λ (place : ℕ). context_with w.app place w.apid line.ctid) (place_named app w line.ctid)))) ≡ Some context → IsNamed calls line context
   by_writer some None w_is e = absurd cc
   by_writer some (Some w) w_is e = by_app some w w_is (slice_get calls.apps w.app) refl e
 
   by_number : ((eqb line.writer 0 ≡ true) × (line.writer ≡ 0)) ⊎ ((eqb line.writer 0 ≡ false) × (line.writer ≢ 0)) → IsNamed calls line context
-  by_number (inl zero) = let none : (None >>= (λ (w : Writer). slice_get calls.apps w.app >>= (λ (app : App). option_map (λ (place : ℕ). context_with w.app place w.apid line.ctid) (position (λ (id : List ℕ). bytes_eq id line.ctid) app.contexts)))) ≡ Some context = rw zero.0 at e in absurd cc
+  by_number (inl zero) = let none : (None >>= (λ (w : Writer). slice_get calls.apps w.app >>= (λ (app : App). option_map (λ (place : ℕ). context_with w.app place w.apid line.ctid) (place_named app w line.ctid)))) ≡ Some context = rw zero.0 at e in absurd cc
   by_number (inr other) = by_writer (omega (arith, other.1)) (slice_get calls.writers (line.writer - 1)) refl (rw other.0 at e)
 
 module _ (done : List Mark) (calls : Calls) (is : IsAfter done calls) (line : CallLine) (context : Context) (names : IsNamed calls line context) where
@@ -95,14 +97,17 @@ module _ (done : List Mark) (calls : Calls) (is : IsAfter done calls) (line : Ca
   app_number : number_of context.apid done ≡ Some context.app
   app_number = subst (λ (id : List ℕ). number_of id done ≡ Some context.app) names.apid_is (own.app_is ∙ ap Some names.app_is)
 
-  place_number : place_of context.apid line.ctid done ≡ Some context.place
+  place_number : named_place line.writer context.apid line.ctid done ≡ Some context.place
   place_number =
       let known : position (λ (app : App). bytes_eq app.spec.apid context.apid) calls.apps ≡ Some context.app = number_is done calls context.apid is.apps_are ∙ app_number in
       let at : position_or_len (is_named context.apid) calls.apps ≡ context.app = (position_to_len (is_named context.apid) calls.apps context.app known).0 in
       let ids : (get_or calls.apps context.app no_app).contexts ≡ map (λ (c : ContextLine). c.ctid) (contexts_of context.apid done) =
       ap (λ (k : ℕ). (get_or calls.apps k no_app).contexts) (sym at) ∙ is.contexts_are context.apid in
-      sym (position-map (λ (c : ContextLine). c.ctid) (λ (id : List ℕ). bytes_eq id line.ctid) (contexts_of context.apid done))
-      ∙ ap (position (λ (id : List ℕ). bytes_eq id line.ctid)) (sym ids) ∙ names.place_is
+      let declared : place_of context.apid line.ctid done ≡ position (λ (id : List ℕ). bytes_eq id line.ctid) (get_or calls.apps context.app no_app).contexts =
+      sym (position-map (λ (c : ContextLine). c.ctid) (λ (id : List ℕ). bytes_eq id line.ctid) (contexts_of context.apid done)) ∙ ap (position (λ (id : List ℕ). bytes_eq id line.ctid)) (sym ids) in
+      let claims_are = (claims_here done calls is line.writer names.some names.below).claims_are in
+      ap (λ (cs : List Claimed). option_or (claimed_place cs line.ctid) (place_of context.apid line.ctid done)) claims_are
+      ∙ ap (λ (o : Option ℕ). option_or (claimed_place (get_or calls.writers (line.writer - 1) no_writer).claims line.ctid) o) declared ∙ names.place_is
 
   -- the call that the load makes
   abbrev pub call_made : Setting → Call
@@ -150,9 +155,11 @@ module _ (done : List Mark) (calls : Calls) (is : IsAfter done calls) (line : Ca
         (owned_now done calls is line.writer names.some names.below z (record { app_is = own.app_is; pushes = sym names.app_is; counts = tt {0} }))
         (each_writer_now done calls is line.writer names.some names.below (Passed (call_made setting)) z others
         (passes_on done line.writer (get_or calls.writers (line.writer - 1) no_writer) (call_made setting) its_own no_push no_count (here done calls is line.writer names.some names.below)))
+        (claimers_now done calls is line.writer names.some names.below (Passed (call_made setting)) z (record { no_claim = refl; no_announcement = refl }) (record { claims_is = refl; announced_is = refl; app_is = refl }))
         (λ j. app-stays done calls.writers (set calls.writers (line.writer - 1) z) j (get_or calls.apps j no_app) (Passed (call_made setting))
-        (record { not_queued = refl; not_taken = refl; not_lost = refl; not_counted = refl })
-        (keeps_more calls.writers (line.writer - 1) z [] (sym (append-nil (get_or calls.writers (line.writer - 1) no_writer).records))) (is.each_app j)))
+        (record { not_pushed = refl; not_taken = refl; not_lost = refl; not_counted = refl })
+        (keeps_more calls.writers (line.writer - 1) z [] [] (sym (append-nil (get_or calls.writers (line.writer - 1) no_writer).records)) (sym (append-nil (get_or calls.writers (line.writer - 1) no_writer).claims))) (is.each_app j))
+        (claimed-stay done (Passed (call_made setting)) calls.apps calls.apps refl is.claimed_are (λ k. refl)))
     by_level false lets =
         let z : Writer = record (get_or calls.writers (line.writer - 1) no_writer) { records = (get_or calls.writers (line.writer - 1) no_writer).records ++ recorded (call_made setting) answers.Filtered ∷ [] } in
         let same : y ≡ z = y_is ∙ rw lets refl in
@@ -163,9 +170,11 @@ module _ (done : List Mark) (calls : Calls) (is : IsAfter done calls) (line : Ca
         (owned_now done calls is line.writer names.some names.below z (record { app_is = own.app_is; pushes = own.pushes; counts = own.counts }))
         (each_writer_now done calls is line.writer names.some names.below (Filtered (call_made setting)) z others
         (filters done line.writer (get_or calls.writers (line.writer - 1) no_writer) (call_made setting) its_own no_push no_count (here done calls is line.writer names.some names.below)))
+        (claimers_now done calls is line.writer names.some names.below (Filtered (call_made setting)) z (record { no_claim = refl; no_announcement = refl }) (record { claims_is = refl; announced_is = refl; app_is = refl }))
         (λ j. app-stays done calls.writers (set calls.writers (line.writer - 1) z) j (get_or calls.apps j no_app) (Filtered (call_made setting))
-        (record { not_queued = refl; not_taken = refl; not_lost = refl; not_counted = refl })
-        (keeps_more calls.writers (line.writer - 1) z (recorded (call_made setting) answers.Filtered ∷ []) refl) (is.each_app j)))
+        (record { not_pushed = refl; not_taken = refl; not_lost = refl; not_counted = refl })
+        (keeps_more calls.writers (line.writer - 1) z (recorded (call_made setting) answers.Filtered ∷ []) [] refl (sym (append-nil (get_or calls.writers (line.writer - 1) no_writer).claims))) (is.each_app j))
+        (claimed-stay done (Filtered (call_made setting)) calls.apps calls.apps refl is.claimed_are (λ k. refl)))
 
 -- ---- the same as a call
 
@@ -226,13 +235,20 @@ nothing_named setting done calls line is none = by_writer (writer_of calls line.
       let own : IsOwned done w = owned_at (eqb line.writer 0) e in
       let app_is : slice_get calls.apps w.app ≡ Some (get_or calls.apps w.app no_app) = there calls.apps w.app no_app (known_place w own).1 in
       let no_context : context_in (get_or calls.apps w.app no_app) w line.ctid ≡ None = rw app_is at nothing in
-      let no_place : place_of w.apid line.ctid done ≡ None =
+      let declared : place_of w.apid line.ctid done ≡ position (λ (id : List ℕ). bytes_eq id line.ctid) (get_or calls.apps w.app no_app).contexts =
       sym (position-map (λ (c : ContextLine). c.ctid) (λ (id : List ℕ). bytes_eq id line.ctid) (contexts_of w.apid done))
-      ∙ ap (position (λ (id : List ℕ). bytes_eq id line.ctid)) (sym (contexts_are w own)) ∙ not_there (position (λ (id : List ℕ). bytes_eq id line.ctid) (get_or calls.apps w.app no_app).contexts) no_context in
+      ∙ ap (position (λ (id : List ℕ). bytes_eq id line.ctid)) (sym (contexts_are w own)) in
+      let no_place : named_place line.writer w.apid line.ctid done ≡ None =
+      ap (λ (cs : List Claimed). option_or (claimed_place cs line.ctid) (place_of w.apid line.ctid done)) (claims_at (eqb line.writer 0) e (is.each_claimer line.writer))
+      ∙ ap (λ (o : Option ℕ). option_or (claimed_place w.claims line.ctid) o) declared ∙ not_there (place_named (get_or calls.apps w.app no_app) w line.ctid) no_context in
       rw (id, own.app_is, no_place) refl where
         owned_at : (b : Bool) → cond b None (slice_get calls.writers (line.writer - 1)) ≡ Some w → IsOwned done w
         owned_at true e = absurd cc
         owned_at false e = let at = found calls.writers (line.writer - 1) w no_writer e in subst (IsOwned done) at.1 (is.owned (line.writer - 1) no_writer at.0)
+
+        claims_at : (b : Bool) → cond b None (slice_get calls.writers (line.writer - 1)) ≡ Some w → IsClaimerAfter done line.writer (cond b no_writer (get_or calls.writers (line.writer - 1) no_writer)) → claims_of line.writer done ≡ w.claims
+        claims_at true e claims = absurd cc
+        claims_at false e claims = let at = found calls.writers (line.writer - 1) w no_writer e in claims.claims_are ∙ ap (λ (x : Writer). x.claims) at.1
 
         known_place : (w : Writer) → IsOwned done w → (position_or_len (is_named w.apid) calls.apps ≡ w.app) × (w.app < length calls.apps)
         known_place w own = position_to_len (is_named w.apid) calls.apps w.app (number_is done calls w.apid is.apps_are ∙ own.app_is)

@@ -4,6 +4,7 @@ use Rattle.std.specs.Prelude.{slice_get, option_map, IsSomeAnd}
 use Rattle.std.proofs.Math.Seq.{take-append_seam, take-length, set-append_seam, get_or-append_seam}
 use Rattle.std.proofs.lemmas.List.{length-set, take_more_set}
 use Rattle.std.proofs.lemmas.Option.{slice_get_read, slice_get-get_or}
+use Rattle.dl_bytes.specs.Claim.{Claimed}
 use Rattle.dl_bytes.specs.Level.{passes}
 use Rattle.dl_bytes.specs.Payload.{Arguments}
 use Rattle.dl_events.specs.declared.record.Record.{Record}
@@ -34,8 +35,9 @@ answered_last xs n was answer some n_is was_is =
 
 -- ---- a call that begins where none is open
 
-abbrev seen : ℕ → List ℕ → ℕ → Stage → List Record → Writer
-seen app apid passed stage records = record { app = app; apid = apid; passed = passed; to_push = push_of stage records; to_count = count_of stage records; records = answered_in stage records }
+abbrev seen : ℕ → List ℕ → ℕ → Stage → List Record → List Claimed → ℕ → Writer
+seen app apid passed stage records claims announced =
+    record { app = app; apid = apid; passed = passed; to_push = push_of stage records; to_count = count_of stage records; records = answered_in stage records; claims = claims; announced = announced }
 
 has_last : (xs : List Record) → 1 ≤ length xs → (r : Record) × (last_call xs ≡ Some (call_of r))
 has_last [] some = absurd (omega (arith, some))
@@ -47,19 +49,19 @@ is_idle Idle xs some no_push no_count = refl
 is_idle ToPush xs some no_push no_count = let last = has_last xs some in absurd (cc (last.1, no_push))
 is_idle ToCount xs some no_push no_count = let last = has_last xs some in absurd (cc (last.1, no_count))
 
-module _ (app : ℕ) (apid : List ℕ) (passed : ℕ) (stage : Stage) (old : List Record) (now : Writer) (view_is : seen app apid passed stage old ≡ now) (some : open_in stage ≤ length old)
+module _ (app : ℕ) (apid : List ℕ) (passed : ℕ) (stage : Stage) (old : List Record) (claims : List Claimed) (announced : ℕ) (now : Writer) (view_is : seen app apid passed stage old claims announced ≡ now) (some : open_in stage ≤ length old)
     (call : Record) (new : List Record) (new_is : new ≡ old ++ call ∷ []) where
   idle_now : now.to_push ≡ None → now.to_count ≡ None → stage ≡ Idle
   idle_now no_push no_count = is_idle stage old some (ap (λ (w : Writer). w.to_push) view_is ∙ no_push) (ap (λ (w : Writer). w.to_count) view_is ∙ no_count)
 
-  pub begins_passing : passes call.item.severity call.held ≡ true → now.to_push ≡ None → now.to_count ≡ None → seen app apid ((passed + 1) % 256) ToPush new ≡ begun now (call_of call)
+  pub begins_passing : passes call.item.severity call.held ≡ true → now.to_push ≡ None → now.to_count ≡ None → seen app apid ((passed + 1) % 256) ToPush new claims announced ≡ begun now (call_of call)
   begins_passing lets no_push no_count =
       let idle = idle_now no_push no_count in
       let last : slice_get (old ++ call ∷ []) (length (old ++ call ∷ []) - 1) ≡ Some call = rw (last_is old call) (get_end old call) in
       let before : take (length (old ++ call ∷ []) - 1) (old ++ call ∷ []) ≡ old = rw (last_is old call) (take-append_seam old (call ∷ [])) in
       rw (sym view_is, idle, lets, new_is, last, before) refl
 
-  pub begins_filtered : call.answer ≡ answers.Filtered → passes call.item.severity call.held ≡ false → now.to_push ≡ None → now.to_count ≡ None → seen app apid passed stage new ≡ begun now (call_of call)
+  pub begins_filtered : call.answer ≡ answers.Filtered → passes call.item.severity call.held ≡ false → now.to_push ≡ None → now.to_count ≡ None → seen app apid passed stage new claims announced ≡ begun now (call_of call)
   begins_filtered answer stops no_push no_count =
       let idle = idle_now no_push no_count in
       rw (sym view_is, idle, stops, new_is, sym answer) refl

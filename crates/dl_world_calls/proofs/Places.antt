@@ -8,7 +8,6 @@ use Rattle.std.proofs.lemmas.Bool.{ltb-true}
 use Rattle.std.proofs.lemmas.Bool.Decides.{nat_tests, eqb_tells}
 use Rattle.dl_world_calls.specs.State.{Writer}
 use Rattle.dl_world_calls.specs.Follows.{no_writer, writer_at}
-use Rattle.dl_lemmas.proofs.Lists.{get_more, get_end, prefix_len-more}
 use Rattle.dl_lemmas.proofs.Options.{place_is}
 
 -- ---- numbers that differ

@@ -1,16 +1,15 @@
--- What the log calls are after the marks of a run: each writer's open call and records, each ring, and each count.
-use Rattle.std.specs.Prelude.{◌≡◌, ℕ, ◌+◌, ◌-◌, ◌≤◌, ◌%◌, ◌==◌, Bool, true, false, if◌then◌else◌, List, [], ◌++◌, length, map, get_or, Option, Some, None, IfSome}
-use Rattle.std.specs.List.{position_or_len, All}
+-- What the log calls are after the marks of a run: each writer's open call, records and claims, each ring, and each count.
+use Rattle.std.specs.Prelude.{◌≡◌, ℕ, ◌+◌, ◌-◌, ◌≤◌, ◌%◌, ◌==◌, Bool, true, false, if◌then◌else◌, List, [], ◌++◌, length, map, take, get_or, Option, Some, None, IfSome}
+use Rattle.std.specs.List.{position_or_len, All, AllByRecursion}
 use Rattle.std.specs.Str.{bytes_eq}
 use Rattle.dl_events.specs.declared.event.Event.TheVariants as event
-use Rattle.dl_events.specs.declared.record.Record.{Record}
-use Rattle.dl_events.specs.declared.record.Answer.TheVariants as answers
+use Rattle.dl_bytes.specs.Claim.{Claimed}
 use Rattle.dl_script_lines.specs.declared.line.AppLine.{AppLine}
 use Rattle.dl_script_lines.specs.declared.line.ContextLine.{ContextLine}
-use Rattle.dl_model.specs.Marks.{Call, Mark, Noted, Clocked, LevelsWait, Fed, Heard, Answered, recorded, apps, writers, contexts_of, number_of, calls_of, passed_of, to_push, to_count, records_of, queued, taken, pending, Injected, Handed}
+use Rattle.dl_model.specs.Marks.{Call, Mark, Noted, Clocked, LevelsWait, Fed, Heard, Answered, Pushed, apps, writers, contexts_of, number_of, calls_of, passed_of, to_push, to_count, records_of, claims_of, claims_on, announced_by, pushes, taken, pending, Injected, Handed}
 use Rattle.dl_model.specs.Steps.{Act}
 use Rattle.dl_world_calls.specs.Queue.{waiting}
-use Rattle.dl_world_calls.specs.State.{App, Writer, Calls, new_app, new_writer, record_at}
+use Rattle.dl_world_calls.specs.State.{App, Writer, Calls, Held, new_app, new_writer, held_at, as_held}
 
 -- ---- one writer
 
@@ -27,18 +26,25 @@ pub record IsWriterAfter (done : List Mark) (number : ℕ) (writer : Writer) : T
   pub count_is : to_count number done ≡ writer.to_count
   pub records_are : records_of number done ≡ writer.records
 
+-- its claims are those of the marks, each on a place of its application, and its ring took the first of them
+pub record IsClaimerAfter (done : List Mark) (number : ℕ) (writer : Writer) : Type 0 where
+  pub claims_are : claims_of number done ≡ writer.claims
+  pub own : AllByRecursion (λ (claim : Claimed). claim.app ≡ writer.app) writer.claims
+  pub announced_are : announced_by number done ≡ take writer.announced writer.claims
+  pub announced_at_most : writer.announced ≤ length writer.claims
+
 -- ---- one application
 
--- the record of a call that a ring took
-abbrev pub as_queued : Call → Option Record
-as_queued call = Some (recorded call answers.Queued)
+-- what a ring took is there
+abbrev pub as_pushed : Pushed → Option Held
+as_pushed what = Some (as_held what)
 
--- its ring holds the places of the records of the calls that the marks queued, and its counts are those of the marks
+-- its ring holds the places of what the marks pushed, and its counts are those of the marks
 pub record IsAppAfter (done : List Mark) (writers : List Writer) (number : ℕ) (app : App) : Type 0 where
-  pub ring_is : map (record_at writers) app.ring.calls ≡ map as_queued (queued number done)
+  pub ring_is : map (held_at writers) app.ring.entries ≡ map as_pushed (pushes number done)
   pub taken_is : taken number done ≡ app.ring.gone
   pub pending_is : pending number done ≡ waiting app.losses
-  pub told_at_most : app.losses.gone ≤ length app.losses.calls
+  pub told_at_most : app.losses.gone ≤ length app.losses.entries
 
 -- ---- all
 
@@ -76,7 +82,9 @@ pub record IsAfter (done : List Mark) (calls : Calls) : Type 0 where
   pub contexts_are : (apid : List ℕ) → contexts_in calls.apps apid ≡ map (λ (context : ContextLine). context.ctid) (contexts_of apid done)
   pub owned : All (IsOwned done) calls.writers
   pub each_writer : (number : ℕ) → IsWriterAfter done number (writer_at calls.writers number)
+  pub each_claimer : (number : ℕ) → IsClaimerAfter done number (writer_at calls.writers number)
   pub each_app : (number : ℕ) → IsAppAfter done calls.writers number (get_or calls.apps number no_app)
+  pub claimed_are : (number : ℕ) → length (claims_on number done) ≡ (get_or calls.apps number no_app).claimed
 
 -- The call is this act: whatever marks came before, it comes to the marks of the act after them.
 abbrev pub Does : Act → Calls → Calls → Type 0
@@ -86,6 +94,7 @@ Does act old new = (done : List Mark) → IsAfter done old → IsAfter (done ++ 
 abbrev pub is_no_call : Mark → Bool
 is_no_call (Noted (event.Log app writer call moment)) = false
 is_no_call (Noted (event.Lost app count moment)) = false
+is_no_call (Noted (event.Claim claim moment)) = false
 is_no_call (Noted e) = true
 is_no_call (Clocked moment) = true
 is_no_call (LevelsWait later) = true

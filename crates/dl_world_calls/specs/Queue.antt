@@ -1,12 +1,12 @@
--- Log calls that wait for the daemon.
+-- What waits for the daemon.
 use Rattle.std.specs.Prelude.{ℕ, ◌-◌, List, length}
-use Rattle.dl_world_calls.specs.declared.queue.RecordPlace.{RecordPlace}
+use Rattle.dl_world_calls.specs.declared.queue.Entry.{Entry}
 
--- all that came, in order, and how many of them are gone
+-- all that came, in order, and how much of it is gone
 pub record Waiting : Type 0 where
-  pub calls : List RecordPlace
+  pub entries : List Entry
   pub gone : ℕ
 
--- how many wait
+-- how much waits
 abbrev pub waiting : Waiting → ℕ
-waiting queue = length queue.calls - queue.gone
+waiting queue = length queue.entries - queue.gone

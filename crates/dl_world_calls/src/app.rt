@@ -1,4 +1,4 @@
-//! One application: its contexts, its ring, and its lost calls.
+//! One application: its contexts, the places that are claimed of it, its ring, and its lost calls.
 
 ghost use Rattle.std.specs.Prelude.{◌≡◌, ◌<◌, ◌≤◌, ◌+◌, ◌-◌, ◌++◌, ◌∷◌, [], nat_le, length, slice_get, OnOk, IfSome};
 ghost use Rattle.std.specs.List.{position};
@@ -6,7 +6,7 @@ ghost use Rattle.std.specs.Str.{bytes_eq};
 ghost use Rattle.dl_world_calls.specs.State.{new_app};
 ghost use Rattle.dl_world_calls.specs.Queue.{waiting};
 
-use crate::queue::{Queue, RecordPlace};
+use crate::queue::{Entry, Queue};
 use dl_bytes::{AppSpec, Id, OutOfMemory};
 use std::alloc::Global;
 use std::marker::Model;
@@ -16,19 +16,20 @@ use std::marker::Model;
 pub struct App {
     spec: AppSpec,
     contexts: Vec<Id>,
+    claimed: u8,
     ring: Queue,
     losses: Queue,
 }
 
 impl Model for App {
-    ghost use Rattle.std.specs.Prelude.{◌≤◌, length};
+    ghost use Rattle.std.specs.Prelude.{◌≤◌, ◌+◌, length};
     ghost use Rattle.dl_world_calls.specs.State as state;
 
     ghost Value = { state.App };
 
-    ghost view = { λ a. record { spec = a.spec; contexts = a.contexts.items; ring = a.ring; losses = a.losses } };
+    ghost view = { λ a. record { spec = a.spec; contexts = a.contexts.items; claimed = a.claimed; ring = a.ring; losses = a.losses } };
 
-    ghost invariant = { λ a. length a.contexts.items ≤ 64 };
+    ghost invariant = { λ a. length a.contexts.items + a.claimed ≤ 64 };
 }
 
 impl App {
@@ -39,6 +40,7 @@ impl App {
         App {
             spec,
             contexts: Vec::new(alloc),
+            claimed: 0,
             ring: Queue::new(alloc),
             losses: Queue::new(alloc),
         }
@@ -65,7 +67,7 @@ impl App {
         self.spec.apid
     }
 
-    /// How many calls the ring holds.
+    /// How many calls and claims the ring holds.
     pub fn held(&self) -> usize
         ensures { result ≡ waiting self.now.ring }
     {
@@ -74,7 +76,7 @@ impl App {
 
     /// Adds a context, as the last.
     pub fn add_context(&mut self, ctid: Id) -> Result<(), OutOfMemory>
-        requires { length self.old.contexts < 64 }
+        requires { length self.old.contexts + self.old.claimed < 64 }
         ensures { OnOk result (self.new ≡ record self.old { contexts = self.old.contexts ++ ctid ∷ [] }) }
     {
         self.contexts.push(ctid)?;
@@ -92,38 +94,54 @@ impl App {
         }
     }
 
-    /// Whether the ring holds as many calls as it can.
+    /// The next place: as many are given already.
+    pub fn next_place(&self) -> u8
+        ensures value { result ≡ length self.now.contexts + self.now.claimed }
+        ensures range { result ≤ 64 }
+    {
+        self.contexts.len() as u8 + self.claimed
+    }
+
+    /// A claim gets the next place.
+    pub fn claim_place(&mut self)
+        requires { length self.old.contexts + self.old.claimed < 64 }
+        ensures { self.new ≡ record self.old { claimed = self.old.claimed + 1 } }
+    {
+        self.claimed += 1;
+    }
+
+    /// Whether the ring holds as much as it can.
     pub fn is_full(&self) -> bool
         ensures { result ≡ nat_le self.now.spec.capacity (waiting self.now.ring) }
     {
         self.spec.capacity as usize <= self.ring.len()
     }
 
-    /// The ring takes a call.
-    pub fn queue(&mut self, call: RecordPlace) -> Result<(), OutOfMemory>
-        ensures { OnOk result (self.new ≡ record self.old { ring = record { calls = self.old.ring.calls ++ call ∷ []; gone = self.old.ring.gone } }) }
+    /// The ring takes a call or a claim.
+    pub fn queue(&mut self, entry: Entry) -> Result<(), OutOfMemory>
+        ensures { OnOk result (self.new ≡ record self.old { ring = record { entries = self.old.ring.entries ++ entry ∷ []; gone = self.old.ring.gone } }) }
     {
-        self.ring.push(call)
+        self.ring.push(entry)
     }
 
-    /// The first call in the ring.
-    pub fn first(&self) -> Option<RecordPlace>
-        ensures { result ≡ slice_get self.now.ring.calls self.now.ring.gone }
+    /// The first call or claim in the ring.
+    pub fn first(&self) -> Option<Entry>
+        ensures { result ≡ slice_get self.now.ring.entries self.now.ring.gone }
     {
         self.ring.first()
     }
 
-    /// The daemon takes the first call out of the ring.
+    /// The daemon takes the first call or claim out of the ring.
     pub fn take_first(&mut self)
-        requires { self.old.ring.gone < length self.old.ring.calls }
-        ensures { self.new ≡ record self.old { ring = record { calls = self.old.ring.calls; gone = self.old.ring.gone + 1 } } }
+        requires { self.old.ring.gone < length self.old.ring.entries }
+        ensures { self.new ≡ record self.old { ring = record { entries = self.old.ring.entries; gone = self.old.ring.gone + 1 } } }
     {
         self.ring.drop_first();
     }
 
     /// A call is counted as lost.
-    pub fn lose(&mut self, call: RecordPlace) -> Result<(), OutOfMemory>
-        ensures { OnOk result (self.new ≡ record self.old { losses = record { calls = self.old.losses.calls ++ call ∷ []; gone = self.old.losses.gone } }) }
+    pub fn lose(&mut self, call: Entry) -> Result<(), OutOfMemory>
+        ensures { OnOk result (self.new ≡ record self.old { losses = record { entries = self.old.losses.entries ++ call ∷ []; gone = self.old.losses.gone } }) }
     {
         self.losses.push(call)
     }
@@ -137,7 +155,7 @@ impl App {
 
     /// The daemon is told of all of them.
     pub fn tell_losses(&mut self)
-        ensures { self.new ≡ record self.old { losses = record { calls = self.old.losses.calls; gone = length self.old.losses.calls } } }
+        ensures { self.new ≡ record self.old { losses = record { entries = self.old.losses.entries; gone = length self.old.losses.entries } } }
     {
         self.losses.drop_all();
     }

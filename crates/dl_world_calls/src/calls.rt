@@ -1,8 +1,10 @@
-//! The log calls of a script: what each writer, each ring and each count is after the lines so far.
+//! The log calls and the claims of a script: what each writer, each ring and each count is after the lines so far.
 
-ghost use Rattle.std.specs.Prelude.{◌≡◌, ℕ, List, ◌+◌, ◌++◌, ◌<◌, ◌≤◌, [], length, map, get_or, Some, None, OnOk, IfOk, IfSome, IsSome, IsSomeAnd, option_map};
+ghost use Rattle.std.specs.Prelude.{◌≡◌, ◌≢◌, ℕ, List, ◌+◌, ◌++◌, ◌<◌, ◌≤◌, [], length, map, take, not, get_or, Some, None, OnOk, IfOk, IfSome, IsSome, IsSomeAnd, option_map};
 ghost use Rattle.std.specs.List.{position};
 ghost use Rattle.std.specs.Str.{bytes_eq};
+ghost use Rattle.dl_bytes.specs.Claim.{Claimed};
+ghost use Rattle.dl_bytes.specs.Id.{zero_id};
 ghost use Rattle.dl_bytes.specs.declared.moment.Moment.{Moment};
 ghost use Rattle.dl_events.specs.declared.event.Event.TheVariants as event;
 ghost use Rattle.dl_events.specs.declared.record.Answer.TheVariants as answers;
@@ -11,22 +13,22 @@ ghost use Rattle.dl_model.specs.Registry.{slot_of};
 ghost use Rattle.dl_model.specs.Journal.{slots_of};
 ghost use Rattle.dl_model.specs.Marks.{Mark, HasApp, HasContext, HasWriter, Noted, journal, to_push, to_count};
 ghost use Rattle.dl_model.specs.Marks as marks;
-ghost use Rattle.dl_model.specs.Steps.{just, load, push, count, finish};
+ghost use Rattle.dl_model.specs.Steps.{just, load, push, count, finish, claim, announce, announce_all, is_held_back};
 ghost use Rattle.dl_world_calls.specs.Stages.{call_of, no_arguments, filled};
-ghost use Rattle.dl_world_calls.specs.State.{numbered, app_named, writer_of, named, next_item, made_call, context_in, pusher, counter};
+ghost use Rattle.dl_world_calls.specs.State.{numbered, app_named, writer_of, owner_of, record_at, claim_at, named, next_held, next_item, next_claim, made_call, context_in, place_named, pusher, counter, announcer, unannounced_of};
 ghost use Rattle.dl_world_calls.specs.Follows.{no_app, IsAfter, Does};
 
 use crate::app::App;
-use crate::queue::RecordPlace;
+use crate::queue::{Entry, OwnPlace};
 use crate::writer::Writer;
-use dl_bytes::{AppSpec, Bytes, Ctx, Id, Item, OutOfMemory, Payload, Sequence};
-use dl_events::{Answer, Record, RecordList};
+use dl_bytes::{AppSpec, Bytes, Claim, Ctx, Id, Item, OutOfMemory, Payload, Sequence};
+use dl_events::{Answer, ClaimList, Record, RecordList};
 use dl_model::Slot;
-use dl_script_lines::{AppLine, CallLine, ContextLine};
+use dl_script_lines::{AppLine, CallLine, ClaimLine, ContextLine};
 use std::alloc::Global;
 use std::marker::Model;
 
-/// The applications and the writers of a script, with their log calls.
+/// The applications and the writers of a script, with their log calls and their claims.
 #[derive(Drop)]
 pub struct Calls {
     alloc: Global,
@@ -96,7 +98,7 @@ impl Calls {
         }
     }
 
-    /// How many calls an application's ring holds.
+    /// How many calls and claims an application's ring holds.
     pub fn held(&self, app: u8) -> usize
         requires { app < length self.now.apps }
         ensures { (done : List Mark) → IsAfter done self.now → result ≡ marks.held_by app done }
@@ -151,7 +153,7 @@ impl Calls {
             return Ok(());
         }
         let place = self.writers[number].recorded();
-        self.apps[app].queue(RecordPlace { writer, place })?;
+        self.apps[app].queue(Entry::Call(OwnPlace { writer, place }))?;
         self.writers[number].queue();
         Ok(())
     }
@@ -174,7 +176,7 @@ impl Calls {
     {
         let number = writer as usize - 1;
         let place = self.writers[number].recorded();
-        self.apps[app as usize].lose(RecordPlace { writer, place })?;
+        self.apps[app as usize].lose(Entry::Call(OwnPlace { writer, place }))?;
         self.writers[number].count();
         Ok(())
     }
@@ -198,7 +200,7 @@ impl Calls {
 
     /// Declares a context of an application that was declared.
     pub fn add_context(&mut self, context: &ContextLine) -> Result<(), OutOfMemory>
-        requires { IsSomeAnd (app_named self.old context.now.apid) (λ app. length app.contexts < 64) }
+        requires { IsSomeAnd (app_named self.old context.now.apid) (λ app. length app.contexts + app.claimed < 64) }
         ensures { OnOk result (Does (just (HasContext context.now)) self.old self.new) }
     {
         match self.number_of(context.apid) {
@@ -228,6 +230,86 @@ impl Calls {
         self.count(writer)
     }
 
+    /// A writer claims the next place of its application for a context. The claim waits.
+    pub fn claim(&mut self, asked: &ClaimLine) -> Result<(), OutOfMemory>
+        requires room { IsSomeAnd (owner_of self.old asked.now.writer) (λ app. length app.contexts + app.claimed < 64) }
+        requires named { asked.now.ctid ≢ zero_id }
+        ensures { OnOk result (Does (claim asked.now) self.old self.new) }
+    {
+        let number = asked.writer as usize - 1;
+        let app = self.writers[number].app();
+        let place = self.apps[app as usize].next_place();
+        let text = asked.text.copy();
+        let claim = Claim::of(app, asked.writer, place, asked.ctid, asked.level, text);
+        self.writers[number].add_claim(claim)?;
+        self.apps[app as usize].claim_place();
+        Ok(())
+    }
+
+    /// The application of the writer, where one of its claims waits.
+    fn announcer(&self, writer: u8) -> Option<u8>
+        ensures { result ≡ announcer self.now writer }
+    {
+        let writer = self.writer(writer)?;
+        if writer.has_waiting_claim() {
+            Some(writer.app())
+        } else {
+            None
+        }
+    }
+
+    /// The ring takes the writer's first claim that waits, unless it is full. False where it was full.
+    pub fn announce(&mut self, writer: u8) -> Result<bool, OutOfMemory>
+        ensures does { OnOk result (Does (announce writer) self.old self.new) }
+        ensures refused { IfOk result (λ went. (done : List Mark) → IsAfter done self.old → is_held_back (announce writer done) ≡ not went) }
+    {
+        match self.announcer(writer) {
+            Some(app) => self.announce_to(writer, app),
+            None => Ok(true),
+        }
+    }
+
+    /// The ring of the writer's application takes its claim, or refuses it.
+    fn announce_to(&mut self, writer: u8, app: u8) -> Result<bool, OutOfMemory>
+        requires { announcer self.old writer ≡ Some app }
+        ensures does { OnOk result (Does (announce writer) self.old self.new) }
+        ensures refused { IfOk result (λ went. (done : List Mark) → IsAfter done self.old → is_held_back (announce writer done) ≡ not went) }
+    {
+        let number = writer as usize - 1;
+        let app = app as usize;
+        if self.apps[app].is_full() {
+            return Ok(false);
+        }
+        let place = self.writers[number].announced();
+        self.apps[app].queue(Entry::Claim(OwnPlace { writer, place }))?;
+        self.writers[number].announce();
+        Ok(true)
+    }
+
+    /// How many claims of a writer wait.
+    fn unannounced(&self, writer: u8) -> usize
+        ensures { result ≡ unannounced_of self.now writer }
+    {
+        match self.writer(writer) {
+            Some(writer) => writer.unannounced(),
+            None => 0,
+        }
+    }
+
+    /// The ring takes the writer's claims that wait, one after the other, until it is full.
+    pub fn announce_all(&mut self, writer: u8) -> Result<(), OutOfMemory>
+        ensures { OnOk result (Does (announce_all writer) self.old self.new) }
+    {
+        let waiting = self.unannounced(writer);
+        for _claim in 0..waiting {
+            let went = self.announce(writer)?;
+            if !went {
+                return Ok(());
+            }
+        }
+        Ok(())
+    }
+
     /// The context that a call names.
     pub fn context_of(&self, call: &CallLine) -> Option<Ctx>
         ensures { result ≡ named self.now call.now }
@@ -251,20 +333,48 @@ impl Calls {
         writer.begin(record, &call.payload)
     }
 
-    /// The call that the daemon takes next out of an application's ring.
-    pub fn next(&self, app: u8) -> Option<&Item>
+    /// The call that the daemon takes next out of an application's ring, where a call is next.
+    pub fn next_call(&self, app: u8) -> Option<&Item>
         requires { app < length self.now.apps }
         ensures { option_map (λ r. r.now) result ≡ next_item self.now app }
     {
-        let at = self.apps[app as usize].first()?;
+        match self.apps[app as usize].first() {
+            Some(Entry::Call(at)) => self.item(at),
+            Some(Entry::Claim(_)) | None => None,
+        }
+    }
+
+    /// The claim that the daemon takes next out of an application's ring, where a claim is next.
+    pub fn next_claim(&self, app: u8) -> Option<&Claim>
+        requires { app < length self.now.apps }
+        ensures { option_map (λ c. c.now) result ≡ next_claim self.now app }
+    {
+        match self.apps[app as usize].first() {
+            Some(Entry::Claim(at)) => self.claim_at(at),
+            Some(Entry::Call(_)) | None => None,
+        }
+    }
+
+    /// The call whose record is at a place.
+    fn item(&self, at: OwnPlace) -> Option<&Item>
+        ensures { option_map (λ r. r.now) result ≡ option_map (λ r. r.item) (record_at self.now.writers at) }
+    {
         let record = self.writer(at.writer)?.record(at.place)?;
         Some(&record.item)
     }
 
-    /// The daemon takes the next call out of an application's ring, and notes it.
+    /// The claim at a place.
+    fn claim_at(&self, at: OwnPlace) -> Option<&Claim>
+        ensures { option_map (λ c. c.now) result ≡ claim_at self.now.writers at }
+    {
+        self.writer(at.writer)?.claim(at.place)
+    }
+
+    /// The daemon takes the next call or claim out of an application's ring, and notes it.
     pub fn take(&mut self, app: u8)
-        requires { IsSome (next_item self.old app) }
-        ensures { (writer call : ℕ) (moment : Moment) → Does (just (Noted (event.Log app writer call moment))) self.old self.new }
+        requires { IsSome (next_held self.old app) }
+        ensures call { (writer call : ℕ) (moment : Moment) → Does (just (Noted (event.Log app writer call moment))) self.old self.new }
+        ensures claim { (claim : Claimed) (moment : Moment) → claim.app ≡ app → Does (just (Noted (event.Claim claim moment))) self.old self.new }
     {
         self.apps[app as usize].take_first();
     }
@@ -300,17 +410,19 @@ impl Calls {
         self.writers.len() as u8
     }
 
-    /// The records of each writer, and the applications as they were declared.
-    pub fn into_parts(self) -> Result<(RecordList, Sequence<AppSpec>), OutOfMemory>
+    /// The records of each writer, its claims that its ring took, and the applications as they were declared.
+    pub fn into_parts(self) -> Result<(RecordList, ClaimList, Sequence<AppSpec>), OutOfMemory>
         ensures records { IfOk result (λ parts. parts.0 ≡ map (λ writer. writer.records) self.writers) }
-        ensures specs { IfOk result (λ parts. parts.1 ≡ map (λ app. app.spec) self.apps) }
+        ensures claims { IfOk result (λ parts. parts.1 ≡ map (λ writer. take writer.announced writer.claims) self.writers) }
+        ensures specs { IfOk result (λ parts. parts.2 ≡ map (λ app. app.spec) self.apps) }
     {
         let Calls {
             alloc,
             apps,
             writers,
         } = self;
-        Ok((records_of(writers), Sequence::over(specs_of(alloc, apps)?)))
+        let (records, claims) = parts_of(writers);
+        Ok((records, claims, Sequence::over(specs_of(alloc, apps)?)))
     }
 }
 
@@ -319,9 +431,20 @@ fn context_in(app: &App, writer: &Writer, ctid: Id) -> Option<Ctx>
     requires { writer.now.app < 16 }
     ensures { result ≡ context_in app.now writer.now ctid }
 {
-    match app.place_of(ctid) {
+    match place_named(app, writer, ctid) {
         Some(place) => Some(Ctx::of(writer.app(), place, writer.apid(), ctid)),
         None => None,
+    }
+}
+
+/// The place that an id names in a call of a writer: that of its last claim of the id, or else that of the context that was declared.
+fn place_named(app: &App, writer: &Writer, ctid: Id) -> Option<u8>
+    ensures place { result ≡ place_named app.now writer.now ctid }
+    ensures range { IfSome result (λ place. place < 64) }
+{
+    match writer.claimed_place(ctid) {
+        Some(place) => Some(place),
+        None => app.place_of(ctid),
     }
 }
 
@@ -359,16 +482,20 @@ fn loaded_call(call: &CallLine, context: Ctx, seen: Slot, number: u64, mcnt: u8)
     }
 }
 
-/// The records of writers, in their order.
-fn records_of(writers: Vec<Writer>) -> RecordList
+/// The records of writers, in their order, and the claims that rings took of them.
+fn parts_of(writers: Vec<Writer>) -> (RecordList, ClaimList)
     requires { length writers.items ≤ 32 }
-    ensures { result ≡ map (λ writer. writer.records) writers.items }
+    ensures records { result.0 ≡ map (λ writer. writer.records) writers.items }
+    ensures claims { result.1 ≡ map (λ writer. take writer.announced writer.claims) writers.items }
 {
     let mut records = RecordList::none();
+    let mut claims = ClaimList::none();
     for writer in writers {
-        records.add(writer.into_records());
+        let (recorded, announced) = writer.into_parts();
+        records.add(recorded);
+        claims.add(announced);
     }
-    records
+    (records, claims)
 }
 
 /// Applications as they were declared.

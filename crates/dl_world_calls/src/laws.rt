@@ -4,8 +4,8 @@ ghost use Rattle.std.specs.Prelude.{◌≡◌, ◌<◌, ◌++◌, ◌∷◌, [],
 ghost use Rattle.dl_script_lines.specs.declared.line.CallLine.{CallLine};
 ghost use Rattle.dl_model.specs.Setting.{Setting};
 ghost use Rattle.dl_model.specs.Steps.{loaded};
-ghost use Rattle.dl_model.specs.Marks.{Call, Mark, number_of, queued, taken};
-ghost use Rattle.dl_world_calls.specs.State.{Calls, numbered, named, next_item};
+ghost use Rattle.dl_model.specs.Marks.{Mark, number_of, pushes, taken};
+ghost use Rattle.dl_world_calls.specs.State.{Calls, numbered, named, next_held, as_held};
 ghost use Rattle.dl_world_calls.specs.Follows.{IsAfter, is_no_call};
 ghost use Rattle.dl_world_calls.specs.Injections.{AreAfter, is_no_injection};
 
@@ -14,10 +14,10 @@ pub fn numbers_are_those_of_the_marks()
     ensures { (done : List Mark) (calls : Calls) (apid : List ℕ) → IsAfter done calls → numbered calls apid ≡ number_of apid done }
 {}
 
-/// The next call of a ring is the first of those that it took and the daemon did not take yet.
-pub fn the_next_call_is_the_first_left()
+/// What the daemon takes next out of a ring is the first of what the ring took and the daemon did not take yet.
+pub fn the_next_is_the_first_left()
     ensures { (done : List Mark) (calls : Calls) (app : ℕ) → app < length calls.apps → IsAfter done calls
-        → next_item calls app ≡ option_map (λ (call : Call). call.item) (slice_get (queued app done) (taken app done)) }
+        → next_held calls app ≡ option_map as_held (slice_get (pushes app done) (taken app done)) }
 {}
 
 /// A call of a writer or a context that is not known is not loaded.

@@ -1,4 +1,4 @@
-//! The log calls of a script up to the daemon: applications with their rings, contexts, and writers with their calls.
+//! The log calls and the claims of a script up to the daemon: applications with their rings, contexts, and writers with their calls and claims.
 #![tactic(auto)]
 
 mod app;

@@ -1,4 +1,4 @@
-//! Log calls that wait for the daemon, the first one first.
+//! What waits for the daemon, the first one first.
 
 ghost use Rattle.std.specs.Prelude.{◌≡◌, ◌<◌, ◌+◌, ◌-◌, ◌++◌, ◌∷◌, [], length, slice_get, OnOk};
 
@@ -6,19 +6,28 @@ use dl_bytes::OutOfMemory;
 use std::alloc::Global;
 use std::marker::Model;
 
-/// Where a log call is recorded: among the records of which writer, and at which place from 0.
+/// Where a writer keeps what it gave away: among its records or its claims.
 #[derive(Clone, Copy, Debug)]
-pub struct RecordPlace {
+pub struct OwnPlace {
     /// The writer's number, from 1.
     pub writer: u8,
-    /// The place among the writer's records.
+    /// The place among the writer's records, or among its claims.
     pub place: usize,
 }
 
-/// Log calls in order, of which the first ones are gone. Nothing is ever moved to the front.
+/// What a ring holds of a writer.
+#[derive(Clone, Copy, Debug)]
+pub enum Entry {
+    /// A log call, by the place of its record.
+    Call(OwnPlace),
+    /// A claim, by its place among the writer's claims.
+    Claim(OwnPlace),
+}
+
+/// Entries in order, of which the first ones are gone. Nothing is ever moved to the front.
 #[derive(Debug, Drop)]
 pub struct Queue {
-    calls: Vec<RecordPlace>,
+    entries: Vec<Entry>,
     gone: usize,
 }
 
@@ -28,57 +37,57 @@ impl Model for Queue {
 
     ghost Value = { Waiting };
 
-    ghost view = { λ q. record { calls = q.calls.items; gone = q.gone } };
+    ghost view = { λ q. record { entries = q.entries.items; gone = q.gone } };
 
-    ghost invariant = { λ q. q.gone ≤ length q.calls.items };
+    ghost invariant = { λ q. q.gone ≤ length q.entries.items };
 }
 
 impl Queue {
     /// Nothing came yet.
     pub fn new(alloc: Global) -> Queue
-        ensures { result ≡ record { calls = []; gone = 0 } }
+        ensures { result ≡ record { entries = []; gone = 0 } }
     {
         Queue {
-            calls: Vec::new(alloc),
+            entries: Vec::new(alloc),
             gone: 0,
         }
     }
 
     /// How many wait.
     pub fn len(&self) -> usize
-        ensures value { result ≡ length self.now.calls - self.now.gone }
-        ensures whole { result + self.now.gone ≡ length self.now.calls }
+        ensures value { result ≡ length self.now.entries - self.now.gone }
+        ensures whole { result + self.now.gone ≡ length self.now.entries }
     {
-        self.calls.len() - self.gone
+        self.entries.len() - self.gone
     }
 
     /// The first that waits.
-    pub fn first(&self) -> Option<RecordPlace>
-        ensures { result ≡ slice_get self.now.calls self.now.gone }
+    pub fn first(&self) -> Option<Entry>
+        ensures { result ≡ slice_get self.now.entries self.now.gone }
     {
-        self.calls.get(self.gone).copied()
+        self.entries.get(self.gone).copied()
     }
 
     /// One more comes, as the last.
-    pub fn push(&mut self, call: RecordPlace) -> Result<(), OutOfMemory>
-        ensures { OnOk result (self.new ≡ record { calls = self.old.calls ++ call ∷ []; gone = self.old.gone }) }
+    pub fn push(&mut self, entry: Entry) -> Result<(), OutOfMemory>
+        ensures { OnOk result (self.new ≡ record { entries = self.old.entries ++ entry ∷ []; gone = self.old.gone }) }
     {
-        self.calls.push(call)?;
+        self.entries.push(entry)?;
         Ok(())
     }
 
     /// The first that waits goes.
     pub fn drop_first(&mut self)
-        requires { self.old.gone < length self.old.calls }
-        ensures { self.new ≡ record { calls = self.old.calls; gone = self.old.gone + 1 } }
+        requires { self.old.gone < length self.old.entries }
+        ensures { self.new ≡ record { entries = self.old.entries; gone = self.old.gone + 1 } }
     {
         self.gone += 1;
     }
 
     /// All go.
     pub fn drop_all(&mut self)
-        ensures { self.new ≡ record { calls = self.old.calls; gone = length self.old.calls } }
+        ensures { self.new ≡ record { entries = self.old.entries; gone = length self.old.entries } }
     {
-        self.gone = self.calls.len();
+        self.gone = self.entries.len();
     }
 }

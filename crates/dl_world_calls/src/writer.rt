@@ -1,12 +1,12 @@
-//! One writer: the call that it has begun, and the records of its calls before.
+//! One writer: the call that it has begun, the records of its calls before, and its claims.
 
-ghost use Rattle.std.specs.Prelude.{◌≡◌, ◌<◌, ◌≤◌, ◌^◌, ◌-◌, ◌++◌, ◌∷◌, [], None, length, take, is_some, option_map, slice_get, OnOk, IsSomeAnd};
+ghost use Rattle.std.specs.Prelude.{◌≡◌, ◌<◌, ◌≤◌, ◌^◌, ◌+◌, ◌-◌, ◌++◌, ◌∷◌, [], None, length, take, is_some, option_map, slice_get, OnOk, IfSome, IsSomeAnd};
 ghost use Rattle.dl_model.specs.Marks.{recorded};
-ghost use Rattle.dl_world_calls.specs.State.{new_writer, begun, answered, turned_away};
+ghost use Rattle.dl_world_calls.specs.State.{new_writer, begun, answered, turned_away, claimed_place};
 ghost use Rattle.dl_world_calls.specs.Stages.{call_of, no_arguments, filled};
 ghost use Rattle.dl_events.specs.declared.record.Answer.TheVariants as answers;
 
-use dl_bytes::{Id, OutOfMemory, Payload};
+use dl_bytes::{Claim, Id, OutOfMemory, Payload};
 use dl_events::{Answer, Record};
 use dl_script_lines::CallArguments;
 use std::alloc::Global;
@@ -32,6 +32,8 @@ pub struct Writer {
     passed: u8,
     stage: Stage,
     records: Vec<Record>,
+    claims: Vec<Claim>,
+    announced: usize,
 }
 
 impl Model for Writer {
@@ -41,9 +43,18 @@ impl Model for Writer {
 
     ghost Value = { state.Writer };
 
-    ghost view = { λ w. record { app = w.app; apid = w.apid; passed = w.passed; to_push = push_of w.stage w.records.items; to_count = count_of w.stage w.records.items; records = answered_in w.stage w.records.items } };
+    ghost view = { λ w. record {
+      app = w.app;
+      apid = w.apid;
+      passed = w.passed;
+      to_push = push_of w.stage w.records.items;
+      to_count = count_of w.stage w.records.items;
+      records = answered_in w.stage w.records.items;
+      claims = w.claims.items;
+      announced = w.announced;
+    } };
 
-    ghost invariant = { λ w. open_in w.stage ≤ length w.records.items };
+    ghost invariant = { λ w. (open_in w.stage ≤ length w.records.items) × (w.announced ≤ length w.claims.items) };
 }
 
 impl Writer {
@@ -57,6 +68,8 @@ impl Writer {
             passed: 0,
             stage: Stage::Idle,
             records: Vec::new(alloc),
+            claims: Vec::new(alloc),
+            announced: 0,
         }
     }
 
@@ -99,14 +112,76 @@ impl Writer {
         self.records[..self.recorded()].get(place)
     }
 
-    /// All its records.
-    pub fn into_records(self) -> Vec<Record>
-        ensures { result.items ≡ self.records }
+    /// All its records, and the claims that its ring took.
+    pub fn into_parts(self) -> (Vec<Record>, Vec<Claim>)
+        ensures records { result.0.items ≡ self.records }
+        ensures claims { result.1.items ≡ take self.announced self.claims }
     {
         let recorded = self.recorded();
-        let mut records = self.records;
+        let Writer {
+            mut records,
+            mut claims,
+            announced,
+            ..
+        } = self;
         records.truncate(recorded);
-        records
+        claims.truncate(announced);
+        (records, claims)
+    }
+
+    /// How many of its claims its ring took.
+    pub fn announced(&self) -> usize
+        ensures value { result ≡ self.now.announced }
+        ensures limit { self.now.announced ≤ length self.now.claims }
+    {
+        self.announced
+    }
+
+    /// How many of them wait.
+    pub fn unannounced(&self) -> usize
+        ensures { result ≡ length self.now.claims - self.now.announced }
+    {
+        self.claims.len() - self.announced
+    }
+
+    /// Whether one waits.
+    pub fn has_waiting_claim(&self) -> bool
+        ensures { result ≡ is_some (slice_get self.now.claims self.now.announced) }
+    {
+        self.claims.get(self.announced).is_some()
+    }
+
+    /// The claim at a place, from 0.
+    pub fn claim(&self, place: usize) -> Option<&Claim>
+        ensures { option_map (λ c. c.now) result ≡ slice_get self.now.claims place }
+    {
+        self.claims.get(place)
+    }
+
+    /// The place of its last claim of this id.
+    pub fn claimed_place(&self, ctid: Id) -> Option<u8>
+        ensures place { result ≡ claimed_place self.now.claims ctid }
+        ensures range { IfSome result (λ place. place < 64) }
+    {
+        let claim = self.claims.iter().rev().find(|claim| claim.ctid() == ctid)?;
+        Some(claim.place())
+    }
+
+    /// It makes a claim, which waits.
+    pub fn add_claim(&mut self, claim: Claim) -> Result<(), OutOfMemory>
+        ensures made { OnOk result (self.new ≡ record self.old { claims = self.old.claims ++ claim ∷ [] }) }
+        ensures app { self.new.app ≡ self.old.app }
+    {
+        self.claims.push(claim)?;
+        Ok(())
+    }
+
+    /// The ring took its first claim that waits.
+    pub fn announce(&mut self)
+        requires { self.old.announced < length self.old.claims }
+        ensures { self.new ≡ record self.old { announced = self.old.announced + 1 } }
+    {
+        self.announced += 1;
     }
 
     /// Whether its call is to be pushed.

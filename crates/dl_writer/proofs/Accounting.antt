@@ -4,11 +4,12 @@ use Rattle.std.specs.Prelude.{map, All}
 use Rattle.std.specs.List.{filter, AllByRecursion}
 use Rattle.std.proofs.lemmas.List.Elements.{All-contains, All-weaker, recursion_from_All}
 use Rattle.std.proofs.lemmas.List.Sums.{sum_by-cons}
+use Rattle.dl_bytes.specs.Claim.{Claimed}
 use Rattle.dl_events.specs.declared.event.Event.{Event}
 use Rattle.dl_events.specs.declared.record.Answer.TheVariants as answer
 use Rattle.dl_events.specs.declared.record.Record.{Record}
 use Rattle.dl_model.specs.Report.{is_answer}
-use Rattle.dl_model.specs.Accounts.{order, of_writer, name_of, with_answer, IsExact, WriterAccount}
+use Rattle.dl_model.specs.Accounts.{order, of_writer, claims, claimed_by, name_of, with_answer, IsExact, WriterAccount}
 use Rattle.dl_losses.specs.Losses.{counted_of}
 use Rattle.dl_writer.specs.Calls.{read_of}
 use Rattle.dl_writer.specs.Records.{IsHeld, IsOf, TellAll}
@@ -26,15 +27,17 @@ exact first events w records h held = λ k d lt.
     let is = All-contains (IsHeld first events) w.reader.reads (read_of (get_or records k d)) held there in
     record { not_before = is.0; held = is.1; filtered = h.filtered k d lt }
 
-pub account : (first : ℕ) (events : List Event) (w : WriterState) (records : List Record) → TellAll w records → All (IsHeld first events) w.reader.reads
+pub account : (first : ℕ) (events : List Event) (w : WriterState) (claimed : List Claimed) (records : List Record) → TellAll w records → All (IsHeld first events) w.reader.reads
     → filter (of_writer w.push.number) (order w.app events) ≡ map name_of w.push.pushed
-    → WriterAccount first events w.app w.push.number w.push.refusals records
-account first events w records h held admitted = record {
+    → filter (claimed_by w.push.number) (claims w.app events) ≡ claimed
+    → WriterAccount first events w.app w.push.number w.push.refusals claimed records
+account first events w claimed records h held admitted taken = record {
   numbered = h.numbered;
   counted = h.counted;
   exact = recursion_from_All (IsExact first events) records (exact first events w records h held);
   never_fall = h.never_fall;
   in_order = admitted ∙ ap (map name_of) h.queued ∙ map-map (λ (s : Record). s.item) name_of (with_answer answer.Queued records);
+  claimed = taken;
   refused = h.refused;
 }
 

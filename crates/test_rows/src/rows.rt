@@ -10,7 +10,7 @@ struct Row {
     out: &'static str,
 }
 
-const ROWS: [Row; 13] = [
+const ROWS: [Row; 17] = [
     // One message while a client is there.
     Row {
         conf: "",
@@ -219,6 +219,74 @@ bytes 1 2100001716014C4F47314E4F4E45FF0F000001000000AB
 ",
         out: "client 1 stopped 1 23 complete
 25 00 00 17 45 43 55 31 26 01 44 41 31 00 44 43 31 00 FF 0F 00 00 02
+app LOG1 calls 0 queued 0 filtered 0 lost 0 reported 0
+",
+    },
+    // A claimed context: what is logged under it is filtered until the daemon has taken the claim.
+    Row {
+        conf: "",
+        script: "app LOG1 16
+context LOG1 TEST info
+writer LOG1
+register 1 CTX2 debug \"c\"
+connect
+load 1 CTX2 info 1 \"a\"
+take LOG1
+log 1 CTX2 debug 2 \"b\"
+",
+        out: "client 1 stopped 1 34 complete
+3D 00 00 22 45 43 55 31 00 00 00 01 00 00 00 02 51 01 4C 4F 47 31 43 54 58 32 00 82 00 00 02 00 62 00
+app LOG1 calls 2 queued 1 filtered 1 lost 0 reported 0
+",
+    },
+    // Two writers claim the same context: it has both places, at the level of the first claim.
+    Row {
+        conf: "",
+        script: "app LOG1 16
+writer LOG1
+writer LOG1
+register 1 SAME info
+register 2 SAME debug
+take LOG1
+take LOG1
+log 1 SAME info 1 \"a\"
+log 2 SAME info 2 \"b\"
+",
+        out: "backlog 2 68 0
+app LOG1 calls 2 queued 2 filtered 0 lost 0 reported 0
+",
+    },
+    // A ring of one: the second claim waits until it is announced. The takes note one claim each.
+    Row {
+        conf: "",
+        script: "app LOG1 1
+writer LOG1
+register 1 AAAA info
+register 1 BBBB info
+take LOG1
+announce 1
+take LOG1
+",
+        out: "app LOG1 calls 0 queued 0 filtered 0 lost 0 reported 0
+",
+    },
+    // The same, where all contexts are asked for behind each take.
+    Row {
+        conf: "",
+        script: "app LOG1 1
+writer LOG1
+connect
+register 1 AAAA info
+register 1 BBBB info
+take LOG1
+bytes 1 2100001F160141505000434F4E000300000006000000000000000000000000
+announce 1
+take LOG1
+bytes 1 2100001F160141505000434F4E000300000006000000000000000000000000
+",
+        out: "client 1 stopped 2 88 complete
+25 00 00 29 45 43 55 31 26 01 44 41 31 00 44 43 31 00 03 00 00 00 06 01 00 4C 4F 47 31 01 00 41 41 41 41 04 FF 00 00 00 00
+25 00 00 2F 45 43 55 31 26 01 44 41 31 00 44 43 31 00 03 00 00 00 06 01 00 4C 4F 47 31 02 00 41 41 41 41 04 FF 42 42 42 42 04 FF 00 00 00 00
 app LOG1 calls 0 queued 0 filtered 0 lost 0 reported 0
 ",
     },

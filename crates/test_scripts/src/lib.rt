@@ -1,4 +1,4 @@
-//! Good and bad lines of scenarios with their kinds, and a step list that a number makes.
+//! Good and bad lines of scenarios and of step scripts with their kinds, and a step list that a number makes.
 #![tactic(auto)]
 
 #[cfg(test)]

@@ -1,11 +1,11 @@
-//! Scenarios and the first bad line of each, and a step list that a number makes.
+//! Scenarios and step scripts with the first bad line of each, and a step list that a number makes.
 
 use dl_script::{ScriptError, ScriptKind, generate, read_scenario, read_steps};
 use dl_script_lines::StepList;
 use std::alloc::{AllocError, Global};
 use std::test::Fail;
 
-/// What declares an application, a context and a writer of a scenario.
+/// What declares an application, a context and a writer.
 const DECLARED: &str = "app LOG1 1\ncontext LOG1 TEST info\nwriter LOG1\n";
 
 /// Lines of a scenario that may stand behind them.
@@ -17,7 +17,7 @@ const TAKEN: [&str; 4] = [
 ];
 
 /// Lines that may not: the first bad one, and what is wrong with it.
-const REFUSED: [(&str, u32, ScriptKind); 16] = [
+const REFUSED: [(&str, u32, ScriptKind); 19] = [
     (
         "calls 1 TEST info 1000000\ncalls 1 TEST info 1 fill:1390",
         5,
@@ -30,6 +30,9 @@ const REFUSED: [(&str, u32, ScriptKind); 16] = [
     ("log 1 TEST info 1", 4, ScriptKind::Word),
     ("connect", 4, ScriptKind::Word),
     ("user 1 00", 4, ScriptKind::Word),
+    ("claim 1 CTX2 info", 4, ScriptKind::Word),
+    ("announce 1", 4, ScriptKind::Word),
+    ("register 1 CTX2 info", 4, ScriptKind::Word),
     ("client 1", 4, ScriptKind::Fields),
     ("send 1 00", 4, ScriptKind::Unknown),
     ("client\nsend 1 0", 5, ScriptKind::Hex),
@@ -40,20 +43,112 @@ const REFUSED: [(&str, u32, ScriptKind); 16] = [
     ("leave 1", 4, ScriptKind::Fields),
 ];
 
-/// Why a scenario with these lines is refused.
-fn fault(alloc: Global, lines: &str) -> Result<Option<ScriptError>, AllocError> {
+/// Lines of a step script that may stand behind them: claims of writers.
+const CLAIMED: [&str; 9] = [
+    "claim 1 CTX2 debug \"c\"\nannounce 1\nregister 1 CTX3 default",
+    "announce 1",
+    "claim 1 CTX2 off \"123456789012345678901234567890123456789012345678\"",
+    "register 1 CTX2 off \"1234567890123456789012345678901234567890123456\\\"8\"",
+    "claim 1 CTX2 info\nclaim 1 CTX2 info\nregister 1 TEST info",
+    "claim 1 CTX2 info\nload 1 CTX2 info 1\ncall 1 CTX2 info 2\nlog 1 CTX2 info 3",
+    "writer LOG1\nclaim 1 CTX2 info\nregister 2 CTX2 debug\nlog 2 CTX2 info 1",
+    "app LOG2 1\nclaim 1 CTX2 info\ncontext LOG2 CTX2 info\napp LOG3 1",
+    "user 1 00\nclaim 1 CTX2 info\nregister 1 CTX3 info",
+];
+
+/// Lines that may not: the first bad one, and what is wrong with it.
+const UNCLAIMED: [(&str, u32, ScriptKind); 26] = [
+    ("claims 1 CTX2 info", 4, ScriptKind::Word),
+    ("claim 1 CTX2", 4, ScriptKind::Fields),
+    ("claim 1 CTX2 info \"c\" \"c\"", 4, ScriptKind::Fields),
+    ("register 1 CTX2 info c", 4, ScriptKind::Fields),
+    ("announce", 4, ScriptKind::Fields),
+    ("announce 1 CTX2", 4, ScriptKind::Fields),
+    ("claim one CTX2 info", 4, ScriptKind::Number),
+    ("announce one", 4, ScriptKind::Number),
+    ("claim 1 CTX22 info", 4, ScriptKind::Id),
+    ("register 1 CTX2 loud", 4, ScriptKind::Level),
+    (
+        "claim 1 CTX2 info \"1234567890123456789012345678901234567890123456789\"",
+        4,
+        ScriptKind::Text,
+    ),
+    (
+        "register 2 CTX2 info \"1234567890123456789012345678901234567890123456789\"",
+        4,
+        ScriptKind::Text,
+    ),
+    (
+        "claim 1 CTX2 info\ncontext LOG1 CTX3 info",
+        5,
+        ScriptKind::Order,
+    ),
+    (
+        "register 1 CTX2 info\ncontext LOG1 TEST info",
+        5,
+        ScriptKind::Order,
+    ),
+    ("claim 2 CTX2 info", 4, ScriptKind::Unknown),
+    ("claim 0 CTX2 info", 4, ScriptKind::Unknown),
+    ("claim 257 CTX2 info", 4, ScriptKind::Unknown),
+    ("register 2 CTX2 info", 4, ScriptKind::Unknown),
+    ("register 0 CTX2 info", 4, ScriptKind::Unknown),
+    ("announce 2", 4, ScriptKind::Unknown),
+    ("announce 0", 4, ScriptKind::Unknown),
+    (
+        "log 1 CTX2 info 1\nclaim 1 CTX2 info",
+        4,
+        ScriptKind::Unknown,
+    ),
+    (
+        "writer LOG1\nclaim 1 CTX2 info\nlog 2 CTX2 info 1",
+        6,
+        ScriptKind::Unknown,
+    ),
+    (
+        "writer LOG1\nregister 2 CTX2 info\nload 1 CTX2 info 1",
+        6,
+        ScriptKind::Unknown,
+    ),
+    (
+        "writer LOG1\nregister 2 CTX2 info\ncall 1 CTX2 info 1",
+        6,
+        ScriptKind::Unknown,
+    ),
+    (
+        "claim 1 CTX2 info\nlog 1 CTX3 info 1",
+        5,
+        ScriptKind::Unknown,
+    ),
+];
+
+/// What a text is read as.
+#[derive(Clone, Copy)]
+enum Reading {
+    Scenario,
+    Steps,
+}
+
+/// Why a script with these lines is refused.
+fn fault(alloc: Global, reading: Reading, lines: &str) -> Result<Option<ScriptError>, AllocError> {
     let mut script = String::from_str(alloc, DECLARED)?;
     script.push_str(lines)?;
-    match read_scenario(alloc, script.as_bytes()) {
-        Ok(_) => Ok(None),
-        Err(error) => Ok(Some(error)),
+    match reading {
+        Reading::Scenario => match read_scenario(alloc, script.as_bytes()) {
+            Ok(_) => Ok(None),
+            Err(error) => Ok(Some(error)),
+        },
+        Reading::Steps => match read_steps(alloc, script.as_bytes()) {
+            Ok(_) => Ok(None),
+            Err(error) => Ok(Some(error)),
+        },
     }
 }
 
 /// The place of the first of these that is refused.
-fn refused(alloc: Global, rows: &[&str]) -> Result<Option<usize>, AllocError> {
+fn refused(alloc: Global, reading: Reading, rows: &[&str]) -> Result<Option<usize>, AllocError> {
     for (place, lines) in rows.iter().enumerate() {
-        if fault(alloc, lines)? != None {
+        if fault(alloc, reading, lines)? != None {
             return Ok(Some(place));
         }
     }
@@ -61,10 +156,14 @@ fn refused(alloc: Global, rows: &[&str]) -> Result<Option<usize>, AllocError> {
 }
 
 /// The place of the first of these that isn't refused so.
-fn other(alloc: Global, rows: &[(&str, u32, ScriptKind)]) -> Result<Option<usize>, AllocError> {
+fn other(
+    alloc: Global,
+    reading: Reading,
+    rows: &[(&str, u32, ScriptKind)],
+) -> Result<Option<usize>, AllocError> {
     for (place, (lines, line, kind)) in rows.iter().enumerate() {
         let (line, kind) = (*line, *kind);
-        if fault(alloc, lines)? != Some(ScriptError::Fault { line, kind }) {
+        if fault(alloc, reading, lines)? != Some(ScriptError::Fault { line, kind }) {
             return Ok(Some(place));
         }
     }
@@ -73,8 +172,56 @@ fn other(alloc: Global, rows: &[(&str, u32, ScriptKind)]) -> Result<Option<usize
 
 #[test]
 fn scenarios(rt: HostRuntime) -> Result<(), Fail> {
-    assert_eq!(rt; refused(rt.alloc(), &TAKEN)?, None);
-    assert_eq!(rt; other(rt.alloc(), &REFUSED)?, None);
+    assert_eq!(rt; refused(rt.alloc(), Reading::Scenario, &TAKEN)?, None);
+    assert_eq!(rt; other(rt.alloc(), Reading::Scenario, &REFUSED)?, None);
+    Ok(())
+}
+
+#[test]
+fn claims(rt: HostRuntime) -> Result<(), Fail> {
+    assert_eq!(rt; refused(rt.alloc(), Reading::Steps, &CLAIMED)?, None);
+    assert_eq!(rt; other(rt.alloc(), Reading::Steps, &UNCLAIMED)?, None);
+    Ok(())
+}
+
+/// Why a step script is refused in which 63 claims stand behind the context, and this line behind them.
+fn behind_claims(alloc: Global, line: &str) -> Result<Option<ScriptError>, AllocError> {
+    let mut lines = String::new(alloc);
+    for _claim in 0..63usize {
+        lines.push_str("claim 1 CTX2 info\n")?;
+    }
+    lines.push_str(line)?;
+    fault(alloc, Reading::Steps, &lines)
+}
+
+/// Why a step script is refused in which 63 more contexts stand behind the context, and this line behind them.
+fn behind_contexts(alloc: Global, line: &str) -> Result<Option<ScriptError>, AllocError> {
+    let mut lines = String::new(alloc);
+    for context in 1..64usize {
+        let declares = format!(in alloc; "context LOG1 C{context} info\n")?;
+        lines.push_str(&declares)?;
+    }
+    lines.push_str(line)?;
+    fault(alloc, Reading::Steps, &lines)
+}
+
+#[test]
+fn places(rt: HostRuntime) -> Result<(), Fail> {
+    let alloc = rt.alloc();
+    let full = Some(ScriptError::Fault {
+        line: 67,
+        kind: ScriptKind::Limit,
+    });
+    assert_eq!(rt; behind_claims(alloc, "log 1 CTX2 info 1")?, None);
+    assert_eq!(rt; behind_claims(alloc, "claim 1 CTX3 info")?, full);
+    assert_eq!(rt; behind_claims(alloc, "register 1 CTX3 info")?, full);
+    assert_eq!(rt;
+        behind_claims(alloc, "app LOG2 1\nwriter LOG2\nclaim 2 CTX2 info")?,
+        None
+    );
+    assert_eq!(rt; behind_contexts(alloc, "log 1 C63 info 1")?, None);
+    assert_eq!(rt; behind_contexts(alloc, "claim 1 C63 info")?, full);
+    assert_eq!(rt; behind_contexts(alloc, "context LOG1 CTX2 info")?, full);
     Ok(())
 }
 

@@ -1,4 +1,4 @@
-use Rattle.dl_frames.proofs.OneCall.{frames_now, frames_later, frame_of_queued, frame_of_taken}
+use Rattle.dl_frames.proofs.OneCall.{frames_now, frames_later, frame_of_pushed, frame_of_taken}
 use Rattle.dl_frames.proofs.calls.calls_have_their_frames.Goals as goal
 
 pub returns-clause-now : goal.returns-clause-now
@@ -7,8 +7,8 @@ returns-clause-now c = frames_now
 pub returns-clause-later : goal.returns-clause-later
 returns-clause-later c = frames_later
 
-pub returns-clause-queued : goal.returns-clause-queued
-returns-clause-queued c = frame_of_queued
+pub returns-clause-pushed : goal.returns-clause-pushed
+returns-clause-pushed c = frame_of_pushed
 
 pub returns-clause-taken : goal.returns-clause-taken
 returns-clause-taken c = frame_of_taken

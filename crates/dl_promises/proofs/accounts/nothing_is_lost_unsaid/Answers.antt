@@ -12,4 +12,4 @@ pub returns-clause-calls : goal.returns-clause-calls
 returns-clause-calls c = all_calls
 
 pub returns-clause-told : goal.returns-clause-told
-returns-clause-told c = λ first events pending refusals records accounted app. accounted.told app
+returns-clause-told c = λ first events pending refusals pushed records accounted app. accounted.told app

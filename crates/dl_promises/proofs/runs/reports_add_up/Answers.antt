@@ -1,5 +1,5 @@
 use Rattle.std.proofs.Common.{arith}
-use Rattle.dl_model.specs.Marks.{journal, records}
+use Rattle.dl_model.specs.Marks.{claims, journal, records}
 use Rattle.dl_model.specs.Report.{records_of_app}
 use Rattle.dl_model.specs.Steps.{run}
 use Rattle.dl_promises.specs.RunRecords.{refusals_of}
@@ -13,7 +13,7 @@ returns-clause-calls c = λ setting answers steps app. three_answers (records_of
 pub returns-clause-admitted : goal.returns-clause-admitted
 returns-clause-admitted c = λ setting answers steps app.
     let marks = run setting answers steps in
-    admitted_are_queued setting.first (journal marks) (λ app. 0) (refusals_of marks) (records marks) (run_accounted setting answers steps) app
+    admitted_are_queued setting.first (journal marks) (λ app. 0) (refusals_of marks) (claims marks) (records marks) (run_accounted setting answers steps) app
 
 pub returns-clause-told : goal.returns-clause-told
 returns-clause-told c = λ setting answers steps app. let told = (run_accounted setting answers steps).told app in omega (arith, told)

@@ -3,7 +3,7 @@ use Rattle.std.specs.List.{filter_map}
 use Rattle.std.specs.Map.Iter.{deref_pair}
 use Rattle.std.specs.Option.{option_map}
 use Rattle.dl_bytes.specs.declared.conf.StoredLevel.{StoredLevel}
-use Rattle.dl_model.specs.declared.registry.Context.{Context}
+use Rattle.dl_model.specs.declared.context.Context.{Context}
 use Rattle.dl_model.specs.Registry.{own_of_context}
 use Rattle.dl_registry.proofs.Informing.{filter_map-more, filter_map-some, filter_map-none}
 use Rattle.dl_registry.proofs.registry.push_owns.Goals as goal

@@ -3,7 +3,7 @@ use Rattle.std.specs.Prelude.{Some, None, cond}
 use Rattle.dl_core.specs.Settings.{setting_of}
 use Rattle.dl_events.specs.declared.record.Record.{Record}
 use Rattle.dl_model.specs.Accounts.{AreNumbered}
-use Rattle.dl_model.specs.Marks.{journal, records}
+use Rattle.dl_model.specs.Marks.{claims, journal, records}
 use Rattle.dl_model.specs.Replay.{source_of}
 use Rattle.dl_model.specs.Steps.{run}
 use Rattle.dl_model.specs.WholeAccounts.{records_by}
@@ -20,7 +20,7 @@ text_of_played-requires-clause-numbered c = λ number.
     let is = c.in_ok-played.ensures.played [] tt in
     let done = run setting is.answers c.args.script.now.steps in
     subst (λ (rs : List (List Record)). AreNumbered (records_by number rs)) (sym (is.records_are ∙ ap records is.run_is))
-    (c.records_account_for_a_journal.ensures.numbered setting.first (journal done) (λ app. 0) (refusals_of done) (records done) (c.runs_are_accounted.ensures.whole setting is.answers c.args.script.now.steps) number)
+    (c.records_account_for_a_journal.ensures.numbered setting.first (journal done) (λ app. 0) (refusals_of done) (claims done) (records done) (c.runs_are_accounted.ensures.whole setting is.answers c.args.script.now.steps) number)
 
 pub text_of_played-requires-clause-clients : goal.text_of_played-requires-clause-clients
 text_of_played-requires-clause-clients c =
@@ -28,7 +28,7 @@ text_of_played-requires-clause-clients c =
     let is = c.in_ok-played.ensures.played [] tt in
     let done = run setting is.answers c.args.script.now.steps in
     subst ComeAndGo (sym (is.events_are ∙ ap journal is.run_is))
-    (c.clients_come_and_go.ensures setting (source_of setting done) (journal done) (c.runs_are_well_formed.ensures.whole setting (source_of setting done) is.answers c.args.script.now.steps))
+    (c.clients_come_and_go.ensures setting (source_of setting done) (journal done) (c.scripts_are_well_formed.ensures.whole setting (source_of setting done) is.answers c.args.script.now.steps c.requires))
 
 pub picture_where_wanted-requires-clause-numbered : goal.picture_where_wanted-requires-clause-numbered
 picture_where_wanted-requires-clause-numbered c = λ number.
@@ -36,7 +36,7 @@ picture_where_wanted-requires-clause-numbered c = λ number.
     let is = c.in_ok-played.ensures.played [] tt in
     let done = run setting is.answers c.args.script.now.steps in
     subst (λ (rs : List (List Record)). AreNumbered (records_by number rs)) (sym (is.records_are ∙ ap records is.run_is))
-    (c.records_account_for_a_journal.ensures.numbered setting.first (journal done) (λ app. 0) (refusals_of done) (records done) (c.runs_are_accounted.ensures.whole setting is.answers c.args.script.now.steps) number)
+    (c.records_account_for_a_journal.ensures.numbered setting.first (journal done) (λ app. 0) (refusals_of done) (claims done) (records done) (c.runs_are_accounted.ensures.whole setting is.answers c.args.script.now.steps) number)
 
 pub picture_where_wanted-requires-clause-clients : goal.picture_where_wanted-requires-clause-clients
 picture_where_wanted-requires-clause-clients c =
@@ -44,7 +44,7 @@ picture_where_wanted-requires-clause-clients c =
     let is = c.in_ok-played.ensures.played [] tt in
     let done = run setting is.answers c.args.script.now.steps in
     subst ComeAndGo (sym (is.events_are ∙ ap journal is.run_is))
-    (c.clients_come_and_go.ensures setting (source_of setting done) (journal done) (c.runs_are_well_formed.ensures.whole setting (source_of setting done) is.answers c.args.script.now.steps))
+    (c.clients_come_and_go.ensures setting (source_of setting done) (journal done) (c.scripts_are_well_formed.ensures.whole setting (source_of setting done) is.answers c.args.script.now.steps c.requires))
 
 pub returns-clause-text : goal.returns-clause-text
 returns-clause-text c = λ stood rotating.

@@ -1,7 +1,7 @@
-use Rattle.std.proofs.Common.{◌≡◌, ap, ◌∙◌, arith}
+use Rattle.std.proofs.Common.{◌≡◌, length, ap, ◌∙◌, arith}
 use Rattle.dl_model.specs.Registry.{App, releveled_app, releveled_context}
 use Rattle.dl_registry.specs.Change.{changed_entry, relevel_of}
-use Rattle.dl_registry.proofs.Entries.{changed_first-more, changed_first-all}
+use Rattle.dl_registry.proofs.Entries.{changed_first-more, changed_first-all, length-changed_first}
 use Rattle.dl_registry.proofs.application.Application.relevel.Goals as goal
 
 pub loop-place-preserved : goal.loop-place-preserved
@@ -12,8 +12,14 @@ loop-place-preserved c =
       number = c.loop-place.invariant.number;
       pid = c.loop-place.invariant.pid;
       text = c.loop-place.invariant.text;
-      contexts = c.relevel_at.ensures ∙ (ap (λ es. changed_entry change es c.loop-place.place) c.loop-place.invariant.contexts ∙ changed_first-more change c.self.inside.contexts.entries c.loop-place.place);
+      contexts = c.relevel_at.ensures.levels ∙ (ap (λ es. changed_entry change es c.loop-place.place) c.loop-place.invariant.contexts ∙ changed_first-more change c.self.inside.contexts.entries c.loop-place.place);
+      room = c.relevel_at.ensures.room ∙ c.loop-place.invariant.room;
     }
+
+pub invariant_of-self : goal.invariant_of-self
+invariant_of-self c =
+    let is = c.loop-place.invariant in
+    omega (arith, ap length is.contexts, length-changed_first (releveled_context (relevel_of c.args.levels.now) c.args.apid) c.self.inside.contexts.entries c.loop-place.place, is.room, c.self.invariant)
 
 pub returns : goal.returns
 returns c =

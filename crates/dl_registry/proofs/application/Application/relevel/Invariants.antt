@@ -1,4 +1,5 @@
 use Rattle.std.proofs.Common.{◌≡◌}
+use Rattle.indexmap.specs.IndexMap.{spare}
 use Rattle.dl_model.specs.Registry.{releveled_context}
 use Rattle.dl_registry.specs.Change.{changed_first, relevel_of}
 use Rattle.dl_registry.proofs.application.Application.relevel.Given as goal
@@ -10,4 +11,5 @@ invariant-loop-place l = record {
   pid : l.self-inside.pid ≡ l.initial.self-inside.pid;
   text : l.self-inside.text ≡ l.initial.self-inside.text;
   contexts : l.self-inside.contexts.entries ≡ changed_first (releveled_context (relevel_of l.levels) l.apid) l.place l.initial.self-inside.contexts.entries;
+  room : spare l.self-inside.contexts ≡ spare l.initial.self-inside.contexts;
 }

@@ -15,32 +15,32 @@ returns-then-apps-app-clause-does g c = drains_nobody c.args.self.now _ c.args.a
 pub returns-then-apps-app-clause-leaves : goal.returns-then-apps-app-clause-leaves
 returns-then-apps-app-clause-leaves g c = leaves_alone _ _ _ refl
 
-pub loop-call-init : goal.loop-call-init
-loop-call-init g c = record {
+pub loop-next-init : goal.loop-next-init
+loop-next-init g c = record {
   so_far = does_first 0 (takes c.args.app) c.args.self.now _;
   leaves = leaves_alone _ _ _ refl;
 }
 
 pub returns-in_err-take_log-clause-leaves : goal.returns-in_err-take_log-clause-leaves
-returns-in_err-take_log-clause-leaves g c = leaves_both _ _ _ _ _ _ c.loop-call.invariant.leaves c.take_log.ensures.leaves
+returns-in_err-take_log-clause-leaves g c = leaves_both _ _ _ _ _ _ c.loop-next.invariant.leaves c.take_log.ensures.leaves
 
-pub loop-call-preserved : goal.loop-call-preserved
-loop-call-preserved g c = record {
-  so_far = does_next 0 c.loop-call._call c.loop-call._call (takes c.args.app) c.args.self.now c.loop-call.self c.take_log.new.self _ _ _
-      (omega arith) c.loop-call.invariant.so_far c.in_ok-take_log.ensures.does;
-  leaves = leaves_both _ _ _ _ _ _ c.loop-call.invariant.leaves c.take_log.ensures.leaves;
+pub loop-next-preserved : goal.loop-next-preserved
+loop-next-preserved g c = record {
+  so_far = does_next 0 c.loop-next._next c.loop-next._next (takes c.args.app) c.args.self.now c.loop-next.self c.take_log.new.self _ _ _
+      (omega arith) c.loop-next.invariant.so_far c.in_ok-take_log.ensures.does;
+  leaves = leaves_both _ _ _ _ _ _ c.loop-next.invariant.leaves c.take_log.ensures.leaves;
 }
 
 pub returns-clause-does : goal.returns-clause-does
 returns-clause-does g c =
     let old = c.args.self.now in
-    let k = c.loop-call._call in
-    let all : k ≡ c.held-call-end.result = omega arith in
-    let held : (done : List Mark) → calls.IsAfter done old.calls → k ≡ held_by c.args.app done = λ done is. all ∙ c.held-call-end.ensures done is in
-    let made = λ (losses : Does (λ setting answers. take_losses setting c.args.app) c.loop-call.self c.take_losses.new.self
-    (g.F.Folder.told c.loop-call.folder) (g.F.Folder.told c.take_losses.new.folder)).
-    drains old c.loop-call.self c.take_losses.new.self _ _ _ c.args.app k held c.loop-call.invariant.so_far losses in
+    let k = c.loop-next._next in
+    let all : k ≡ c.held-next-end.result = omega arith in
+    let held : (done : List Mark) → calls.IsAfter done old.calls → k ≡ held_by c.args.app done = λ done is. all ∙ c.held-next-end.ensures done is in
+    let made = λ (losses : Does (λ setting answers. take_losses setting c.args.app) c.loop-next.self c.take_losses.new.self
+    (g.F.Folder.told c.loop-next.folder) (g.F.Folder.told c.take_losses.new.folder)).
+    drains old c.loop-next.self c.take_losses.new.self _ _ _ c.args.app k held c.loop-next.invariant.so_far losses in
     on_ok c.take_losses.result _ _ made c.take_losses.ensures.does
 
 pub returns-clause-leaves : goal.returns-clause-leaves
-returns-clause-leaves g c = leaves_both _ _ _ _ _ _ c.loop-call.invariant.leaves c.take_losses.ensures.leaves
+returns-clause-leaves g c = leaves_both _ _ _ _ _ _ c.loop-next.invariant.leaves c.take_losses.ensures.leaves

@@ -18,7 +18,7 @@ returns-clause-does g c =
     (log_does c.args.self.now c.deliver.new.self c.args.app c.in-Some.item.now c.log.new.self c.make_room.new.journal c.log.new.journal c.take.new.self
     (g.F.Folder.told c.args.folder.now) (g.F.Folder.told c.log.new.folder) c.requires.known
     (sym c.in-Some.ensures) (record { apid_long = c.has_sizes.ensures.apid; ctid_long = c.has_sizes.ensures.ctid; payload_within = c.has_sizes.ensures.payload })
-    c.make_room.ensures.events c.log.ensures.notes.after c.log.ensures.notes.event c.take.ensures
+    c.make_room.ensures.events c.log.ensures.notes.after c.log.ensures.notes.event c.take.ensures.call
     (stores_in _ c.args.self.now.core.trace c.log.new.self.trace (g.F.Folder.told c.args.folder.now) (g.F.Folder.told c.log.new.folder) c.log.ensures.notes.stores)
     (traced_keeps c.args.self.now.core.trace (g.F.Folder.told c.args.folder.now) (g.F.Folder.told c.log.new.folder) c.log.ensures.notes.others)
     c.deliver.ensures.trace)

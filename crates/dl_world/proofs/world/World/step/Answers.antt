@@ -3,10 +3,11 @@ use Rattle.std.specs.Prelude.{None}
 use Rattle.dl_script_lines.specs.declared.step.Step.{Step}
 use Rattle.dl_script_lines.specs.declared.step.Step.TheVariants as line
 use Rattle.dl_script.specs.Earlier.{refusal}
+use Rattle.dl_script.specs.Playable.{IsInBounds}
 use Rattle.dl_script.specs.Spelled.{step_claim}
 use Rattle.dl_core.specs.State.{Core}
 use Rattle.dl_world_calls.proofs.Acts.{on_ok}
-use Rattle.dl_world.proofs.Claims.{owner_is_known, contexts_are_few}
+use Rattle.dl_world.proofs.Claims.{owner_is_known, contexts_are_few, has_place}
 use Rattle.dl_world.proofs.Declared.{declares_writer}
 use Rattle.dl_folders.proofs.LeftFiles.{leaves_alone}
 use Rattle.dl_world.proofs.StepLines.{of_line, levels_line}
@@ -23,6 +24,27 @@ add_writer-requires-clause-known g c =
     let may = c.requires.known in
     owner_is_known may.known may.done c.args.self.now.calls c.in-Writer.apid may.is_known may.after.so_far.calls_so
     (subst (λ (step : Step). refusal may.known (step_claim step) ≡ None) c.in-Writer.is may.admitted)
+
+pub declare_app-requires-clause-text : goal.declare_app-requires-clause-text
+declare_app-requires-clause-text g c = (subst IsInBounds c.in-App.is c.requires.known.bounds).1
+
+pub claim-requires-clause-place : goal.claim-requires-clause-place
+claim-requires-clause-place g c =
+    let may = c.requires.known in
+    has_place may.known may.done c.args.self.now.calls c.in-Claim.asked.writer c.in-Claim.asked.ctid may.is_known may.after.so_far.calls_so
+    (subst (λ (step : Step). refusal may.known (step_claim step) ≡ None) c.in-Claim.is may.admitted)
+
+pub claim-requires-clause-named : goal.claim-requires-clause-named
+claim-requires-clause-named g c = (subst IsInBounds c.in-Claim.is c.requires.known.bounds).0
+
+pub register-requires-clause-place : goal.register-requires-clause-place
+register-requires-clause-place g c =
+    let may = c.requires.known in
+    has_place may.known may.done c.args.self.now.calls c.in-Register.asked.writer c.in-Register.asked.ctid may.is_known may.after.so_far.calls_so
+    (subst (λ (step : Step). refusal may.known (step_claim step) ≡ None) c.in-Register.is may.admitted)
+
+pub register-requires-clause-named : goal.register-requires-clause-named
+register-requires-clause-named g c = (subst IsInBounds c.in-Register.is c.requires.known.bounds).0
 
 pub returns-in-App-clause-does : goal.returns-in-App-clause-does
 returns-in-App-clause-does g c = of_line c.declare_app.result c.in-App.is c.args.self.now c.declare_app.new.self _ _ c.declare_app.ensures.does
@@ -81,6 +103,30 @@ returns-in-Call-clause-leaves g c = leaves_alone c.args.self.now.core c.whole_ca
 
 pub returns-in-Log-clause-does : goal.returns-in-Log-clause-does
 returns-in-Log-clause-does g c = of_line c.log.result c.in-Log.is c.args.self.now c.log.new.self _ _ c.log.ensures.does
+
+pub returns-in-Claim-clause-does : goal.returns-in-Claim-clause-does
+returns-in-Claim-clause-does g c =
+    let told = (g.F.Folder.told c.args.folder.now) in
+    of_line c.claim.result c.in-Claim.is c.args.self.now c.claim.new.self told told (on_ok c.claim.result _ _ (λ doing. doing told) c.claim.ensures.does)
+
+pub returns-in-Claim-clause-leaves : goal.returns-in-Claim-clause-leaves
+returns-in-Claim-clause-leaves g c = leaves_alone c.args.self.now.core c.claim.new.self.core _ (ap (λ (core : Core). core.trace) c.claim.ensures.core)
+
+pub returns-in-Announce-clause-does : goal.returns-in-Announce-clause-does
+returns-in-Announce-clause-does g c =
+    let told = (g.F.Folder.told c.args.folder.now) in
+    of_line c.announce.result c.in-Announce.is c.args.self.now c.announce.new.self told told (on_ok c.announce.result _ _ (λ doing. doing told) c.announce.ensures.does)
+
+pub returns-in-Announce-clause-leaves : goal.returns-in-Announce-clause-leaves
+returns-in-Announce-clause-leaves g c = leaves_alone c.args.self.now.core c.announce.new.self.core _ (ap (λ (core : Core). core.trace) c.announce.ensures.core)
+
+pub returns-in-Register-clause-does : goal.returns-in-Register-clause-does
+returns-in-Register-clause-does g c =
+    let told = (g.F.Folder.told c.args.folder.now) in
+    of_line c.register.result c.in-Register.is c.args.self.now c.register.new.self told told (on_ok c.register.result _ _ (λ doing. doing told) c.register.ensures.does)
+
+pub returns-in-Register-clause-leaves : goal.returns-in-Register-clause-leaves
+returns-in-Register-clause-leaves g c = leaves_alone c.args.self.now.core c.register.new.self.core _ (ap (λ (core : Core). core.trace) c.register.ensures.core)
 
 pub returns-in-Take-clause-does : goal.returns-in-Take-clause-does
 returns-in-Take-clause-does g c = of_line c.take_of.result c.in-Take.is c.args.self.now c.take_of.new.self _ _ c.take_of.ensures.does

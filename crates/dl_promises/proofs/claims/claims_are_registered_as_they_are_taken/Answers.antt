@@ -1,0 +1,8 @@
+use Rattle.dl_model.specs.Steps.{run}
+use Rattle.dl_laws.proofs.Founded.{run_founded}
+use Rattle.dl_promises.proofs.RegisteredClaims.{taken_registered}
+use Rattle.dl_promises.proofs.WellFormed.{run_stands}
+use Rattle.dl_promises.proofs.claims.claims_are_registered_as_they_are_taken.Goals as goal
+
+pub returns : goal.returns
+returns c = λ setting answers steps. taken_registered setting (run setting answers steps) (run_founded setting answers steps) (run_stands setting answers steps)

@@ -1,0 +1,158 @@
+-- What a message of an application leaves of a place that nobody has.
+use Rattle.std.proofs.Common.{◌≡◌, ℕ, suc, ◌+◌, ◌<◌, ◌≤◌, Bool, true, false, cond, get_or, List, [], ◌∷◌, length, map, not, Option, Some, None, Result, Ok, Err, refl, sym, ap, subst, ◌∙◌, arith, inl, inr, true≢false}
+use Rattle.std.specs.Prelude.{◌==◌, ◌||◌, nat_eq, nat_le, if◌then◌else◌, slice_get, IfOk}
+use Rattle.std.specs.List.{AllByRecursion, IsDistinct, filter, list_any}
+use Rattle.std.specs.Map.{lookup}
+use Rattle.std.specs.Option.{option_map, option_or}
+use Rattle.std.specs.Str.{bytes_eq}
+use Rattle.std.proofs.lemmas.Bool.{eq-eqb, ne_eqb}
+use Rattle.std.proofs.lemmas.List.Folds.{list_any-append}
+use Rattle.std.proofs.lemmas.List.Quantifiers.{position-Some}
+use Rattle.std.proofs.lemmas.Option.{slice_get-get_or, slice_get-map}
+use Rattle.std.proofs.lemmas.Map.Keys.{IsDistinct-head, IsDistinct-tail}
+use Rattle.dl_bytes.specs.Id.{zero_id}
+use Rattle.dl_bytes.specs.Limits.{last_version}
+use Rattle.dl_bytes.specs.declared.user.UserMsg.{UserMsg}
+use Rattle.dl_bytes.specs.declared.user.UserMsg.TheVariants.{RegisterApp, UnregisterApp, RegisterContext, UnregisterContext, Log, LogLevel, Injection, Overflow}
+use Rattle.dl_script_lines.specs.declared.line.AppLine.{AppLine}
+use Rattle.dl_model.specs.declared.context.Context.{Context}
+use Rattle.dl_model.specs.declared.registry.RegistryFault.{RegistryFault}
+use Rattle.dl_model.specs.declared.registry.RegistryFault.TheVariants as fault
+use Rattle.dl_model.specs.declared.registry.Slot.{Slot}
+use Rattle.dl_model.specs.Marks.{Mark, apps, number_of}
+use Rattle.dl_model.specs.Registry.{App, Registry, app_of, app_registered, app_unregistered, applied, context_of, context_registered, context_unregistered, for_app, least_free, numbers, places, places_of, slot_of, stored_level, with_app, with_context, with_new_context, without}
+use Rattle.dl_model.proofs.Order.{app_of_found}
+use Rattle.dl_model.proofs.Placed.{places-push, places-same}
+use Rattle.dl_model.proofs.Presence.{bytes_tell}
+use Rattle.dl_promises.specs.WaitingClaims.{IsFreeIn}
+use Rattle.dl_promises.proofs.Alls.{all_filter, all_more}
+use Rattle.dl_promises.proofs.FreePlaces.{lack-lookup, lack-set_value}
+use Rattle.dl_script_runs.proofs.StandingApps.{AreFirst, Who, ifok_if, neither, who}
+
+module _ (app place : ℕ) where
+  abbrev Free : Registry → Type 0
+  Free r = IsFreeIn r app place
+
+  -- no context that begins with a message takes the place
+  abbrev pub Spares : Registry → (channel : ℕ) → UserMsg → Type 0
+  Spares r channel (RegisterContext apid ctid position level trace pid text) = (a : App) → app_of r channel apid ≡ Some a → a.number ≡ app → least_free (places a.contexts) ≡ place → ⊥
+  Spares r channel _ = Unit {0}
+
+  -- some of the contexts of an application that lacks the place
+  none_kept : (p : List ℕ × Context → Bool) (cs : List (List ℕ × Context)) → list_any (nat_eq place) (places cs) ≡ false → list_any (nat_eq place) (places (filter p cs)) ≡ false
+  none_kept p [] none = refl
+  none_kept p (c ∷ cs) none = by (p c) (none_kept p cs parts.1) where
+    parts : (list_any (nat_eq place) (places_of c.1) ≡ false) × (list_any (nat_eq place) (places cs) ≡ false)
+    parts = neither (list_any (nat_eq place) (places_of c.1)) (list_any (nat_eq place) (places cs)) (sym (list_any-append (nat_eq place) (places_of c.1) (places cs)) ∙ none)
+
+    by : (b : Bool) → list_any (nat_eq place) (places (filter p cs)) ≡ false → list_any (nat_eq place) (places (cond b (c ∷ filter p cs) (filter p cs))) ≡ false
+    by true rest = list_any-append (nat_eq place) (places_of c.1) (places (filter p cs)) ∙ ap (λ (b : Bool). b || list_any (nat_eq place) (places (filter p cs))) parts.0 ∙ rest
+    by false rest = rest
+
+  module _ (r : Registry) (free : Free r) where
+    -- an application that is changed lacks the place as before
+    changed : (apid : List ℕ) (new : App) → (new.number ≡ app → list_any (nat_eq place) (places new.contexts) ≡ false) → Free (with_app r apid new)
+    changed apid new lacks = lack-set_value app place (bytes_eq apid) r.apps new free lacks
+
+    lacked : (apid : List ℕ) (a : App) → lookup (bytes_eq apid) r.apps ≡ Some a → a.number ≡ app → list_any (nat_eq place) (places a.contexts) ≡ false
+    lacked apid a found = lack-lookup app place (bytes_eq apid) r.apps a free found
+
+    registered : (channel : ℕ) (apid : List ℕ) (pid : ℕ) (text : List ℕ) (o : Option App) → lookup (bytes_eq apid) r.apps ≡ o → IfOk (app_registered r channel apid pid text o) Free
+    registered channel apid pid text (Some a) found = by (a.channel == channel) where
+      by : (b : Bool) → IfOk (if b then Ok (with_app r apid (record a { pid = pid; text = text })) else Err fault.Taken) Free
+      by true = changed apid (record a { pid = pid; text = text }) (lacked apid a found)
+      by false = tt
+    registered channel apid pid text None found =
+        ifok_if Free (nat_le 16 (length r.apps)) fault.AppsFull _
+        (all_more (λ (e : List ℕ × App). e.1.number ≡ app → list_any (nat_eq place) (places e.1.contexts) ≡ false) r.apps
+        ((apid, record { channel = channel; number = least_free (numbers r.apps); pid = pid; text = text; contexts = [] }) ∷ []) free ((λ _. refl), tt))
+
+    unregistered : (apid : List ℕ) (o : Option App) → IfOk (app_unregistered r apid o) Free
+    unregistered apid None = tt
+    unregistered apid (Some a) = all_filter (λ (e : List ℕ × App). e.1.number ≡ app → list_any (nat_eq place) (places e.1.contexts) ≡ false) (λ (e : List ℕ × App). not (bytes_eq apid e.0)) r.apps free
+
+    in_app : (channel : ℕ) (apid : List ℕ) (o : Option App) (next : App → Result Registry RegistryFault) → app_of r channel apid ≡ o → ((a : App) → app_of r channel apid ≡ Some a → IfOk (next a) Free) → IfOk (for_app o next) Free
+    in_app channel apid None next found each = tt
+    in_app channel apid (Some a) next found each = each a found
+
+    in_context : (slots : ℕ → Slot) (apid ctid : List ℕ) (position : ℕ) (level : Option ℕ) (text : List ℕ) (a : App) (o : Option Context) → lookup (bytes_eq apid) r.apps ≡ Some a → context_of a ctid ≡ o
+        → (a.number ≡ app → least_free (places a.contexts) ≡ place → ⊥) → IfOk (context_registered slots r apid ctid position level text a o) Free
+    in_context slots apid ctid position level text a (Some context) found named spares =
+        let new : Context = record context { position = position; text = text } in
+        changed apid (with_context a ctid new) (λ here. ap (list_any (nat_eq place)) (places-same (bytes_eq ctid) a.contexts context new named refl) ∙ lacked apid a found here)
+    in_context slots apid ctid position level text a None found named spares =
+        let least = least_free (places a.contexts) in
+        let new : Context = record { place = least; further = []; own = option_or (stored_level r.stored apid ctid) level; position = position; text = text } in
+        ifok_if Free (nat_le 64 (length (places a.contexts))) fault.ContextsFull _
+        (ifok_if Free ((slots (slot_of a.number least)).version == last_version) fault.Worn _
+        (changed apid (with_new_context a ctid new) (λ here.
+        let other : nat_eq place least ≡ false = ne_eqb place least (λ same. spares here (sym same)) in
+        ap (list_any (nat_eq place)) (places-push a.contexts ctid new refl) ∙ list_any-append (nat_eq place) (places a.contexts) (least ∷ [])
+        ∙ ap (λ (b : Bool). b || (nat_eq place least || false)) (lacked apid a found here) ∙ ap (λ (b : Bool). b || false) other)))
+
+    out_of_context : (apid ctid : List ℕ) (a : App) (o : Option Context) → lookup (bytes_eq apid) r.apps ≡ Some a → IfOk (context_unregistered r apid ctid a o) Free
+    out_of_context apid ctid a None found = tt
+    out_of_context apid ctid a (Some context) found =
+        changed apid (record a { contexts = without ctid a.contexts }) (λ here. none_kept (λ (c : List ℕ × Context). not (bytes_eq ctid c.0)) a.contexts (lacked apid a found here))
+
+    pub told_free : (slots : ℕ → Slot) (channel : ℕ) (msg : UserMsg) → Spares r channel msg → IfOk (applied slots r channel msg) Free
+    told_free slots channel (RegisterApp apid pid text) spares = ifok_if Free (bytes_eq apid zero_id) fault.ZeroId _ (registered channel apid pid text (lookup (bytes_eq apid) r.apps) refl)
+    told_free slots channel (UnregisterApp apid pid) spares = unregistered apid (app_of r channel apid)
+    told_free slots channel (RegisterContext apid ctid position level trace pid text) spares =
+        ifok_if Free (bytes_eq apid zero_id || bytes_eq ctid zero_id) fault.ZeroId _
+        (in_app channel apid (app_of r channel apid) _ refl (λ a found.
+        in_context slots apid ctid position level text a (context_of a ctid) (app_of_found r channel apid a found) refl (spares a found)))
+    told_free slots channel (UnregisterContext apid ctid pid) spares =
+        in_app channel apid (app_of r channel apid) _ refl (λ a found. out_of_context apid ctid a (context_of a ctid) (app_of_found r channel apid a found))
+    told_free slots channel (Log bytes) spares = free
+    told_free slots channel (LogLevel level trace position) spares = free
+    told_free slots channel (Injection position service body) spares = free
+    told_free slots channel (Overflow counter apid) spares = free
+
+-- ---- which application has a number
+
+found_number : (P : ℕ → Type 0) (test : List ℕ → Bool) (es : List (List ℕ × App)) (a : App) → lookup test es ≡ Some a → AllByRecursion P (numbers es) → P a.number
+found_number P test [] a found all = absurd cc
+found_number P test (e ∷ es) a found all = by (test e.0) found (λ later. found_number P test es a later all.1) where
+  by : (b : Bool) → cond b (Some e.1) (lookup test es) ≡ Some a → (lookup test es ≡ Some a → P a.number) → P a.number
+  by true here rest = let same : e.1 ≡ a = cc in subst (λ (x : App). P x.number) same all.0
+  by false later rest = rest later
+
+same_bytes : (a b : List ℕ) → bytes_eq a b ≡ true → a ≡ b
+same_bytes a b is = elim (bytes_tell a b) as (λ _. a ≡ b) [ inl same ↦ same.1 | inr other ↦ absurd cc ]
+
+-- one that has the number of one of the first is of this process
+pub own_channel : (number : ℕ) (apids : List (List ℕ)) (es : List (List ℕ × App)) → AreFirst number apids (map who es) → IsDistinct nat_eq (numbers es) → (apid : List ℕ) (a : App) → lookup (bytes_eq apid) es ≡ Some a →
+    number ≤ a.number → a.number < number + length apids → a.channel ≡ 0
+own_channel number [] es first apart apid a found from below = absurd (omega (arith, from, below))
+own_channel number (id ∷ apids) [] first apart apid a found from below = absurd first
+own_channel number (id ∷ apids) (e ∷ es) first apart apid a found from below =
+    by (bytes_eq apid e.0) found (λ later next. own_channel (number + 1) apids es first.1 (IsDistinct-tail nat_eq e.1.number (numbers es) apart) apid a later next (omega (arith, below))) where
+      by : (b : Bool) → cond b (Some e.1) (lookup (bytes_eq apid) es) ≡ Some a → (lookup (bytes_eq apid) es ≡ Some a → number + 1 ≤ a.number → a.channel ≡ 0) → a.channel ≡ 0
+      by true here rest = let same : e.1 ≡ a = cc in sym (ap (λ (x : App). x.channel) same) ∙ ap (λ (w : Who). w.channel) first.0
+      by false later rest =
+          let other = found_number (λ n. nat_eq e.1.number n ≡ false) (bytes_eq apid) es a later (IsDistinct-head nat_eq e.1.number (numbers es) apart) in
+          let apart_from : e.1.number ≡ a.number → ⊥ = λ same. true≢false (sym (eq-eqb e.1.number a.number same) ∙ other) in
+          let is : e.1.number ≡ number = ap (λ (w : Who). w.number) first.0 in
+          rest later (omega (arith, apart_from, is, from))
+
+-- where these are there alone, each has the number at which it stands among them
+pub alone_at : (number : ℕ) (apids : List (List ℕ)) (es : List (List ℕ × App)) → AreFirst number apids (map who es) → length es ≡ length apids → (apid : List ℕ) (a : App) → lookup (bytes_eq apid) es ≡ Some a →
+    (k : ℕ) × (a.number ≡ number + k) × (slice_get apids k ≡ Some apid)
+alone_at number [] [] first alone apid a found = absurd cc
+alone_at number [] (e ∷ es) first alone apid a found = absurd (omega (arith, alone))
+alone_at number (id ∷ apids) [] first alone apid a found = absurd first
+alone_at number (id ∷ apids) (e ∷ es) first alone apid a found = by (bytes_eq apid e.0) refl found (λ later. alone_at (number + 1) apids es first.1 (omega (arith, alone)) apid a later) where
+  by : (b : Bool) → bytes_eq apid e.0 ≡ b → cond b (Some e.1) (lookup (bytes_eq apid) es) ≡ Some a → (lookup (bytes_eq apid) es ≡ Some a → (k : ℕ) × (a.number ≡ number + 1 + k) × (slice_get apids k ≡ Some apid)) →
+      (k : ℕ) × (a.number ≡ number + k) × (slice_get (id ∷ apids) k ≡ Some apid)
+  by true here is later =
+      let same : e.1 ≡ a = cc in
+      (0, omega (arith, sym (ap (λ (x : App). x.number) same) ∙ ap (λ (w : Who). w.number) first.0), ap Some (sym (same_bytes apid e.0 here ∙ ap (λ (w : Who). w.apid) first.0)))
+  by false here is later = let rest = later is in (suc rest.0, omega (arith, rest.1), rest.2)
+
+-- lines declare them in the order of their numbers
+pub number_is : (done : List Mark) (apid : List ℕ) (n : ℕ) → number_of apid done ≡ Some n → slice_get (map (λ (app : AppLine). app.apid) (apps done)) n ≡ Some apid
+number_is done apid n is =
+    let none : AppLine = record { apid = []; capacity = 0; text = [] } in
+    let at = position-Some (λ (app : AppLine). bytes_eq app.apid apid) (apps done) n none is in
+    slice_get-map (λ (app : AppLine). app.apid) (apps done) n ∙ ap (option_map (λ (app : AppLine). app.apid)) (slice_get-get_or (apps done) n none at.0) ∙ ap Some (same_bytes (get_or (apps done) n none).apid apid at.1)

@@ -1,0 +1,96 @@
+//! Laws of whole scripts that can be played.
+
+ghost use Rattle.std.specs.Prelude.{◌≡◌, ◌≢◌, ◌≤◌, ℕ, List, [], ◌∷◌, ◌++◌, length, Some};
+ghost use Rattle.std.specs.List.{AllByRecursion, filter_map};
+ghost use Rattle.dl_bytes.specs.Claim.{Claimed};
+ghost use Rattle.dl_bytes.specs.Limits.{last_version};
+ghost use Rattle.dl_bytes.specs.declared.moment.Moment.{Moment};
+ghost use Rattle.dl_bytes.specs.declared.outcome.Done.{Done};
+ghost use Rattle.dl_events.specs.declared.event.Event.{Event};
+ghost use Rattle.dl_events.specs.declared.event.Event.TheVariants.{Claim};
+ghost use Rattle.dl_script.specs.Playable.{IsPlayable};
+ghost use Rattle.dl_script_lines.specs.declared.step.Step.{Step};
+ghost use Rattle.dl_model.specs.Accounts.{claims};
+ghost use Rattle.dl_model.specs.Frames.{FrameSource};
+ghost use Rattle.dl_model.specs.Journal.{IsWellFormed, registry_of};
+ghost use Rattle.dl_model.specs.Marks.{claim_of, contexts_of, journal, number_of, records_of};
+ghost use Rattle.dl_model.specs.Registry.{slot_of};
+ghost use Rattle.dl_model.specs.Setting.{Setting};
+ghost use Rattle.dl_model.specs.Steps.{after_lines, run};
+ghost use Rattle.dl_model.specs.WholeAccounts.{ArePlacesApart};
+ghost use Rattle.dl_promises.specs.Causes.{HaveCauses};
+ghost use Rattle.dl_promises.specs.PresentClaims.{ClaimsArePresent};
+ghost use Rattle.dl_promises.specs.RunRecords.{IsSeen};
+ghost use Rattle.dl_promises.specs.WaitingClaims.{IsFilteredFirst, IsRegistered, IsUntaken};
+
+use dl_promises::causes::every_call_of_a_run_has_one_cause;
+use dl_promises::claims::{
+    calls_are_filtered_until_their_claim_is_taken, claims_are_registered_as_they_are_taken,
+    no_place_is_claimed_twice,
+};
+use dl_promises::runs::runs_are_well_formed;
+
+/// Each claim that the daemon takes is of an application that is there, on channel 0: a script declares it before user messages come, under a
+/// name that none has yet, and no other process can unregister it.
+pub fn claims_of_a_script_are_present()
+    ensures lines { (setting : Setting) (answers : List Done) (steps : List Step) → IsPlayable steps →
+        ClaimsArePresent setting (journal (after_lines setting answers steps)) }
+    ensures whole { (setting : Setting) (answers : List Done) (steps : List Step) → IsPlayable steps →
+        ClaimsArePresent setting (journal (run setting answers steps)) }
+{}
+
+/// So the journal of a script is well-formed, after any lines of it and at the end: Level events are just those that are owed, in their
+/// order, and each event of a client stands while the client may have it.
+pub fn scripts_are_well_formed()
+    ensures lines { (setting : Setting) (source : FrameSource) (answers : List Done) (steps : List Step) → IsPlayable steps →
+        IsWellFormed setting source (journal (after_lines setting answers steps)) }
+    ensures whole { (setting : Setting) (source : FrameSource) (answers : List Done) (steps : List Step) → IsPlayable steps →
+        IsWellFormed setting source (journal (run setting answers steps)) }
+{
+    claims_of_a_script_are_present();
+    runs_are_well_formed();
+}
+
+/// So in every run of a script each call of every writer has one cause, for every client.
+pub fn every_call_of_a_script_has_one_cause()
+    ensures lines { (setting : Setting) (answers : List Done) (steps : List Step) (writer client : ℕ) → IsPlayable steps →
+        HaveCauses setting (after_lines setting answers steps) writer client }
+    ensures whole { (setting : Setting) (answers : List Done) (steps : List Step) (writer client : ℕ) → IsPlayable steps →
+        HaveCauses setting (run setting answers steps) writer client }
+{
+    claims_of_a_script_are_present();
+    every_call_of_a_run_has_one_cause();
+}
+
+/// The places of an application's contexts differ. The claims that the daemon takes of it have different places, and these stand behind
+/// the places of all contexts that lines declare of it: a script declares these before the first claim.
+pub fn places_of_a_script_differ()
+    ensures taken { (setting : Setting) (answers : List Done) (steps : List Step) → ArePlacesApart (journal (run setting answers steps)) }
+    ensures behind { (setting : Setting) (answers : List Done) (steps : List Step) (app : ℕ) (apid : List ℕ) → IsPlayable steps →
+        number_of apid (run setting answers steps) ≡ Some app →
+        AllByRecursion (λ (claim : Claimed). length (contexts_of apid (run setting answers steps)) ≤ claim.place) (claims app (journal (run setting answers steps))) }
+{
+    no_place_is_claimed_twice();
+}
+
+/// A call under the place of a claim is filtered until the daemon takes the claim: as long as no Claim event of the place is there, its slot
+/// holds level 0 at its first version, which no call passes.
+pub fn calls_of_a_script_are_filtered_until_their_claim_is_taken()
+    ensures { (setting : Setting) (answers : List Done) (steps : List Step) (writer : ℕ) → IsPlayable steps →
+        let done = run setting answers steps in
+        AllByRecursion (λ claim. AllByRecursion (λ r. (seen : IsSeen setting done r) → r.slot ≡ slot_of claim.app claim.place →
+        IsUntaken claim.app claim.place (journal seen.loaded.before) → IsFilteredFirst setting r) (records_of writer done)) (filter_map claim_of done) }
+{
+    calls_are_filtered_until_their_claim_is_taken();
+}
+
+/// Each claim that the daemon takes is in the registry right after its Claim event: its application has a context of its id with its place,
+/// where slots don't begin at the last version.
+pub fn claims_of_a_script_are_registered()
+    ensures { (setting : Setting) (answers : List Done) (steps : List Step) (before after : List Event) (claim : Claimed) (moment : Moment) →
+        IsPlayable steps → journal (run setting answers steps) ≡ before ++ Claim claim moment ∷ after → setting.first ≢ last_version →
+        IsRegistered (registry_of setting (before ++ Claim claim moment ∷ [])) claim }
+{
+    claims_of_a_script_are_present();
+    claims_are_registered_as_they_are_taken();
+}
