@@ -1,5 +1,5 @@
 -- Books in pairs: those that were given to workers, and those that came back.
-use Rattle.std.proofs.Common.{◌≡◌, List, [], ◌∷◌, ◌++◌, length, refl, subst, arith}
+use Rattle.std.proofs.Common.{◌≡◌, ℕ, List, [], ◌∷◌, ◌++◌, length, refl, sym, ap, ◌∙◌, subst, arith}
 use Rattle.std.specs.Prelude.{All}
 use Rattle.std.proofs.lemmas.List.Elements.{All-nil, All-cons, All-head, All-tail}
 use Rattle.dl_bytes.specs.Context.{Context}
@@ -28,14 +28,20 @@ module _ (contexts : List Context) (lines : List ScenarioLine) where
   same_numbers [] [] pairs = refl
   same_numbers [] (b ∷ new) pairs = absurd pairs
   same_numbers (a ∷ old) [] pairs = absurd pairs
-  same_numbers (a ∷ old) (b ∷ new) pairs = let first = pairs.0.number in let rest = same_numbers old new pairs.1 in cc
+  same_numbers (a ∷ old) (b ∷ new) pairs = let first = pairs.0.stays.number in let rest = same_numbers old new pairs.1 in cc
 
   pub still_whole : (old new : List BookState) → ArePairs (HasPlayed contexts lines) old new → All IsWhole old → All IsWhole new
-  still_whole old new pairs = all_pairs (HasPlayed contexts lines) IsWhole IsWhole (λ a b played whole. played.whole whole) old new pairs
+  still_whole old new pairs = all_pairs (HasPlayed contexts lines) IsWhole IsWhole (λ a b played whole. played.stays.whole whole) old new pairs
 
   pub still_made : (desk : DeskState) (old new : List BookState) → ArePairs (HasPlayed contexts lines) old new → All (λ b. IsMadeWith desk b.writer) old → All (λ b. IsMadeWith desk b.writer) new
   still_made desk old new pairs =
-      all_pairs (HasPlayed contexts lines) (λ (b : BookState). IsMadeWith desk b.writer) (λ (b : BookState). IsMadeWith desk b.writer) (λ a b played made. played.desk desk made) old new pairs
+      all_pairs (HasPlayed contexts lines) (λ (b : BookState). IsMadeWith desk b.writer) (λ (b : BookState). IsMadeWith desk b.writer) (λ a b played made. played.stays.desk desk made) old new pairs
+
+  pub same_bases : (base : ℕ → ℕ) (old new : List BookState) → ArePairs (HasPlayed contexts lines) old new → All (λ b. b.writer.base ≡ base b.writer.app) old
+      → All (λ b. b.writer.base ≡ base b.writer.app) new
+  same_bases base old new pairs =
+      all_pairs (HasPlayed contexts lines) (λ (b : BookState). b.writer.base ≡ base b.writer.app) (λ (b : BookState). b.writer.base ≡ base b.writer.app)
+      (λ a b played is. played.stays.base ∙ is ∙ ap base (sym played.stays.app)) old new pairs
 
 pub as_many : {A B : Type 0} (R : A → B → Type 0) (xs : List A) (ys : List B) → ArePairs R xs ys → length ys ≡ length xs
 as_many R [] [] pairs = refl
@@ -56,3 +62,10 @@ all_last {A} P all xs x parted holds = last xs (subst (λ (l : List A). All P l)
   last : (xs : List A) → All P (xs ++ x ∷ []) → P x
   last [] h = All-head P x [] h
   last (y ∷ xs) h = last xs (All-tail P y (xs ++ x ∷ []) h)
+
+-- pairs behind pairs
+pub pairs_behind : {A B : Type 0} (R : A → B → Type 0) (xs : List A) (ys : List B) (more : List A) (others : List B) → ArePairs R xs ys → ArePairs R more others → ArePairs R (xs ++ more) (ys ++ others)
+pairs_behind R [] [] more others pairs then = then
+pairs_behind R [] (y ∷ ys) more others pairs then = absurd pairs
+pairs_behind R (x ∷ xs) [] more others pairs then = absurd pairs
+pairs_behind R (x ∷ xs) (y ∷ ys) more others pairs then = (pairs.0, pairs_behind R xs ys more others pairs.1 then)

@@ -1,6 +1,6 @@
 //! Laws on books that were played.
 
-ghost use Rattle.std.specs.Prelude.{◌≡◌, List, All};
+ghost use Rattle.std.specs.Prelude.{◌≡◌, ℕ, List, All};
 ghost use Rattle.dl_bytes.specs.Context.{Context};
 ghost use Rattle.dl_script_lines.specs.declared.scenario.ScenarioLine.{ScenarioLine};
 ghost use Rattle.dl_desk.specs.Made.{IsMadeWith};
@@ -8,8 +8,8 @@ ghost use Rattle.dl_desk.specs.State.{DeskState};
 ghost use Rattle.dl_writer.specs.State.{BookState, IsWhole, numbers};
 ghost use Rattle.dl_crew.specs.Plays.{ArePairs, HasPlayed};
 
-/// Books that were played are those of the same writers, in their order; they are whole where they were; and their writers
-/// are still those of their desk.
+/// Books that were played are those of the same writers, in their order; they are whole where they were; their writers are
+/// still those of their desk; and each writer's application had as many contexts before it as it had.
 pub fn played_books_stay()
     ensures numbered { (contexts : List Context) (lines : List ScenarioLine) (old new : List BookState) →
         ArePairs (HasPlayed contexts lines) old new → numbers new ≡ numbers old }
@@ -17,4 +17,6 @@ pub fn played_books_stay()
         ArePairs (HasPlayed contexts lines) old new → All IsWhole old → All IsWhole new }
     ensures made { (contexts : List Context) (lines : List ScenarioLine) (desk : DeskState) (old new : List BookState) →
         ArePairs (HasPlayed contexts lines) old new → All (λ b. IsMadeWith desk b.writer) old → All (λ b. IsMadeWith desk b.writer) new }
+    ensures bases { (contexts : List Context) (lines : List ScenarioLine) (base : ℕ → ℕ) (old new : List BookState) →
+        ArePairs (HasPlayed contexts lines) old new → All (λ b. b.writer.base ≡ base b.writer.app) old → All (λ b. b.writer.base ≡ base b.writer.app) new }
 {}

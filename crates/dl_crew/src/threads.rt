@@ -21,7 +21,7 @@ pub fn crew<R: Threads + Wait + Sync, C: Clock + Sync, G: Gate + Sync>(
     books: BookList,
 ) -> BookList
     requires few { length books ≤ 32 }
-    requires room { All (CanPlay plan.now.contexts plan.now.lines) books }
+    requires room { All (CanPlay plan.now.lines) books }
     ensures { ArePairs (HasPlayed plan.now.contexts plan.now.lines) books result }
 {
     let mut books = books;
@@ -31,11 +31,11 @@ pub fn crew<R: Threads + Wait + Sync, C: Clock + Sync, G: Gate + Sync>(
     let (mut done, played) = join(
         rt,
         move || -> BookList
-            requires { IsSync R.row × IsSync C.row × IsSync G.row × (length books ≤ 31) × All (CanPlay plan.now.contexts plan.now.lines) books }
+            requires { IsSync R.row × IsSync C.row × IsSync G.row × (length books ≤ 31) × All (CanPlay plan.now.lines) books }
             ensures { ArePairs (HasPlayed plan.entry.now.contexts plan.entry.now.lines) books result }
         { crew(rt, plan, clock, gate, books) },
         move || -> Book
-            requires { CanPlay plan.now.contexts plan.now.lines last }
+            requires { CanPlay plan.now.lines last }
             ensures { HasPlayed plan.entry.now.contexts plan.entry.now.lines last result }
         { play(rt, plan, clock, gate, last) },
     );

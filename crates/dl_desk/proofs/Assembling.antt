@@ -78,12 +78,25 @@ firsts app s e f a = record {
 
 -- ---- the desk
 
+-- the reader of its level words, with which nothing was read or claimed, and of which so many can be split
+abbrev pub unsplit : DeskState → ℕ → ReaderState
+unsplit d left = record {
+  table = d.handles.levels.table;
+  slots = 64 * words_for (length d.apps);
+  reads = [];
+  splits_left = left;
+  claims = d.handles.levels.claims;
+  given = [];
+  refused = [];
+}
+
 -- it is what a desk has to be
 pub begins : (d : DeskState) → length d.apps ≤ 16 → AreUnusedOf d.apps d.handles.apps d.firsts → d.owners ≡ []
-    → d.readers ≡ (record { table = d.handles.levels.table; slots = 64 * words_for (length d.apps); reads = []; splits_left = 64 })
+    → d.readers ≡ unsplit d 64
     → d.counters ≡ (record { table = d.handles.losses.table; apps = words_for (length d.apps); counted = []; splits_left = 64 })
-    → d.handles.losses.counted ≡ [] → d.handles.losses.shares ≡ 0 → IsDesk d
-begins d few unused owners readers counters counted shares =
+    → d.handles.losses.counted ≡ [] → d.handles.losses.shares ≡ 0
+    → (d.handles.levels.given ≡ []) × (d.handles.levels.refused ≡ []) × (d.handles.levels.shares ≡ 0) → IsDesk d
+begins d few unused owners readers counters counted shares claimed =
     let long = lengths d.apps d.handles.apps d.firsts unused in
     let none : length d.owners ≡ 0 = ap length owners in
     let readers_left : d.readers.splits_left ≡ 64 = ap (λ (r : ReaderState). r.splits_left) readers in
@@ -95,12 +108,13 @@ begins d few unused owners readers counters counted shares =
       each = λ n s e f is_s is_e is_f. subst (λ (os : List ℕ). AreFirst n os s e f) (sym owners) (firsts n s e f (place_of d.apps d.handles.apps d.firsts unused n s e f is_s is_e is_f));
       owned = subst (λ (os : List ℕ). All (λ owner. owner < length d.apps) os) (sym owners) (All-nil (length d.apps));
       writers = omega (arith, none);
-      readers = readers ∙ ap (λ (k : ℕ). let r : ReaderState = record { table = d.handles.levels.table; slots = 64 * words_for (length d.apps); reads = []; splits_left = k } in r) (sym readers_left);
+      readers = readers ∙ ap (unsplit d) (sym readers_left);
       readers_left = omega (arith, none, readers_left);
       counters = counters ∙ ap (λ (k : ℕ). let r : losses.WriterState = record { table = d.handles.losses.table; apps = words_for (length d.apps); counted = []; splits_left = k } in r) (sym counters_left);
       counters_left = omega (arith, none, counters_left);
       counted = counted;
       shares = shares;
+      claimed = claimed;
     } where
       All-nil : (n : ℕ) → All (λ (owner : ℕ). owner < n) []
       All-nil n = search rules

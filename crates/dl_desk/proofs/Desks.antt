@@ -2,8 +2,8 @@
 use Rattle.std.proofs.Common.{◌≡◌, ℕ, ◌+◌, [], ◌∷◌, ◌++◌, Option, Some, None, refl, sym, ◌∙◌, subst, append-nil}
 use Rattle.std.specs.Prelude.{Result, Ok, Err, IfSome, IfNone, OnOk, OnErr}
 use Rattle.dl_bytes.specs.declared.conf.AppSpec.{AppSpec}
-use Rattle.dl_bytes.specs.declared.item.Item.{Item}
 use Rattle.dl_bytes.specs.declared.item.Injection.{Injection}
+use Rattle.dl_ring.specs.declared.item.RingItem.{RingItem}
 use Rattle.dl_desk.specs.declared.app_handles.AppHandles.{AppHandles}
 use Rattle.dl_desk.specs.declared.app_handles.FirstHandles.{FirstHandles}
 use Rattle.dl_desk.specs.DeskInside.{AreFirst, IsDesk}
@@ -43,12 +43,14 @@ module _ (d : DeskState) (i : IsDesk d) (app : ℕ) where
       counters_left = i.counters_left;
       counted = i.counted;
       shares = i.shares;
+      claimed = i.claimed;
     },
     record {
       apps = refl;
       rings = map-changed_at (λ (e : AppHandles). e.ring.ring) app f d.handles.apps ring;
       queues = map-changed_at (λ (e : AppHandles). e.queue.queue) app f d.handles.apps queue;
       levels = refl;
+      claims = refl;
       losses = refl;
       more = [];
       owners = sym (append-nil d.owners);
@@ -68,7 +70,7 @@ module _ (d : DeskState) (i : IsDesk d) (app : ℕ) where
     queue_first = queue_first ∙ a.queue_first;
   }
 
-  pub took : (o : Option Item) (new : HandlesState) → IfSome o (λ item. new ≡ with_item d.handles app item) → IfNone o (new ≡ with_empty_take d.handles app) → Goes new
+  pub took : (o : Option RingItem) (new : HandlesState) → IfSome o (λ item. new ≡ with_item d.handles app item) → IfNone o (new ≡ with_empty_take d.handles app) → Goes new
   took (Some item) new is none = subst Goes (sym is)
       (goes (λ e. record e { ring = record e.ring { taken = e.ring.taken ++ item ∷ [] } })
       (λ n s e g a. same n s e (record e { ring = record e.ring { taken = e.ring.taken ++ item ∷ [] } }) g a refl refl refl refl refl refl) (λ e. refl) (λ e. refl))

@@ -5,4 +5,3 @@ pub mod Desks
 pub mod Posts
 pub mod Assembling
 pub mod Steps
-pub mod FoundInto

@@ -1,5 +1,5 @@
 -- What a desk owes with each writer that it makes.
-use Rattle.std.proofs.Common.{◌≡◌, ◌≢◌, ℕ, zero, suc, ◌+◌, ◌-◌, ◌<◌, ◌≤◌, ◌==◌, Bool, true, false, eqb, List, [], ◌∷◌, ◌++◌, length, length-append, map, set, get_or, Some, slice_get, refl, sym, ap, ◌∙◌, eq-eqb, ne_eqb, arith}
+use Rattle.std.proofs.Common.{◌≡◌, ◌≢◌, ℕ, zero, suc, ◌+◌, ◌-◌, ◌<◌, ◌≤◌, ◌==◌, Bool, true, false, eqb, List, [], ◌∷◌, ◌++◌, length, length-append, map, set, get_or, Some, slice_get, refl, sym, ap, ◌∙◌, subst, eq-eqb, ne_eqb, arith}
 use Rattle.std.specs.Prelude.{if◌then◌else◌}
 use Rattle.std.specs.Option.{option_map}
 use Rattle.std.proofs.lemmas.List.Elements.{All-push}
@@ -18,7 +18,7 @@ use Rattle.dl_desk.specs.DeskInside.{numbers_of, AreFirst, IsDesk}
 use Rattle.dl_desk.specs.Handles.{HandlesState}
 use Rattle.dl_desk.specs.Made.{IsMadeWith}
 use Rattle.dl_desk.specs.State.{DeskState}
-use Rattle.dl_desk.proofs.Places.{there, at_set}
+use Rattle.dl_desk.proofs.Places.{there, at_set, mapped_within}
 
 -- ---- the numbers of an application's writers
 
@@ -69,6 +69,11 @@ module _ {A : Type 0} where
   pub at_end : (xs : List A) (x : A) → slice_get (xs ++ x ∷ []) (length xs) ≡ Some x
   at_end [] x = refl
   at_end (y ∷ xs) x = at_end xs x
+
+-- an application whose id is known is there
+pub known_within : (d now : DeskState) (app : ℕ) (apid : List ℕ) → d ≡ now → slice_get (map (λ s. s.apid) now.apps) app ≡ Some apid → app < length d.apps
+known_within d now app apid same is =
+    mapped_within (λ (s : AppSpec). s.apid) d.apps app apid (subst (λ (s : DeskState). slice_get (map (λ a. a.apid) s.apps) app ≡ Some apid) (sym same) is)
 
 -- ---- a writer more
 
@@ -154,6 +159,7 @@ module _ (d : DeskState) (i : IsDesk d) (app at : ℕ) (first : FirstHandles) (h
         counters_left = (let left = i.counters_left in omega (arith, longer, few));
         counted = i.counted;
         shares = i.shares;
+        claimed = i.claimed;
       } where
         length_set : {A : Type 0} (xs : List A) (k : ℕ) (x : A) → length (set xs k x) ≡ length xs
         length_set [] k x = refl
@@ -163,16 +169,18 @@ module _ (d : DeskState) (i : IsDesk d) (app at : ℕ) (first : FirstHandles) (h
   -- which is made with it
   pub made : (number : ℕ) (new : DeskState) (w : WriterState) → number ≡ length d.owners + 1
       → new.apps ≡ d.apps → new.handles ≡ d.handles → new.owners ≡ d.owners ++ app ∷ []
-      → w.app ≡ app → w.push ≡ ring.unused_push first.push.ring first.push.capacity number false
+      → w.app ≡ app → slice_get (map (λ s. s.apid) d.apps) app ≡ Some w.apid → w.push ≡ ring.unused_push first.push.ring first.push.capacity number false
       → w.injections ≡ injections.unused_take first.injections.queue false
-      → w.reader.table ≡ d.readers.table → w.losses.table ≡ d.counters.table → w.losses.splits_left ≡ 0
+      → w.reader.table ≡ d.readers.table → w.reader.claims ≡ d.readers.claims → w.reader.splits_left ≡ 0
+      → w.losses.table ≡ d.counters.table → w.losses.splits_left ≡ 0
       → IsMadeWith new w
-  made number new w is apps ends_same owners is_app push takes_so reader losses_same none =
+  made number new w is apps ends_same owners is_app apid push takes_so reader claims unsplit losses_same none =
       let one : w.push.number ≡ length d.owners + 1 = ap (λ (p : ring.PushState). p.number) push ∙ is in
       let before : w.push.number - 1 ≡ length d.owners = omega (arith, one) in
       record {
         from_one = omega (arith, one);
         owner = ap (λ (k : ℕ). slice_get new.owners k) before ∙ ap (λ (os : List ℕ). slice_get os (length d.owners)) owners ∙ at_end d.owners app ∙ ap Some (sym is_app);
+        apid = ap (λ (k : ℕ). slice_get (map (λ s. s.apid) new.apps) k) is_app ∙ ap (λ (apps : List AppSpec). slice_get (map (λ s. s.apid) apps) app) apps ∙ apid;
         ring = ap (λ (k : ℕ). slice_get (map (λ e. e.ring.ring) new.handles.apps) k) is_app
             ∙ ap (λ (es : HandlesState). slice_get (map (λ (e : AppHandles). e.ring.ring) es.apps) app) ends_same
             ∙ slice_get-map (λ (e : AppHandles). e.ring.ring) d.handles.apps app
@@ -189,6 +197,7 @@ module _ (d : DeskState) (i : IsDesk d) (app at : ℕ) (first : FirstHandles) (h
             ∙ ap (option_map (λ (s : AppSpec). s.capacity)) spec.1
             ∙ ap Some (sym (ap (λ (p : ring.PushState). p.capacity) push ∙ ap (λ (p : ring.PushState). p.capacity) known.push));
         levels = reader ∙ ap (λ (r : ReaderState). r.table) i.readers ∙ sym (ap (λ (es : HandlesState). es.levels.table) ends_same);
+        claims = claims ∙ ap (λ (r : ReaderState). r.claims) i.readers ∙ sym (ap (λ (es : HandlesState). es.levels.claims) ends_same);
         losses = losses_same ∙ ap (λ (r : losses.WriterState). r.table) i.counters ∙ sym (ap (λ (es : HandlesState). es.losses.table) ends_same);
-        split = (ap (λ (p : ring.PushState). p.first) push, ap (λ (p : injections.TakeState). p.first) takes_so, none);
+        split = (ap (λ (p : ring.PushState). p.first) push, ap (λ (p : injections.TakeState). p.first) takes_so, none, unsplit);
       }

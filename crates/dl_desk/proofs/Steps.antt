@@ -1,8 +1,8 @@
 -- What a step at one application's ends leaves of all.
 use Rattle.std.proofs.Common.{◌≡◌, ℕ, ◌+◌, ◌≤◌, List, [], ◌∷◌, ◌++◌, length, set, get_or, Option, Some, None, Result, Ok, Err, IfSome, IfNone, OnSome, OnOk, OnErr, ap}
-use Rattle.dl_bytes.specs.declared.item.Item.{Item}
 use Rattle.dl_bytes.specs.declared.item.Injection.{Injection}
 use Rattle.dl_injections.specs.State as injections
+use Rattle.dl_ring.specs.declared.item.RingItem.{RingItem}
 use Rattle.dl_ring.specs.Order.{Holds}
 use Rattle.dl_ring.specs.State as ring
 use Rattle.dl_desk.specs.declared.app_handles.AppHandles.{AppHandles}
@@ -23,21 +23,21 @@ module _ (s : HandlesState) (at app : ℕ) (here : AppHandles) (same : at ≡ ap
     new_ends = record { ring = new; queue = here.queue }
 
     -- a take that gives
-    pub taken : (answer : Option Item) → IfSome answer (λ item. new ≡ record here.ring { taken = here.ring.taken ++ item ∷ [] }) → IfSome answer (λ item. with_handles s at (record { ring = new; queue = here.queue }) ≡ with_item s app item)
+    pub taken : (answer : Option RingItem) → IfSome answer (λ item. new ≡ record here.ring { taken = here.ring.taken ++ item ∷ [] }) → IfSome answer (λ item. with_handles s at (record { ring = new; queue = here.queue }) ≡ with_item s app item)
     taken None made = tt
     taken (Some item) made = put (λ e. record e { ring = record e.ring { taken = e.ring.taken ++ item ∷ [] } }) (record { ring = new; queue = here.queue }) (λ i. record { ring = made i; queue = here.queue })
 
     -- and one that finds none
-    pub taken_none : (answer : Option Item) → IfNone answer (new ≡ record here.ring { empties = here.ring.empties + 1 }) → IfNone answer (with_handles s at (record { ring = new; queue = here.queue }) ≡ with_empty_take s app)
+    pub taken_none : (answer : Option RingItem) → IfNone answer (new ≡ record here.ring { empties = here.ring.empties + 1 }) → IfNone answer (with_handles s at (record { ring = new; queue = here.queue }) ≡ with_empty_take s app)
     taken_none (Some item) made = tt
     taken_none None made = put (λ e. record e { ring = record e.ring { empties = e.ring.empties + 1 } }) (record { ring = new; queue = here.queue }) (λ i. record { ring = made i; queue = here.queue })
 
-    pub rest : (answer : Option Item) → OnSome answer ((contents : List Item) × Holds new contents)
-        → OnSome answer ((contents : List Item) × RingHolds (with_handles s at (record { ring = new; queue = here.queue })) app contents)
+    pub rest : (answer : Option RingItem) → OnSome answer ((contents : List RingItem) × Holds new contents)
+        → OnSome answer ((contents : List RingItem) × RingHolds (with_handles s at (record { ring = new; queue = here.queue })) app contents)
     rest None holds = tt
     rest (Some item) holds = (holds.0, at_put (λ (e : AppHandles). Holds e.ring holds.0) s.apps at app (record { ring = new; queue = here.queue }) same holds.1)
 
-    pub empty : (answer : Option Item) → IfNone answer (Holds new []) → IfNone answer (RingHolds (with_handles s at (record { ring = new; queue = here.queue })) app [])
+    pub empty : (answer : Option RingItem) → IfNone answer (Holds new []) → IfNone answer (RingHolds (with_handles s at (record { ring = new; queue = here.queue })) app [])
     empty (Some item) holds = tt
     empty None holds = at_put (λ (e : AppHandles). Holds e.ring []) s.apps at app (record { ring = new; queue = here.queue }) same holds
 

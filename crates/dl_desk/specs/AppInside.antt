@@ -5,7 +5,7 @@ use Rattle.dl_desk.specs.Apps.{AppState}
 use Rattle.dl_desk.specs.declared.app.App.TheInside as app
 
 abbrev pub app_state : app.Inside → AppState
-app_state a = record { number = a.number; apid = a.apid; hello = a.hello.items }
+app_state a = record { number = a.number; apid = a.apid; hello = a.hello.items; started = a.started }
 
 -- there is a registration of itself, and one for each of at most 64 contexts; each is within the limits
 pub record IsApp (a : app.Inside) : Type 0 where

@@ -8,13 +8,15 @@ use Rattle.dl_bytes.specs.declared.conf.AppSpec.{AppSpec}
 use Rattle.dl_bytes.specs.declared.user.UserMsg.{UserMsg}
 use Rattle.dl_bytes.specs.declared.user.UserMsg.TheVariants.{RegisterApp, RegisterContext}
 use Rattle.dl_desk.specs.declared.fault.AppFault.{AppFault}
-use Rattle.dl_desk.specs.declared.fault.AppFault.TheVariants.{ContextsFull, Twice, TooLong}
+use Rattle.dl_desk.specs.declared.fault.AppFault.TheVariants.{Started, ContextsFull, Twice, TooLong}
 
--- an application: its number, its id, and its registrations, its own and then those of its contexts in their order
+-- an application: its number, its id, its registrations, its own and then those of its contexts in their order, and whether a
+-- writer of it was made
 pub record AppState : Type 0 where
   pub number : ℕ
   pub apid : List ℕ
   pub hello : List UserMsg
+  pub started : Bool
 
 -- the registration of an application carries no process id
 abbrev pub registration : AppSpec → UserMsg
@@ -37,10 +39,12 @@ registers ctid _ = false
 abbrev pub is_registered : List ℕ → List UserMsg → Bool
 is_registered ctid hello = list_any (registers ctid) hello
 
--- An application has at most 64 contexts, each of an id of its own, with a description of at most 255 bytes.
+-- An application has at most 64 contexts, each of an id of its own, with a description of at most 255 bytes. It declares them
+-- before its first writer is made: the places behind them are for those that writers claim.
 abbrev pub context_fault : AppState → List ℕ → List ℕ → Option AppFault
 context_fault app ctid text =
-    if contexts app == 64 then Some ContextsFull
+    if app.started then Some Started
+    else if contexts app == 64 then Some ContextsFull
     else if is_registered ctid app.hello then Some Twice
     else if nat_lt text_limit (length text) then Some TooLong
     else None
@@ -55,7 +59,7 @@ next_context app ctid = record { app = app.number; place = contexts app; apid = 
 
 -- the application of this number, as it is declared
 abbrev pub declared_app : ℕ → AppSpec → AppState
-declared_app number spec = record { number = number; apid = spec.apid; hello = registration spec ∷ [] }
+declared_app number spec = record { number = number; apid = spec.apid; hello = registration spec ∷ []; started = false }
 
 -- the applications of these declarations, numbered from here on
 abbrev pub declared_apps : ℕ → List AppSpec → List AppState

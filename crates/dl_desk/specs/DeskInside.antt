@@ -34,9 +34,18 @@ pub record IsDesk (d : DeskState) : Type 0 where
   pub each : (app : ℕ) (spec : AppSpec) (e : AppHandles) (f : FirstHandles) → slice_get d.apps app ≡ Some spec → slice_get d.handles.apps app ≡ Some e → slice_get d.firsts app ≡ Some f → AreFirst app d.owners spec e f
   pub owned : All (λ owner. owner < length d.apps) d.owners
   pub writers : length d.owners ≤ 32
-  pub readers : d.readers ≡ record { table = d.handles.levels.table; slots = 64 * words_for (length d.apps); reads = []; splits_left = d.readers.splits_left }
+  pub readers : d.readers ≡ record {
+    table = d.handles.levels.table;
+    slots = 64 * words_for (length d.apps);
+    reads = [];
+    splits_left = d.readers.splits_left;
+    claims = d.handles.levels.claims;
+    given = [];
+    refused = [];
+  }
   pub readers_left : d.readers.splits_left + length d.owners ≡ 64
   pub counters : d.counters ≡ record { table = d.handles.losses.table; apps = words_for (length d.apps); counted = []; splits_left = d.counters.splits_left }
   pub counters_left : d.counters.splits_left + length d.owners ≡ 64
   pub counted : d.handles.losses.counted ≡ []
   pub shares : d.handles.losses.shares ≡ 0
+  pub claimed : (d.handles.levels.given ≡ []) × (d.handles.levels.refused ≡ []) × (d.handles.levels.shares ≡ 0)

@@ -1,6 +1,5 @@
 -- What contracts see of the daemon's handles of what it shares with all writers, and what each kind of step leaves of it.
 use Rattle.std.specs.Prelude.{ℕ, ◌+◌, List, [], ◌∷◌, ◌++◌}
-use Rattle.dl_bytes.specs.declared.item.Item.{Item}
 use Rattle.dl_bytes.specs.declared.item.Injection.{Injection}
 use Rattle.dl_injections.specs.State as injections
 use Rattle.dl_injections.specs.Order as queue
@@ -8,6 +7,7 @@ use Rattle.dl_levels.specs.States as levels
 use Rattle.dl_losses.specs.States as losses
 use Rattle.dl_losses.specs.Losses.{report}
 use Rattle.dl_levels.specs.History.{change}
+use Rattle.dl_ring.specs.declared.item.RingItem.{RingItem}
 use Rattle.dl_ring.specs.Order.{Holds}
 use Rattle.dl_ring.specs.State as ring
 use Rattle.dl_desk.specs.declared.app_handles.AppHandles.{AppHandles}
@@ -19,8 +19,8 @@ pub record HandlesState : Type 0 where
   pub levels : levels.KeeperState
   pub losses : losses.KeeperState
 
--- a call was taken from the ring of an application
-abbrev pub with_item : HandlesState → ℕ → Item → HandlesState
+-- a call or a claim was taken from the ring of an application
+abbrev pub with_item : HandlesState → ℕ → RingItem → HandlesState
 with_item s app item = record s { apps = changed_at app (λ e. record e { ring = record e.ring { taken = e.ring.taken ++ item ∷ [] } }) s.apps }
 
 -- a take from it found none
@@ -43,8 +43,8 @@ with_injected s app item = record s { apps = changed_at app (λ e. record e { qu
 abbrev pub with_refusal : HandlesState → ℕ → HandlesState
 with_refusal s app = record s { apps = changed_at app (λ e. record e { queue = record e.queue { refusals = e.queue.refusals + 1 } }) s.apps }
 
--- the ring of this application holds these calls
-abbrev pub RingHolds : HandlesState → ℕ → List Item → Type 0
+-- the ring of this application holds these calls and claims
+abbrev pub RingHolds : HandlesState → ℕ → List RingItem → Type 0
 RingHolds s app contents = At s.apps app (λ e. Holds e.ring contents)
 
 -- so many injections are left in this queue
@@ -61,6 +61,11 @@ with_passes s app push takes = record s { apps = changed_at app (joined_app push
 -- a reader of the levels and a counter of the losses were taken back
 abbrev pub with_words : HandlesState → levels.ReaderState → losses.WriterState → HandlesState
 with_words s reader counter = record s {
-  levels = record s.levels { reads = s.levels.reads ++ reader.reads };
+  levels = record s.levels {
+    reads = s.levels.reads ++ reader.reads;
+    given = s.levels.given ++ reader.given;
+    refused = s.levels.refused ++ reader.refused;
+    shares = s.levels.shares + reader.splits_left + 1;
+  };
   losses = record s.losses { counted = s.losses.counted ++ counter.counted; shares = s.losses.shares + counter.splits_left + 1 };
 }

@@ -1,5 +1,5 @@
 -- What sets levels and injects tells of itself, and what each of its calls makes of that.
-use Rattle.std.specs.Prelude.{ℕ, ◌+◌, ◌==◌, List, [], ◌∷◌, ◌++◌, length, if◌then◌else◌}
+use Rattle.std.specs.Prelude.{ℕ, ◌+◌, ◌==◌, List, [], ◌∷◌, ◌++◌, if◌then◌else◌}
 use Rattle.dl_bytes.specs.declared.item.Injection.{Injection}
 use Rattle.dl_levels.specs.History.{change}
 use Rattle.dl_levels.specs.declared.history.Change.{Change}

@@ -1,21 +1,20 @@
 //! An application of this process, with its contexts.
 
-ghost use Rattle.std.specs.Prelude.{◌≡◌, ◌<◌, ◌≤◌, ◌+◌, ◌∷◌, [], ◌++◌, List, length, IfOk, IfSome, IfNone, OnErr, MatchResult, All, Some, None, Ok, Err, slice_get};
-ghost use Rattle.std.specs.Result.{result_err};
+ghost use Rattle.std.specs.Prelude.{◌≡◌, ◌<◌, ◌≤◌, ◌+◌, List, length, true, IfOk, IfSome, IfNone, OnErr, MatchResult, All, Some, Ok, Err, slice_get};
 ghost use Rattle.std.specs.Borrow.{sem};
 ghost use Rattle.dl_bytes.specs.UserMessage.{IsFit};
-ghost use Rattle.dl_writer.specs.State.{WriterState};
-ghost use Rattle.dl_desk.specs.Apps.{context_fault, declared_app, is_registered, next_context, registers, with_context};
+ghost use Rattle.dl_desk.specs.Apps.{context_fault, contexts, declared_app, is_registered, next_context, registers, with_context};
 ghost use Rattle.dl_desk.specs.Lending.{LendsApp};
 ghost use Rattle.dl_desk.specs.Made.{IsAppOf, IsMadeWith, IsUnused, MakesWriter, writer_fault};
 ghost use Rattle.dl_desk.specs.declared.fault.AppFault.{AppFault};
+ghost use Rattle.dl_desk.specs.declared.fault.WriterFault.{WriterFault};
 
 use crate::desk::Desk;
 use crate::fault::{AppFault, WriterFault};
 use dl_bytes::{
     AppSpec, Bytes, CONTEXT_LIMIT, Ctx, Id, OutOfMemory, OwnLevel, TEXT_LIMIT, UserMsg,
 };
-use dl_writer::Writer;
+use dl_writer::{Owner, Writer};
 use std::alloc::Global;
 use std::marker::Model;
 
@@ -32,6 +31,8 @@ pub struct App {
     apid: Id,
     // its registration, and then those of its contexts
     hello: Vec<UserMsg>,
+    // whether a writer of it was made
+    started: bool,
 }
 
 impl Model for App {
@@ -64,11 +65,13 @@ impl App {
             number,
             apid: spec.apid,
             hello,
+            started: false,
         })
     }
 
     /// Declares a context with its description, at most 255 bytes, and the level that it asks for. The handle is what its
-    /// calls are logged under.
+    /// calls are logged under. Once a writer of the application was made the answer is `Started`: further contexts are for
+    /// its writers to claim.
     pub fn context(&mut self, ctid: Id, text: &[u8], level: OwnLevel) -> Result<Ctx, AppFault>
         ensures fault { IfSome (context_fault self.old ctid text.now) (λ fault. result ≡ Err fault) }
         ensures memory { IfNone (context_fault self.old ctid text.now) (MatchResult result (λ _. Unit {0}) (λ fault. fault ≡ AppFault.OutOfMemory)) }
@@ -76,6 +79,9 @@ impl App {
         ensures handle { IfOk result (λ ctx. ctx ≡ next_context self.old ctid) }
         ensures declared { IfOk result (λ _. self.new ≡ with_context self.old ctid level text.now) }
     {
+        if self.started {
+            return Err(AppFault::Started);
+        }
         if self.hello.len() > CONTEXT_LIMIT {
             return Err(AppFault::ContextsFull);
         }
@@ -86,7 +92,7 @@ impl App {
             return Err(AppFault::TooLong);
         }
         let text = copied(*self.hello.allocator(), text)?;
-        let place = (self.hello.len() - 1) as u8;
+        let place = self.contexts();
         self.add(ctid, text, level)?;
         Ok(Ctx::of(self.number, place, self.apid, ctid))
     }
@@ -101,23 +107,43 @@ impl App {
     }
 
     /// A writer for a thread of the application, which was made with this desk. Its number is one more than that of the
-    /// writer made before, whatever application that is of.
+    /// writer made before, whatever application that is of. It takes the memory for the claims of contexts that will wait
+    /// for the ring.
     pub fn writer(&mut self, desk: &mut Desk) -> Result<Writer, WriterFault>
         requires { IsAppOf desk.old self.old }
-        ensures fault { result_err result ≡ writer_fault desk.old }
+        ensures fault { IfSome (writer_fault desk.old) (λ fault. result ≡ Err fault) }
+        ensures memory { IfNone (writer_fault desk.old) (MatchResult result (λ _. Unit {0}) (λ fault. fault ≡ WriterFault.OutOfMemory)) }
         ensures refused { OnErr result (desk.new ≡ desk.old) }
-        ensures same { self.new ≡ self.old }
+        ensures same { OnErr result (self.new ≡ self.old) }
+        ensures started { IfOk result (λ _. self.new ≡ record self.old { started = true }) }
         ensures number { IfOk result (λ w. w.push.number ≡ length desk.old.owners + 1) }
         ensures app { IfOk result (λ w. w.app ≡ self.old.number) }
+        ensures apid { IfOk result (λ w. w.apid ≡ self.old.apid) }
+        ensures base { IfOk result (λ w. w.base ≡ contexts self.old) }
         ensures unused { IfOk result IsUnused }
         ensures made { IfOk result (λ w. IsMadeWith desk.new w) }
         ensures desk { IfOk result (λ _. MakesWriter self.old.number desk.old desk.new) }
     {
-        desk.make_writer(self.number)
+        let owner = Owner {
+            app: self.number,
+            apid: self.apid,
+            base: self.contexts(),
+        };
+        let writer = desk.make_writer(owner)?;
+        self.started = true;
+        Ok(writer)
     }
 }
 
 impl App {
+    // How many contexts it has, at most 64.
+    fn contexts(&self) -> u8
+        ensures value { result ≡ contexts self.now }
+        ensures range { result ≤ 64 }
+    {
+        (self.hello.len() - 1) as u8
+    }
+
     // Whether it has a context of this id.
     fn registers(&self, ctid: Id) -> bool
         ensures { result ≡ is_registered ctid self.now.hello }

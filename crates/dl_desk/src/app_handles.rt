@@ -7,7 +7,7 @@ use dl_ring::{InjectPush, RingPush};
 /// The daemon's: it takes from the ring, and puts injections into the queue.
 #[derive(Drop)]
 pub struct AppHandles {
-    /// The pass that takes the application's calls.
+    /// The pass that takes the application's calls and claims.
     pub ring: CountedTake,
     /// The pass that pushes its injections.
     pub queue: InjectPush,

@@ -1,15 +1,16 @@
 //! The daemon's side while the writers log.
 
-ghost use Rattle.std.specs.Prelude.{◌≡◌, ◌+◌, ◌-◌, ◌*◌, ◌^◌, ◌<◌, ◌≤◌, ◌↔◌, ℕ, true, false, List, [], length, IfOk, IfErr, IfSome, IfNone, IsErr, OnOk, OnErr, OnSome};
-ghost use Rattle.std.specs.Result.{result_err};
-ghost use Rattle.dl_bytes.specs.declared.item.Item.{Item as item_type};
+ghost use Rattle.std.specs.Prelude.{◌≡◌, ◌+◌, ◌-◌, ◌*◌, ◌^◌, ◌<◌, ◌≤◌, ◌↔◌, false, List, [], length, map, slice_get, Some, Err, IfOk, IfErr, IfSome, IfNone, IsErr, MatchResult, OnOk, OnErr, OnSome};
 ghost use Rattle.dl_levels.specs.History.{current_version};
 ghost use Rattle.dl_losses.specs.Losses.{reported_of};
+ghost use Rattle.dl_ring.specs.declared.item.RingItem.{RingItem as ring_item};
+ghost use Rattle.dl_ring.specs.Items.{is_call, took};
 ghost use Rattle.dl_desk.specs.Lists.{At};
 ghost use Rattle.dl_desk.specs.Apps.{declared_apps};
 ghost use Rattle.dl_desk.specs.DeskInside.{IsDesk};
 ghost use Rattle.dl_desk.specs.Handles.{RingHolds, with_empty_take, with_injected, with_item, with_level, with_refusal, with_report};
 ghost use Rattle.dl_desk.specs.Made.{AreFit, IsLater, IsMadeWith, IsNew, IsUnused, MakesWriter, writer_fault};
+ghost use Rattle.dl_desk.specs.declared.fault.WriterFault.{WriterFault};
 
 use crate::app::AppList;
 use crate::app_handles::FirstHandles;
@@ -20,7 +21,8 @@ use arrayvec::ArrayVec;
 use dl_bytes::{AppSpec, Injection, Item, Level, OutOfMemory, Sequence, WRITER_LIMIT};
 use dl_levels::{LevelReader, Worn};
 use dl_losses::LossWriter;
-use dl_writer::{Writer, WriterHandles};
+use dl_ring::{RingItem, Taken};
+use dl_writer::{ClaimRoom, Owner, Writer, WriterHandles};
 use std::alloc::Global;
 use std::marker::Model;
 use std::sync::Wait;
@@ -42,7 +44,8 @@ pub struct DeskParts {
     pub owners: ArrayVec<u8, 32>,
 }
 
-/// The daemon's side of the library: it takes the calls and the losses of each application, sets levels and injects.
+/// The daemon's side of the library: it takes the calls, the claims and the losses of each application, sets levels and
+/// injects.
 #[derive(Drop)]
 pub struct Desk {
     pub(crate) apps: Sequence<AppSpec>,
@@ -80,11 +83,11 @@ impl Desk {
         parts.into_desk(alloc)
     }
 
-    /// The oldest call in the ring of an application. None comes only where the ring was empty at that step.
-    pub fn take<R: Wait>(&mut self, rt: &R, app: u8) -> Option<Item>
+    /// The oldest call or claim in the ring of an application. None comes only where the ring was empty at that step.
+    pub fn take<R: Wait>(&mut self, rt: &R, app: u8) -> Option<RingItem>
         requires { app < length self.old.apps }
         ensures taken { IfSome result (λ item. self.new ≡ record self.old { handles = with_item self.old.handles app item }) }
-        ensures rest { OnSome result ((contents : List item_type) × RingHolds self.new.handles app contents) }
+        ensures rest { OnSome result ((contents : List ring_item) × RingHolds self.new.handles app contents) }
         ensures none { IfNone result (self.new ≡ record self.old { handles = with_empty_take self.old.handles app }) }
         ensures empty { IfNone result (RingHolds self.new.handles app []) }
         ensures later { IsLater self.old self.new }
@@ -92,15 +95,15 @@ impl Desk {
         self.handles.take(rt, app)
     }
 
-    /// Takes the oldest call in the ring of an application into one that the caller keeps, and tells whether there was one: what `take` does, with
-    /// the call's bytes copied once. Where there was none, the caller's call stays.
-    pub fn take_into<R: Wait>(&mut self, rt: &R, app: u8, item: &mut Item) -> bool
+    /// What `take` does, with a call copied once, into the one that the caller keeps. A claim comes in the answer. Where there
+    /// was no call, the caller's stays.
+    pub fn take_into<R: Wait>(&mut self, rt: &R, app: u8, item: &mut Item) -> Taken
         requires { app < length self.old.apps }
-        ensures taken { result ≡ true → self.new ≡ record self.old { handles = with_item self.old.handles app item.new } }
-        ensures rest { result ≡ true → (contents : List item_type) × RingHolds self.new.handles app contents }
-        ensures none { result ≡ false → self.new ≡ record self.old { handles = with_empty_take self.old.handles app } }
-        ensures empty { result ≡ false → RingHolds self.new.handles app [] }
-        ensures kept { result ≡ false → item.new ≡ item.old }
+        ensures taken { IfSome (took result item.new) (λ x. self.new ≡ record self.old { handles = with_item self.old.handles app x }) }
+        ensures rest { OnSome (took result item.new) ((contents : List ring_item) × RingHolds self.new.handles app contents) }
+        ensures none { IfNone (took result item.new) (self.new ≡ record self.old { handles = with_empty_take self.old.handles app }) }
+        ensures empty { IfNone (took result item.new) (RingHolds self.new.handles app []) }
+        ensures kept { is_call result ≡ false → item.new ≡ item.old }
         ensures later { IsLater self.old self.new }
     {
         self.handles.take_into(rt, app, item)
@@ -193,29 +196,35 @@ impl Desk {
 }
 
 impl Desk {
-    // The next writer, of this application.
-    pub(crate) fn make_writer(&mut self, app: u8) -> Result<Writer, WriterFault>
-        requires { app < length self.old.apps }
-        ensures fault { result_err result ≡ writer_fault self.old }
+    // The next writer, of this application. The memory for its waiting claims comes first, since what is split off can't be
+    // put back.
+    pub(crate) fn make_writer(&mut self, owner: Owner) -> Result<Writer, WriterFault>
+        requires apid { slice_get (map (λ s. s.apid) self.old.apps) owner.app ≡ Some owner.apid }
+        requires base { owner.base ≤ 64 }
+        ensures fault { IfSome (writer_fault self.old) (λ fault. result ≡ Err fault) }
+        ensures memory { IfNone (writer_fault self.old) (MatchResult result (λ _. Unit {0}) (λ fault. fault ≡ WriterFault.OutOfMemory)) }
         ensures refused { OnErr result (self.new ≡ self.old) }
         ensures number { IfOk result (λ w. w.push.number ≡ length self.old.owners + 1) }
-        ensures app { IfOk result (λ w. w.app ≡ app) }
+        ensures app { IfOk result (λ w. w.app ≡ owner.app) }
+        ensures apid { IfOk result (λ w. w.apid ≡ owner.apid) }
+        ensures base { IfOk result (λ w. w.base ≡ owner.base) }
         ensures unused { IfOk result IsUnused }
         ensures made { IfOk result (λ w. IsMadeWith self.new w) }
-        ensures desk { IfOk result (λ _. MakesWriter app self.old self.new) }
+        ensures desk { IfOk result (λ _. MakesWriter owner.app self.old self.new) }
     {
         if self.owners.len() == WRITER_LIMIT {
             return Err(WriterFault::WritersFull);
         }
+        let waiting = ClaimRoom::make(*self.firsts.allocator())?;
         let number = self.owners.len() as u8 + 1;
-        let first = &mut self.firsts[usize::from(app)];
+        let first = &mut self.firsts[usize::from(owner.app)];
         let handles = WriterHandles {
             push: first.push.split(number),
             reader: self.readers.split(),
             losses: self.counters.split(),
             injections: first.injections.split(),
         };
-        self.owners.push(app);
-        Ok(Writer::of(app, number, handles))
+        self.owners.push(owner.app);
+        Ok(Writer::of(owner, number, handles, waiting))
     }
 }

@@ -1,10 +1,13 @@
 //! The daemon's handles of all that it shares with the writers.
 
-ghost use Rattle.std.specs.Prelude.{◌≡◌, ◌+◌, ◌-◌, ◌*◌, ◌%◌, ◌^◌, ◌<◌, ◌≤◌, ◌↔◌, true, false, List, ℕ, [], ◌∷◌, ◌++◌, length, All, IfOk, IfErr, IfSome, IfNone, IsErr, OnOk, OnErr, OnSome};
-ghost use Rattle.dl_bytes.specs.declared.item.Item.{Item as item_type};
+ghost use Rattle.std.specs.Prelude.{◌≡◌, ◌+◌, ◌-◌, ◌*◌, ◌%◌, ◌^◌, ◌<◌, ◌≤◌, ◌↔◌, false, List, ℕ, [], ◌∷◌, ◌++◌, length, nat_lt, All, IfErr, IfSome, IfNone, IsErr, OnOk, OnErr, OnSome};
+ghost use Rattle.dl_thread_rules.specs.Views.{bit, times};
+ghost use Rattle.dl_claims.specs.Claims.{given_of, refused_of, all_shares as all_claim_shares};
 ghost use Rattle.dl_levels.specs.History.{current_version, IsEntry};
 ghost use Rattle.dl_levels.specs.declared.history.Read.{Read};
 ghost use Rattle.dl_losses.specs.Losses.{counted_of, reported_of, all_shares};
+ghost use Rattle.dl_ring.specs.declared.item.RingItem.{RingItem as ring_item};
+ghost use Rattle.dl_ring.specs.Items.{is_call, took};
 ghost use Rattle.dl_desk.specs.Lists.{At};
 ghost use Rattle.dl_desk.specs.Handles.{QueueHolds, RingHolds, with_empty_take, with_injected, with_item, with_level, with_passes, with_refusal, with_report, with_words};
 
@@ -13,7 +16,7 @@ use dl_bytes::{Injection, Item, Level};
 use dl_injections::InjectTake;
 use dl_levels::{LevelKeeper, LevelReader, Worn};
 use dl_losses::{LossKeeper, LossWriter};
-use dl_ring::RingPush;
+use dl_ring::{RingItem, RingPush, Taken};
 use std::marker::Model;
 use std::sync::Wait;
 
@@ -37,26 +40,26 @@ impl Model for DaemonHandles {
 }
 
 impl DaemonHandles {
-    /// The oldest call in the ring of an application. None comes only where the ring was empty at that step.
-    pub fn take<R: Wait>(&mut self, rt: &R, app: u8) -> Option<Item>
+    /// The oldest call or claim in the ring of an application. None comes only where the ring was empty at that step.
+    pub fn take<R: Wait>(&mut self, rt: &R, app: u8) -> Option<RingItem>
         requires { app < length self.old.apps }
         ensures taken { IfSome result (λ item. self.new ≡ with_item self.old app item) }
-        ensures rest { OnSome result ((contents : List item_type) × RingHolds self.new app contents) }
+        ensures rest { OnSome result ((contents : List ring_item) × RingHolds self.new app contents) }
         ensures none { IfNone result (self.new ≡ with_empty_take self.old app) }
         ensures empty { IfNone result (RingHolds self.new app []) }
     {
         self.apps[usize::from(app)].ring.take(rt)
     }
 
-    /// Takes the oldest call in the ring of an application into one that the caller keeps, and tells whether there was one. Where there was none,
-    /// the caller's call stays.
-    pub fn take_into<R: Wait>(&mut self, rt: &R, app: u8, item: &mut Item) -> bool
+    /// What `take` does, with a call copied once, into the one that the caller keeps. A claim comes in the answer. Where there
+    /// was no call, the caller's stays.
+    pub fn take_into<R: Wait>(&mut self, rt: &R, app: u8, item: &mut Item) -> Taken
         requires { app < length self.old.apps }
-        ensures taken { result ≡ true → self.new ≡ with_item self.old app item.new }
-        ensures rest { result ≡ true → (contents : List item_type) × RingHolds self.new app contents }
-        ensures none { result ≡ false → self.new ≡ with_empty_take self.old app }
-        ensures empty { result ≡ false → RingHolds self.new app [] }
-        ensures kept { result ≡ false → item.new ≡ item.old }
+        ensures taken { IfSome (took result item.new) (λ x. self.new ≡ with_item self.old app x) }
+        ensures rest { OnSome (took result item.new) ((contents : List ring_item) × RingHolds self.new app contents) }
+        ensures none { IfNone (took result item.new) (self.new ≡ with_empty_take self.old app) }
+        ensures empty { IfNone (took result item.new) (RingHolds self.new app []) }
+        ensures kept { is_call result ≡ false → item.new ≡ item.old }
     {
         self.apps[usize::from(app)].ring.take_into(rt, item)
     }
@@ -93,21 +96,24 @@ impl DaemonHandles {
         self.apps[usize::from(app)].queue.push(rt, item)
     }
 
-    /// Takes back a pass of an application's ring and one of its queue.
-    pub fn join_passes(&mut self, app: u8, push: RingPush, injections: InjectTake)
+    /// Takes back a pass of an application's ring and one of its queue, and answers how many pushes of the first were refused.
+    pub fn join_passes(&mut self, app: u8, push: RingPush, injections: InjectTake) -> u64
         requires within { app < length self.old.apps }
         requires ring { At self.old.apps app (λ e. push.ring ≡ e.ring.ring) }
         requires queue { At self.old.apps app (λ e. injections.queue ≡ e.queue.queue) }
-        ensures { self.new ≡ with_passes self.old app push injections }
+        ensures joined { self.new ≡ with_passes self.old app push injections }
+        ensures refusals { result ≡ push.refusals }
     {
         let handles = &mut self.apps[usize::from(app)];
-        handles.ring.join(push);
+        let refusals = handles.ring.join(push);
         handles.queue.join(injections);
+        refusals
     }
 
     /// Takes back a reader of the levels and a counter of the losses.
     pub fn join_words(&mut self, reader: LevelReader, counter: LossWriter)
         requires levels { reader.table ≡ self.old.levels.table }
+        requires claims { reader.claims ≡ self.old.levels.claims }
         requires losses { counter.table ≡ self.old.losses.table }
         ensures { self.new ≡ with_words self.old reader counter }
     {
@@ -119,7 +125,7 @@ impl DaemonHandles {
     pub fn look(&mut self, app: u8)
         requires { app < length self.old.apps }
         ensures same { self.new ≡ self.old }
-        ensures ring { (contents : List item_type) × RingHolds self.new app contents }
+        ensures ring { (contents : List ring_item) × RingHolds self.new app contents }
         ensures queue { (left : ℕ) × QueueHolds self.new app left }
         ensures range { At self.new.apps app (λ e. length e.queue.pushed < 2 ^ 64) }
     {
@@ -128,7 +134,7 @@ impl DaemonHandles {
         handles.queue.look();
     }
 
-    /// How many calls were taken from the ring of an application, modulo 2^64.
+    /// How many calls and claims were taken from the ring of an application, modulo 2^64.
     pub fn taken(&self, app: u8) -> u64
         requires { app < length self.now.apps }
         ensures { At self.now.apps app (λ e. result ≡ length e.ring.taken % 2 ^ 64) }
@@ -143,6 +149,20 @@ impl DaemonHandles {
         ensures all { self.old.losses.shares ≡ all_shares → reported_of app self.old.losses.reported + result ≡ counted_of app self.old.losses.counted }
     {
         self.losses.pending(app)
+    }
+
+    /// How many numbers were given to the claims of an application: a look at its claim word.
+    pub fn given(&mut self, app: u8) -> u8
+        requires { app < length self.old.apps }
+        ensures same { self.new ≡ self.old }
+        ensures range { result ≤ 64 }
+        ensures apart { (n : ℕ) → times n (given_of app self.old.levels.given) ≤ bit (nat_lt n result) }
+        ensures few { length (given_of app self.old.levels.given) ≤ result }
+        ensures all { self.old.levels.shares ≡ all_claim_shares → (n : ℕ) → times n (given_of app self.old.levels.given) ≡ bit (nat_lt n result) }
+        ensures count { self.old.levels.shares ≡ all_claim_shares → length (given_of app self.old.levels.given) ≡ result }
+        ensures full { 0 < refused_of app self.old.levels.refused → result ≡ 64 }
+    {
+        self.levels.given(app)
     }
 
     /// Looks at one level, after which each read that was taken back is known to be one that was set.

@@ -1,7 +1,8 @@
 //! What a program declares to log: a desk for the daemon, an application for each part that logs, and writers that log from
 //! any thread.
 //!
-//! A program makes a desk of its applications, declares contexts, and gives each thread a writer of its own:
+//! A program makes a desk of its applications, declares contexts, and gives each thread a writer of its own. A writer claims
+//! further contexts while it logs (`Writer::register`):
 //!
 //! ```
 //! fn log_start<R: Wait>(rt: &R, alloc: Global, specs: &[AppSpec], level: OwnLevel) -> Result<(), Failure> {
@@ -16,7 +17,7 @@
 //! }
 //! ```
 //!
-//! The daemon takes the calls of each ring from the desk, and takes and tells the losses. Once the threads have ended, whoever
+//! The daemon takes the calls and claims of each ring from the desk, and takes and tells the losses. Once the threads have ended, whoever
 //! gathers them takes the desk apart (`Desk::into_parts`) and joins the writers' handles with the daemon's (`DaemonHandles`).
 #![tactic(auto)]
 
@@ -37,7 +38,10 @@ pub use desk::{Desk, DeskParts};
 pub use dl_bytes::{AppSpec, Ctx};
 pub use dl_events::{Answer, Record};
 pub use dl_levels::Worn;
-pub use dl_writer::{Book, BookFault, BookList, LogFault, WRITER_CALL_LIMIT, Writer};
+pub use dl_ring::{RingItem, Taken};
+pub use dl_writer::{
+    Book, BookFault, BookList, LogFault, RegisterFault, WRITER_CALL_LIMIT, Writer,
+};
 pub use fault::{AppFault, WriterFault};
 pub use handles::DaemonHandles;
 pub use post::Post;

@@ -1,6 +1,7 @@
 -- How a run of threads ends: what is written of its account, and its status.
-use Rattle.std.specs.Prelude.{◌≡◌, ℕ, ◌^◌, ◌<◌, ◌⊎◌, ◌||◌, Bool, true, false, List, [], length, map, None}
+use Rattle.std.specs.Prelude.{◌≡◌, ℕ, ◌^◌, ◌<◌, ◌⊎◌, ◌||◌, Bool, true, false, List, length, map, None}
 use Rattle.std.specs.List.{flat_map, list_any}
+use Rattle.dl_bytes.specs.Claim.{Claimed}
 use Rattle.dl_bytes.specs.declared.conf.Conf.{Conf}
 use Rattle.dl_events.specs.declared.event.Event.{Event}
 use Rattle.dl_events.specs.declared.event.Event.TheVariants as event
@@ -28,6 +29,10 @@ use Rattle.dl_startup.specs.declared.status.Status.TheVariants.{OutOfMemory}
 abbrev pub records_of : AccountState → List (List Record)
 records_of account = map (λ b. b.records) account.books
 
+-- the claims that rings took of them
+abbrev pub claims_of : AccountState → List (List Claimed)
+claims_of account = map (λ b. b.claims) account.books
+
 -- where the frames of its events come from: those of log calls from its records
 abbrev pub source_of : Setting → AccountState → FrameSource
 source_of setting account = source_of_records setting (records_of account) account.apps
@@ -35,7 +40,7 @@ source_of setting account = source_of_records setting (records_of account) accou
 -- its journal is well-formed, and its records account for it, with no loss pending
 pub record IsAccountIn (setting : Setting) (account : AccountState) : Type 0 where
   pub formed : IsWellFormed setting (source_of setting account) account.events
-  pub accounted : IsAccounted setting.first account.events (λ app. 0) (refusals_of account.books) [] (records_of account)
+  pub accounted : IsAccounted setting.first account.events (λ app. 0) (refusals_of account.books) (claims_of account) (records_of account)
 
 -- the text that is printed of it, with the backlog that is left
 abbrev pub text_of : Setting → AccountState → List ℕ

@@ -1,6 +1,8 @@
-//! The daemon's end of the level words, which alone sets them.
+//! The daemon's end of the level words, which alone sets them, and of the claim words.
 
-ghost use Rattle.std.specs.Prelude.{◌≡◌, ◌-◌, ◌^◌, ◌<◌, ◌≤◌, ◌↔◌, [], ◌∷◌, ◌++◌, IfOk, IsErr, OnOk, OnErr, All};
+ghost use Rattle.std.specs.Prelude.{◌≡◌, ◌+◌, ◌-◌, ◌*◌, ◌^◌, ◌<◌, ◌≤◌, ◌↔◌, ℕ, [], ◌∷◌, ◌++◌, length, nat_lt, IfOk, IsErr, OnOk, OnErr, All};
+ghost use Rattle.dl_thread_rules.specs.Views.{bit, times};
+ghost use Rattle.dl_claims.specs.Claims.{given_of, refused_of, all_shares};
 ghost use Rattle.dl_levels.specs.declared.history.Read.{Read};
 ghost use Rattle.dl_levels.specs.History.{change, current_version, IsEntry};
 
@@ -8,6 +10,7 @@ use crate::reader::LevelReader;
 use crate::words::{Load, Seats, Shape, Swap, View, Words};
 use atomic_table::Seat;
 use dl_bytes::{LAST_VERSION, Level, OutOfMemory};
+use dl_claims::{ClaimKeeper, make_claims};
 use dl_thread_rules::owners;
 use std::alloc::Global;
 use std::marker::Model;
@@ -16,15 +19,19 @@ use std::sync::Arc;
 // How often the first reader can be split.
 const SPLITS: usize = 64;
 
+// How many slots an application has.
+const SLOTS_EACH: u16 = 64;
+
 /// The slot was set as often as its version can count.
 #[derive(Clone, Copy, Debug, PartialEq, Eq)]
 pub struct Worn;
 
-/// Sets the level of each slot. There is one for all readers.
+/// Sets the level of each slot, and knows which numbers of each application were given. There is one for all readers.
 #[derive(Drop)]
 pub struct LevelKeeper {
     words: Arc<Words, Global>,
     seat: Seat<(), View>,
+    claims: ClaimKeeper,
     // the last version of each slot
     versions: Vec<u64>,
 }
@@ -69,18 +76,42 @@ impl LevelKeeper {
         self.versions[usize::from(slot)]
     }
 
-    /// Takes back a reader of these words, with all that it read.
+    /// How many numbers of an application were given, which are the first ones: one load. Contracts know it for certain
+    /// once every reader has joined.
+    pub fn given(&mut self, app: u8) -> u8
+        requires { 64 * app < self.old.slots }
+        ensures same { self.new ≡ self.old }
+        ensures range { result ≤ 64 }
+        ensures apart { (n : ℕ) → times n (given_of app self.old.given) ≤ bit (nat_lt n result) }
+        ensures few { length (given_of app self.old.given) ≤ result }
+        ensures all { self.old.shares ≡ all_shares → (n : ℕ) → times n (given_of app self.old.given) ≡ bit (nat_lt n result) }
+        ensures count { self.old.shares ≡ all_shares → length (given_of app self.old.given) ≡ result }
+        ensures full { 0 < refused_of app self.old.refused → result ≡ 64 }
+    {
+        self.claims.given(app)
+    }
+
+    /// Takes back a reader of these words, with all that it read and what it was given or refused. Once each reader has
+    /// joined, the first one among them, `given` knows that nothing else was given.
     pub fn join(&mut self, reader: LevelReader)
-        requires { reader.table ≡ self.old.table }
-        ensures { self.new ≡ record self.old { reads = self.old.reads ++ reader.reads } }
+        requires table { reader.table ≡ self.old.table }
+        requires claims { reader.claims ≡ self.old.claims }
+        ensures { self.new ≡ record self.old {
+          reads = self.old.reads ++ reader.reads;
+          given = self.old.given ++ reader.given;
+          refused = self.old.refused ++ reader.refused;
+          shares = self.old.shares + reader.splits_left + 1;
+        } }
     {
         let LevelReader {
             words: _,
             seat,
+            claimer,
             spare: _,
         } = reader;
         let words = &self.words.shared;
         words.join_seat::<Seats>(&mut self.seat, seat);
+        self.claims.join(claimer);
     }
 
     /// One load of slot 0, after which each read of the readers that joined is known to be an entry of its slot's history.
@@ -93,7 +124,8 @@ impl LevelKeeper {
     }
 }
 
-/// The words of `slots` slots, each with level 0 at version `first`, which is below 2^56.
+/// The words of `slots` slots, each with level 0 at version `first`, which is below 2^56, and the claim words of an
+/// application for each 64 slots or part of them.
 pub fn make_levels(
     alloc: Global,
     slots: u16,
@@ -101,8 +133,8 @@ pub fn make_levels(
 ) -> Result<(LevelKeeper, LevelReader), OutOfMemory>
     requires slots { 1 ≤ slots }
     requires first { first < 2 ^ 56 }
-    ensures keeper { IfOk result (λ made. made.0 ≡ record { table = made.0.table; slots = slots; first = first; sets = []; reads = [] }) }
-    ensures reader { IfOk result (λ made. made.1 ≡ record { table = made.0.table; slots = slots; reads = []; splits_left = 64 }) }
+    ensures keeper { IfOk result (λ made. made.0 ≡ record { table = made.0.table; slots = slots; first = first; sets = []; reads = []; claims = made.0.claims; given = []; refused = []; shares = 0 }) }
+    ensures reader { IfOk result (λ made. made.1 ≡ record { table = made.0.table; slots = slots; reads = []; splits_left = 64; claims = made.0.claims; given = []; refused = [] }) }
 {
     let count = usize::from(slots);
     let row = Vec::from_elem(alloc, 16 * first, count)?;
@@ -114,14 +146,17 @@ pub fn make_levels(
     let (table, mut seat) = Words::of_words(alloc, &row, &shape)?;
     let readers = table.shared.split_seat::<Seats>(&mut seat);
     let words = Arc::new(alloc, table)?;
+    let (claims, claimer) = make_claims(alloc, slots.div_ceil(SLOTS_EACH))?;
     let reader = LevelReader {
         words: Arc::try_clone(&words)?,
         seat: readers,
+        claimer,
         spare: owners(alloc, &words, SPLITS)?,
     };
     let keeper = LevelKeeper {
         words,
         seat,
+        claims,
         versions,
     };
     Ok((keeper, reader))

@@ -1,4 +1,5 @@
-//! The log level of each slot, in one word that the daemon changes and every writer reads without waiting.
+//! The log level of each slot, in one word that the daemon changes and every writer reads without waiting. Beside them
+//! stand the claim words of the slots' applications, which go the same ways.
 #![tactic(auto)]
 
 mod history;

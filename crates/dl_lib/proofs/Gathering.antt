@@ -5,15 +5,16 @@ use Rattle.std.specs.Option.{option_map}
 use Rattle.std.proofs.lemmas.List.Elements.{All-contains, All-weaker}
 use Rattle.std.proofs.lemmas.Option.{slice_get-map}
 use Rattle.dl_bytes.specs.declared.conf.AppSpec.{AppSpec}
-use Rattle.dl_bytes.specs.declared.item.Item.{Item}
-use Rattle.dl_events.specs.declared.record.Record.{Record}
+use Rattle.dl_claims.specs.Claims.{all_shares as all_claim_shares}
 use Rattle.dl_injections.specs.Order as queue
 use Rattle.dl_levels.specs.declared.history.Read.{Read}
 use Rattle.dl_levels.specs.History.{IsEntry}
 use Rattle.dl_levels.specs.States.{ReaderState}
 use Rattle.dl_losses.specs.Losses.{all_shares, counted_of, reported_of}
 use Rattle.dl_losses.specs.States as losses
+use Rattle.dl_ring.specs.declared.item.RingItem.{RingItem}
 use Rattle.dl_ring.specs.Order.{Holds}
+use Rattle.dl_writer.specs.Claiming.{TellsClaims}
 use Rattle.dl_writer.specs.Records.{TellAll}
 use Rattle.dl_writer.specs.State.{BookState, IsWhole}
 use Rattle.dl_desk.specs.declared.app_handles.AppHandles.{AppHandles}
@@ -26,9 +27,11 @@ use Rattle.dl_desk.proofs.Making.{is_there}
 use Rattle.dl_desk.proofs.Places.{mapped_at, mapped_within}
 use Rattle.dl_lib.specs.Books.{given_by, queued_of}
 use Rattle.dl_lib.specs.ClosingInside.{IsClosing}
-use Rattle.dl_lib.specs.Joining.{FitFirsts, FitsHandles, join_books, join_firsts}
-use Rattle.dl_lib.specs.Making.{KeepsDesk}
+use Rattle.dl_lib.specs.Entries.{EntriesState, entries_of}
+use Rattle.dl_lib.specs.Joining.{AreGiven, FitFirsts, FitsHandles, join_books, join_firsts}
+use Rattle.dl_lib.specs.Making.{KeepsDesk, SameBases}
 use Rattle.dl_lib.specs.State.{ClosingState}
+use Rattle.dl_lib.proofs.Claimed.{claimed}
 use Rattle.dl_lib.proofs.InOrder.{all_front, within}
 use Rattle.dl_lib.proofs.Joined.{AreJoined, AreReady, gathered_is_joined, ready_fits, ready_fits_firsts, ready_fits_words}
 use Rattle.dl_lib.proofs.Knowing.{ring_known}
@@ -55,7 +58,7 @@ module _ (desk : DeskState) (books : List BookState) (ready : AreReady desk book
   taken_before : (app : ℕ) (e : AppHandles) → slice_get handles.apps app ≡ Some e → At desk.handles.apps app (λ (old : AppHandles). e.ring.taken ≡ old.ring.taken)
   taken_before app e is =
       let here : slice_get (map (λ (e : AppHandles). e.ring.taken) desk.handles.apps) app ≡ Some e.ring.taken =
-      ap (λ (l : List (List Item)). slice_get l app) (sym joined.taken) ∙ slice_get-map (λ (e : AppHandles). e.ring.taken) s.apps app ∙ ap (option_map (λ (e : AppHandles). e.ring.taken)) is
+      ap (λ (l : List (List RingItem)). slice_get l app) (sym joined.taken) ∙ slice_get-map (λ (e : AppHandles). e.ring.taken) s.apps app ∙ ap (option_map (λ (e : AppHandles). e.ring.taken)) is
       in
       mapped_at (λ (e : AppHandles). e.ring.taken) desk.handles.apps app e.ring.taken here
 
@@ -63,49 +66,53 @@ module _ (desk : DeskState) (books : List BookState) (ready : AreReady desk book
   owned = All-weaker (λ (b : BookState). IsMadeWith desk b.writer) (λ (b : BookState). b.writer.app < length desk.apps)
       (λ b made. mapped_within (λ (spec : AppSpec). spec.capacity) desk.apps b.writer.app b.writer.push.capacity made.capacity) books ready.made
 
-  module _ (calls losses injected : List ℕ) (records : List (List Record))
-      (waiting : (app : ℕ) → app < count → At desk.handles.apps app (λ e. length e.ring.taken ≤ queued_of app books → length e.ring.taken + slice_index calls app ≡ queued_of app books))
+  module _ (items losses injected : List ℕ) (entries : EntriesState)
+      (waiting : (app : ℕ) → app < count → At desk.handles.apps app (λ e. length e.ring.taken ≤ queued_of app books → length e.ring.taken + slice_index items app ≡ queued_of app books))
       (untold : (app : ℕ) → app < count → reported_of app handles.losses.reported + slice_index losses app ≡ counted_of app handles.losses.counted)
-      (given : injected ≡ given_by count books) (kept : records ≡ map (λ b. b.records) books)
-      (told : All (λ b. IsWhole b → TellAll b.writer b.records) books)
-      (entries : All (IsEntry s.levels.first s.levels.sets) handles.levels.reads)
-      (rings : (app : ℕ) → app < count → (contents : List Item) × RingHolds handles app contents)
+      (given : injected ≡ given_by count books) (kept : entries ≡ entries_of books)
+      (told : All (λ b. IsWhole b → TellAll b.writer b.records b.claims) books) (bases : SameBases books) (tells : All (λ b. TellsClaims b.writer) books)
+      (held : All (IsEntry s.levels.first s.levels.sets) handles.levels.reads)
+      (rings : (app : ℕ) → app < count → (contents : List RingItem) × RingHolds handles app contents)
       (queues : (app : ℕ) → app < count → (left : ℕ) × QueueHolds handles app left)
-      (range : (app : ℕ) → app < count → At handles.apps app (λ e. length e.queue.pushed < 2 ^ 64)) where
+      (range : (app : ℕ) → app < count → At handles.apps app (λ e. length e.queue.pushed < 2 ^ 64))
+      (numbers_given : (app : ℕ) → app < count → (so_many : ℕ) × AreGiven app so_many handles.levels) where
     -- so many waited as weren't taken
-    waits : (app : ℕ) → app < count → At handles.apps app (λ e. length e.ring.taken + slice_index calls app ≡ queued_of app books)
+    waits : (app : ℕ) → app < count → At handles.apps app (λ e. length e.ring.taken + slice_index items app ≡ queued_of app books)
     waits app below e is =
         let holds = rings app below in
         let all = (ring_known app books e (joined.back app e is) holds.0 (holds.1 e is)).count in
         let old = is_there desk.handles.apps app (mapped_within (λ (e : AppHandles). e.ring.taken) desk.handles.apps app e.ring.taken
-        (ap (λ (l : List (List Item)). slice_get l app) (sym joined.taken) ∙ slice_get-map (λ (e : AppHandles). e.ring.taken) s.apps app ∙ ap (option_map (λ (e : AppHandles). e.ring.taken)) is)) in
+        (ap (λ (l : List (List RingItem)). slice_get l app) (sym joined.taken) ∙ slice_get-map (λ (e : AppHandles). e.ring.taken) s.apps app ∙ ap (option_map (λ (e : AppHandles). e.ring.taken)) is)) in
         let same : length e.ring.taken ≡ length old.0.ring.taken = ap length (taken_before app e is old.0 old.1) in
         let so = waiting app below old.0 old.1 (omega (arith, all, same, length-append e.ring.taken holds.0)) in
         omega (arith, same, so)
 
-    pub is_closing : IsClosing made_of calls losses injected records
+    pub is_closing : IsClosing made_of items losses injected entries
     is_closing = record {
       books = record {
         numbered = ready.numbered;
         few = (let all = ready.all in let few = ready.kept.writers in omega (arith, all, few));
         owned = owned;
+        claimed = λ app below.
+            (let given = numbers_given app (omega (arith, below, counts)) in
+            claimed app given.0 handles.levels books given.1 bases tells (joined.given app) (joined.many app) (joined.refused app));
         told = told;
       };
       handles = record {
         few = ready.kept.few;
         handles = joined.long;
         back = joined.back;
-        rings = at_each (λ _ (e : AppHandles). (contents : List Item) × Holds e.ring contents) handles.apps count long (λ app below e is. (let holds = rings app below in (holds.0, holds.1 e is)));
+        rings = at_each (λ _ (e : AppHandles). (contents : List RingItem) × Holds e.ring contents) handles.apps count long (λ app below e is. (let holds = rings app below in (holds.0, holds.1 e is)));
         queues = at_each (λ _ (e : AppHandles). (left : ℕ) × queue.Holds e.queue left) handles.apps count long (λ app below e is. (let holds = queues app below in (holds.0, holds.1 e is)));
         range = at_each (λ _ (e : AppHandles). length e.queue.pushed < 2 ^ 64) handles.apps count long range;
         levels = λ k d lt. All-weaker (Contains s.levels.reads) (IsEntry s.levels.first s.levels.sets)
-            (λ q there. All-contains (IsEntry s.levels.first s.levels.sets) s.levels.reads q (all_front (IsEntry s.levels.first s.levels.sets) s.levels.reads (r ∷ []) entries) there)
+            (λ q there. All-contains (IsEntry s.levels.first s.levels.sets) s.levels.reads q (all_front (IsEntry s.levels.first s.levels.sets) s.levels.reads (r ∷ []) held) there)
             (get_or books k d).writer.reader.reads (joined.reads k d lt);
         shares = joined.shares;
         counted = joined.counted;
       };
       counts = record {
-        waiting = at_each (λ app (e : AppHandles). length e.ring.taken + slice_index calls app ≡ queued_of app books) handles.apps count long waits;
+        waiting = at_each (λ app (e : AppHandles). length e.ring.taken + slice_index items app ≡ queued_of app books) handles.apps count long waits;
         untold = λ app below. (let u = untold app (omega (arith, below, counts)) in let c = joined.counted app in omega (arith, u, c));
         given = given ∙ ap (λ (n : ℕ). given_by n books) counts;
       };
@@ -143,11 +150,12 @@ module _ (desk : DeskState) (books : List BookState) (ready : AreReady desk book
       with_firsts : e2 ≡ join_firsts 0 desk.firsts (join_books desk.handles books)
       with_firsts = is2 ∙ ap (λ (f : List FirstHandles). join_firsts 0 f e1) firsts_are ∙ ap (join_firsts 0 desk.firsts) with_all
 
-      pub words_fit : (readers.table ≡ e2.levels.table) × (counters.table ≡ e2.losses.table)
+      pub words_fit : (readers.table ≡ e2.levels.table) × (readers.claims ≡ e2.levels.claims) × (counters.table ≡ e2.losses.table)
       words_fit =
           let fit = ready_fits_words desk books ready in (
             ap (λ (r : ReaderState). r.table) readers_are ∙ fit.0 ∙ sym (ap (λ (e : HandlesState). e.levels.table) with_firsts),
-            ap (λ (w : losses.WriterState). w.table) counters_are ∙ fit.1 ∙ sym (ap (λ (e : HandlesState). e.losses.table) with_firsts),
+            ap (λ (r : ReaderState). r.claims) readers_are ∙ fit.1 ∙ sym (ap (λ (e : HandlesState). e.levels.claims) with_firsts),
+            ap (λ (w : losses.WriterState). w.table) counters_are ∙ fit.2 ∙ sym (ap (λ (e : HandlesState). e.losses.table) with_firsts),
           )
 
       module _ (is3 : e3 ≡ with_words e2 readers counters) where
@@ -164,6 +172,9 @@ module _ (desk : DeskState) (books : List BookState) (ready : AreReady desk book
           pub all_shared : e4.losses.shares ≡ all_shares
           all_shared = ap (λ (e : HandlesState). e.losses.shares) is4 ∙ joined.shares
 
+          pub all_claimers : e4.levels.shares ≡ all_claim_shares
+          all_claimers = ap (λ (e : HandlesState). e.levels.shares) is4 ∙ joined.claimers
+
           module _ (is5 : e5 ≡ e4) (is6 : e6 ≡ e5) (apps : List AppSpec) (seen : List BookState) (apps_are : apps ≡ desk.apps) (seen_is : seen ≡ books) where
             -- what is there at the end
             last : e6 ≡ looked e3 r
@@ -175,24 +186,26 @@ module _ (desk : DeskState) (books : List BookState) (ready : AreReady desk book
             pub keeps : KeepsDesk desk (record { apps = apps; handles = e6; books = seen })
             keeps = subst (KeepsDesk desk) whole (keeps_desk desk books ready e3 joined r count counts)
 
-            pub closes : (calls untold injected : List ℕ) (records : List (List Record))
-                → ((app : ℕ) → app < count → At e0.apps app (λ e. length e.ring.taken ≤ queued_of app books → length e.ring.taken + slice_index calls app ≡ queued_of app books))
+            pub closes : (items untold injected : List ℕ) (entries : EntriesState)
+                → ((app : ℕ) → app < count → At e0.apps app (λ e. length e.ring.taken ≤ queued_of app books → length e.ring.taken + slice_index items app ≡ queued_of app books))
                 → ((app : ℕ) → app < count → reported_of app e6.losses.reported + slice_index untold app ≡ counted_of app e6.losses.counted)
-                → injected ≡ given_by count books → records ≡ map (λ b. b.records) books
-                → All (λ b. IsWhole b → TellAll b.writer b.records) books
+                → injected ≡ given_by count books → entries ≡ entries_of books
+                → All (λ b. IsWhole b → TellAll b.writer b.records b.claims) books → SameBases books → All (λ b. TellsClaims b.writer) books
                 → All (IsEntry e3.levels.first e3.levels.sets) e4.levels.reads
-                → ((app : ℕ) → app < count → (contents : List Item) × RingHolds e5 app contents)
+                → ((app : ℕ) → app < count → (contents : List RingItem) × RingHolds e5 app contents)
                 → ((app : ℕ) → app < count → (left : ℕ) × QueueHolds e5 app left)
                 → ((app : ℕ) → app < count → At e5.apps app (λ e. length e.queue.pushed < 2 ^ 64))
-                → IsClosing (record { apps = apps; handles = e6; books = seen }) calls untold injected records
-            closes calls untold injected records waiting each given kept told entries rings queues range =
+                → ((app : ℕ) → app < count → (so_many : ℕ) × AreGiven app so_many e5.levels)
+                → IsClosing (record { apps = apps; handles = e6; books = seen }) items untold injected entries
+            closes items untold injected entries waiting each given kept told bases tells held rings queues range numbers_given =
                 let settled : e5 ≡ looked e3 r = is5 ∙ is4 in
-                subst (λ (s : ClosingState). IsClosing s calls untold injected records) whole
-                (is_closing desk books ready e3 joined r count counts calls untold injected records
-                (subst (λ (e : HandlesState). (app : ℕ) → app < count → At e.apps app (λ e. length e.ring.taken ≤ queued_of app books → length e.ring.taken + slice_index calls app ≡ queued_of app books)) is0 waiting)
+                subst (λ (s : ClosingState). IsClosing s items untold injected entries) whole
+                (is_closing desk books ready e3 joined r count counts items untold injected entries
+                (subst (λ (e : HandlesState). (app : ℕ) → app < count → At e.apps app (λ e. length e.ring.taken ≤ queued_of app books → length e.ring.taken + slice_index items app ≡ queued_of app books)) is0 waiting)
                 (subst (λ (e : HandlesState). (app : ℕ) → app < count → reported_of app e.losses.reported + slice_index untold app ≡ counted_of app e.losses.counted) last each)
-                given kept told
-                (subst (λ (e : HandlesState). All (IsEntry e3.levels.first e3.levels.sets) e.levels.reads) is4 entries)
-                (subst (λ (e : HandlesState). (app : ℕ) → app < count → (contents : List Item) × RingHolds e app contents) settled rings)
+                given kept told bases tells
+                (subst (λ (e : HandlesState). All (IsEntry e3.levels.first e3.levels.sets) e.levels.reads) is4 held)
+                (subst (λ (e : HandlesState). (app : ℕ) → app < count → (contents : List RingItem) × RingHolds e app contents) settled rings)
                 (subst (λ (e : HandlesState). (app : ℕ) → app < count → (left : ℕ) × QueueHolds e app left) settled queues)
-                (subst (λ (e : HandlesState). (app : ℕ) → app < count → At e.apps app (λ e. length e.queue.pushed < 2 ^ 64)) settled range))
+                (subst (λ (e : HandlesState). (app : ℕ) → app < count → At e.apps app (λ e. length e.queue.pushed < 2 ^ 64)) settled range)
+                (subst (λ (e : HandlesState). (app : ℕ) → app < count → (so_many : ℕ) × AreGiven app so_many e.levels) settled numbers_given))

@@ -11,7 +11,7 @@ use Rattle.dl_thread_rules.proofs.Totals.{times-append}
 use Rattle.dl_writer.specs.State.{BookState, numbers}
 use Rattle.dl_desk.specs.Made.{IsMadeWith}
 use Rattle.dl_desk.specs.State.{DeskState}
-use Rattle.dl_lib.specs.Making.{AreAmong, AreInOrder, AreMadeWith, AreNumberedTo}
+use Rattle.dl_lib.specs.Making.{AreAmong, AreInOrder, AreMadeWith, AreNumberedTo, SameBases}
 
 -- ---- lists
 
@@ -180,3 +180,8 @@ are_numbered desk books made all = record {
 
 pub all_of_ordered : (P : BookState → Type 0) (books ordered : List BookState) → AreInOrder books ordered → All P books → All P ordered
 all_of_ordered P books ordered order all = All-weaker (Contains books) P (λ b at. All-contains P books b all at) ordered order.same
+
+pub bases_of_ordered : (books ordered : List BookState) → AreInOrder books ordered → SameBases books → SameBases ordered
+bases_of_ordered books ordered order bases = all_of_ordered (λ (b : BookState). All (λ (c : BookState). b.writer.app ≡ c.writer.app → b.writer.base ≡ c.writer.base) ordered) books ordered order
+    (All-weaker (λ (b : BookState). All (λ (c : BookState). b.writer.app ≡ c.writer.app → b.writer.base ≡ c.writer.base) books) (λ (b : BookState). All (λ (c : BookState). b.writer.app ≡ c.writer.app → b.writer.base ≡ c.writer.base) ordered)
+    (λ b all. all_of_ordered (λ (c : BookState). b.writer.app ≡ c.writer.app → b.writer.base ≡ c.writer.base) books ordered order all) books bases)

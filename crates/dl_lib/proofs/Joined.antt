@@ -1,13 +1,16 @@
 -- What is there once the ends of all writers, and the first ones, are taken back.
-use Rattle.std.proofs.Common.{◌≡◌, ◌≢◌, ℕ, zero, suc, ◌+◌, ◌-◌, ◌<◌, ◌==◌, Bool, true, false, inl, inr, List, [], ◌∷◌, ◌++◌, length, map, get_or, Option, Some, None, slice_get, append_assoc, append-nil, cond, refl, sym, ap, ◌∙◌, subst, arith, eq-eqb, ne_eqb}
+use Rattle.std.proofs.Common.{◌≡◌, ◌≢◌, ℕ, zero, suc, ◌+◌, ◌-◌, ◌<◌, ◌==◌, Bool, true, false, inl, inr, List, [], ◌∷◌, ◌++◌, filter, length, length-append, map, get_or, Option, Some, None, slice_get, append_assoc, append-nil, cond, refl, sym, ap, ◌∙◌, subst, arith, eq-eqb, ne_eqb}
 use Rattle.std.specs.Prelude.{All, Contains, if◌then◌else◌}
 use Rattle.std.specs.List.{range_with_len}
 use Rattle.std.specs.Option.{option_map}
 use Rattle.std.proofs.lemmas.Bool.{cases_eq}
-use Rattle.std.proofs.lemmas.List.{length-map}
-use Rattle.std.proofs.lemmas.List.Elements.{All-nil, All-cons, All-head, All-tail, All-weaker, All-contains_itself, Contains-append_left, Contains-append_right}
+use Rattle.std.proofs.lemmas.List.{length-map, map-append}
+use Rattle.std.proofs.lemmas.List.Elements.{All-nil, All-cons, All-head, All-tail, All-weaker, All-contains_itself, Contains-append_left, Contains-append_right, filter-append}
 use Rattle.std.proofs.lemmas.Option.{slice_get-map}
 use Rattle.dl_bytes.specs.declared.conf.AppSpec.{AppSpec}
+use Rattle.dl_claims.specs.Claims as claims
+use Rattle.dl_claims.specs.Claims.{given_of, refused_of}
+use Rattle.dl_claims.specs.declared.claimer.Given.{Given}
 use Rattle.dl_injections.specs.declared.view.Entry.{Entry}
 use Rattle.dl_injections.specs.State as injections
 use Rattle.dl_levels.specs.declared.history.Read.{Read}
@@ -16,7 +19,8 @@ use Rattle.dl_losses.specs.Losses.{all_shares, counted_of}
 use Rattle.dl_losses.specs.States as losses
 use Rattle.dl_ring.specs.declared.view.Sent.{Sent}
 use Rattle.dl_ring.specs.State as ring
-use Rattle.dl_thread_rules.specs.Views.{bit, times}
+use Rattle.dl_thread_rules.specs.Views.{bit, times, total}
+use Rattle.dl_thread_rules.proofs.Totals.{times-append}
 use Rattle.dl_writer.specs.State.{BookState, WriterState, numbers}
 use Rattle.dl_desk.specs.declared.app_handles.AppHandles.{AppHandles}
 use Rattle.dl_desk.specs.declared.app_handles.FirstHandles.{FirstHandles}
@@ -60,6 +64,10 @@ pub record AreJoined (desk : DeskState) (books : List BookState) (s : HandlesSta
   pub shares : s.losses.shares ≡ all_shares
   pub counted : (app : ℕ) → counted_of app s.losses.counted ≡ lost_of app books
   pub reported : s.losses.reported ≡ desk.handles.losses.reported
+  pub claimers : s.levels.shares ≡ claims.all_shares
+  pub given : (app number : ℕ) → times number (given_of app s.levels.given) ≡ total (λ b. times number (given_of app b.writer.reader.given)) books
+  pub many : (app : ℕ) → length (given_of app s.levels.given) ≡ total (λ b. length (given_of app b.writer.reader.given)) books
+  pub refused : (app : ℕ) → refused_of app s.levels.refused ≡ total (λ b. refused_of app b.writer.reader.refused) books
 
 -- ---- places
 
@@ -107,6 +115,7 @@ fits_still s w v fits =
       ring = changed_keeps (λ (e : AppHandles). v.push.ring ≡ e.ring.ring) w.app v.app (joined_app w.push w.injections) s.apps (λ e same. same) fits.ring;
       queue = changed_keeps (λ (e : AppHandles). v.injections.queue ≡ e.queue.queue) w.app v.app (joined_app w.push w.injections) s.apps (λ e same. same) fits.queue;
       levels = fits.levels;
+      claims = fits.claims;
       losses = fits.losses;
     }
 
@@ -130,10 +139,11 @@ module _ {B : Type 0} (q : AppHandles → B) (same : (push : ring.PushState) (ta
   map-join_firsts from (f ∷ firsts) s = map-changed_at q from (joined_app f.push f.injections) (join_firsts (from + 1) firsts s).apps (same f.push f.injections)
       ∙ map-join_firsts (from + 1) firsts s
 
--- the levels keep all but their reads, and the losses their table and what was reported
+-- the levels keep their words and what was set, and the losses their table and what was reported
 levels-join_books : (s : HandlesState) (books : List BookState) →
     ((join_books s books).levels.table ≡ s.levels.table) × ((join_books s books).levels.first ≡ s.levels.first) × ((join_books s books).levels.sets ≡ s.levels.sets)
-levels-join_books s [] = (refl, refl, refl)
+    × ((join_books s books).levels.claims ≡ s.levels.claims)
+levels-join_books s [] = (refl, refl, refl, refl)
 levels-join_books s (b ∷ books) = levels-join_books (join_writer s b.writer) books
 
 losses-join_books : (s : HandlesState) (books : List BookState) → ((join_books s books).losses.table ≡ s.losses.table) × ((join_books s books).losses.reported ≡ s.losses.reported)
@@ -168,6 +178,43 @@ counted-join_books app s [] = omega arith
 counted-join_books app s (b ∷ books) =
     let rest = counted-join_books app (join_writer s b.writer) books in
     let one = counted-append app s.losses.counted b.writer.losses.counted in
+    omega (arith, rest, one)
+
+claimers-join_books : (s : HandlesState) (books : List BookState) → All (λ b. b.writer.reader.splits_left ≡ 0) books → (join_books s books).levels.shares ≡ s.levels.shares + length books
+claimers-join_books s [] none = omega arith
+claimers-join_books s (b ∷ books) none =
+    let own = All-head (λ (c : BookState). c.writer.reader.splits_left ≡ 0) b books none in
+    let rest = claimers-join_books (join_writer s b.writer) books (All-tail (λ (c : BookState). c.writer.reader.splits_left ≡ 0) b books none) in
+    omega (arith, own, rest)
+
+given_of-append : (app : ℕ) (xs ys : List Given) → given_of app (xs ++ ys) ≡ given_of app xs ++ given_of app ys
+given_of-append app xs ys = ap (map (λ (g : Given). g.number)) (filter-append (λ (g : Given). g.app == app) xs ys) ∙ map-append (λ (g : Given). g.number) (filter (λ g. g.app == app) xs) (filter (λ g. g.app == app) ys)
+
+-- and so do the numbers that they were given, and the claims that found none left
+given-join_books : (app number : ℕ) (s : HandlesState) (books : List BookState) →
+    times number (given_of app (join_books s books).levels.given) ≡ times number (given_of app s.levels.given) + total (λ b. times number (given_of app b.writer.reader.given)) books
+given-join_books app number s [] = omega arith
+given-join_books app number s (b ∷ books) =
+    let rest = given-join_books app number (join_writer s b.writer) books in
+    let both = ap (times number) (given_of-append app s.levels.given b.writer.reader.given) in
+    let one = times-append number (given_of app s.levels.given) (given_of app b.writer.reader.given) in
+    omega (arith, rest, both, one)
+
+many-join_books : (app : ℕ) (s : HandlesState) (books : List BookState) →
+    length (given_of app (join_books s books).levels.given) ≡ length (given_of app s.levels.given) + total (λ b. length (given_of app b.writer.reader.given)) books
+many-join_books app s [] = omega arith
+many-join_books app s (b ∷ books) =
+    let rest = many-join_books app (join_writer s b.writer) books in
+    let both = ap length (given_of-append app s.levels.given b.writer.reader.given) in
+    let one = length-append (given_of app s.levels.given) (given_of app b.writer.reader.given) in
+    omega (arith, rest, both, one)
+
+refused-join_books : (app : ℕ) (s : HandlesState) (books : List BookState) →
+    refused_of app (join_books s books).levels.refused ≡ refused_of app s.levels.refused + total (λ b. refused_of app b.writer.reader.refused) books
+refused-join_books app s [] = omega arith
+refused-join_books app s (b ∷ books) =
+    let rest = refused-join_books app (join_writer s b.writer) books in
+    let one = counted-append app s.levels.refused b.writer.reader.refused in
     omega (arith, rest, one)
 
 -- what the ends of one application got back of the books, and kept
@@ -301,6 +348,7 @@ ready_fits desk books r = All-weaker (λ (b : BookState). IsMadeWith desk b.writ
   ring = mapped_at (λ (e : AppHandles). e.ring.ring) desk.handles.apps b.writer.app b.writer.push.ring made.ring;
   queue = mapped_at (λ (e : AppHandles). e.queue.queue) desk.handles.apps b.writer.app b.writer.injections.queue made.queue;
   levels = made.levels;
+  claims = made.claims;
   losses = made.losses;
 }) books r.made
 
@@ -340,9 +388,11 @@ module _ (desk : DeskState) (books : List BookState) (r : AreReady desk books) w
         ap (λ (g : FirstHandles). g.injections.queue) same ∙ ap (λ (t : injections.TakeState). t.queue) is.first.takes ∙ sym is.after.queue_is,
       )
 
-  tables : (desk.readers.table ≡ (join_firsts 0 desk.firsts (join_books desk.handles books)).levels.table) × (desk.counters.table ≡ (join_firsts 0 desk.firsts (join_books desk.handles books)).losses.table)
+  tables : (desk.readers.table ≡ (join_firsts 0 desk.firsts (join_books desk.handles books)).levels.table) × (desk.readers.claims ≡ (join_firsts 0 desk.firsts (join_books desk.handles books)).levels.claims)
+      × (desk.counters.table ≡ (join_firsts 0 desk.firsts (join_books desk.handles books)).losses.table)
   tables = (
     ap (λ (k : levels.ReaderState). k.table) r.kept.readers ∙ sym (ap (λ (k : levels.KeeperState). k.table) (levels-join_firsts 0 desk.firsts (join_books desk.handles books)) ∙ (levels-join_books desk.handles books).0),
+    ap (λ (k : levels.ReaderState). k.claims) r.kept.readers ∙ sym (ap (λ (k : levels.KeeperState). k.claims) (levels-join_firsts 0 desk.firsts (join_books desk.handles books)) ∙ (levels-join_books desk.handles books).3),
     ap (λ (k : losses.WriterState). k.table) r.kept.counters ∙ sym (ap (λ (k : losses.KeeperState). k.table) (losses-join_firsts 0 desk.firsts (join_books desk.handles books)) ∙ (losses-join_books desk.handles books).0),
   )
 
@@ -410,6 +460,43 @@ module _ (desk : DeskState) (books : List BookState) (r : AreReady desk books) w
       let first : counted_of app desk.counters.counted ≡ 0 = ap (λ (k : losses.WriterState). counted_of app k.counted) r.kept.counters in
       omega (arith, sum, books_so, begun, first)
 
+  all_claimers : (gathered desk books).levels.shares ≡ claims.all_shares
+  all_claimers =
+      let none = All-weaker (λ (b : BookState). IsMadeWith desk b.writer) (λ (b : BookState). b.writer.reader.splits_left ≡ 0) (λ b made. made.split.3) books r.made in
+      let sum = ap (λ (k : levels.KeeperState). k.shares) same_levels ∙ claimers-join_books desk.handles books none in
+      let left = r.kept.readers_left in
+      let begun = r.kept.claimed.2 in
+      let long = r.all in
+      omega (arith, sum, left, begun, long)
+
+  all_given : (app number : ℕ) → times number (given_of app (gathered desk books).levels.given) ≡ total (λ b. times number (given_of app b.writer.reader.given)) books
+  all_given app number =
+      let now : List Given = (join_firsts 0 desk.firsts (join_books desk.handles books)).levels.given in
+      let both = ap (times number) (given_of-append app now desk.readers.given) in
+      let sum = times-append number (given_of app now) (given_of app desk.readers.given) in
+      let books_so = ap (λ (k : levels.KeeperState). times number (given_of app k.given)) same_levels ∙ given-join_books app number desk.handles books in
+      let begun = ap (λ (l : List Given). times number (given_of app l)) r.kept.claimed.0 in
+      let first : times number (given_of app desk.readers.given) ≡ 0 = ap (λ (k : levels.ReaderState). times number (given_of app k.given)) r.kept.readers in
+      omega (arith, both, sum, books_so, begun, first)
+
+  all_many : (app : ℕ) → length (given_of app (gathered desk books).levels.given) ≡ total (λ b. length (given_of app b.writer.reader.given)) books
+  all_many app =
+      let now : List Given = (join_firsts 0 desk.firsts (join_books desk.handles books)).levels.given in
+      let both = ap length (given_of-append app now desk.readers.given) in
+      let sum = length-append (given_of app now) (given_of app desk.readers.given) in
+      let books_so = ap (λ (k : levels.KeeperState). length (given_of app k.given)) same_levels ∙ many-join_books app desk.handles books in
+      let begun = ap (λ (l : List Given). length (given_of app l)) r.kept.claimed.0 in
+      let first : length (given_of app desk.readers.given) ≡ 0 = ap (λ (k : levels.ReaderState). length (given_of app k.given)) r.kept.readers in
+      omega (arith, both, sum, books_so, begun, first)
+
+  all_refused : (app : ℕ) → refused_of app (gathered desk books).levels.refused ≡ total (λ b. refused_of app b.writer.reader.refused) books
+  all_refused app =
+      let sum = counted-append app (join_firsts 0 desk.firsts (join_books desk.handles books)).levels.refused desk.readers.refused in
+      let books_so = ap (λ (k : levels.KeeperState). refused_of app k.refused) same_levels ∙ refused-join_books app desk.handles books in
+      let begun = ap (refused_of app) r.kept.claimed.1 in
+      let first : refused_of app desk.readers.refused ≡ 0 = ap (λ (k : levels.ReaderState). refused_of app k.refused) r.kept.readers in
+      omega (arith, sum, books_so, begun, first)
+
 pub ready_fits_firsts : (desk : DeskState) (books : List BookState) → AreReady desk books → FitFirsts (join_books desk.handles books) desk.firsts
 ready_fits_firsts desk books r = record {
   long = r.kept.firsts ∙ sym r.kept.handles ∙ sym (length-join_books desk.handles books);
@@ -417,7 +504,7 @@ ready_fits_firsts desk books r = record {
 }
 
 pub ready_fits_words : (desk : DeskState) (books : List BookState) → AreReady desk books →
-    let s : HandlesState = join_firsts 0 desk.firsts (join_books desk.handles books) in (desk.readers.table ≡ s.levels.table) × (desk.counters.table ≡ s.losses.table)
+    let s : HandlesState = join_firsts 0 desk.firsts (join_books desk.handles books) in (desk.readers.table ≡ s.levels.table) × (desk.readers.claims ≡ s.levels.claims) × (desk.counters.table ≡ s.losses.table)
 ready_fits_words desk books r = tables desk books r
 
 pub gathered_is_joined : (desk : DeskState) (books : List BookState) → AreReady desk books → AreJoined desk books (gathered desk books)
@@ -434,4 +521,8 @@ gathered_is_joined desk books r = record {
   shares = all_shared desk books r;
   counted = all_counted desk books r;
   reported = ap (λ (k : losses.KeeperState). k.reported) (same_losses desk books r) ∙ (losses-join_books desk.handles books).1;
+  claimers = all_claimers desk books r;
+  given = all_given desk books r;
+  many = all_many desk books r;
+  refused = all_refused desk books r;
 }

@@ -4,11 +4,10 @@ use Rattle.std.specs.Prelude.{◌^◌, min, unwrap_or, All}
 use Rattle.std.specs.Option.{option_map}
 use Rattle.std.proofs.lemmas.List.{length-map}
 use Rattle.std.proofs.lemmas.List.FromFn.{length-map-range_with_len, get_or-map-range_with_len}
-use Rattle.dl_bytes.specs.declared.item.Item.{Item}
 use Rattle.dl_bytes.specs.declared.item.Injection.{Injection}
-use Rattle.dl_events.specs.declared.record.Record.{Record}
 use Rattle.dl_injections.specs.declared.view.Entry.{Entry}
 use Rattle.dl_injections.specs.Order as queue
+use Rattle.dl_ring.specs.declared.item.RingItem.{RingItem}
 use Rattle.dl_ring.specs.declared.view.Sent.{Sent}
 use Rattle.dl_ring.specs.Order.{AllJoined, Holds, of}
 use Rattle.dl_thread_rules.specs.Views.{bit, times, total}
@@ -19,6 +18,7 @@ use Rattle.dl_desk.specs.Posting.{pushed_of}
 use Rattle.dl_desk.proofs.Making.{is_there}
 use Rattle.dl_lib.specs.Books.{books_of, given_by, injected_of}
 use Rattle.dl_lib.specs.ClosingInside.{HaveHandles, IsClosing}
+use Rattle.dl_lib.specs.Entries.{EntriesState}
 use Rattle.dl_lib.specs.Joining.{AreBack, sent_of}
 use Rattle.dl_lib.specs.Known.{AreGathered, AreGivenOnce, IsAllOf, taken_of}
 use Rattle.dl_lib.specs.State.{ClosingState}
@@ -33,8 +33,8 @@ module _ (app : ℕ) (books : List BookState) (e : AppHandles) (back : AreBack (
   abbrev theirs : List BookState
   theirs = books_of app books
 
-  module _ (contents : List Item) (holds : Holds e.ring contents) where
-    abbrev all : List Item
+  module _ (contents : List RingItem) (holds : Holds e.ring contents) where
+    abbrev all : List RingItem
     all = e.ring.taken ++ contents
 
     each : All (λ (sent : Sent). sent.items ≡ of sent.number all) (map sent_of theirs ++ unsent ∷ [])
@@ -105,10 +105,10 @@ module _ (s : ClosingState) (handles : HaveHandles s) (app : ℕ) (within : app 
   pushed_here : here.0.queue.pushed ≡ pushed_of s.handles app
   pushed_here = sym (ap (λ o. unwrap_or (option_map (λ (e : AppHandles). e.queue.pushed) o) []) here.1)
 
-  pub ring_of : (contents : List Item) × IsAllOf app s.books (taken_of s.handles app ++ contents)
+  pub ring_of : (contents : List RingItem) × IsAllOf app s.books (taken_of s.handles app ++ contents)
   ring_of =
       let holds = handles.rings app here.0 here.1 in
-      (holds.0, subst (λ (l : List Item). IsAllOf app s.books (l ++ holds.0)) taken_here (ring_known app s.books here.0 (handles.back app here.0 here.1) holds.0 holds.1))
+      (holds.0, subst (λ (l : List RingItem). IsAllOf app s.books (l ++ holds.0)) taken_here (ring_known app s.books here.0 (handles.back app here.0 here.1) holds.0 holds.1))
 
   pub queue_of : (left : ℕ) × AreGivenOnce app s.books (pushed_of s.handles app) left
   queue_of =
@@ -126,13 +126,14 @@ module _ (s : ClosingState) (handles : HaveHandles s) (app : ℕ) (within : app 
         ap (λ (l : List ℕ). get_or l app 0) is ∙ get_or-map-range_with_len (λ (n : ℕ). min (2 ^ 64 - 1) (injected_of n s.books)) 0 (length s.apps) app app 0 within (omega arith) ∙ given_exact,
       )
 
-pub gathered : (s : ClosingState) (calls losses injected : List ℕ) (records : List (List Record)) → IsClosing s calls losses injected records → AreGathered s
-gathered s calls losses injected records c = record {
+pub gathered : (s : ClosingState) (items losses injected : List ℕ) (entries : EntriesState) → IsClosing s items losses injected entries → AreGathered s
+gathered s items losses injected entries c = record {
   numbered = c.books.numbered;
   owned = c.books.owned;
   rings = ring_of s c.handles;
   queues = queue_of s c.handles;
   levels = c.handles.levels;
   losses = λ app within. (let u = c.counts.untold app within in omega (arith, u));
+  claimed = c.books.claimed;
   told = c.books.told;
 }

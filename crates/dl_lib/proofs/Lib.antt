@@ -1,4 +1,7 @@
 pub mod Lists
+pub mod Apart
+pub mod Claimed
+pub mod Takes
 pub mod Counting
 pub mod InOrder
 pub mod Joined

@@ -1,8 +1,9 @@
 -- What the loops that take ends back keep.
-use Rattle.std.proofs.Common.{◌≡◌, ℕ, zero, suc, ◌+◌, ◌<◌, ◌≤◌, List, [], ◌∷◌, ◌++◌, length, length-append, map, Some, slice_get, append_assoc, refl, sym, ap, ◌∙◌, subst, arith}
+use Rattle.std.proofs.Common.{◌≡◌, ℕ, zero, suc, ◌+◌, ◌<◌, ◌≤◌, List, [], ◌∷◌, ◌++◌, length, length-append, Some, slice_get, append_assoc, append-nil, refl, sym, ap, ◌∙◌, subst, arith}
 use Rattle.std.specs.Prelude.{All}
+use Rattle.std.proofs.lemmas.List.{map-append}
 use Rattle.std.proofs.lemmas.List.Elements.{All-head, All-push}
-use Rattle.dl_events.specs.declared.record.Record.{Record}
+use Rattle.dl_writer.specs.Claiming.{TellsClaims}
 use Rattle.dl_writer.specs.Records.{TellAll}
 use Rattle.dl_writer.specs.State.{BookState, IsWhole}
 use Rattle.dl_desk.specs.declared.app_handles.AppHandles.{AppHandles}
@@ -10,47 +11,62 @@ use Rattle.dl_desk.specs.declared.app_handles.FirstHandles.{FirstHandles}
 use Rattle.dl_desk.specs.Handles.{HandlesState, joined_app, with_passes}
 use Rattle.dl_desk.specs.Lists.{At}
 use Rattle.dl_desk.proofs.Places.{changed_keeps, length-changed_at}
+use Rattle.dl_lib.specs.Entries.{EntriesState, entries_of, with_entry}
 use Rattle.dl_lib.specs.Joining.{FitFirsts, FitsHandles, join_books, join_firsts, join_writer}
 use Rattle.dl_lib.proofs.Joined.{fit_stays}
 
 -- ---- books, the first one first
 
--- these are left of all, with the records of the others
-pub record IsJoining (start : HandlesState) (all : List BookState) (s : HandlesState) (left : List BookState) (records : List (List Record)) : Type 0 where
+-- these are left of all, with what stands in the others
+pub record IsJoining (start : HandlesState) (all : List BookState) (s : HandlesState) (left : List BookState) (entries : EntriesState) : Type 0 where
   pub done : List BookState
   pub parted : all ≡ done ++ left
-  pub told : All (λ b. IsWhole b → TellAll b.writer b.records) done
+  pub told : All (λ b. IsWhole b → TellAll b.writer b.records b.claims) done
+  pub claimed : All (λ b. TellsClaims b.writer) done
   pub handles : join_books s left ≡ join_books start all
-  pub kept : records ++ map (λ b. b.records) left ≡ map (λ b. b.records) all
+  pub kept : entries ≡ entries_of done
   pub fit : All (λ b. FitsHandles s b.writer) left
-  pub few : length records + length left ≤ 32
+  pub few : length done + length left ≤ 32
 
 -- the next one fits
 pub next_fits : (s : HandlesState) (left after : List BookState) (b : BookState) → left ≡ b ∷ after → All (λ b. FitsHandles s b.writer) left → FitsHandles s b.writer
 next_fits s left after b parted fit = All-head (λ (c : BookState). FitsHandles s c.writer) b after (subst (All (λ (c : BookState). FitsHandles s c.writer)) parted fit)
 
-joins_one : (start s : HandlesState) (all after : List BookState) (b : BookState) (records : List (List Record)) → (IsWhole b → TellAll b.writer b.records)
-    → IsJoining start all s (b ∷ after) records → IsJoining start all (join_writer s b.writer) after (records ++ b.records ∷ [])
-joins_one start s all after b records told i =
-    let long = length-append records (b.records ∷ []) in
+-- what stands in one book more
+entries_more : (done : List BookState) (b : BookState) → with_entry (entries_of done) b.records b.claims b.writer.push.refusals ≡ entries_of (done ++ b ∷ [])
+entries_more done b = λ i. record {
+  records = sym (map-append (λ (c : BookState). c.records) done (b ∷ [])) i;
+  claims = sym (map-append (λ (c : BookState). c.claims) done (b ∷ [])) i;
+  refusals = sym (map-append (λ (c : BookState). c.writer.push.refusals) done (b ∷ [])) i;
+}
+
+joins_one : (start s : HandlesState) (all after : List BookState) (b : BookState) (entries : EntriesState) → (IsWhole b → TellAll b.writer b.records b.claims) → TellsClaims b.writer
+    → IsJoining start all s (b ∷ after) entries → IsJoining start all (join_writer s b.writer) after (with_entry entries b.records b.claims b.writer.push.refusals)
+joins_one start s all after b entries told claimed i =
+    let long = length-append i.done (b ∷ []) in
     let few = i.few in
     record {
       done = i.done ++ b ∷ [];
       parted = i.parted ∙ sym (append_assoc i.done (b ∷ []) after);
-      told = All-push (λ (c : BookState). IsWhole c → TellAll c.writer c.records) i.done b i.told told;
+      told = All-push (λ (c : BookState). IsWhole c → TellAll c.writer c.records c.claims) i.done b i.told told;
+      claimed = All-push (λ (c : BookState). TellsClaims c.writer) i.done b i.claimed claimed;
       handles = i.handles;
-      kept = append_assoc records (b.records ∷ []) (map (λ (c : BookState). c.records) after) ∙ i.kept;
+      kept = ap (λ (e : EntriesState). with_entry e b.records b.claims b.writer.push.refusals) i.kept ∙ entries_more i.done b;
       fit = fit_stays s b after i.fit;
       few = omega (arith, long, few);
     }
 
-pub joins_on : (start s new : HandlesState) (all left after : List BookState) (b : BookState) (records more : List (List Record))
-    → left ≡ b ∷ after → new ≡ join_writer s b.writer → more ≡ records ++ b.records ∷ [] → (IsWhole b → TellAll b.writer b.records)
-    → IsJoining start all s left records → IsJoining start all new after more
-joins_on start s new all left after b records more parted made added told i =
+pub joins_on : (start s new : HandlesState) (all left after : List BookState) (b : BookState) (entries more : EntriesState)
+    → left ≡ b ∷ after → new ≡ join_writer s b.writer → more ≡ with_entry entries b.records b.claims b.writer.push.refusals → (IsWhole b → TellAll b.writer b.records b.claims) → TellsClaims b.writer
+    → IsJoining start all s left entries → IsJoining start all new after more
+joins_on start s new all left after b entries more parted made added told claimed i =
     subst (λ (e : HandlesState). IsJoining start all e after more) (sym made)
-    (subst (λ (rs : List (List Record)). IsJoining start all (join_writer s b.writer) after rs) (sym added)
-    (joins_one start s all after b records told (subst (λ (bs : List BookState). IsJoining start all s bs records) parted i)))
+    (subst (λ (es : EntriesState). IsJoining start all (join_writer s b.writer) after es) (sym added)
+    (joins_one start s all after b entries told claimed (subst (λ (bs : List BookState). IsJoining start all s bs entries) parted i)))
+
+-- none is left in the end
+pub joined_all : (start s : HandlesState) (all left : List BookState) (entries : EntriesState) → left ≡ [] → (i : IsJoining start all s left entries) → i.done ≡ all
+joined_all start s all left entries none i = sym (i.parted ∙ ap (λ (l : List BookState). i.done ++ l) none ∙ append-nil i.done)
 
 -- ---- first ends, the last one first
 

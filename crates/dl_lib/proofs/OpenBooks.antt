@@ -1,5 +1,5 @@
 -- The books of a desk's writers, as more of them are made: numbered one after the other.
-use Rattle.std.proofs.Common.{◌≡◌, ℕ, zero, suc, ◌+◌, ◌-◌, ◌<◌, ◌≤◌, ◌==◌, Bool, true, false, List, [], ◌∷◌, ◌++◌, length, map, Some, slice_get, refl, sym, ap, ◌∙◌, subst, ne_eqb, append_assoc, length-append, inl, inr, arith}
+use Rattle.std.proofs.Common.{◌≡◌, ℕ, zero, suc, ◌+◌, ◌-◌, ◌<◌, ◌≤◌, ◌==◌, Bool, true, false, List, [], ◌∷◌, ◌++◌, length, map, Some, slice_get, refl, sym, ap, ◌∙◌, subst, ne_eqb, length-append, inl, inr, arith}
 use Rattle.std.specs.Prelude.{All, Contains}
 use Rattle.std.specs.List.{range_with_len}
 use Rattle.std.proofs.lemmas.Bool.{eqb-true}
@@ -12,8 +12,8 @@ use Rattle.dl_desk.specs.Apps.{AppState}
 use Rattle.dl_desk.specs.Handles.{HandlesState}
 use Rattle.dl_desk.specs.Made.{IsAppOf, IsLater, IsMadeWith, MakesWriter}
 use Rattle.dl_desk.specs.State.{DeskState}
-use Rattle.dl_lib.specs.Making.{AreInOrder, AreMadeWith}
-use Rattle.dl_lib.proofs.InOrder.{none_above, range_more}
+use Rattle.dl_lib.specs.Making.{AreInOrder, AreMadeWith, SameBases}
+use Rattle.dl_lib.proofs.InOrder.{range_more}
 use Rattle.dl_lemmas.proofs.Lists.{head_is, tail_is}
 
 -- ---- writers of a desk, as it goes on
@@ -27,11 +27,13 @@ get_longer (y ∷ xs) ys (suc n) x is = get_longer xs ys n x is
 pub stays : (old new : DeskState) (w : WriterState) → IsLater old new → IsMadeWith old w → IsMadeWith new w
 stays old new w later made = record {
   from_one = made.from_one;
+  apid = ap (λ (apps : List AppSpec). slice_get (map (λ s. s.apid) apps) w.app) later.apps ∙ made.apid;
   owner = ap (λ (os : List ℕ). slice_get os (w.push.number - 1)) later.owners ∙ get_longer old.owners later.more (w.push.number - 1) w.app made.owner;
   ring = ap (λ l. slice_get l w.app) later.rings ∙ made.ring;
   queue = ap (λ l. slice_get l w.app) later.queues ∙ made.queue;
   capacity = ap (λ (apps : List AppSpec). slice_get (map (λ s. s.capacity) apps) w.app) later.apps ∙ made.capacity;
   levels = made.levels ∙ sym later.levels;
+  claims = made.claims ∙ sym later.claims;
   losses = made.losses ∙ sym later.losses;
   split = made.split;
 }
@@ -45,13 +47,19 @@ one_writer app old new makes = record {
   rings = ap (λ (e : HandlesState). map (λ e. e.ring.ring) e.apps) makes.handles;
   queues = ap (λ (e : HandlesState). map (λ e. e.queue.queue) e.apps) makes.handles;
   levels = ap (λ (e : HandlesState). e.levels.table) makes.handles;
+  claims = ap (λ (e : HandlesState). e.levels.claims) makes.handles;
   losses = ap (λ (e : HandlesState). e.losses.table) makes.handles;
   more = app ∷ [];
   owners = makes.owners;
 }
 
-pub same_app : (old new : DeskState) (app : AppState) → new.apps ≡ old.apps → IsAppOf old app → IsAppOf new app
-same_app old new app same is = record { spec = is.spec; place = ap (λ (apps : List AppSpec). slice_get apps app.number) same ∙ is.place; apid = is.apid }
+-- an application stays the desk's one, whatever else it is
+pub same_app : (old new : DeskState) (app now : AppState) → new.apps ≡ old.apps → now.number ≡ app.number → now.apid ≡ app.apid → IsAppOf old app → IsAppOf new now
+same_app old new app now same number apid is = record {
+  spec = is.spec;
+  place = ap (slice_get new.apps) number ∙ ap (λ (apps : List AppSpec). slice_get apps app.number) same ∙ is.place;
+  apid = apid ∙ is.apid;
+}
 
 -- ---- the books so far
 
@@ -98,11 +106,16 @@ times_range n from (suc count) = by_test (from == n) refl (times_range n (from +
       omega (arith, none, small)
   by_test false is rest = let none : bit (from == n) ≡ 0 = ap bit is in omega (arith, none, rest)
 
-pub made_with : (desk : DeskState) (books : List BookState) (count : ℕ) → All (λ b. IsMadeWith desk b.writer) books → numbers books ≡ range_with_len 1 count → AreMadeWith desk books
-made_with desk books count made numbered = record {
+pub made_with : (desk : DeskState) (books : List BookState) (count : ℕ) → All (λ b. IsMadeWith desk b.writer) books → numbers books ≡ range_with_len 1 count → SameBases books → AreMadeWith desk books
+made_with desk books count made numbered bases = record {
   each = made;
   apart = λ n. subst (λ (l : List ℕ). times n l ≤ 1) (sym numbered) (times_range n 1 count);
+  bases = bases;
 }
+
+-- those of one application have one base
+pub same_bases : (base : ℕ → ℕ) (books : List BookState) → All (λ b. b.writer.base ≡ base b.writer.app) books → SameBases books
+same_bases base books all = λ k d lt k' d' lt' same. all k d lt ∙ ap base same ∙ sym (all k' d' lt')
 
 -- ---- books that came in order
 

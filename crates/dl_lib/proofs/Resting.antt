@@ -2,8 +2,8 @@
 use Rattle.std.proofs.Common.{◌≡◌, ℕ, zero, suc, List, [], ◌∷◌, length, map, Option, slice_get, refl, sym, ap, ◌∙◌, subst}
 use Rattle.std.specs.Prelude.{Result, Ok, Err, OnOk, OnErr, unwrap_or}
 use Rattle.std.specs.Option.{option_map}
-use Rattle.dl_bytes.specs.declared.item.Item.{Item}
 use Rattle.dl_bytes.specs.declared.item.Injection.{Injection}
+use Rattle.dl_ring.specs.declared.item.RingItem.{RingItem}
 use Rattle.dl_desk.specs.declared.app_handles.AppHandles.{AppHandles}
 use Rattle.dl_desk.specs.Handles.{HandlesState, with_injected, with_refusal}
 use Rattle.dl_desk.specs.Posting.{rest_of, without_pushes}
@@ -18,7 +18,7 @@ same_taken (e ∷ handles) zero = refl
 same_taken (e ∷ handles) (suc app) = same_taken handles app
 
 pub taken_rest : (s : HandlesState) (app : ℕ) → taken_of (rest_of s) app ≡ taken_of s app
-taken_rest s app = ap (λ (o : Option (List Item)). unwrap_or o []) (same_taken s.apps app)
+taken_rest s app = ap (λ (o : Option (List RingItem)). unwrap_or o []) (same_taken s.apps app)
 
 abbrev resting : ClosingState → ClosingState
 resting s = record s { handles = rest_of s.handles }

@@ -1,8 +1,9 @@
 -- The fields of an account, and what is true of them.
-use Rattle.std.specs.Prelude.{◌≡◌, map, length}
+use Rattle.std.specs.Prelude.{◌≡◌, length}
 use Rattle.dl_lib.specs.declared.account.Account.TheInside as account
 use Rattle.dl_lib.specs.Books.{given_by}
 use Rattle.dl_lib.specs.ClosingInside.{HaveBooks, HaveHandles}
+use Rattle.dl_lib.specs.Entries.{entries_of}
 use Rattle.dl_lib.specs.Known.{IsDrained}
 use Rattle.dl_lib.specs.State.{AccountState, ClosingState}
 
@@ -18,4 +19,4 @@ pub record IsAccount (a : account.Inside) : Type 0 where
   pub handles : HaveHandles (settled_side a)
   pub drained : IsDrained (settled_side a)
   pub injected : a.injected.items ≡ given_by (length a.apps) a.books.value
-  pub records : a.records ≡ map (λ b. b.records) a.books.value
+  pub entries : a.entries ≡ entries_of a.books.value

@@ -1,8 +1,10 @@
 -- The books of all writers, application by application.
 use Rattle.std.specs.Prelude.{ℕ, ◌-◌, ◌^◌, ◌==◌, min, List, length, map}
 use Rattle.std.specs.List.{filter, flat_map, range_with_len}
+use Rattle.dl_bytes.specs.Claim.{Claimed}
 use Rattle.dl_events.specs.declared.record.Record.{Record}
 use Rattle.dl_losses.specs.Losses.{counted_of}
+use Rattle.dl_ring.specs.Items.{claims_in}
 use Rattle.dl_thread_rules.specs.Views.{total}
 use Rattle.dl_writer.specs.State.{BookState}
 
@@ -10,7 +12,7 @@ use Rattle.dl_writer.specs.State.{BookState}
 abbrev pub books_of : ℕ → List BookState → List BookState
 books_of app books = filter (λ b. b.writer.app == app) books
 
--- how many calls the application's ring took, of all its writers
+-- how many calls and claims the application's ring took, of all its writers
 abbrev pub queued_of : ℕ → List BookState → ℕ
 queued_of app books = total (λ b. length b.writer.push.pushed) (books_of app books)
 
@@ -25,6 +27,14 @@ injected_of app books = total (λ b. length b.writer.injections.taken) (books_of
 -- that of each application, in 64 bits
 abbrev pub given_by : ℕ → List BookState → List ℕ
 given_by apps books = map (λ app. min (2 ^ 64 - 1) (injected_of app books)) (range_with_len 0 apps)
+
+-- how often its writers asked for a context with an id and a description within the limits
+abbrev pub registers_of : ℕ → List BookState → ℕ
+registers_of app books = total (λ b. b.writer.registers) (books_of app books)
+
+-- the claims that its ring took, one writer's after the other's
+abbrev pub claimed_of : ℕ → List BookState → List Claimed
+claimed_of app books = flat_map (λ b. claims_in b.writer.push.pushed) (books_of app books)
 
 -- the records of its writers, one writer's after the other's
 abbrev pub records_of : ℕ → List BookState → List Record

@@ -1,6 +1,9 @@
 -- How the handles of all writers are taken back: one writer at a time, and then the handles from which theirs were split.
-use Rattle.std.specs.Prelude.{◌≡◌, ℕ, ◌+◌, ◌<◌, true, List, [], ◌∷◌, ◌++◌, length, map}
+use Rattle.std.specs.Prelude.{◌≡◌, ℕ, ◌+◌, ◌<◌, nat_lt, true, List, [], ◌∷◌, ◌++◌, length, map}
+use Rattle.dl_claims.specs.Claims.{given_of, refused_of}
+use Rattle.dl_levels.specs.States.{KeeperState}
 use Rattle.dl_ring.specs.declared.view.Sent.{Sent}
+use Rattle.dl_thread_rules.specs.Views.{bit, times}
 use Rattle.dl_desk.specs.declared.app_handles.AppHandles.{AppHandles}
 use Rattle.dl_desk.specs.declared.app_handles.FirstHandles.{FirstHandles}
 use Rattle.dl_desk.specs.Lists.{At}
@@ -15,6 +18,7 @@ pub record FitsHandles (s : HandlesState) (w : WriterState) : Type 0 where
   pub ring : At s.apps w.app (λ e. w.push.ring ≡ e.ring.ring)
   pub queue : At s.apps w.app (λ e. w.injections.queue ≡ e.queue.queue)
   pub levels : w.reader.table ≡ s.levels.table
+  pub claims : w.reader.claims ≡ s.levels.claims
   pub losses : w.losses.table ≡ s.losses.table
 
 -- there are first handles for each application, of its ring and its queue
@@ -53,3 +57,10 @@ pub record AreBack (books : List BookState) (e : AppHandles) : Type 0 where
   pub queue : e.queue.joined ≡ map (λ b. b.writer.injections.taken) books ++ [] ∷ []
   pub queue_first : e.queue.first ≡ true
   pub splits : e.queue.splits ≡ length books
+
+-- So many numbers of an application were given: each below this one to one reader, once, and all 64 where a claim found none
+-- left.
+pub record AreGiven (app count : ℕ) (levels : KeeperState) : Type 0 where
+  pub once : (n : ℕ) → times n (given_of app levels.given) ≡ bit (nat_lt n count)
+  pub long : length (given_of app levels.given) ≡ count
+  pub full : 0 < refused_of app levels.refused → count ≡ 64

@@ -1,5 +1,6 @@
 pub mod State
 pub mod Books
+pub mod Entries
 pub mod Joining
 pub mod Known
 pub mod Making

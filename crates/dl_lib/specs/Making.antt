@@ -7,10 +7,15 @@ use Rattle.dl_desk.specs.State.{DeskState}
 use Rattle.dl_writer.specs.State.{BookState, numbers}
 use Rattle.dl_lib.specs.State.{ClosingState}
 
--- each book's writer was made with the desk, so no two have one number
+-- the writers of one application have the same base: it had as many contexts when each of them was made
+abbrev pub SameBases : List BookState → Type 0
+SameBases books = All (λ b. All (λ c. b.writer.app ≡ c.writer.app → b.writer.base ≡ c.writer.base) books) books
+
+-- each book's writer was made with the desk, so no two have one number; and those of one application have the same base
 pub record AreMadeWith (desk : DeskState) (books : List BookState) : Type 0 where
   pub each : All (λ b. IsMadeWith desk b.writer) books
   pub apart : (number : ℕ) → times number (numbers books) ≤ 1
+  pub bases : SameBases books
 
 -- the book of this writer is among them
 abbrev pub IsAmong : List BookState → ℕ → Type 0

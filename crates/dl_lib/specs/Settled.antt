@@ -7,15 +7,17 @@ use Rattle.dl_events.specs.declared.event.Event.{Event}
 use Rattle.dl_events.specs.declared.record.Answer.TheVariants as answer
 use Rattle.dl_levels.specs.History as levels
 use Rattle.dl_losses.specs.Losses.{reported_of}
-use Rattle.dl_model.specs.Accounts.{order, of_writer, claims, name_of, with_answer, AreTold, WriterAccount}
+use Rattle.dl_model.specs.Accounts.{order, takes, of_writer, claims, claimed_by, with_answer, AreTold, WriterAccount}
 use Rattle.dl_model.specs.History as journal
 use Rattle.dl_model.specs.Report.{reported}
+use Rattle.dl_ring.specs.Items.{calls_in, claims_in}
+use Rattle.dl_ring.specs.Order.{of}
 use Rattle.dl_thread_rules.specs.Views.{times}
 use Rattle.dl_desk.specs.Posting.{pushed_of}
 use Rattle.dl_writer.specs.Records.{TellAll}
 use Rattle.dl_writer.specs.State.{IsWhole, BookState, numbers}
 use Rattle.dl_lib.specs.Books.{books_of, lost_of, records_of}
-use Rattle.dl_lib.specs.Known.{AreGivenOnce, IsAllOf, taken_of}
+use Rattle.dl_lib.specs.Known.{AreClaimed, AreGivenOnce, IsAllOf, taken_of, told_as}
 use Rattle.dl_lib.specs.State.{AccountState, ClosingState}
 
 -- the account of the daemon's side, which its events and its ends are added to
@@ -24,8 +26,8 @@ account_of s events outcome = record { apps = s.apps; handles = s.handles; books
 
 -- What an account tells: the writers are numbered from 1; what was taken of each ring is all that its writers pushed, of
 -- each in its order; the losses that were reported are those that they counted, and of no application as many as 2^47; each
--- level that they read was set in its slot at its version; each injection was given once or is left; and the records of a whole book tell all that its writer
--- did.
+-- level that they read was set in its slot at its version; each injection was given once or is left; the places that they
+-- claimed differ; and the records and the claims of a whole book tell all that its writer did.
 pub record IsSettled (s : AccountState) : Type 0 where
   pub numbered : numbers s.books ≡ range_with_len 1 (length s.books)
   pub owned : All (λ b. b.writer.app < length s.apps) s.books
@@ -34,30 +36,35 @@ pub record IsSettled (s : AccountState) : Type 0 where
   pub small : (app : ℕ) → reported_of app s.handles.losses.reported < 2 ^ 47
   pub held : All (λ b. All (levels.IsEntry s.handles.levels.first s.handles.levels.sets) b.writer.reader.reads) s.books
   pub given : (app : ℕ) → app < length s.apps → (left : ℕ) × AreGivenOnce app s.books (pushed_of s.handles app) left
-  pub told : All (λ b. IsWhole b → TellAll b.writer b.records) s.books
+  pub claimed : (app : ℕ) → app < length s.apps → AreClaimed app s.books
+  pub told : All (λ b. IsWhole b → TellAll b.writer b.records b.claims) s.books
 
 -- what was lost of an application, by its records and by what was reported of it
 abbrev pub TellsLosses : AccountState → ℕ → Type 0
 TellsLosses s app = reported_of app s.handles.losses.reported ≡ length (with_answer answer.Lost (records_of app s.books))
 
--- what was taken of a writer's ring is, restricted to it, its queued records
+-- the calls that were taken of a writer's ring are, restricted to it, its queued records
 abbrev pub TellsQueued : AccountState → BookState → Type 0
-TellsQueued s b = filter (λ item. item.writer == b.writer.push.number) (taken_of s.handles b.writer.app) ≡ map (λ r. r.item) (with_answer answer.Queued b.records)
+TellsQueued s b = calls_in (of b.writer.push.number (taken_of s.handles b.writer.app)) ≡ map (λ r. r.item) (with_answer answer.Queued b.records)
 
--- A journal says what the daemon did: the levels that it gives each slot are those that were set; it admits the calls that
--- were taken, in their order; it tells the losses that were reported; it speaks of no other application; and no claim is in it.
+-- the claims that were are those that its book kept
+abbrev pub TellsClaimed : AccountState → BookState → Type 0
+TellsClaimed s b = claims_in (of b.writer.push.number (taken_of s.handles b.writer.app)) ≡ b.claims
+
+-- A journal says what the daemon did: the levels that it gives each slot are those that were set; it tells the calls and the
+-- claims that were taken, in their order; it tells the losses that were reported; and it speaks of no other application.
 pub record IsJournalOf (events : List Event) (s : AccountState) : Type 0 where
   pub set : (slot : ℕ) → journal.history events slot ≡ levels.history slot s.handles.levels.sets
-  pub admitted : (app : ℕ) → app < length s.apps → order app events ≡ map name_of (taken_of s.handles app)
+  pub admitted : (app : ℕ) → app < length s.apps → takes app events ≡ map (told_as app) (taken_of s.handles app)
   pub losses : (app : ℕ) → app < length s.apps → reported app events ≡ reported_of app s.handles.losses.reported
-  pub alone : (app : ℕ) → length s.apps ≤ app → (order app events ≡ []) × (reported app events ≡ 0)
-  pub unclaimed : (app : ℕ) → claims app events ≡ []
+  pub alone : (app : ℕ) → length s.apps ≤ app → (takes app events ≡ []) × (reported app events ≡ 0)
 
--- The records and such a journal are the account of all writers: of each of its own calls, and of each application of its
--- losses. No others are admitted.
+-- The records, the claims and such a journal are the account of all writers: of each of its own calls and claims, and of each
+-- application of its losses. No others are in it.
 pub record IsAccountOf (events : List Event) (s : AccountState) : Type 0 where
-  pub each : All (λ b. WriterAccount s.handles.levels.first events b.writer.app b.writer.push.number b.writer.push.refusals [] b.records) s.books
+  pub each : All (λ b. WriterAccount s.handles.levels.first events b.writer.app b.writer.push.number b.writer.push.refusals b.claims b.records) s.books
   pub no_others : (app writer : ℕ) → app < length s.apps → times writer (numbers (books_of app s.books)) ≡ 0 → filter (of_writer writer) (order app events) ≡ []
+  pub no_claims : (app writer : ℕ) → app < length s.apps → times writer (numbers (books_of app s.books)) ≡ 0 → filter (claimed_by writer) (claims app events) ≡ []
   pub told : (app : ℕ) → app < length s.apps → AreTold app events 0 (records_of app s.books)
 
 -- the pushes of a writer that its ring refused, by the writer's number

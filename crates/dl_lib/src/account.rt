@@ -1,14 +1,15 @@
 //! The account of all that was logged.
 
-ghost use Rattle.std.specs.Prelude.{◌≡◌, ◌<◌, ℕ, length, map, All};
+ghost use Rattle.std.specs.Prelude.{◌≡◌, ◌<◌, ◌≤◌, ℕ, length, map, All};
 ghost use Rattle.dl_lib.specs.Books.{injected_of};
-ghost use Rattle.dl_lib.specs.Settled.{IsSettled, TellsLosses, TellsQueued};
+ghost use Rattle.dl_lib.specs.Settled.{refusals_of, IsSettled, TellsClaimed, TellsLosses, TellsQueued};
 ghost use Rattle.dl_writer.specs.State.{IsWhole};
 
+use crate::entries::Entries;
 use arrayvec::ArrayVec;
 use dl_bytes::{AppSpec, Ends, Sequence};
 use dl_desk::DaemonHandles;
-use dl_events::{Event, Kept, RecordList};
+use dl_events::{ClaimList, Event, Kept, RecordList};
 use dl_writer::BookList;
 use std::marker::Model;
 use std::snapshot::Snapshot;
@@ -21,8 +22,8 @@ pub struct Account {
     pub(crate) handles: DaemonHandles,
     // how many injections the writers of each application were given
     pub(crate) injected: ArrayVec<u64, 16>,
-    // by the writers' numbers
-    pub(crate) records: RecordList,
+    // what stood in the books, by the writers' numbers
+    pub(crate) entries: Entries,
     // the books as they were taken back, for contracts
     pub(crate) books: Snapshot<BookList>,
     pub(crate) journal: Kept,
@@ -49,7 +50,25 @@ impl Account {
         ensures queued { All IsWhole self.now.books → All (TellsQueued self.now) self.now.books }
     {
         self.handles.reports();
-        &self.records
+        self.entries.records()
+    }
+
+    /// The claims that the books kept, by the writers' numbers: all that the rings took of them where every book is whole.
+    pub fn claims(&self) -> &ClaimList
+        ensures value { result.now ≡ map (λ b. b.claims) self.now.books }
+        ensures claimed { All IsWhole self.now.books → All (TellsClaimed self.now) self.now.books }
+    {
+        self.handles.reports();
+        self.entries.claims()
+    }
+
+    /// How many pushes of a writer, of calls and of claims, its ring refused. Writers are numbered from 1.
+    pub fn refusals(&self, writer: u8) -> u64
+        requires first { 1 ≤ writer }
+        requires known { writer ≤ length self.now.books }
+        ensures { result ≡ refusals_of self.now.books writer }
+    {
+        self.entries.refusals(writer)
     }
 
     /// What the daemon did, in order.

@@ -1,28 +1,30 @@
 //! The daemon's side once the writers have ended: it takes back their handles, and then what they left.
 
-ghost use Rattle.std.specs.Prelude.{◌≡◌, ◌+◌, ◌-◌, ◌*◌, ◌^◌, ◌<◌, ◌≤◌, ◌↔◌, ℕ, true, false, List, length, All, IfOk, IfErr, IfSome, IfNone, IsErr, IsTrue, OnOk, OnErr, OnSome};
+ghost use Rattle.std.specs.Prelude.{◌≡◌, ◌+◌, ◌-◌, ◌*◌, ◌^◌, ◌<◌, ◌≤◌, ◌↔◌, ℕ, false, List, length, All, IfOk, IfErr, IfSome, IfNone, IsErr, IsTrue, OnOk, OnErr, OnSome};
 ghost use Rattle.std.specs.List.{range_with_len};
 ghost use Rattle.std.specs.Option.{IsNone};
-ghost use Rattle.dl_bytes.specs.declared.item.Item.{Item as item_type};
 ghost use Rattle.dl_levels.specs.History.{current_version};
 ghost use Rattle.dl_losses.specs.Losses.{reported_of};
+ghost use Rattle.dl_ring.specs.declared.item.RingItem.{RingItem as ring_item};
+ghost use Rattle.dl_ring.specs.Items.{is_call, took};
 ghost use Rattle.dl_desk.specs.Handles.{RingHolds, with_empty_take, with_injected, with_item, with_level, with_refusal, with_report};
 ghost use Rattle.dl_desk.specs.Lists.{At};
 ghost use Rattle.dl_lib.specs.Books.{lost_of};
 ghost use Rattle.dl_lib.specs.Known.{AreGathered, IsDrained, IsEmpty};
 ghost use Rattle.dl_desk.specs.Made.{IsMadeWith};
 ghost use Rattle.dl_writer.specs.State.{numbers};
-ghost use Rattle.dl_lib.specs.Making.{AreMadeWith, IsMadeOf, IsMissing, KeepsDesk};
+ghost use Rattle.dl_lib.specs.Making.{AreMadeWith, IsMadeOf, IsMissing, KeepsDesk, SameBases};
 ghost use Rattle.dl_lib.specs.Settled.{account_of};
 
 use crate::account::Account;
+use crate::entries::Entries;
 use crate::joining::{injections_given, join_books, join_firsts};
 use crate::ordering::{in_order, missing};
-use crate::waiting::{calls_waiting, look_at_handles, losses_waiting};
+use crate::waiting::{items_waiting, look_at_handles, losses_waiting};
 use arrayvec::ArrayVec;
 use dl_bytes::{AppSpec, Ends, Injection, Item, Level, Sequence};
-use dl_desk::{DaemonHandles, Desk, DeskParts};
-use dl_events::{Kept, RecordList};
+use dl_desk::{DaemonHandles, Desk, DeskParts, RingItem, Taken};
+use dl_events::Kept;
 use dl_levels::Worn;
 use dl_writer::BookList;
 use std::marker::Model;
@@ -34,14 +36,14 @@ use std::sync::Wait;
 pub struct Closing {
     apps: Sequence<AppSpec>,
     handles: DaemonHandles,
-    // how many calls wait in the ring of each application
-    calls: [u64; 16],
+    // how many calls and claims wait in the ring of each application
+    items: [u64; 16],
     // how many losses wait in its word
     losses: [u64; 16],
     // how many injections its writers were given
     injected: ArrayVec<u64, 16>,
-    // by the writers' numbers
-    records: RecordList,
+    // what stood in the books, by the writers' numbers
+    entries: Entries,
     // the books as they were taken back, for contracts
     books: Snapshot<BookList>,
 }
@@ -86,41 +88,43 @@ impl Closing {
         let _ = &self.apps;
     }
 
-    /// What is known of the writers, of the rings, queues and words, and of what was taken of them.
+    /// What is known of the writers, of the rings, queues and words, and of what was taken and claimed of them.
     pub fn gathered(&self)
         ensures { AreGathered self.now }
     {
         let _ = &self.apps;
     }
 
-    /// The oldest call in the ring of an application. None exactly where it is empty.
-    pub fn take<R: Wait>(&mut self, rt: &R, app: u8) -> Option<Item>
+    /// The oldest call or claim in the ring of an application. None exactly where it is empty.
+    pub fn take<R: Wait>(&mut self, rt: &R, app: u8) -> Option<RingItem>
         requires { app < length self.old.apps }
         ensures taken { IfSome result (λ item. self.new ≡ record self.old { handles = with_item self.old.handles app item }) }
-        ensures rest { OnSome result ((contents : List item_type) × RingHolds self.new.handles app contents) }
+        ensures rest { OnSome result ((contents : List ring_item) × RingHolds self.new.handles app contents) }
         ensures none { IfNone result (self.new ≡ record self.old { handles = with_empty_take self.old.handles app }) }
         ensures empty { IsNone result ↔ IsEmpty self.old app }
     {
         let item = self.handles.take(rt, app)?;
-        self.calls[usize::from(app)] -= 1;
+        self.items[usize::from(app)] -= 1;
         Some(item)
     }
 
-    /// Takes the oldest call in the ring of an application into one that the caller keeps, and tells whether there was one: what `take` does, with
-    /// the call's bytes copied once. False exactly where the ring is empty; then the caller's call stays.
-    pub fn take_into<R: Wait>(&mut self, rt: &R, app: u8, item: &mut Item) -> bool
+    /// As `take`, but a call is copied into the caller's item, once; otherwise that item stays. Nothing comes exactly where
+    /// the ring is empty.
+    pub fn take_into<R: Wait>(&mut self, rt: &R, app: u8, item: &mut Item) -> Taken
         requires { app < length self.old.apps }
-        ensures taken { result ≡ true → self.new ≡ record self.old { handles = with_item self.old.handles app item.new } }
-        ensures rest { result ≡ true → (contents : List item_type) × RingHolds self.new.handles app contents }
-        ensures none { result ≡ false → self.new ≡ record self.old { handles = with_empty_take self.old.handles app } }
-        ensures empty { (result ≡ false) ↔ IsEmpty self.old app }
-        ensures kept { result ≡ false → item.new ≡ item.old }
+        ensures taken { IfSome (took result item.new) (λ x. self.new ≡ record self.old { handles = with_item self.old.handles app x }) }
+        ensures rest { OnSome (took result item.new) ((contents : List ring_item) × RingHolds self.new.handles app contents) }
+        ensures none { IfNone (took result item.new) (self.new ≡ record self.old { handles = with_empty_take self.old.handles app }) }
+        ensures empty { IsNone (took result item.new) ↔ IsEmpty self.old app }
+        ensures kept { is_call result ≡ false → item.new ≡ item.old }
     {
-        if !self.handles.take_into(rt, app, item) {
-            return false;
+        match self.handles.take_into(rt, app, item) {
+            Taken::Nothing => Taken::Nothing,
+            taken => {
+                self.items[usize::from(app)] -= 1;
+                taken
+            }
         }
-        self.calls[usize::from(app)] -= 1;
-        true
     }
 
     /// How many calls of an application were lost that were not told yet.
@@ -164,7 +168,7 @@ impl Closing {
         ensures { IsTrue result ↔ IsDrained self.now }
     {
         for app in 0..self.apps.len() as usize {
-            if self.calls[app] != 0 || self.losses[app] != 0 {
+            if self.items[app] != 0 || self.losses[app] != 0 {
                 return false;
             }
         }
@@ -179,17 +183,17 @@ impl Closing {
         let Closing {
             apps,
             handles,
-            calls: _,
+            items: _,
             losses: _,
             injected,
-            records,
+            entries,
             books,
         } = self;
         Account {
             apps,
             handles,
             injected,
-            records,
+            entries,
             books,
             journal,
             ends,
@@ -202,6 +206,7 @@ fn gather(desk: Desk, books: BookList) -> Closing
     requires made { All (λ b. IsMadeWith desk b.writer) books }
     requires numbered { numbers books ≡ range_with_len 1 (length books) }
     requires all { length books ≡ length desk.owners }
+    requires bases { SameBases books }
     ensures books { result.books ≡ books }
     ensures kept { KeepsDesk desk result }
 {
@@ -215,9 +220,9 @@ fn gather(desk: Desk, books: BookList) -> Closing
         owners: _,
     } = desk.into_parts();
     let count = firsts.len() as u8;
-    let calls = calls_waiting(&handles, &books, count);
+    let items = items_waiting(&handles, &books, count);
     let injected = injections_given(&books, count);
-    let records = join_books(&mut handles, books);
+    let entries = join_books(&mut handles, books);
     join_firsts(&mut handles, firsts);
     handles.join_words(readers, counters);
     handles.settle();
@@ -226,10 +231,10 @@ fn gather(desk: Desk, books: BookList) -> Closing
     Closing {
         apps,
         handles,
-        calls,
+        items,
         losses,
         injected,
-        records,
+        entries,
         books: seen,
     }
 }

@@ -2,14 +2,16 @@
 
 ghost use Rattle.std.specs.Prelude.{◌≡◌, ◌<◌, ◌≤◌, ◌++◌, List, length, map, min, All, ◌^◌, ◌-◌, vec_len};
 ghost use Rattle.dl_desk.specs.Lists.{At};
+ghost use Rattle.dl_writer.specs.Claiming.{TellsClaims};
 ghost use Rattle.dl_writer.specs.Records.{TellAll};
 ghost use Rattle.dl_writer.specs.State.{IsWhole};
 ghost use Rattle.dl_lib.specs.Books.{given_by, injected_of};
+ghost use Rattle.dl_lib.specs.Entries.{entries_of};
 ghost use Rattle.dl_lib.specs.Joining.{join_books, join_firsts, join_writer, FitsHandles, FitFirsts};
 
+use crate::entries::Entries;
 use arrayvec::ArrayVec;
 use dl_desk::{DaemonHandles, FirstHandles};
-use dl_events::RecordList;
 use dl_writer::{BookList, Writer};
 
 /// How many injections the writers of each application were given.
@@ -38,33 +40,37 @@ fn injected_of(books: &BookList, app: u8) -> u64
     given
 }
 
-/// Takes back the writers of these books, and gives their records, in order.
-pub fn join_books(handles: &mut DaemonHandles, books: BookList) -> RecordList
+/// Takes back the writers of these books, and gives what stands in the books, in order.
+pub fn join_books(handles: &mut DaemonHandles, books: BookList) -> Entries
     requires fit { All (λ b. FitsHandles handles.old b.writer) books }
     requires few { length books ≤ 32 }
     ensures handles { handles.new ≡ join_books handles.old books }
-    ensures records { result ≡ map (λ b. b.records) books }
-    ensures told { All (λ b. IsWhole b → TellAll b.writer b.records) books }
+    ensures entries { result ≡ entries_of books }
+    ensures told { All (λ b. IsWhole b → TellAll b.writer b.records b.claims) books }
+    ensures claimed { All (λ b. TellsClaims b.writer) books }
 {
     let mut books = books;
-    let mut records = RecordList::none();
+    let mut entries = Entries::none();
     while let Some(book) = books.take_first() {
-        let (writer, list) = book.into_parts();
-        join_writer(handles, writer);
-        records.add(list);
+        let (writer, records, claims) = book.into_parts();
+        writer.have_claims();
+        let refusals = join_writer(handles, writer);
+        entries.add(records, claims, refusals);
     }
-    records
+    entries
 }
 
-/// Takes back one writer.
-fn join_writer(handles: &mut DaemonHandles, writer: Writer)
+/// Takes back one writer, and answers how many of its pushes its ring refused.
+fn join_writer(handles: &mut DaemonHandles, writer: Writer) -> u64
     requires { FitsHandles handles.old writer }
-    ensures { handles.new ≡ join_writer handles.old writer }
+    ensures joined { handles.new ≡ join_writer handles.old writer }
+    ensures refusals { result ≡ writer.push.refusals }
 {
     let app = writer.app();
     let own = writer.into_handles();
-    handles.join_passes(app, own.push, own.injections);
+    let refusals = handles.join_passes(app, own.push, own.injections);
     handles.join_words(own.reader, own.losses);
+    refusals
 }
 
 /// Takes back the handles of which those of the writers were split, application by application, the last one first.

@@ -10,7 +10,10 @@
 //!     };
 //!     for app in 0..closing.apps().len() as u8 {
 //!         while let Some(item) = closing.take(rt, app) {
-//!             // the daemon notes the call in its journal
+//!             match item {
+//!                 RingItem::Log(call) => (), // the daemon notes the call in its journal
+//!                 RingItem::Register(claim) => (), // it registers the context that the writer claimed
+//!             }
 //!         }
 //!         let lost = closing.losses(app);
 //!     }
@@ -20,11 +23,12 @@
 //!
 //! From then on nothing is pushed and nothing is lost: what the rings hold and what the words count is all there is. Once all
 //! of it was taken, `Closing::finish` makes the account. Its records tell what became of each call, and what was taken and
-//! reported is just that (`Account::records`, `laws`).
+//! reported is just that (`Account::records`, `Account::claims`, `laws`).
 #![tactic(auto)]
 
 mod account;
 mod closing;
+mod entries;
 mod joining;
 pub mod laws;
 mod ordering;
@@ -33,9 +37,9 @@ mod waiting;
 
 pub use account::Account;
 pub use closing::Closing;
-pub use dl_bytes::{Ends, LinkEnd, TraceState};
+pub use dl_bytes::{Claim, Ends, LinkEnd, TraceState};
 pub use dl_desk::{
     Answer, App, AppFault, AppList, AppSpec, Book, BookFault, BookList, Ctx, Desk, LogFault, Post,
-    Record, WRITER_CALL_LIMIT, Worn, Writer, WriterFault,
+    Record, RegisterFault, RingItem, Taken, WRITER_CALL_LIMIT, Worn, Writer, WriterFault,
 };
-pub use dl_events::{Kept, RecordList};
+pub use dl_events::{ClaimList, Kept, RecordList};

@@ -1,11 +1,12 @@
 -- What a run is come to that was played.
-use Rattle.std.proofs.Common.{◌≡◌, ℕ, ◌<◌, Bool, List, [], length, map, Option, Some, None, sym, ap, subst, ◌∙◌}
+use Rattle.std.proofs.Common.{◌≡◌, ℕ, ◌+◌, ◌<◌, ◌≤◌, Bool, List, [], length, map, Option, Some, None, sym, ap, subst, ◌∙◌}
 use Rattle.std.specs.Prelude.{All, IfSome}
 use Rattle.std.specs.List.{AllByRecursion, range_with_len}
 use Rattle.dl_bytes.specs.declared.conf.Conf.{Conf}
 use Rattle.dl_crew.specs.Plays.{ArePairs, HasPlayed}
 use Rattle.dl_crew.proofs.Pairs.{as_many, same_numbers, still_whole}
 use Rattle.dl_ending.specs.Ending.{IsAccountIn}
+use Rattle.dl_lib.specs.Books.{books_of, registers_of}
 use Rattle.dl_lib.specs.Settled.{IsJournalOf}
 use Rattle.dl_lib.specs.State.{AccountState}
 use Rattle.dl_lib.proofs.Accounted.{accounted}
@@ -19,6 +20,7 @@ use Rattle.dl_model.specs.TraceFiles.{StoredFile}
 use Rattle.dl_opening.specs.Scenario.{writers}
 use Rattle.dl_opening.specs.declared.opened.Opened.{Opened}
 use Rattle.dl_opening.proofs.AskedCalls.{all_asked}
+use Rattle.dl_opening.proofs.LeftPlaces.{places_left}
 use Rattle.dl_opening.proofs.Playing.{opened_whole}
 use Rattle.dl_outside.specs.Folder.{Files}
 use Rattle.dl_outside.specs.Links.{Links}
@@ -31,12 +33,13 @@ use Rattle.dl_startup.specs.Setup.{IsBegun}
 use Rattle.dl_trace.specs.Stands.{HasFiles}
 use Rattle.dl_trace.specs.State as trace
 use Rattle.dl_trace.specs.State.{Trace}
-use Rattle.dl_writer.specs.State.{IsWhole, numbers}
+use Rattle.dl_writer.specs.State.{BookState, IsWhole, numbers}
 use Rattle.dl_live.specs.declared.beginning.Begun.{Begun}
 use Rattle.dl_live.specs.declared.players.Players.{Players}
 use Rattle.dl_live.specs.Account.{run_of, setting}
 use Rattle.dl_live.specs.Played.{HasPlayedAll, IsOfScenario}
 use Rattle.dl_live.specs.Playing.{ArePlayersOf, HasBeenPlayed}
+use Rattle.dl_live.proofs.FoundPlaces.{none_full}
 use Rattle.dl_live.proofs.PlayedBooks.{all_books}
 use Rattle.dl_live.proofs.PlayedDaemons as daemons
 use Rattle.dl_live.proofs.TakenFrames.{taken_framed}
@@ -53,6 +56,7 @@ use Rattle.dl_bytes.specs.declared.item.Item.{Item}
 use Rattle.dl_lib.specs.Known.{taken_of}
 use Rattle.dl_loop.specs.Holds.{Gives}
 use Rattle.dl_message.specs.Frames.{log_message}
+use Rattle.dl_ring.specs.Items.{calls_in}
 use Rattle.dl_model.specs.WholeAccounts.{frame_of_record}
 
 -- the trace files that stood before a run
@@ -95,9 +99,16 @@ module _ {L : Type 0} (told : L → LinkTold) (begun : Begun) (p : Players L) (w
   pub same_books : account.books ≡ been.books
   same_books = stay_in_order been.books account.books numbered been.stops.books_are
 
+  -- no place was wanting for a claim
+  found : All (λ b. b.writer.table_full ≡ 0) been.books
+  found = subst (All (λ (b : BookState). b.writer.table_full ≡ 0)) same_books
+      (none_full account been.stops.settled
+      (λ app. subst (λ (books : List BookState). All (λ b. registers_of app books + b.writer.base ≤ 64) (books_of app books)) (sym same_books)
+      (places_left lines opened been.books runnable are.opened been.played app)))
+
   all_played : ArePairs (HasPlayedAll lines) (writers lines) account.books
   all_played = subst (ArePairs (HasPlayedAll lines) (writers lines)) (sym same_books)
-      (all_books lines opened (writers lines) p.books been.books (all_asked lines opened runnable are.opened) are.opened.books.each (opened_whole lines opened are.opened) been.played)
+      (all_books lines opened are.opened.same_lines (writers lines) p.books been.books (all_asked lines opened runnable are.opened) are.opened.books.each (opened_whole lines opened are.opened) been.played found)
 
   pub journal : IsJournalOf account.events account
   journal = told_journal account.events account been.stops.stopped.told_by
@@ -124,7 +135,7 @@ module _ {L : Type 0} (told : L → LinkTold) (begun : Begun) (p : Players L) (w
   untouched = are.made.untouched
 
   framed : (app : ℕ) → app < length account.apps
-      → AllByRecursion (λ (item : Item). frame_of_record begun.conf.ecu (map (λ b. b.records) account.books) item.writer item.call ≡ log_message begun.conf.ecu item) (taken_of account.handles app)
+      → AllByRecursion (λ (item : Item). frame_of_record begun.conf.ecu (map (λ b. b.records) account.books) item.writer item.call ≡ log_message begun.conf.ecu item) (calls_in (taken_of account.handles app))
   framed app within = taken_framed begun.conf.ecu account been.stops.settled whole app within
 
   pub gives : Gives (run_of begun stood.stood account) been.rounded.daemon.first_core account.apps account.handles

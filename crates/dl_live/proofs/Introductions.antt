@@ -14,9 +14,9 @@ contexts_are apid [] = tt
 contexts_are apid (context ∷ contexts) = (tt, contexts_are apid contexts)
 
 -- each tells its own registration, and then those of its contexts
-pub all_introduced : (lines : List ScenarioLine) (number : ℕ) (apps : List AppLine) → AllByRecursion IsIntroduced (opened_from lines number apps)
-all_introduced lines number [] = tt
-all_introduced lines number (app ∷ apps) = (
+pub all_introduced : (lines : List ScenarioLine) (made : List (List ℕ)) (number : ℕ) (apps : List AppLine) → AllByRecursion IsIntroduced (opened_from lines made number apps)
+all_introduced lines made number [] = tt
+all_introduced lines made number (app ∷ apps) = (
   record {
     apid = app.apid;
     pid = 0;
@@ -25,10 +25,10 @@ all_introduced lines number (app ∷ apps) = (
     hello = refl;
     are_contexts = contexts_are app.apid (contexts_of app.apid lines);
   },
-  all_introduced lines (number + 1) apps,
+  all_introduced lines made (number + 1) apps,
 )
 
 -- together they tell what the lines say
-pub all_told : (lines : List ScenarioLine) (number : ℕ) (apps : List AppLine) → greetings.hello_of (opened_from lines number apps) ≡ flat_map (hello_of lines) apps
-all_told lines number [] = refl
-all_told lines number (app ∷ apps) = ap (λ (msgs : List UserMsg). hello_of lines app ++ msgs) (all_told lines (number + 1) apps)
+pub all_told : (lines : List ScenarioLine) (made : List (List ℕ)) (number : ℕ) (apps : List AppLine) → greetings.hello_of (opened_from lines made number apps) ≡ flat_map (hello_of lines) apps
+all_told lines made number [] = refl
+all_told lines made number (app ∷ apps) = ap (λ (msgs : List UserMsg). hello_of lines app ++ msgs) (all_told lines made (number + 1) apps)

@@ -2,8 +2,10 @@ pub mod PlayedBooks
 pub mod PostedInjections
 pub mod Runs
 pub mod Introductions
+pub mod ListedApps
 pub mod Assembled
 pub mod PlayedCalls
+pub mod FoundPlaces
 pub mod Starting
 pub mod LaunchedNets
 pub mod TakenFrames

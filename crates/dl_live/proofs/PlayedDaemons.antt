@@ -15,10 +15,10 @@ use Rattle.dl_core.specs.State.{Core}
 use Rattle.dl_desk.specs.Apps.{AppState}
 use Rattle.dl_desk.specs.Lists.{At}
 use Rattle.dl_desk.specs.Made.{IsLater}
-use Rattle.dl_ending.specs.Ending.{IsAccountIn}
+use Rattle.dl_ending.specs.Ending.{IsAccountIn, claims_of}
 use Rattle.dl_events.specs.declared.event.Event.{Event}
 use Rattle.dl_events.specs.declared.event.Event.TheVariants as event
-use Rattle.dl_lib.specs.Known.{taken_of}
+use Rattle.dl_lib.specs.Known.{taken_of, told_as}
 use Rattle.dl_lib.specs.Settled.{refusals_of}
 use Rattle.dl_lib.specs.State.{AccountState}
 use Rattle.dl_loop.specs.Holds.{Gives}
@@ -27,18 +27,19 @@ use Rattle.dl_loop.specs.Scene.{scene, side_of}
 use Rattle.dl_loop.specs.State.{DaemonState}
 use Rattle.dl_loop.proofs.DeskRest.{later_both, same_later}
 use Rattle.dl_message.specs.Frames.{log_message}
-use Rattle.dl_model.specs.Accounts.{name_of}
 use Rattle.dl_model.specs.Journal.{is_connect}
 use Rattle.dl_model.specs.TraceFiles.{StoredFile}
 use Rattle.dl_model.specs.WholeAccounts.{IsAccounted, frame_of_record}
-use Rattle.dl_opening.specs.Scenario.{apps, specs_of}
+use Rattle.dl_opening.specs.Scenario.{apps, specs_of, writers}
 use Rattle.dl_outside.specs.Links.{Links}
 use Rattle.dl_outside.specs.Told.{FolderTold, LinkTold, NetTold}
+use Rattle.dl_ring.specs.Items.{calls_in}
+use Rattle.dl_ring.specs.declared.item.RingItem.{RingItem}
+use Rattle.dl_ring.proofs.Items.{calls_in-append}
 use Rattle.dl_rounds.specs.Greetings.{AreGreeted, IsOfGreeting, told_in}
 use Rattle.dl_script_lines.specs.declared.scenario.ScenarioLine.{ScenarioLine}
 use Rattle.dl_settling.specs.Stopped.{IsOfStop}
 use Rattle.dl_trace.specs.State as trace
-use Rattle.dl_trace.specs.State.{Trace}
 use Rattle.dl_live.specs.declared.beginning.Begun.{Begun}
 use Rattle.dl_live.specs.declared.players.Players.{Players}
 use Rattle.dl_live.specs.Account.{run_of, setting}
@@ -95,9 +96,9 @@ none_connects_greeting (event.Close client cause ∷ events) are = absurd are.0
 connects_both : (one two : List Event) → count_by is_connect (one ++ two) ≡ count_by is_connect one + count_by is_connect two
 connects_both one two = sum_by-append (λ (e : Event). cond (is_connect e) 1 0) one two
 
-nothing_mapped : (items : List Item) → map name_of items ≡ [] → items ≡ []
-nothing_mapped [] none = refl
-nothing_mapped (item ∷ items) none = absurd cc
+nothing_mapped : (app : ℕ) (items : List RingItem) → map (told_as app) items ≡ [] → items ≡ []
+nothing_mapped app [] none = refl
+nothing_mapped app (item ∷ items) none = absurd cc
 
 -- ---- the daemon
 
@@ -140,7 +141,7 @@ module _ {L : Type 0} (told : L → LinkTold) (begun : Begun) (p : Players L) (w
     others = others;
     parts = all_events;
     of_greeting = greeted.of_greeting;
-    told = greeted.told ∙ ap (λ (all : List AppState). flat_map (λ (a : AppState). a.hello) all) are.opened.applications ∙ all_told lines 0 (apps lines);
+    told = greeted.told ∙ ap (λ (all : List AppState). flat_map (λ (a : AppState). a.hello) all) are.opened.applications ∙ all_told lines (writers lines) 0 (apps lines);
     no_more = filter_map-append told_in goes.more been.stops.stopped.more ∙ ap (λ (ms : List UserMsg). ms ++ filter_map told_in been.stops.stopped.more) (no_messages_in_rounds goes.more goes.of_round)
         ∙ no_messages_at_the_stop been.stops.stopped.more been.stops.stopped.of_stop;
   }
@@ -181,19 +182,19 @@ module _ {L : Type 0} (told : L → LinkTold) (begun : Begun) (p : Players L) (w
 
   module _ (stood : List StoredFile) (stood_so : IfSome begun.trace (trace.IsAfter stood []))
       (framed : (app : ℕ) → app < length account.apps
-      → AllByRecursion (λ (item : Item). frame_of_record begun.conf.ecu (map (λ b. b.records) account.books) item.writer item.call ≡ log_message begun.conf.ecu item) (taken_of account.handles app)) where
+      → AllByRecursion (λ (item : Item). frame_of_record begun.conf.ecu (map (λ b. b.records) account.books) item.writer item.call ≡ log_message begun.conf.ecu item) (calls_in (taken_of account.handles app))) where
     abbrev run : Run
     run = run_of begun stood account
 
     none_beyond : (app : ℕ) → length account.apps ≤ app → taken_of account.handles app ≡ []
     none_beyond app beyond =
         let told_by = been.stops.stopped.told_by in
-        nothing_mapped (taken_of account.handles app) (sym (told_by.admitted app) ∙ (told_by.alone app beyond).0)
+        nothing_mapped app (taken_of account.handles app) (sym (told_by.admitted app) ∙ (told_by.alone app beyond).0)
 
-    frames : (app : ℕ) → GivesFrames (taken_of account.handles app) run
+    frames : (app : ℕ) → GivesFrames (calls_in (taken_of account.handles app)) run
     frames app = elim (cases_lt app (length account.apps)) [
       | inl within ↦ framed app within
-      | inr beyond ↦ subst (λ (items : List Item). GivesFrames items run) (sym (none_beyond app beyond)) tt
+      | inr beyond ↦ subst (λ (items : List RingItem). GivesFrames (calls_in items) run) (sym (none_beyond app beyond)) tt
     ]
 
     pub gives : Gives run last.first_core account.apps account.handles
@@ -204,10 +205,10 @@ module _ {L : Type 0} (told : L → LinkTold) (begun : Begun) (p : Players L) (w
     }
 
     -- what the account is
-    pub is_account : IsAccounted account.handles.levels.first account.events (λ app. 0) (refusals_of account.books) [] (map (λ b. b.records) account.books) → IsAccountIn (setting begun) account
+    pub is_account : IsAccounted account.handles.levels.first account.events (λ app. 0) (refusals_of account.books) (claims_of account) (map (λ b. b.records) account.books) → IsAccountIn (setting begun) account
     is_account accounted = record {
       formed = (been.stops.stopped.runs run gives).formed;
-      accounted = subst (λ (n : ℕ). IsAccounted n account.events (λ app. 0) (refusals_of account.books) [] (map (λ b. b.records) account.books)) been.stops.stopped.told_by.first accounted;
+      accounted = subst (λ (n : ℕ). IsAccounted n account.events (λ app. 0) (refusals_of account.books) (claims_of account) (map (λ b. b.records) account.books)) been.stops.stopped.told_by.first accounted;
     }
 
     first_all : {A : Type 0} (P : A → Type 0) (xs ys : List A) → AllByRecursion P (xs ++ ys) → AllByRecursion P xs
@@ -220,6 +221,7 @@ module _ {L : Type 0} (told : L → LinkTold) (begun : Begun) (p : Players L) (w
       begins = gives.begins;
       frames = λ app.
           let more = been.stops.stopped.taken app in
-          first_all (λ item. GivesFrame item run) (taken_of last.desk.handles app) more.0 (subst (λ (items : List Item). GivesFrames items run) more.1 (gives.frames app));
+          first_all (λ item. GivesFrame item run) (calls_in (taken_of last.desk.handles app)) (calls_in more.0)
+          (subst (λ (items : List Item). GivesFrames items run) (ap calls_in more.1 ∙ calls_in-append (taken_of last.desk.handles app) more.0) (gives.frames app));
       apids = subst (λ (specs : List AppSpec). (app : ℕ) → At specs app (λ spec. run.apid app ≡ spec.apid)) been.stops.stopped.apps gives.apids;
     }

@@ -21,8 +21,8 @@ use Rattle.dl_lemmas.proofs.Bools.{or_left}
 
 module _ {L : Type 0} (first now : Players L) (count : ℕ) (net net_now : NetTold L) (folder folder_now : FolderTold) (can : CanBePlayed first)
     (out : HasSetOut first now count net net_now folder folder_now) where
-  pub room_now : All (CanPlay now.plan.contexts now.plan.lines) now.books
-  room_now = subst (λ (p : Players L). All (CanPlay p.plan.contexts p.plan.lines) p.books) (sym out.rest) (room first can)
+  pub room_now : All (CanPlay now.plan.lines) now.books
+  room_now = subst (λ (p : Players L). All (CanPlay p.plan.lines) p.books) (sym out.rest) (room first can)
 
   pub few_books_now : length now.books ≤ 32
   few_books_now = subst (λ (p : Players L). length p.books ≤ 32) (sym out.rest) (few_books first can)

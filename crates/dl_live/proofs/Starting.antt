@@ -4,21 +4,23 @@ use Rattle.std.specs.Prelude.{All}
 use Rattle.std.specs.List.{AllByRecursion, range_with_len}
 use Rattle.std.proofs.lemmas.List.{length-map}
 use Rattle.std.proofs.lemmas.List.FromFn.{length-range_with_len}
+use Rattle.dl_bytes.specs.declared.conf.AppSpec.{AppSpec}
 use Rattle.dl_core.specs.State.{Core}
 use Rattle.dl_crew.specs.Plays.{ArePairs, CanPlay, HasPlayed}
-use Rattle.dl_crew.proofs.Pairs.{as_many, same_numbers, still_made, still_whole}
+use Rattle.dl_crew.proofs.Pairs.{as_many, same_bases as still_based, same_numbers, still_made, still_whole}
 use Rattle.dl_desk.specs.Apps.{AppState}
 use Rattle.dl_desk.specs.Made.{IsLater}
 use Rattle.dl_desk.specs.State.{DeskState}
 use Rattle.dl_lib.specs.Making.{AreMadeWith, IsMissing}
 use Rattle.dl_lib.proofs.InOrder.{one_within}
-use Rattle.dl_lib.proofs.OpenBooks.{made_with, stay}
+use Rattle.dl_lib.proofs.OpenBooks.{made_with, same_bases, stay}
+use Rattle.dl_loop.specs.Greeting.{AreListed}
 use Rattle.dl_opening.specs.Opening.{IsOpened}
-use Rattle.dl_opening.specs.Scenario.{apps, clients}
+use Rattle.dl_opening.specs.Scenario.{apps, base_of, clients, specs_of, writers}
 use Rattle.dl_opening.specs.declared.opened.Opened.{Opened}
 use Rattle.dl_opening.proofs.AllCalls.{rooms_fit}
 use Rattle.dl_opening.proofs.Declared.{all_many}
-use Rattle.dl_opening.proofs.Playing.{opened_plays, opened_whole}
+use Rattle.dl_opening.proofs.Playing.{opened_bases, opened_plays, opened_whole}
 use Rattle.dl_opening.proofs.Runnable.{few_clients}
 use Rattle.dl_outside.specs.Links.{Links}
 use Rattle.dl_outside.specs.declared.client.ClientScript.{ClientScript}
@@ -30,6 +32,7 @@ use Rattle.dl_writer.specs.State.{BookState, IsWhole, numbers}
 use Rattle.dl_live.specs.declared.players.Players.{Players}
 use Rattle.dl_live.specs.Playing.{CanBePlayed}
 use Rattle.dl_live.proofs.Introductions.{all_introduced}
+use Rattle.dl_live.proofs.ListedApps.{all_listed}
 use Rattle.dl_live.proofs.PlayedCalls.{all_fit}
 
 module _ {L : Type 0} (p : Players L) (can : CanBePlayed p) where
@@ -45,7 +48,7 @@ module _ {L : Type 0} (p : Players L) (can : CanBePlayed p) where
   -- ---- the greeting
 
   pub introduced : AllByRecursion IsIntroduced p.apps
-  introduced = subst (AllByRecursion IsIntroduced) (sym is_opened.applications) (all_introduced lines 0 (apps lines))
+  introduced = subst (AllByRecursion IsIntroduced) (sym is_opened.applications) (all_introduced lines (writers lines) 0 (apps lines))
 
   pub nobody : p.daemon.links.links ≡ []
   nobody = ap (λ (ls : Links L). ls.links) can.2.made.links
@@ -53,9 +56,13 @@ module _ {L : Type 0} (p : Players L) (can : CanBePlayed p) where
   pub place : registered p.daemon.core + length p.apps ≤ length p.daemon.desk.apps
   place =
       let none : registered p.daemon.core ≡ 0 = ap (λ (core : Core). registered core) can.2.core in
-      let many = ap (λ (all : List AppState). length all) is_opened.applications ∙ all_many lines (apps lines) in
+      let many = ap (λ (all : List AppState). length all) is_opened.applications ∙ all_many lines (writers lines) (apps lines) in
       let desk = ap length is_opened.desk.apps ∙ length-map (apps lines) _ in
       omega (arith, none, many, desk)
+
+  pub listed : AreListed p.daemon.desk.apps p.apps
+  listed = subst (λ (specs : List AppSpec). AreListed specs p.apps) (sym is_opened.desk.apps)
+      (subst (AreListed (specs_of lines)) (sym is_opened.applications) (all_listed lines (writers lines) can.1))
 
   -- ---- the clients
 
@@ -70,7 +77,7 @@ module _ {L : Type 0} (p : Players L) (can : CanBePlayed p) where
   pub few_books : length p.books ≤ 32
   few_books = is_opened.books.few
 
-  pub room : All (CanPlay p.plan.contexts p.plan.lines) p.books
+  pub room : All (CanPlay p.plan.lines) p.books
   room = opened_plays lines opened can.1 is_opened
 
   module _ (books : List BookState) (played : ArePairs (HasPlayed p.plan.contexts p.plan.lines) p.books books) where
@@ -84,6 +91,7 @@ module _ {L : Type 0} (p : Players L) (can : CanBePlayed p) where
     pub made : (desk : DeskState) → IsLater p.daemon.desk desk → AreMadeWith desk books
     made desk later = made_with desk books (length books)
         (stay p.daemon.desk desk books later (still_made p.plan.contexts p.plan.lines p.daemon.desk p.books books played is_opened.books.made)) numbered
+        (same_bases (base_of lines) books (still_based p.plan.contexts p.plan.lines (base_of lines) p.books books played (opened_bases lines opened is_opened)))
 
     pub few : (calls : ℕ) → calls ≡ p.daemon.calls → together books ≤ calls
     few calls same =

@@ -12,7 +12,10 @@ use Rattle.dl_message.specs.Frames.{log_message}
 use Rattle.dl_model.specs.Accounts.{AreNumbered, with_answer}
 use Rattle.dl_model.specs.Report.{is_answer}
 use Rattle.dl_model.specs.WholeAccounts.{frame_of_record, records_by}
-use Rattle.dl_ring.specs.Order.{of}
+use Rattle.dl_ring.specs.Items.{calls_in}
+use Rattle.dl_ring.specs.Order.{of, writer_of}
+use Rattle.dl_ring.specs.declared.item.RingItem.{RingItem}
+use Rattle.dl_ring.specs.declared.item.RingItem.TheVariants.{Log, Register}
 use Rattle.dl_thread_rules.specs.Views.{bit, times}
 use Rattle.dl_writer.specs.Records.{TellAll}
 use Rattle.dl_writer.specs.State.{BookState, IsWhole, numbers}
@@ -22,24 +25,29 @@ use Rattle.dl_lib.specs.Settled.{IsSettled}
 use Rattle.dl_lib.specs.State.{AccountState}
 use Rattle.dl_lemmas.proofs.Lists.{head_is, tail_is}
 
--- ---- what holds of the items of each number holds of all
+-- ---- what holds of the calls of each number holds of all
 
 module _ (P : Item → Type 0) where
-  head_holds : (x : Item) (xs : List Item) → AllByRecursion P (of x.writer (x ∷ xs)) → P x
+  head_holds : (x : Item) (xs : List RingItem) → AllByRecursion P (calls_in (of x.writer (Log x ∷ xs))) → P x
   head_holds x xs all = by (eqb x.writer x.writer) (eq-eqb x.writer x.writer refl) all where
-    by : (b : Bool) → b ≡ true → AllByRecursion P (cond b (x ∷ of x.writer xs) (of x.writer xs)) → P x
+    by : (b : Bool) → b ≡ true → AllByRecursion P (calls_in (cond b (Log x ∷ of x.writer xs) (of x.writer xs))) → P x
     by true is all = all.0
     by false is all = absurd cc
 
-  tail_holds : (x : Item) (xs : List Item) (n : ℕ) → AllByRecursion P (of n (x ∷ xs)) → AllByRecursion P (of n xs)
-  tail_holds x xs n all = by (eqb x.writer n) all where
-    by : (b : Bool) → AllByRecursion P (cond b (x ∷ of n xs) (of n xs)) → AllByRecursion P (of n xs)
-    by true all = all.1
+  tail_holds : (r : RingItem) (xs : List RingItem) (n : ℕ) → AllByRecursion P (calls_in (of n (r ∷ xs))) → AllByRecursion P (calls_in (of n xs))
+  tail_holds r xs n all = by (eqb (writer_of r) n) all where
+    front : (r : RingItem) (rest : List RingItem) → AllByRecursion P (calls_in (r ∷ rest)) → AllByRecursion P (calls_in rest)
+    front (Log x) rest all = all.1
+    front (Register claim) rest all = all
+
+    by : (b : Bool) → AllByRecursion P (calls_in (cond b (r ∷ of n xs) (of n xs))) → AllByRecursion P (calls_in (of n xs))
+    by true all = front r (of n xs) all
     by false all = all
 
-  by_number : (items : List Item) → ((n : ℕ) → AllByRecursion P (of n items)) → AllByRecursion P items
+  by_number : (items : List RingItem) → ((n : ℕ) → AllByRecursion P (calls_in (of n items))) → AllByRecursion P (calls_in items)
   by_number [] all = tt
-  by_number (x ∷ xs) all = (head_holds x xs (all x.writer), by_number xs (λ n. tail_holds x xs n (all n)))
+  by_number (Log x ∷ xs) all = (head_holds x xs (all x.writer), by_number xs (λ n. tail_holds (Log x) xs n (all n)))
+  by_number (Register claim ∷ xs) all = by_number xs (λ n. tail_holds (Register claim) xs n (all n))
 
 -- ---- books by number
 
@@ -137,15 +145,21 @@ module _ (ecu : List ℕ) (s : AccountState) (is : IsSettled s) (whole : All IsW
   abbrev IsTakenFramed : Item → Type 0
   IsTakenFramed item = frame_of_record ecu (record_lists s.books) item.writer item.call ≡ log_message ecu item
 
-  of_book : (b : BookState) → TellAll b.writer b.records → IsAtPlace 1 (record_lists s.books) b
-      → AllByRecursion IsTakenFramed b.writer.push.pushed
+  -- the calls among what was taken or pushed
+  abbrev AreTakenFramed : List RingItem → Type 0
+  AreTakenFramed items = AllByRecursion IsTakenFramed (calls_in items)
+
+  abbrev Tells : BookState → Type 0
+  Tells b = TellAll b.writer b.records b.claims
+
+  of_book : (b : BookState) → Tells b → IsAtPlace 1 (record_lists s.books) b → AreTakenFramed b.writer.push.pushed
   of_book b told at =
       let from = at.from in
       let mine : records_by b.writer.push.number (record_lists s.books) ≡ b.records = rw (ne_eqb b.writer.push.number 0 (λ none. omega (arith, none, from)), at.at) refl in
       subst (AllByRecursion IsTakenFramed) (sym told.queued)
       (queued_framed ecu (record_lists s.books) b.writer.push.number b.records [] b.records mine refl told.numbered (λ k d lt. (told.own k d lt).1))
 
-  pub taken_framed : (app : ℕ) → app < length s.apps → AllByRecursion IsTakenFramed (taken_of s.handles app)
+  pub taken_framed : (app : ℕ) → app < length s.apps → AreTakenFramed (taken_of s.handles app)
   taken_framed app within = by_number IsTakenFramed (taken_of s.handles app) each where
     mine : List BookState
     mine = books_of app s.books
@@ -153,22 +167,22 @@ module _ (ecu : List ℕ) (s : AccountState) (is : IsSettled s) (whole : All IsW
     taken : IsAllOf app s.books (taken_of s.handles app)
     taken = is.taken app within
 
-    told : All (λ b. TellAll b.writer b.records) mine
-    told = all_filtered (λ (b : BookState). TellAll b.writer b.records) (λ (b : BookState). b.writer.app == app) s.books (λ k d lt. is.told k d lt (whole k d lt))
+    told : All Tells mine
+    told = all_filtered Tells (λ (b : BookState). b.writer.app == app) s.books (λ k d lt. is.told k d lt (whole k d lt))
 
     places : All (IsAtPlace 1 (record_lists s.books)) mine
     places = all_filtered (IsAtPlace 1 (record_lists s.books)) (λ (b : BookState). b.writer.app == app) s.books (at_places 1 s.books is.numbered)
 
-    each : (n : ℕ) → AllByRecursion IsTakenFramed (of n (taken_of s.handles app))
+    each : (n : ℕ) → AreTakenFramed (of n (taken_of s.handles app))
     each n = elim (named n mine) [
-      | inl none ↦ subst (AllByRecursion IsTakenFramed) (sym (taken.no_others n none)) tt
+      | inl none ↦ subst AreTakenFramed (sym (taken.no_others n none)) tt
       | inr there ↦ by_book there.0 there.1 there.2
     ] where
-      by_book : (k : ℕ) → k < length mine → ((d : BookState) → (get_or mine k d).writer.push.number ≡ n) → AllByRecursion IsTakenFramed (of n (taken_of s.handles app))
+      by_book : (k : ℕ) → k < length mine → ((d : BookState) → (get_or mine k d).writer.push.number ≡ n) → AreTakenFramed (of n (taken_of s.handles app))
       by_book k lt is_n = by_first s.books refl where
-        by_first : (books : List BookState) → books ≡ s.books → AllByRecursion IsTakenFramed (of n (taken_of s.handles app))
+        by_first : (books : List BookState) → books ≡ s.books → AreTakenFramed (of n (taken_of s.handles app))
         by_first [] none = absurd (omega (arith, lt, ap (λ (bs : List BookState). length (books_of app bs)) none))
         by_first (d ∷ rest) some =
             let b : BookState = get_or mine k d in
-            subst (λ (m : ℕ). AllByRecursion IsTakenFramed (of m (taken_of s.handles app))) (is_n d)
-            (subst (AllByRecursion IsTakenFramed) (sym (taken.each k d lt)) (of_book b (told k d lt) (places k d lt)))
+            subst (λ (m : ℕ). AreTakenFramed (of m (taken_of s.handles app))) (is_n d)
+            (subst AreTakenFramed (sym (taken.each k d lt)) (of_book b (told k d lt) (places k d lt)))

@@ -82,6 +82,7 @@ pub record HasSetOut {L : Type 0} (p now : Players L) (count : ℕ) (net net_now
   pub greets : Greets moment (hello_of p.apps) (scene p.daemon folder) (scene now.daemon folder_now)
   pub later : IsLaterGreeted (scene p.daemon folder) (scene now.daemon folder_now)
   pub launches : Launched p.scripts net net_now count
+  pub greeted : now.daemon.greeted ≡ true
   pub rest : now ≡ record p { daemon = now.daemon }
 
 -- these set out so, from somewhere

@@ -1,6 +1,6 @@
 //! Rounds until the clients have come that were launched.
 
-ghost use Rattle.std.specs.Prelude.{◌≡◌, false};
+ghost use Rattle.std.specs.Prelude.{◌≡◌, false, true};
 ghost use Rattle.dl_loop.specs.Scene.{scene};
 ghost use Rattle.dl_live.specs.Playing.{Gathers};
 
@@ -34,6 +34,7 @@ pub fn gather<R: Wait, N: Net, C: Clock, F: Folder>(
 ) -> Gathered
 where
     N::L: Drop,
+    requires greeted { daemon.old.greeted ≡ true }
     requires accepts { (daemon.old.failed ≡ false) × (daemon.old.wanted ≡ false) }
     ensures { Gathers launched result (N.told net.old) (N.told net.new) (scene daemon.old (F.told folder.old)) (scene daemon.new (F.told folder.new)) }
 {

@@ -11,6 +11,7 @@ ghost use Rattle.dl_events.specs.declared.event.Event.{Event};
 ghost use Rattle.dl_lib.specs.Making.{AreMadeWith};
 ghost use Rattle.dl_lib.specs.Settled.{IsSettled};
 ghost use Rattle.dl_lib.specs.State.{AccountState};
+ghost use Rattle.dl_loop.specs.Greeting.{AreListed};
 ghost use Rattle.dl_message.specs.Requests.{requests};
 ghost use Rattle.dl_model.specs.ClientEnds.{HasGone, LinkDid, asked_by};
 ghost use Rattle.dl_model.specs.Frames.{FrameSource};
@@ -48,10 +49,12 @@ use dl_opening::laws::{opened_books_ask_for_all, opened_books_can_be_played};
 use dl_outside::Link;
 
 /// The books of an opened scenario, once they were played by a crew, have a record of each call that the lines ask of their writers, in the order of
-/// the lines; each is whole, and its writer asked for an injection after each call. They are numbered from 1 on.
+/// the lines; each is whole, its writer's claims are those of its `register` lines, and it asked for an injection after each call. So it is where no
+/// place was wanting for a claim. They are numbered from 1 on.
 pub fn played_books_have_all_calls()
     ensures played { (lines : List ScenarioLine) (o : Opened) (books : List BookState) → IsRunnable lines → IsOpened lines o
-        → ArePairs (HasPlayed o.plan.contexts o.plan.lines) o.books books → ArePairs (HasPlayedAll lines) (writers lines) books }
+        → ArePairs (HasPlayed o.plan.contexts o.plan.lines) o.books books → All (λ b. b.writer.table_full ≡ 0) books
+        → ArePairs (HasPlayedAll lines) (writers lines) books }
     ensures numbered { (lines : List ScenarioLine) (o : Opened) (books : List BookState) → IsOpened lines o
         → ArePairs (HasPlayed o.plan.contexts o.plan.lines) o.books books → numbers books ≡ range_with_len 1 (length books) }
 {
@@ -82,9 +85,10 @@ pub fn an_outcome_is_a_run<L: Link>()
 pub fn what_was_assembled_can_be_played<L: Link>()
     ensures introduced { (p : Players L) → CanBePlayed p → AllByRecursion IsIntroduced p.apps }
     ensures nobody { (p : Players L) → CanBePlayed p → p.daemon.links.links ≡ [] }
+    ensures listed { (p : Players L) → CanBePlayed p → AreListed p.daemon.desk.apps p.apps }
     ensures place { (p : Players L) → CanBePlayed p → registered p.daemon.core + length p.apps ≤ length p.daemon.desk.apps }
     ensures scripts { (p : Players L) → CanBePlayed p → length p.scripts < 2 ^ 32 }
-    ensures books { (p : Players L) → CanBePlayed p → (length p.books ≤ 32) × All (CanPlay p.plan.contexts p.plan.lines) p.books }
+    ensures books { (p : Players L) → CanBePlayed p → (length p.books ≤ 32) × All (CanPlay p.plan.lines) p.books }
     ensures whole { (p : Players L) (books : List BookState) → CanBePlayed p → ArePairs (HasPlayed p.plan.contexts p.plan.lines) p.books books → All IsWhole books }
     ensures made { (p : Players L) (books : List BookState) (desk : DeskState) → CanBePlayed p → ArePairs (HasPlayed p.plan.contexts p.plan.lines) p.books books
         → IsLater p.daemon.desk desk → AreMadeWith desk books }

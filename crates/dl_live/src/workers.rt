@@ -1,6 +1,6 @@
 //! The workers, and the daemon's rounds beside them.
 
-ghost use Rattle.std.specs.Prelude.{◌≤◌, All, length};
+ghost use Rattle.std.specs.Prelude.{◌≡◌, ◌≤◌, true, All, length};
 ghost use Rattle.std.specs.Thread.{IsSync};
 ghost use Rattle.dl_crew.specs.Plays.{ArePairs, CanPlay, HasPlayed};
 ghost use Rattle.dl_loop.specs.Scene.{scene};
@@ -28,6 +28,7 @@ fn rounds<R: Wait, N: Net, C: Clock, F: Folder>(
 ) -> bool
 where
     N::L: Drop,
+    requires greeted { daemon.old.greeted ≡ true }
     ensures { Rounds (N.told net.old) (N.told net.new) (scene daemon.old (F.told folder.old)) (scene daemon.new (F.told folder.new)) }
 {
     rounds_go_on::<N::L>();
@@ -53,7 +54,7 @@ fn work<R: Threads + Wait + Sync, C: Clock + Sync, G: Gate + Sync>(
     gate: &G,
 )
     requires few { length books.old ≤ 32 }
-    requires room { All (CanPlay plan.now.contexts plan.now.lines) books.old }
+    requires room { All (CanPlay plan.now.lines) books.old }
     ensures { ArePairs (HasPlayed plan.now.contexts plan.now.lines) books.old books.new }
 {
     let all = mem::replace(books, BookList::none());
@@ -82,7 +83,8 @@ pub fn beside<
 where
     N::L: Drop + Send,
     requires few { length books.old ≤ 32 }
-    requires room { All (CanPlay plan.now.contexts plan.now.lines) books.old }
+    requires room { All (CanPlay plan.now.lines) books.old }
+    requires greeted { daemon.old.greeted ≡ true }
     ensures played { ArePairs (HasPlayed plan.now.contexts plan.now.lines) books.old books.new }
     ensures goes { Rounds (N.told net.old) (N.told net.new) (scene daemon.old (F.told folder.old)) (scene daemon.new (F.told folder.new)) }
 {
@@ -91,10 +93,11 @@ where
     let (wanted, ()) = join_mut(
         rt,
         &mut || -> bool
+            requires { daemon.now.greeted ≡ true }
             ensures { Rounds (N.told net.entry.now) (N.told net.exit.now) (scene daemon.entry.now (F.told folder.entry.now)) (scene daemon.exit.now (F.told folder.exit.now)) }
         { rounds(rt, at_work, daemon, net, clock, folder) },
         &mut ||
-            requires { IsSync R.row × IsSync C.row × IsSync G.row × (length books.now ≤ 32) × All (CanPlay plan.now.contexts plan.now.lines) books.now }
+            requires { IsSync R.row × IsSync C.row × IsSync G.row × (length books.now ≤ 32) × All (CanPlay plan.now.lines) books.now }
             ensures { ArePairs (HasPlayed plan.entry.now.contexts plan.entry.now.lines) books.entry.now books.exit.now }
         { work(rt, at_work, plan, books, clock, gate) },
     );

@@ -1,5 +1,5 @@
 -- What is true of a daemon goes on with a client that comes.
-use Rattle.std.proofs.Common.{◌≡◌, ◌≢◌, ◌+◌, ℕ, Bool, List, [], ◌∷◌, ◌++◌, Some, None, length, map, count_by, append-nil, refl, sym, ap, subst, ◌∙◌, arith}
+use Rattle.std.proofs.Common.{◌≡◌, ◌≢◌, ◌+◌, ℕ, Bool, List, [], ◌∷◌, ◌++◌, Some, None, length, map, count_by, append-nil, true, refl, sym, ap, subst, ◌∙◌, arith}
 use Rattle.std.specs.Prelude.{cond}
 use Rattle.std.proofs.lemmas.List.Sums.{sum_by-append}
 use Rattle.std.proofs.lemmas.List.{length-append, length-map, map-append}
@@ -24,7 +24,9 @@ use Rattle.dl_turns.specs.Gone.{TellOver}
 use Rattle.dl_rounds.specs.Ready.{AreHeard, AreLinked, open_clients}
 use Rattle.dl_rounds.specs.Shown.{AllShowWhy}
 use Rattle.dl_loop.specs.Bounds.{HasBounds}
-use Rattle.dl_loop.specs.Daemon.{IsDaemon, TellTaken, is_noted}
+use Rattle.dl_taking.specs.Drained.{is_claim, is_noted}
+use Rattle.dl_taking.specs.Takes.{AreThere}
+use Rattle.dl_loop.specs.Daemon.{IsDaemon, TellTaken}
 use Rattle.dl_loop.specs.Holds.{AreNoted, AreTaken, HoldsIn}
 use Rattle.dl_loop.specs.State.{DaemonState, desk_told}
 use Rattle.dl_loop.specs.Told.{IsToldBy}
@@ -49,8 +51,8 @@ folder_none = record { files = None; faults = 0; changes = 0; appends = 0 }
 module _ {L : Type 0} (told : L → LinkTold) (old : DaemonState L) (is : IsDaemon told old) where
   -- a run that held goes on with a client's Connect
   holds_connected : (number : ℕ) (core : Core) (events : List Event) (link : L) → Connects number old.core core (Some old.journal.events) (Some events) → IsFresh (told link)
-      → (run : Run) → HoldsIn (TellTaken told) (TellBytes told) run (map told old.links.links) old.listeners old.journal.events old.core (desk_told old.first_desk) (desk_told old.desk)
-      → HoldsIn (TellTaken told) (TellBytes told) run (map told (old.links.links ++ link ∷ [])) old.listeners (old.journal.events ++ event.Connect number ∷ []) core (desk_told old.first_desk) (desk_told old.desk)
+      → (run : Run) → HoldsIn (TellTaken told) (TellBytes told) (old.greeted ≡ true) run (map told old.links.links) old.listeners old.journal.events old.core (desk_told old.first_desk) (desk_told old.desk)
+      → HoldsIn (TellTaken told) (TellBytes told) (old.greeted ≡ true) run (map told (old.links.links ++ link ∷ [])) old.listeners (old.journal.events ++ event.Connect number ∷ []) core (desk_told old.first_desk) (desk_told old.desk)
   holds_connected number core events link connects fresh run holds = record {
     took = holds.took;
     taken = λ tells. subst (λ ls. AreTaken ls holds.took) one_more (taken_now tells);
@@ -66,6 +68,7 @@ module _ {L : Type 0} (told : L → LinkTold) (old : DaemonState L) (is : IsDaem
     );
     posted = λ app. posted_both run.setting [] old.journal.events (event.Connect number ∷ []) app (desk_told old.first_desk) (desk_told old.desk) (desk_told old.desk) (holds.posted app)
         (posted_none run.setting old.journal.events (event.Connect number ∷ []) app (desk_told old.desk) (desk_told old.desk) (tt, tt) refl refl);
+    there = λ greeted. subst (λ (c : Core). AreThere (length old.desk.apps) c.registry) (sym connects.rest) (holds.there greeted);
   } where
     one_more : map told old.links.links ++ told link ∷ [] ≡ map told (old.links.links ++ link ∷ [])
     one_more = sym (map-append told old.links.links (link ∷ []))
@@ -96,22 +99,25 @@ module _ {L : Type 0} (told : L → LinkTold) (old : DaemonState L) (is : IsDaem
       record {
         told_by = subst (λ es. IsToldBy es (length old.desk.apps) old.desk.handles) (sym events)
             (told_more old.journal.events (event.Connect number ∷ []) (length old.desk.apps) old.desk.handles old.desk.handles is.told_by
-            (λ app. sym (append-nil _)) (λ app. omega arith) (λ app beyond. (refl, refl)) (λ app. refl) refl (sym (append-nil _)));
+            (λ app. sym (append-nil _)) (λ app. omega arith) (λ app beyond. (refl, refl)) refl (sym (append-nil _)));
         linked = linked;
         heard = heard;
         room = record {
           noted = is.room.noted ∙ omega (arith, sum_by-append (λ (e : Event). cond (is_noted e) 1 0) old.journal.events (event.Connect number ∷ []), ap (count_by is_noted) events);
+          claimed = is.room.claimed ∙ omega (arith, sum_by-append (λ (e : Event). cond (is_claim e) 1 0) old.journal.events (event.Connect number ∷ []), ap (count_by is_claim) events);
           few = is.room.few;
+          few_claims = is.room.few_claims;
           limit = connects.same.limit ∙ is.room.limit;
           spare = omega (arith, is.room.spare, open_now.0, open_now.1, spare, connects.place.0, is.room.limit);
         };
         bounds = subst (λ n. HasBounds old.noted n old.desk.handles.losses.reported) (sym admitted) is.bounds;
         few = is.few;
+        few_claims = is.few_claims;
         apps = is.apps;
         desk = is.desk;
         running = subst IsRunning (sym events) (running_on old.journal.events (event.Connect number ∷ []) is.running refl);
-        runs = λ run gives. subst (λ (es : List Event). HoldsIn (TellTaken told) (TellBytes told) run (map told links.links) old.listeners es core (desk_told old.first_desk) (desk_told old.desk)) (sym events)
-            (subst (λ (ls : Links L). HoldsIn (TellTaken told) (TellBytes told) run (map told ls.links) old.listeners (old.journal.events ++ event.Connect number ∷ []) core (desk_told old.first_desk) (desk_told old.desk)) (sym links_are)
+        runs = λ run gives. subst (λ (es : List Event). HoldsIn (TellTaken told) (TellBytes told) (old.greeted ≡ true) run (map told links.links) old.listeners es core (desk_told old.first_desk) (desk_told old.desk)) (sym events)
+            (subst (λ (ls : Links L). HoldsIn (TellTaken told) (TellBytes told) (old.greeted ≡ true) run (map told ls.links) old.listeners (old.journal.events ++ event.Connect number ∷ []) core (desk_told old.first_desk) (desk_told old.desk)) (sym links_are)
             (holds_connected number core journal.events link connects fresh run (is.runs run gives)));
         shown = λ run gives. subst (λ (es : List Event). AllShowWhy (TellOver told) es core.hub (map told links.links)) (sym events)
             (subst (λ (ls : Links L). AllShowWhy (TellOver told) (old.journal.events ++ event.Connect number ∷ []) core.hub (map told ls.links)) (sym links_are)
@@ -131,9 +137,10 @@ module _ {L : Type 0} (told : L → LinkTold) (old : DaemonState L) (is : IsDaem
         told_by = is.told_by;
         linked = is.linked;
         heard = is.heard;
-        room = record { noted = is.room.noted; few = is.room.few; limit = is.room.limit; spare = is.room.spare };
+        room = record { noted = is.room.noted; claimed = is.room.claimed; few = is.room.few; few_claims = is.room.few_claims; limit = is.room.limit; spare = is.room.spare };
         bounds = is.bounds;
         few = is.few;
+        few_claims = is.few_claims;
         apps = is.apps;
         desk = is.desk;
         running = is.running;

@@ -19,7 +19,8 @@ use Rattle.dl_loop.specs.RoundSteps.{AcceptsIfMay, HasEnded, IsRound, Serves, an
 use Rattle.dl_loop.specs.Scene.{Scene}
 use Rattle.dl_loop.specs.State.{DaemonState, desk_told}
 use Rattle.dl_loop.specs.Steps.{Hears, Parts, Pumps, is_failure}
-use Rattle.dl_loop.specs.Takes.{TakesLossesIfMay, TakesTurn, TakesTurns}
+use Rattle.dl_taking.specs.declared.taking.Got.{Got}
+use Rattle.dl_loop.specs.Takes.{TakesLossesIfMay, TakesOn, TakesTurn, TakesTurns, found_none, gave, most_of}
 use Rattle.dl_loop.specs.declared.round.Round.{Round}
 use Rattle.dl_admission.proofs.KeptTraces.{risen_later, risen_before}
 
@@ -157,9 +158,13 @@ module _ {L : Type 0} where
   door_losses app old new (inl some) = door_rest old.daemon new.daemon _ some.2.rest refl refl refl refl
   door_losses app old new (inr none) = door_scenes old new none.1
 
+  door_on : (app done : ℕ) (empty : Bool) (gots : List Got) (old new : Scene L) → TakesOn app done empty gots old new → SameDoor old.daemon new.daemon
+  door_on app done empty [] old new none = door_scenes old new none.1
+  door_on app done empty (got ∷ gots) old new some =
+      door_both old.daemon some.1.daemon new.daemon (door_rest old.daemon some.1.daemon _ some.2.rest refl refl refl refl) (door_on app (done + gave got) (found_none (most_of done old.daemon) got) gots some.1 new some.3)
+
   door_turn : (app : ℕ) (old new : Scene L) → TakesTurn app old new → SameDoor old.daemon new.daemon
-  door_turn app old new turn = door_both old.daemon turn.between.daemon new.daemon (door_rest old.daemon turn.between.daemon _ turn.calls.rest refl refl refl refl)
-      (door_losses app turn.between new turn.losses)
+  door_turn app old new turn = door_both old.daemon turn.between.daemon new.daemon (door_on app 0 _ turn.calls.0 old turn.between turn.calls.1) (door_losses app turn.between new turn.losses)
 
   door_turns : (first many : ℕ) (old new : Scene L) → TakesTurns first many old new → SameDoor old.daemon new.daemon
   door_turns first zero old new same = door_scenes old new same

@@ -1,5 +1,5 @@
 -- The laws of the daemon, each of its lemma.
-use Rattle.std.proofs.Common.{◌≡◌, ◌≤◌, ℕ, Bool, List, length, map, sym, ap, refl, subst, ◌∙◌, arith}
+use Rattle.std.proofs.Common.{◌≡◌, ◌≤◌, ℕ, Bool, true, List, length, map, sym, ap, refl, subst, ◌∙◌, arith}
 use Rattle.std.proofs.lemmas.List.{length-map}
 use Rattle.dl_outside.specs.Told.{FolderTold, LinkTold, NetTold}
 use Rattle.dl_desk.specs.Made.{IsLater}
@@ -14,7 +14,7 @@ use Rattle.dl_rounds.specs.Visits.{HearsAll, Pumped}
 use Rattle.dl_rounds.specs.declared.listener.Listener.{Listener}
 use Rattle.dl_rounds.specs.declared.accepting.Arrival.{Arrival}
 use Rattle.dl_taking.specs.Took.{took_by}
-use Rattle.dl_settling.specs.Room.{IsFew}
+use Rattle.dl_settling.specs.Room.{HasFewClaims, IsFew}
 use Rattle.dl_settling.specs.Went.{TellBytes}
 use Rattle.dl_loop.specs.Bounds.{HasBounds}
 use Rattle.dl_loop.specs.Daemon.{IsDaemon, TellTaken}
@@ -37,17 +37,22 @@ made_is told d made =
       heard = m.heard;
       room = record {
         noted = made.noted ∙ m.room.noted;
+        claimed = made.claimed ∙ m.room.claimed;
         few = omega (arith, made.noted);
+        few_claims = omega (arith, made.claimed);
         limit = m.room.limit;
-        spare = omega (arith, m.room.spare, made.noted);
+        spare = omega (arith, m.room.spare, made.noted, made.claimed);
       };
       bounds = subst (λ n. HasBounds n d.core.hub.admitted d.desk.handles.losses.reported) (sym made.noted) m.bounds;
       few = subst (λ (n : ℕ). IsFew n (took_by d.desk.handles) (length d.desk.apps)) (sym made.noted) m.few;
+      few_claims = subst (λ (n : ℕ). HasFewClaims n (took_by d.desk.handles) (length d.desk.apps)) (sym made.claimed) m.few_claims;
       apps = m.apps;
       desk = subst (λ (first : DeskState). IsLater first d.desk) (sym made.first_desk) m.desk;
       running = m.running;
-      runs = λ run gives. subst (λ (first : DeskState). HoldsIn (TellTaken told) (TellBytes told) run (map told d.links.links) d.listeners d.journal.events d.core (desk_told first) (desk_told d.desk)) (sym made.first_desk)
-          (m.runs run (subst (λ (first : Core). Gives run first d.desk.apps d.desk.handles) made.first_core gives));
+      runs = λ run gives. subst (λ (first : DeskState). HoldsIn (TellTaken told) (TellBytes told) (d.greeted ≡ true) run (map told d.links.links) d.listeners d.journal.events d.core (desk_told first) (desk_told d.desk))
+          (sym made.first_desk)
+          (subst (λ (greeted : Bool). HoldsIn (TellTaken told) (TellBytes told) (greeted ≡ true) run (map told d.links.links) d.listeners d.journal.events d.core (desk_told d.desk) (desk_told d.desk)) (sym made.greeted)
+          (m.runs run (subst (λ (first : Core). Gives run first d.desk.apps d.desk.handles) made.first_core gives)));
       shown = λ run gives. m.shown run (subst (λ (first : Core). Gives run first d.desk.apps d.desk.handles) made.first_core gives);
     }
 

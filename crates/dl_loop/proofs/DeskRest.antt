@@ -33,6 +33,7 @@ same_later old new same = record {
   rings = sym (rings_without new.handles.apps) ∙ ap (λ (d : DeskState). map (λ (e : AppHandles). e.ring.ring) d.handles.apps) same ∙ rings_without old.handles.apps;
   queues = sym (queues_without new.handles.apps) ∙ ap (λ (d : DeskState). map (λ (e : AppHandles). e.queue.queue) d.handles.apps) same ∙ queues_without old.handles.apps;
   levels = ap (λ (d : DeskState). d.handles.levels.table) same;
+  claims = ap (λ (d : DeskState). d.handles.levels.claims) same;
   losses = ap (λ (d : DeskState). d.handles.losses.table) same;
   more = [];
   owners = ap (λ (d : DeskState). d.owners) same ∙ sym (append-nil old.owners);
@@ -45,10 +46,11 @@ later_both first second third one two = record {
   rings = two.rings ∙ one.rings;
   queues = two.queues ∙ one.queues;
   levels = two.levels ∙ one.levels;
+  claims = two.claims ∙ one.claims;
   losses = two.losses ∙ one.losses;
   more = one.more ++ two.more;
   owners = two.owners ∙ ap (λ xs. xs ++ two.more) one.owners ∙ append_assoc first.owners one.more two.more;
 }
 
 pub later_none : (desk : DeskState) → IsLater desk desk
-later_none desk = record { apps = refl; rings = refl; queues = refl; levels = refl; losses = refl; more = []; owners = sym (append-nil desk.owners) }
+later_none desk = record { apps = refl; rings = refl; queues = refl; levels = refl; claims = refl; losses = refl; more = []; owners = sym (append-nil desk.owners) }

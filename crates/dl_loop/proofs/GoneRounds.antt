@@ -1,5 +1,5 @@
 -- A daemon is later by each part of a round, and by rounds in a row.
-use Rattle.std.proofs.Common.{◌⊎◌, ◌≡◌, ◌≢◌, ℕ, ◌+◌, ◌<◌, ◌≤◌, inl, inr, Bool, cond, List, [], ◌∷◌, ◌++◌, Option, Some, None, append-nil, append_assoc, length, map, count_by, refl, sym, ap, subst, ◌∙◌, arith}
+use Rattle.std.proofs.Common.{◌⊎◌, ◌≡◌, ◌≢◌, ℕ, ◌+◌, ◌<◌, ◌≤◌, inl, inr, Bool, true, cond, List, [], ◌∷◌, ◌++◌, Option, Some, None, append-nil, append_assoc, length, map, count_by, refl, sym, ap, subst, ◌∙◌, arith}
 use Rattle.std.specs.Prelude.{IfSome}
 use Rattle.std.specs.List.{AllByRecursion}
 use Rattle.std.proofs.lemmas.Bool.{cases_lt}
@@ -14,6 +14,10 @@ use Rattle.dl_events.specs.declared.event.Event.TheVariants as event
 use Rattle.dl_outside.specs.Links.{Links}
 use Rattle.dl_outside.specs.Outside.{Stays}
 use Rattle.dl_outside.specs.Told.{FolderTold, LinkTold, NetTold}
+use Rattle.dl_ring.specs.declared.item.RingItem.{RingItem}
+use Rattle.dl_ring.specs.Items.{calls_in}
+use Rattle.dl_ring.proofs.Items.{calls_in-append}
+use Rattle.dl_thread_rules.specs.Views.{bit}
 use Rattle.dl_desk.specs.Lists.{At}
 use Rattle.dl_desk.specs.State.{DeskState}
 use Rattle.dl_lib.specs.Known.{taken_of}
@@ -25,8 +29,6 @@ use Rattle.dl_folders.specs.Later.{IsFolderLater}
 use Rattle.dl_folders.proofs.LaterFolders.{folder_both, folder_none}
 use Rattle.dl_folders.proofs.LeftFiles.{leaves_alone, leaves_both}
 use Rattle.dl_admission.specs.Kept.{end_of}
-use Rattle.dl_admission.specs.Admission.{Entry}
-use Rattle.dl_admission.specs.Telling.{IsTaken}
 use Rattle.dl_rounds.specs.Arrivals.{Arrives, ConnectsAs}
 use Rattle.dl_rounds.specs.declared.accepting.Arrival.{Arrival}
 use Rattle.dl_rounds.specs.declared.accepting.Arrival.TheVariants as arrival
@@ -34,6 +36,8 @@ use Rattle.dl_rounds.specs.declared.listener.Listener.{Listener}
 use Rattle.dl_rounds.specs.Visits.{HearsAll, Pumped}
 use Rattle.dl_rounds.specs.Clients.{Clients, VisitsAll}
 use Rattle.dl_rounds.specs.Passing.{AreLater, IsOfClients}
+use Rattle.dl_taking.specs.Drained.{IsOfDrain}
+use Rattle.dl_taking.specs.declared.taking.Got.{Got}
 use Rattle.dl_turns.specs.State.{side}
 use Rattle.dl_turns.proofs.LaterStages.{WhatLinksTake}
 use Rattle.dl_loop.specs.Daemon.{IsDaemon}
@@ -42,16 +46,17 @@ use Rattle.dl_loop.specs.Later.{GoesRound, IsLaterBy, IsNetLater, IsOfRound}
 use Rattle.dl_model.specs.Journal.{is_connect}
 use Rattle.dl_loop.specs.RoundSteps.{AcceptsIfMay}
 use Rattle.dl_loop.specs.Scene.{Scene, scene}
-use Rattle.dl_loop.specs.State.{DaemonState, SameDesk, clients_of, desk_told}
+use Rattle.dl_loop.specs.State.{DaemonState, SameDesk, claim_limit, clients_of, desk_told}
 use Rattle.dl_loop.specs.Steps.{Hears, Pumps}
-use Rattle.dl_loop.specs.Takes.{TakesCalls, TakesLossesIfMay}
+use Rattle.dl_loop.specs.Takes.{TakesLossesIfMay, TakesSomeOf}
 use Rattle.dl_loop.proofs.FolderEvents.{folder_kept, keeps_still, leaves_kept}
 use Rattle.dl_loop.proofs.FolderSides.{FolderGoesOn, heard_on, pumped_on, same_more}
 use Rattle.dl_loop.proofs.DeskRest.{later_both, later_none, same_later, same_taken}
 use Rattle.dl_loop.proofs.LaterDaemons.{gives_before}
-use Rattle.dl_loop.proofs.TakenDaemons.{Took, taken_later}
-use Rattle.dl_loop.proofs.TakenEvents.{taken_set_nothing}
-use Rattle.dl_loop.proofs.TakenSteps.{calls_grow, calls_took, losses_grow, losses_took}
+use Rattle.dl_loop.proofs.TakenDaemons.{Took, gives_took, taken_events, taken_later}
+use Rattle.dl_loop.proofs.TakenDaemons.{gives_before as gives_first}
+use Rattle.dl_loop.proofs.TakenEvents.{drain_asks}
+use Rattle.dl_loop.proofs.TakenSteps.{losses_took, some_took}
 use Rattle.dl_lemmas.proofs.Bools.{at_most_one}
 use Rattle.dl_lemmas.proofs.Lists.{all_first as front}
 
@@ -87,7 +92,8 @@ module _ {L : Type 0} where
       → Gives run old.daemon.first_core old.daemon.desk.apps old.daemon.desk.handles
   gives_back more old new run later gives = subst (λ (first : Core). Gives run first old.daemon.desk.apps old.daemon.desk.handles) later.first_core (record {
     begins = gives.begins;
-    frames = λ app. front (λ item. GivesFrame item run) (taken_of old.daemon.desk.handles app) (later.taken app).0 (subst (λ (items : List Item). GivesFrames items run) (later.taken app).1 (gives.frames app));
+    frames = λ app. front (λ (item : Item). GivesFrame item run) (calls_in (taken_of old.daemon.desk.handles app)) (calls_in (later.taken app).0)
+        (subst (λ (items : List Item). GivesFrames items run) (ap (λ (xs : List RingItem). calls_in xs) (later.taken app).1 ∙ calls_in-append (taken_of old.daemon.desk.handles app) (later.taken app).0) (gives.frames app));
     apids = subst (λ (apps : List AppSpec). (app : ℕ) → At apps app (λ spec. run.apid app ≡ spec.apid)) later.desk.apps gives.apids;
   })
 
@@ -116,7 +122,7 @@ module _ {L : Type 0} where
     owners = two.owners ∙ one.owners;
     taken = λ app. (
       (one.taken app).0 ++ (two.taken app).0,
-      (two.taken app).1 ∙ ap (λ (items : List Item). items ++ (two.taken app).0) (one.taken app).1 ∙ append_assoc (taken_of a.daemon.desk.handles app) (one.taken app).0 (two.taken app).0,
+      (two.taken app).1 ∙ ap (λ (items : List RingItem). items ++ (two.taken app).0) (one.taken app).1 ∙ append_assoc (taken_of a.daemon.desk.handles app) (one.taken app).0 (two.taken app).0,
     );
     connects = omega (arith, one.connects, two.connects, sum_by-append (λ (e : Event). cond (is_connect e) 1 0) first second);
     holds = λ run gives holds. two.holds run gives (one.holds run (gives_back second b c run two gives) holds);
@@ -129,13 +135,14 @@ module _ {L : Type 0} where
 
   -- no round goes nowhere, and rounds go on
   pub goes_none : (net : NetTold L) (s : Scene L) → GoesRound net net s s
-  goes_none net s = record { more = []; later = later_by_none s; of_round = tt; net_later = net_none net; dropped = inl refl }
+  goes_none net s = record { more = []; later = later_by_none s; of_round = tt; greeted = refl; net_later = net_none net; dropped = inl refl }
 
   pub goes_both : (net net_between net_now : NetTold L) (a b c : Scene L) → GoesRound net net_between a b → GoesRound net_between net_now b c → GoesRound net net_now a c
   goes_both net net_between net_now a b c one two = record {
     more = one.more ++ two.more;
     later = later_by_both one.more two.more a b c one.later two.later;
     of_round = both_of_round one.more two.more one.of_round two.of_round;
+    greeted = two.greeted ∙ one.greeted;
     net_later = net_both net net_between net_now one.net_later two.net_later;
     dropped = elim two.dropped [
       | inl same ↦ elim one.dropped [
@@ -163,16 +170,16 @@ clients_of_round (event.Lost app count moment ∷ more) are = absurd are.0
 clients_of_round (event.User channel msg moment ∷ more) are = absurd are.0
 clients_of_round (event.Connect client ∷ more) are = absurd are.0
 
-pub taken_of_round : (more : List Event) → AllByRecursion IsTaken more → AreOfRound more
-taken_of_round [] are = record { kinds = tt; none_come = refl }
-taken_of_round (event.Log app writer call moment ∷ more) are = let rest = taken_of_round more are.1 in record { kinds = (tt, rest.kinds); none_come = rest.none_come }
-taken_of_round (event.Lost app count moment ∷ more) are = let rest = taken_of_round more are.1 in record { kinds = (tt, rest.kinds); none_come = rest.none_come }
-taken_of_round (event.Close client cause ∷ more) are = let rest = taken_of_round more are.1 in record { kinds = (tt, rest.kinds); none_come = rest.none_come }
-taken_of_round (event.Claim claim moment ∷ more) are = absurd are.0
-taken_of_round (event.User channel msg moment ∷ more) are = absurd are.0
-taken_of_round (event.Level slot level ∷ more) are = absurd are.0
-taken_of_round (event.Connect client ∷ more) are = absurd are.0
-taken_of_round (event.Request client frame answer ∷ more) are = absurd are.0
+drain_of_round : (more : List Event) → AllByRecursion IsOfDrain more → AreOfRound more
+drain_of_round [] are = record { kinds = tt; none_come = refl }
+drain_of_round (event.Log app writer call moment ∷ more) are = let rest = drain_of_round more are.1 in record { kinds = (tt, rest.kinds); none_come = rest.none_come }
+drain_of_round (event.Lost app count moment ∷ more) are = let rest = drain_of_round more are.1 in record { kinds = (tt, rest.kinds); none_come = rest.none_come }
+drain_of_round (event.Close client cause ∷ more) are = let rest = drain_of_round more are.1 in record { kinds = (tt, rest.kinds); none_come = rest.none_come }
+drain_of_round (event.Claim claim moment ∷ more) are = let rest = drain_of_round more are.1 in record { kinds = (tt, rest.kinds); none_come = rest.none_come }
+drain_of_round (event.Level slot level ∷ more) are = let rest = drain_of_round more are.1 in record { kinds = (tt, rest.kinds); none_come = rest.none_come }
+drain_of_round (event.User channel msg moment ∷ more) are = absurd are.0
+drain_of_round (event.Connect client ∷ more) are = absurd are.0
+drain_of_round (event.Request client frame answer ∷ more) are = absurd are.0
 
 -- no more are open than came
 pub open_few : (clients : List Client) → count_by is_open clients ≤ length clients
@@ -209,6 +216,7 @@ module _ {L : Type 0} (told : L → LinkTold) (net : NetTold L) (old : DaemonSta
               (same_more old.journal.events (Some journal.events) on.0 later.more on.1.events later.events) (on.1.later run old.journal.events held.took held.after);
         };
         of_round = of_round.kinds;
+        greeted = refl;
         net_later = net_none net;
         dropped = inl refl;
       }
@@ -228,46 +236,49 @@ module _ {L : Type 0} (told : L → LinkTold) (net : NetTold L) (old : DaemonSta
 
   -- ---- what is taken
 
-  goes_took : (entries : List Entry) (GivesIt : Run → Type 0) (frames : ℕ) (folder folder_now : FolderTold) (core : Core) (desk : DeskState) (journal : Journaled) (noted : ℕ)
-      → Took entries GivesIt frames folder folder_now old core desk journal noted → ((app : ℕ) → (items : List Item) × (taken_of desk.handles app ≡ taken_of old.desk.handles app ++ items))
-      → GoesRound net net (scene old folder) (scene (record old { core = core; desk = desk; journal = journal; noted = noted }) folder_now)
-  goes_took entries GivesIt frames folder folder_now core desk journal noted took grows =
-      let events : journal.events ≡ old.journal.events ++ took.admits.more = cc took.admits.events in
-      let of_round = taken_of_round took.admits.more took.kinds in record {
-        more = took.admits.more;
+  goes_took : (logs claims frames : ℕ) (folder folder_now : FolderTold) (new : DaemonState L) → Took logs claims frames (scene old folder) (scene new folder_now)
+      → GoesRound net net (scene old folder) (scene new folder_now)
+  goes_took logs claims frames folder folder_now new took =
+      let before = scene old folder in
+      let after = scene new folder_now in
+      let drain = took.take.drain in
+      let events = taken_events told logs claims frames before after is took in
+      let of_round = drain_of_round drain.more drain.kinds in
+      record {
+        more = drain.more;
         later = record {
           events = events;
-          calls = refl;
-          first_core = refl;
-          first_desk = refl;
-          desk = taken_later old.desk desk took.desk_same;
-          owners = ap (λ (d : DeskState). d.owners) took.desk_same;
-          taken = grows;
-          connects = omega (arith, of_round.none_come);
+          calls = ap (λ (d : DaemonState L). d.calls) took.rest;
+          first_core = ap (λ (d : DaemonState L). d.first_core) took.rest;
+          first_desk = ap (λ (d : DaemonState L). d.first_desk) took.rest;
+          desk = taken_later old.desk new.desk took.desk;
+          owners = ap (λ (d : DeskState). d.owners) took.desk;
+          taken = drain.taken_more;
+          connects = omega (arith, ap (λ (d : DaemonState L). length d.links.links) took.rest, of_round.none_come);
           holds = λ run gives holds.
-              let held = is.runs run (took.gives_before run gives) in
-              subst (λ (es : List Event). HoldsTrace run es core folder_now) (sym events) ((took.admits.after run old.journal.events held.took (took.gives_it run gives) held.after).1 holds);
-          leaves = leaves_kept old.core core folder folder_now took.admits.trace;
-          folder = λ run gives.
-              folder_kept old.core.trace core.trace folder folder_now took.admits.trace run.setting old.journal.events took.admits.more (taken_set_nothing took.admits.more took.kinds).asks;
+              let so = subst (λ (first : Core). Gives run first new.desk.apps new.desk.handles) (ap (λ (d : DaemonState L). d.first_core) took.rest) gives in
+              let held = is.runs run (gives_first told logs claims frames before after is took run so) in
+              subst (λ (es : List Event). HoldsTrace run es new.core folder_now) (sym events)
+              ((drain.after run old.journal.events held.took (gives_took told logs claims frames before after is took run so) held.after).1 holds);
+          leaves = leaves_kept old.core new.core folder folder_now drain.trace;
+          folder = λ run gives. folder_kept old.core.trace new.core.trace folder folder_now drain.trace run.setting old.journal.events drain.more (drain_asks drain.more drain.kinds);
         };
         of_round = of_round.kinds;
+        greeted = ap (λ (d : DaemonState L). d.greeted) took.rest;
         net_later = net_none net;
-        dropped = inl refl;
+        dropped = inl (ap (λ (d : DaemonState L). d.dropped) took.rest);
       }
 
-  pub goes_calls : (app count : ℕ) (folder folder_now : FolderTold) (new : DaemonState L) → app < length old.desk.apps → TakesCalls app count (scene old folder) (scene new folder_now)
-      → GoesRound net net (scene old folder) (scene new folder_now)
-  goes_calls app count folder folder_now new within calls = subst (λ (d : DaemonState L). GoesRound net net (scene old folder) (scene d folder_now)) (sym calls.rest)
-      (goes_took _ _ _ folder folder_now new.core new.desk new.journal new.noted (calls_took told app count (scene old folder) (scene new folder_now) is within calls)
-      (calls_grow told app count (scene old folder) (scene new folder_now) is within calls))
+  pub goes_some : (app most : ℕ) (got : Got) (folder folder_now : FolderTold) (new : DaemonState L) → old.greeted ≡ true → app < length old.desk.apps → old.noted + most ≤ old.calls → old.claimed < claim_limit
+      → TakesSomeOf app most got (scene old folder) (scene new folder_now) → GoesRound net net (scene old folder) (scene new folder_now)
+  goes_some app most got folder folder_now new greeted within calls claims takes =
+      goes_took got.calls (bit got.claimed) got.calls folder folder_now new (some_took told app (scene old folder) (scene new folder_now) is greeted within most got calls claims takes)
 
-  pub goes_losses : (app : ℕ) (folder folder_now : FolderTold) (new : DaemonState L) → app < length old.desk.apps → TakesLossesIfMay app (scene old folder) (scene new folder_now)
+  pub goes_losses : (app : ℕ) (folder folder_now : FolderTold) (new : DaemonState L) → old.greeted ≡ true → app < length old.desk.apps → TakesLossesIfMay app (scene old folder) (scene new folder_now)
       → GoesRound net net (scene old folder) (scene new folder_now)
-  goes_losses app folder folder_now new within (inl some) = subst (λ (d : DaemonState L). GoesRound net net (scene old folder) (scene d folder_now)) (sym some.2.rest)
-      (goes_took _ _ _ folder folder_now new.core new.desk new.journal new.noted (losses_took told app some.1 (scene old folder) (scene new folder_now) is within some.0 some.2)
-      (losses_grow told app some.1 (scene old folder) (scene new folder_now) is within some.0 some.2))
-  goes_losses app folder folder_now new within (inr none) = subst (λ (s : Scene L). GoesRound net net (scene old folder) s) (sym none.1) (goes_none net (scene old folder))
+  goes_losses app folder folder_now new greeted within (inl some) =
+      goes_took _ _ _ folder folder_now new (losses_took told app (scene old folder) (scene new folder_now) is greeted within some.1 some.0 some.2)
+  goes_losses app folder folder_now new greeted within (inr none) = subst (λ (s : Scene L). GoesRound net net (scene old folder) s) (sym none.1) (goes_none net (scene old folder))
 
   -- ---- the accept
 
@@ -293,6 +304,7 @@ module _ {L : Type 0} (told : L → LinkTold) (net : NetTold L) (old : DaemonSta
           folder = λ run gives. folder_none run.setting old.journal.events (end_of old.core.trace) folder;
         };
         of_round = tt;
+        greeted = refl;
         net_later = later;
         dropped = only;
       })))
@@ -334,6 +346,7 @@ module _ {L : Type 0} (told : L → LinkTold) (net : NetTold L) (old : DaemonSta
               (event.Connect number ∷ []) (tt, tt);
         };
         of_round = (tt, tt);
+        greeted = refl;
         net_later = record { listens = listens; launched = launched; faults = omega (arith, arrives.1.2) };
         dropped = inl arrives.3;
       }

@@ -2,7 +2,10 @@
 use Rattle.std.proofs.Common.{◌≡◌, ℕ, ◌+◌, ◌-◌, ◌≤◌, Bool, true, false, List, [], ◌∷◌, ◌++◌, Option, None, append-nil, append_assoc, length, map, count_by, slice_get, eqb, refl, sym, ap, subst, ◌∙◌, arith}
 use Rattle.std.specs.Prelude.{OnErr, OnOk, Result, Ok, Err, cond}
 use Rattle.std.specs.Option.{option_and_then}
-use Rattle.std.specs.List.{AllByRecursion, list_any}
+use Rattle.std.specs.List.{AllByRecursion, filter_map, list_any}
+use Rattle.std.specs.Result.{is_ok}
+use Rattle.std.proofs.lemmas.List.{length-append, length-map}
+use Rattle.std.proofs.lemmas.List.Elements.{filter_map-append}
 use Rattle.std.proofs.lemmas.List.Sums.{sum_by-append}
 use Rattle.dl_bytes.specs.declared.conf.AppSpec.{AppSpec}
 use Rattle.dl_bytes.specs.declared.moment.Moment.{Moment}
@@ -12,7 +15,7 @@ use Rattle.dl_events.specs.declared.event.Event.{Event}
 use Rattle.dl_events.specs.declared.event.Event.TheVariants as event
 use Rattle.dl_losses.specs.Losses.{reported_of}
 use Rattle.dl_losses.specs.declared.keeper.Report.{Report}
-use Rattle.dl_model.specs.Accounts.{claims, name_of, order}
+use Rattle.dl_model.specs.Accounts.{takes}
 use Rattle.dl_model.specs.Frames.{stored, user_frames}
 use Rattle.dl_model.specs.Journal.{IsRunning, IsWellFormed, is_stop, is_connect}
 use Rattle.dl_model.specs.Report.{reported}
@@ -27,7 +30,7 @@ use Rattle.dl_hub.specs.State.{Client, Hub, is_open, outbox_of}
 use Rattle.dl_core.specs.Admission.{AddsEach}
 use Rattle.dl_core.specs.Follows.{Adds, HoldsTrace, IsAfter, Run, source_of}
 use Rattle.dl_core.specs.State.{Core}
-use Rattle.dl_lib.specs.Known.{taken_of}
+use Rattle.dl_lib.specs.Known.{taken_of, told_as}
 use Rattle.dl_well_formed.proofs.Following.{running_on}
 use Rattle.dl_admission.specs.Kept.{KeepsTrace}
 use Rattle.dl_admission.proofs.KeptTraces.{trace_both, trace_each, trace_none}
@@ -39,23 +42,26 @@ use Rattle.dl_turns.specs.State.{Side}
 use Rattle.dl_turns.proofs.AddedEvents.{each_both, each_none}
 use Rattle.dl_turns.proofs.LaterSides.{desk_both}
 use Rattle.dl_turns.proofs.PostedSides.{posted_both}
-use Rattle.dl_rounds.specs.Greetings.{Greets as GreetsOne, GreetsEach, GreetsFirst, IsContext, IsIntroduced, IsOfGreeting, IsRegistration, MayGreet, hello_of}
+use Rattle.dl_rounds.specs.Greetings.{Greets as GreetsOne, GreetsEach, GreetsFirst, IsContext, IsIntroduced, IsOfGreeting, IsRegistration, MayGreet, hello_of, registered}
 use Rattle.dl_rounds.specs.Shown.{AllShowWhy}
 use Rattle.dl_loop.specs.Bounds.{HasBounds}
-use Rattle.dl_loop.specs.Daemon.{IsDaemon, TellTaken, is_noted}
-use Rattle.dl_loop.specs.Greeting.{Greets}
+use Rattle.dl_loop.specs.Daemon.{IsDaemon, TellTaken}
+use Rattle.dl_loop.specs.Greeting.{AreListed, Greets, id_in}
 use Rattle.dl_loop.specs.Holds.{AreNoted, Gives, HoldsIn}
 use Rattle.dl_loop.specs.Scene.{Scene, side_of, scene}
 use Rattle.dl_loop.specs.Later.{IsLaterGreeted}
 use Rattle.dl_loop.specs.State.{DaemonState, SameDesk, desk_told}
 use Rattle.dl_loop.specs.Told.{IsToldBy}
 use Rattle.dl_loop.proofs.DeskRest.{later_both, same_apps, same_later, same_reported, same_taken}
+use Rattle.dl_taking.specs.Drained.{is_claim, is_noted}
+use Rattle.dl_taking.specs.Takes.{AreThere}
 use Rattle.dl_taking.specs.Took.{Took, took_by}
-use Rattle.dl_settling.specs.Room.{IsFew}
+use Rattle.dl_settling.specs.Room.{HasFewClaims, IsFew}
 use Rattle.dl_settling.specs.Went.{TellBytes}
 use Rattle.dl_loop.proofs.FolderEvents.{folder_kept, keeps_still, leaves_kept}
 use Rattle.dl_loop.proofs.LaterDaemons.{same_took_by, add_none, gives_before}
 use Rattle.dl_settling.proofs.NoRequests.{AsksNothing, posted_none}
+use Rattle.dl_loop.proofs.ListedApps.{listed_there}
 use Rattle.dl_loop.proofs.ToldJournals.{told_more}
 use Rattle.dl_loop.proofs.NotedDaemons.{noted_none}
 use Rattle.dl_rounds.proofs.GreetedEvents.{both_of_greeting}
@@ -195,17 +201,19 @@ leads_each moment (msg ∷ msgs) old new settled are all =
 
 -- they take nothing, tell no losses and ask nothing
 record SaysNothing (more : List Event) : Type 0 where
-  calls : (app : ℕ) → order app more ≡ []
+  calls : (app : ℕ) → takes app more ≡ []
   losses : (app : ℕ) → reported app more ≡ 0
-  unclaimed : (app : ℕ) → claims app more ≡ []
   noted : count_by is_noted more ≡ 0
+  claimed : count_by is_claim more ≡ 0
   asks : AllByRecursion AsksNothing more
   none_come : count_by is_connect more ≡ 0
 
 says_nothing : (more : List Event) → AllByRecursion IsOfGreeting more → SaysNothing more
-says_nothing [] are = record { calls = λ app. refl; losses = λ app. refl; unclaimed = λ app. refl; noted = refl; asks = tt; none_come = refl }
-says_nothing (event.User channel msg moment ∷ more) are = let rest = says_nothing more are.1 in record { calls = rest.calls; losses = rest.losses; unclaimed = rest.unclaimed; noted = rest.noted; asks = (tt, rest.asks); none_come = rest.none_come }
-says_nothing (event.Level slot level ∷ more) are = let rest = says_nothing more are.1 in record { calls = rest.calls; losses = rest.losses; unclaimed = rest.unclaimed; noted = rest.noted; asks = (tt, rest.asks); none_come = rest.none_come }
+says_nothing [] are = record { calls = λ app. refl; losses = λ app. refl; noted = refl; claimed = refl; asks = tt; none_come = refl }
+says_nothing (event.User channel msg moment ∷ more) are =
+    let rest = says_nothing more are.1 in record { calls = rest.calls; losses = rest.losses; noted = rest.noted; claimed = rest.claimed; asks = (tt, rest.asks); none_come = rest.none_come }
+says_nothing (event.Level slot level ∷ more) are =
+    let rest = says_nothing more are.1 in record { calls = rest.calls; losses = rest.losses; noted = rest.noted; claimed = rest.claimed; asks = (tt, rest.asks); none_come = rest.none_come }
 says_nothing (event.Log app writer call moment ∷ more) are = absurd are.0
 says_nothing (event.Claim claim moment ∷ more) are = absurd are.0
 says_nothing (event.Lost app count moment ∷ more) are = absurd are.0
@@ -240,6 +248,26 @@ hello_registers [] are = tt
 hello_registers (app ∷ apps) are = both_are app.hello (hello_of apps)
     (subst (λ (msgs : List UserMsg). AllByRecursion IsRegistration msgs) (sym are.0.hello) (tt, contexts_are are.0.contexts are.0.are_contexts)) (hello_registers apps are.1)
 
+-- each registers one application
+contexts_no_ids : (msgs : List UserMsg) → AllByRecursion IsContext msgs → filter_map id_in msgs ≡ []
+contexts_no_ids [] are = refl
+contexts_no_ids (user.RegisterContext apid ctid position level trace pid text ∷ msgs) are = contexts_no_ids msgs are.1
+contexts_no_ids (user.RegisterApp apid pid text ∷ msgs) are = absurd are.0
+contexts_no_ids (user.UnregisterApp apid pid ∷ msgs) are = absurd are.0
+contexts_no_ids (user.UnregisterContext apid ctid pid ∷ msgs) are = absurd are.0
+contexts_no_ids (user.Log message ∷ msgs) are = absurd are.0
+contexts_no_ids (user.LogLevel level trace position ∷ msgs) are = absurd are.0
+contexts_no_ids (user.Injection position service body ∷ msgs) are = absurd are.0
+contexts_no_ids (user.Overflow counter apid ∷ msgs) are = absurd are.0
+
+ids_of : (apps : List AppState) → AllByRecursion IsIntroduced apps → length (filter_map id_in (hello_of apps)) ≡ length apps
+ids_of [] are = refl
+ids_of (app ∷ apps) are =
+    let one : length (filter_map id_in app.hello) ≡ 1 =
+    ap (λ (ms : List UserMsg). length (filter_map id_in ms)) are.0.hello ∙ ap (λ (ids : List (List ℕ)). length (are.0.apid ∷ ids)) (contexts_no_ids are.0.contexts are.0.are_contexts) in
+    let parted : filter_map id_in (app.hello ++ hello_of apps) ≡ filter_map id_in app.hello ++ filter_map id_in (hello_of apps) = filter_map-append id_in app.hello (hello_of apps) in
+    omega (arith, one, ids_of apps are.1, ap length parted, length-append (filter_map id_in app.hello) (filter_map id_in (hello_of apps)))
+
 -- ---- the daemon
 
 module _ {L : Type 0} (told : L → LinkTold) (moment : Moment) (msgs : List UserMsg) (old new : Scene L) (is : IsDaemon told old.daemon) (nobody : old.daemon.links.links ≡ [])
@@ -260,9 +288,13 @@ module _ {L : Type 0} (told : L → LinkTold) (moment : Moment) (msgs : List Use
   led : LeadsOn (side_of old) (side_of new)
   led = leads_each moment msgs (side_of old) (side_of new) is.linked.settled are greets.greets
 
-  holds_greeted : (run : Run) → Gives run old.daemon.first_core new.daemon.desk.apps new.daemon.desk.handles
-      → HoldsIn (TellTaken told) (TellBytes told) run (map told old.daemon.links.links) old.daemon.listeners (old.daemon.journal.events ++ led.0) new.daemon.core (desk_told old.daemon.first_desk) (desk_told new.daemon.desk)
-  holds_greeted run gives =
+  -- where the applications have told of themselves, each is there
+  abbrev There : Type 0
+  There = new.daemon.greeted ≡ true → AreThere (length new.daemon.desk.apps) new.daemon.core.registry
+
+  holds_greeted : There → (run : Run) → Gives run old.daemon.first_core new.daemon.desk.apps new.daemon.desk.handles
+      → HoldsIn (TellTaken told) (TellBytes told) (new.daemon.greeted ≡ true) run (map told old.daemon.links.links) old.daemon.listeners (old.daemon.journal.events ++ led.0) new.daemon.core (desk_told old.daemon.first_desk) (desk_told new.daemon.desk)
+  holds_greeted there_now run gives =
       let holds = is.runs run (gives_before run old.daemon.first_core old.daemon.desk new.daemon.desk greets.desk gives) in
       let after_now = (led.1.after run old.daemon.journal.events holds.took tt holds.after).0 in record {
         took = holds.took;
@@ -273,10 +305,11 @@ module _ {L : Type 0} (told : L → LinkTold) (moment : Moment) (msgs : List Use
         formed = led.1.formed run old.daemon.journal.events holds.took holds.after is.running holds.formed;
         posted = λ app. posted_both run.setting [] old.daemon.journal.events led.0 app (desk_told old.daemon.first_desk) (desk_told old.daemon.desk) (desk_told new.daemon.desk) (holds.posted app)
             (posted_none run.setting old.daemon.journal.events led.0 app (desk_told old.daemon.desk) (desk_told new.daemon.desk) (says_nothing led.0 led.1.kinds).asks (led.1.pushed app) (led.1.refusals app));
+        there = there_now;
       }
 
-  pub greet_is : IsDaemon told new.daemon
-  greet_is =
+  pub greet_is : There → IsDaemon told new.daemon
+  greet_is there_now =
       let events : new.daemon.journal.events ≡ old.daemon.journal.events ++ led.0 = cc led.1.events in
       let none = says_nothing led.0 led.1.kinds in
       let same = greets.desk in
@@ -290,11 +323,11 @@ module _ {L : Type 0} (told : L → LinkTold) (moment : Moment) (msgs : List Use
         told_by = subst (λ es. IsToldBy es (length new.daemon.desk.apps) new.daemon.desk.handles) (sym events)
             (subst (λ (specs : List AppSpec). IsToldBy (old.daemon.journal.events ++ led.0) (length specs) new.daemon.desk.handles) (sym apps)
             (told_more old.daemon.journal.events led.0 (length old.daemon.desk.apps) old.daemon.desk.handles new.daemon.desk.handles is.told_by
-            (λ app. ap (map name_of) (same_taken old.daemon.desk new.daemon.desk same app)
-            ∙ sym (ap (λ xs. map name_of (taken_of old.daemon.desk.handles app) ++ xs) (none.calls app) ∙ append-nil _))
+            (λ app. ap (map (told_as app)) (same_taken old.daemon.desk new.daemon.desk same app)
+            ∙ sym (ap (λ xs. map (told_as app) (taken_of old.daemon.desk.handles app) ++ xs) (none.calls app) ∙ append-nil _))
             (λ app. ap (reported_of app) (same_reported old.daemon.desk new.daemon.desk same)
             ∙ sym (ap (λ n. reported_of app old.daemon.desk.handles.losses.reported + n) (none.losses app) ∙ add_none _))
-            (λ app beyond. (none.calls app, none.losses app)) none.unclaimed led.1.desk.first led.1.desk.sets));
+            (λ app beyond. (none.calls app, none.losses app)) led.1.desk.first led.1.desk.sets));
         linked = record {
           many = came ∙ sym had ∙ is.linked.many;
           few = omega (arith, came);
@@ -311,19 +344,23 @@ module _ {L : Type 0} (told : L → LinkTold) (moment : Moment) (msgs : List Use
         };
         room = record {
           noted = is.room.noted ∙ omega (arith, sum_by-append (λ (e : Event). cond (is_noted e) 1 0) old.daemon.journal.events led.0, ap (count_by is_noted) events, none.noted);
+          claimed = is.room.claimed ∙ omega (arith, sum_by-append (λ (e : Event). cond (is_claim e) 1 0) old.daemon.journal.events led.0, ap (count_by is_claim) events, none.claimed);
           few = is.room.few;
+          few_claims = is.room.few_claims;
           limit = led.1.limit ∙ is.room.limit;
           spare = omega (arith, is.room.spare, spare, came, had, open_now, open_then);
         };
         few = subst (λ (n : ℕ). IsFew old.daemon.noted (took_by new.daemon.desk.handles) n) (sym (ap (λ (specs : List AppSpec). length specs) apps))
             (subst (λ (t : Took). IsFew old.daemon.noted t (length old.daemon.desk.apps)) (sym (same_took_by old.daemon.desk new.daemon.desk same)) is.few);
+        few_claims = subst (λ (n : ℕ). HasFewClaims old.daemon.claimed (took_by new.daemon.desk.handles) n) (sym (ap (λ (specs : List AppSpec). length specs) apps))
+            (subst (λ (t : Took). HasFewClaims old.daemon.claimed t (length old.daemon.desk.apps)) (sym (same_took_by old.daemon.desk new.daemon.desk same)) is.few_claims);
         bounds = subst (λ n. HasBounds old.daemon.noted n new.daemon.desk.handles.losses.reported) (sym led.1.admitted)
             (subst (λ (rs : List Report). HasBounds old.daemon.noted old.daemon.core.hub.admitted rs) (sym (same_reported old.daemon.desk new.daemon.desk same)) is.bounds);
         apps = subst (λ (specs : List AppSpec). length specs ≤ 16) (sym apps) is.apps;
         desk = later_both old.daemon.first_desk old.daemon.desk new.daemon.desk is.desk (same_later old.daemon.desk new.daemon.desk same);
         running = subst IsRunning (sym events) (running_on old.daemon.journal.events led.0 is.running (none_stops led.0 led.1.kinds));
-        runs = λ run gives. subst (λ (es : List Event). HoldsIn (TellTaken told) (TellBytes told) run (map told old.daemon.links.links) old.daemon.listeners es new.daemon.core (desk_told old.daemon.first_desk) (desk_told new.daemon.desk)) (sym events)
-            (holds_greeted run gives);
+        runs = λ run gives. subst (λ (es : List Event). HoldsIn (TellTaken told) (TellBytes told) (new.daemon.greeted ≡ true) run (map told old.daemon.links.links) old.daemon.listeners es new.daemon.core (desk_told old.daemon.first_desk) (desk_told new.daemon.desk)) (sym events)
+            (holds_greeted there_now run gives);
         shown = λ run gives. subst (λ (ls : List L). AllShowWhy (TellOver told) new.daemon.journal.events new.daemon.core.hub (map told ls)) (sym nobody) (λ number link there gone at. absurd (cc at));
       })
 
@@ -355,23 +392,35 @@ module _ {L : Type 0} (told : L → LinkTold) (moment : Moment) (msgs : List Use
 
 -- ---- by its answer
 
-pub greet_ok : {L : Type 0} (told : L → LinkTold) (moment : Moment) (msgs : List UserMsg) (old new : Scene L) → IsDaemon told old.daemon → old.daemon.links.links ≡ [] → AllByRecursion IsRegistration msgs
-    → MayGreet new.daemon.core (desk_told new.daemon.desk) new.daemon.journal.spare → old.daemon.journal.spare ≤ new.daemon.journal.spare → SameDesk old.daemon.desk new.daemon.desk
-    → new.daemon ≡ record old.daemon { core = new.daemon.core; desk = new.daemon.desk; journal = new.daemon.journal }
-    → {T E : Type 0} (result : Result T E) → OnOk result (GreetsEach moment msgs (side_of old) (side_of new)) → OnErr result (GreetsFirst moment msgs (side_of old) (side_of new)) → IsDaemon told new.daemon
-greet_ok told moment msgs old new is nobody are may spare desk rest (Ok done) greets first =
-    greet_is told moment msgs old new is nobody are (record { greets = greets; desk = desk; rest = rest }) may spare
-greet_ok told moment msgs old new is nobody are may spare desk rest (Err wanting) greets first =
-    greet_is told moment first.0 old new is nobody (front_are first.0 first.1 (subst (λ (ms : List UserMsg). AllByRecursion IsRegistration ms) first.2 are)) (record { greets = first.3; desk = desk; rest = rest }) may spare
+-- all that the applications tell, and where memory was wanting the first ones of it
+module _ {L : Type 0} (told : L → LinkTold) (moment : Moment) (apps : List AppState) (old new : Scene L) (is : IsDaemon told old.daemon) (nobody : old.daemon.links.links ≡ [])
+    (introduced : AllByRecursion IsIntroduced apps) (place : registered old.daemon.core + length apps ≤ length old.daemon.desk.apps) (listed : AreListed old.daemon.desk.apps apps)
+    (may : MayGreet new.daemon.core (desk_told new.daemon.desk) new.daemon.journal.spare) (spare : old.daemon.journal.spare ≤ new.daemon.journal.spare) (desk : SameDesk old.daemon.desk new.daemon.desk)
+    (rest : new.daemon ≡ record old.daemon { core = new.daemon.core; desk = new.daemon.desk; journal = new.daemon.journal; greeted = new.daemon.greeted }) where
+  are : AllByRecursion IsRegistration (hello_of apps)
+  are = hello_registers apps introduced
 
-pub greet_goes : {L : Type 0} (told : L → LinkTold) (moment : Moment) (msgs : List UserMsg) (old new : Scene L) → IsDaemon told old.daemon → old.daemon.links.links ≡ [] → AllByRecursion IsRegistration msgs
-    → MayGreet new.daemon.core (desk_told new.daemon.desk) new.daemon.journal.spare → old.daemon.journal.spare ≤ new.daemon.journal.spare → SameDesk old.daemon.desk new.daemon.desk
-    → new.daemon ≡ record old.daemon { core = new.daemon.core; desk = new.daemon.desk; journal = new.daemon.journal }
-    → {T E : Type 0} (result : Result T E) → OnOk result (GreetsEach moment msgs (side_of old) (side_of new)) → OnErr result (GreetsFirst moment msgs (side_of old) (side_of new)) → IsLaterGreeted old new
-greet_goes told moment msgs old new is nobody are may spare desk rest (Ok done) greets first =
-    greet_later told moment msgs old new is nobody are (record { greets = greets; desk = desk; rest = rest }) may spare
-greet_goes told moment msgs old new is nobody are may spare desk rest (Err wanting) greets first =
-    greet_later told moment first.0 old new is nobody (front_are first.0 first.1 (subst (λ (ms : List UserMsg). AllByRecursion IsRegistration ms) first.2 are)) (record { greets = first.3; desk = desk; rest = rest }) may spare
+  -- nobody registered before
+  unregistered : registered old.daemon.core ≡ 0
+  unregistered = omega (arith, place, ids_of apps introduced, ap (λ (ids : List (List ℕ)). length ids) listed.same, length-map old.daemon.desk.apps (λ (spec : AppSpec). spec.apid))
+
+  there_now : GreetsEach moment (hello_of apps) (side_of old) (side_of new) → AreThere (length new.daemon.desk.apps) new.daemon.core.registry
+  there_now greets = subst (λ (specs : List AppSpec). AreThere (length specs) new.daemon.core.registry) (sym (same_apps old.daemon.desk new.daemon.desk desk))
+      (listed_there moment apps old.daemon.desk.apps (side_of old) (side_of new) are listed unregistered is.apps greets)
+
+  pub greet_ok : {T E : Type 0} (result : Result T E) → OnOk result (GreetsEach moment (hello_of apps) (side_of old) (side_of new)) → OnErr result (GreetsFirst moment (hello_of apps) (side_of old) (side_of new))
+      → new.daemon.greeted ≡ is_ok result → IsDaemon told new.daemon
+  greet_ok (Ok done) greets first greeted =
+      greet_is told moment (hello_of apps) old new is nobody are (record { greets = greets; desk = desk; rest = rest }) may spare (λ so. there_now greets)
+  greet_ok (Err wanting) greets first greeted =
+      greet_is told moment first.0 old new is nobody (front_are first.0 first.1 (subst (λ (ms : List UserMsg). AllByRecursion IsRegistration ms) first.2 are)) (record { greets = first.3; desk = desk; rest = rest }) may spare
+      (λ so. absurd (let bad : false ≡ true = sym greeted ∙ so in cc bad))
+
+  pub greet_goes : {T E : Type 0} (result : Result T E) → OnOk result (GreetsEach moment (hello_of apps) (side_of old) (side_of new)) → OnErr result (GreetsFirst moment (hello_of apps) (side_of old) (side_of new))
+      → IsLaterGreeted old new
+  greet_goes (Ok done) greets first = greet_later told moment (hello_of apps) old new is nobody are (record { greets = greets; desk = desk; rest = rest }) may spare
+  greet_goes (Err wanting) greets first =
+      greet_later told moment first.0 old new is nobody (front_are first.0 first.1 (subst (λ (ms : List UserMsg). AllByRecursion IsRegistration ms) first.2 are)) (record { greets = first.3; desk = desk; rest = rest }) may spare
 
 -- the daemon before is told by its fields
 pub greeted_seen : {L : Type 0} (shown old new : DaemonState L) (folder folder_now : FolderTold) → shown ≡ old → IsLaterGreeted (scene shown folder) (scene new folder_now)

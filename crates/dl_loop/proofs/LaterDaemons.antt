@@ -1,5 +1,5 @@
 -- What is true of a daemon goes on with a round over its clients.
-use Rattle.std.proofs.Common.{◌≡◌, ◌≤◌, ◌+◌, ℕ, List, [], ◌∷◌, ◌++◌, Option, Some, refl, sym, ap, subst, ◌∙◌, arith, append-nil, length, map, count_by}
+use Rattle.std.proofs.Common.{◌≡◌, ◌≤◌, ◌+◌, ℕ, List, [], ◌∷◌, ◌++◌, Option, Some, true, refl, sym, ap, subst, ◌∙◌, arith, append-nil, length, map, count_by}
 use Rattle.std.specs.Prelude.{cond}
 use Rattle.std.specs.List.{AllByRecursion}
 use Rattle.std.proofs.lemmas.List.{length-map}
@@ -10,19 +10,21 @@ use Rattle.dl_events.specs.declared.event.Event.TheVariants as event
 use Rattle.dl_bytes.specs.declared.conf.AppSpec.{AppSpec}
 use Rattle.dl_losses.specs.Losses.{reported_of}
 use Rattle.dl_losses.specs.declared.keeper.Report.{Report}
-use Rattle.dl_model.specs.Accounts.{claims, name_of, order}
+use Rattle.dl_model.specs.Accounts.{takes}
 use Rattle.dl_model.specs.Journal.{IsRunning}
 use Rattle.dl_model.specs.Report.{reported}
 use Rattle.dl_outside.specs.Links.{Links}
 use Rattle.dl_outside.specs.Outside.{Grows}
 use Rattle.dl_outside.specs.Told.{FolderTold, LinkTold}
+use Rattle.dl_ring.specs.declared.item.RingItem.{RingItem}
+use Rattle.dl_ring.specs.Items.{calls_in}
 use Rattle.dl_desk.specs.Lists.{At}
 use Rattle.dl_desk.specs.State.{DeskState}
 use Rattle.dl_hub.specs.State.{IsSameHub}
 use Rattle.dl_core.specs.Admission.{GivesFrames}
 use Rattle.dl_core.specs.Follows.{Run}
 use Rattle.dl_core.specs.State.{Core}
-use Rattle.dl_lib.specs.Known.{taken_of}
+use Rattle.dl_lib.specs.Known.{taken_of, told_as}
 use Rattle.dl_well_formed.proofs.Following.{stays_formed}
 use Rattle.dl_turns.specs.State.{side}
 use Rattle.dl_turns.proofs.PostedSides.{posted_both}
@@ -32,11 +34,14 @@ use Rattle.dl_turns.specs.Gone.{TellOver}
 use Rattle.dl_rounds.specs.Ready.{AreHeard, AreLinked, KeepsRoom}
 use Rattle.dl_rounds.specs.Shown.{AllShowWhy}
 use Rattle.dl_rounds.specs.declared.listener.Listener.{Listener}
+use Rattle.dl_taking.specs.Drained.{is_claim, is_noted}
+use Rattle.dl_taking.specs.Takes.{AreThere}
 use Rattle.dl_taking.specs.Took.{Took, took_by}
-use Rattle.dl_settling.specs.Room.{IsFew}
+use Rattle.dl_taking.proofs.StayingApps.{NoMessage, still_there}
+use Rattle.dl_settling.specs.Room.{HasFewClaims, IsFew}
 use Rattle.dl_settling.specs.Went.{TellBytes}
 use Rattle.dl_loop.specs.Bounds.{HasBounds}
-use Rattle.dl_loop.specs.Daemon.{IsDaemon, TellTaken, is_noted}
+use Rattle.dl_loop.specs.Daemon.{IsDaemon, TellTaken}
 use Rattle.dl_loop.specs.Holds.{AreTaken, Gives, HoldsIn}
 use Rattle.dl_loop.specs.State.{DaemonState, SameDesk, clients_of, desk_told}
 use Rattle.dl_loop.specs.Told.{IsToldBy}
@@ -45,22 +50,23 @@ use Rattle.dl_loop.proofs.NotedDaemons.{each_tells, noted_later}
 use Rattle.dl_loop.proofs.DeskRest.{later_both, same_apps, same_later, same_reported, same_taken}
 use Rattle.dl_lemmas.proofs.Lists.{there_too}
 
--- ---- events of clients take nothing
+-- ---- events of clients take nothing, and no program tells of itself in them
 
 record TakesNothing (more : List Event) : Type 0 where
-  pub calls : (app : ℕ) → order app more ≡ []
+  pub calls : (app : ℕ) → takes app more ≡ []
   pub losses : (app : ℕ) → reported app more ≡ 0
-  pub unclaimed : (app : ℕ) → claims app more ≡ []
   pub noted : count_by is_noted more ≡ 0
+  pub claimed : count_by is_claim more ≡ 0
+  pub untold : AllByRecursion NoMessage more
 
 of_clients_take_nothing : (more : List Event) → AllByRecursion IsOfClients more → TakesNothing more
-of_clients_take_nothing [] is = record { calls = λ app. refl; losses = λ app. refl; unclaimed = λ app. refl; noted = refl }
+of_clients_take_nothing [] is = record { calls = λ app. refl; losses = λ app. refl; noted = refl; claimed = refl; untold = tt }
 of_clients_take_nothing (event.Request other frame answer ∷ more) is =
-    let rest = of_clients_take_nothing more is.1 in record { calls = rest.calls; losses = rest.losses; unclaimed = rest.unclaimed; noted = rest.noted }
+    let rest = of_clients_take_nothing more is.1 in record { calls = rest.calls; losses = rest.losses; noted = rest.noted; claimed = rest.claimed; untold = (tt, rest.untold) }
 of_clients_take_nothing (event.Level slot level ∷ more) is =
-    let rest = of_clients_take_nothing more is.1 in record { calls = rest.calls; losses = rest.losses; unclaimed = rest.unclaimed; noted = rest.noted }
+    let rest = of_clients_take_nothing more is.1 in record { calls = rest.calls; losses = rest.losses; noted = rest.noted; claimed = rest.claimed; untold = (tt, rest.untold) }
 of_clients_take_nothing (event.Close client cause ∷ more) is =
-    let rest = of_clients_take_nothing more is.1 in record { calls = rest.calls; losses = rest.losses; unclaimed = rest.unclaimed; noted = rest.noted }
+    let rest = of_clients_take_nothing more is.1 in record { calls = rest.calls; losses = rest.losses; noted = rest.noted; claimed = rest.claimed; untold = (tt, rest.untold) }
 of_clients_take_nothing (event.Log app writer call moment ∷ more) is = absurd is.0
 of_clients_take_nothing (event.Claim claim moment ∷ more) is = absurd is.0
 of_clients_take_nothing (event.Lost app count moment ∷ more) is = absurd is.0
@@ -83,7 +89,7 @@ taken_later old new took later taken = λ place link there.
 pub gives_before : (run : Run) (first : Core) (old new : DeskState) → SameDesk old new → Gives run first new.apps new.handles → Gives run first old.apps old.handles
 gives_before run first old new same gives = record {
   begins = gives.begins;
-  frames = λ app. subst (λ items. GivesFrames items run) (same_taken old new same app) (gives.frames app);
+  frames = λ app. subst (λ (items : List RingItem). GivesFrames (calls_in items) run) (same_taken old new same app) (gives.frames app);
   apids = subst (λ apps. (app : ℕ) → At apps app (λ spec. run.apid app ≡ spec.apid)) (same_apps old new same) gives.apids;
 }
 
@@ -97,7 +103,7 @@ module _ {L : Type 0} (told : L → LinkTold) (old : DaemonState L) (is : IsDaem
   -- a run that held goes on with the events and the bytes of a round over clients
   holds_later : (desk : DeskState) (folder : FolderTold) (new : Clients) (stays : StayAsNoted (clients_of told old folder) new) → new.side.desk ≡ desk_told desk → SameDesk old.desk desk
       → (run : Run) → Gives run old.first_core desk.apps desk.handles
-      → HoldsIn (TellTaken told) (TellBytes told) run new.links new.listeners (old.journal.events ++ stays.later.more) new.side.core (desk_told old.first_desk) new.side.desk
+      → HoldsIn (TellTaken told) (TellBytes told) (old.greeted ≡ true) run new.links new.listeners (old.journal.events ++ stays.later.more) new.side.core (desk_told old.first_desk) new.side.desk
   holds_later desk folder new stays told_so same run gives =
       let later = stays.later in
       let holds = is.runs run (gives_before run old.first_core old.desk desk same gives) in record {
@@ -109,6 +115,9 @@ module _ {L : Type 0} (told : L → LinkTold) (old : DaemonState L) (is : IsDaem
         formed = stays_formed old.core later.more later.formed run old.journal.events holds.took holds.after holds.formed;
         posted = λ app. posted_both run.setting [] old.journal.events later.more app (desk_told old.first_desk) (desk_told old.desk) new.side.desk (holds.posted app)
             (later.posts run old.journal.events holds.took holds.after app);
+        there = λ greeted. subst (λ (apps : ℕ). AreThere apps new.side.core.registry) (sym later.desk.apps)
+            (still_there run old.journal.events later.more holds.took (took_all holds.took later.sent) old.core new.side.core (length old.desk.apps) holds.after
+            (later.after run old.journal.events holds.took holds.after).0 (of_clients_take_nothing later.more later.of_clients).untold (holds.there greeted));
       }
 
   -- a daemon is one after it
@@ -126,14 +135,16 @@ module _ {L : Type 0} (told : L → LinkTold) (old : DaemonState L) (is : IsDaem
       record {
         told_by = subst (λ es. IsToldBy es (length desk.apps) desk.handles) (sym events) (subst (λ (specs : List AppSpec). IsToldBy (old.journal.events ++ later.more) (length specs) desk.handles) (sym (same_apps old.desk desk same))
             (told_more old.journal.events later.more (length old.desk.apps) old.desk.handles desk.handles is.told_by
-            (λ app. ap (map name_of) (same_taken old.desk desk same app) ∙ sym (ap (λ xs. map name_of (taken_of old.desk.handles app) ++ xs) (none.calls app) ∙ append-nil _))
+            (λ app. ap (map (told_as app)) (same_taken old.desk desk same app) ∙ sym (ap (λ xs. map (told_as app) (taken_of old.desk.handles app) ++ xs) (none.calls app) ∙ append-nil _))
             (λ app. ap (reported_of app) (same_reported old.desk desk same) ∙ sym (ap (λ n. reported_of app old.desk.handles.losses.reported + n) (none.losses app) ∙ add_none _))
-            (λ app beyond. (none.calls app, none.losses app)) none.unclaimed later.desk.first later.desk.sets));
+            (λ app beyond. (none.calls app, none.losses app)) later.desk.first later.desk.sets));
         linked = linked;
         heard = heard;
         room = record {
           noted = is.room.noted ∙ omega (arith, sum_by-append (λ (e : Event). cond (is_noted e) 1 0) old.journal.events later.more, ap (count_by is_noted) events, none.noted);
+          claimed = is.room.claimed ∙ omega (arith, sum_by-append (λ (e : Event). cond (is_claim e) 1 0) old.journal.events later.more, ap (count_by is_claim) events, none.claimed);
           few = is.room.few;
+          few_claims = is.room.few_claims;
           limit = same_hub.limit ∙ is.room.limit;
           spare = omega (arith, is.room.spare, room, linked.many, is.linked.many, many);
         };
@@ -141,10 +152,12 @@ module _ {L : Type 0} (told : L → LinkTold) (old : DaemonState L) (is : IsDaem
             (subst (λ (rs : List Report). HasBounds old.noted old.core.hub.admitted rs) (sym (same_reported old.desk desk same)) is.bounds);
         few = subst (λ (n : ℕ). IsFew old.noted (took_by desk.handles) n) (sym (ap (λ (specs : List AppSpec). length specs) (same_apps old.desk desk same)))
             (subst (λ (t : Took). IsFew old.noted t (length old.desk.apps)) (sym (same_took_by old.desk desk same)) is.few);
+        few_claims = subst (λ (n : ℕ). HasFewClaims old.claimed (took_by desk.handles) n) (sym (ap (λ (specs : List AppSpec). length specs) (same_apps old.desk desk same)))
+            (subst (λ (t : Took). HasFewClaims old.claimed t (length old.desk.apps)) (sym (same_took_by old.desk desk same)) is.few_claims);
         apps = subst (λ (specs : List AppSpec). length specs ≤ 16) (sym (same_apps old.desk desk same)) is.apps;
         desk = later_both old.first_desk old.desk desk is.desk (same_later old.desk desk same);
         running = running;
-        runs = λ run gives. subst (λ (es : List Event). HoldsIn (TellTaken told) (TellBytes told) run (map told links.links) listeners es core (desk_told old.first_desk) (desk_told desk)) (sym events)
+        runs = λ run gives. subst (λ (es : List Event). HoldsIn (TellTaken told) (TellBytes told) (old.greeted ≡ true) run (map told links.links) listeners es core (desk_told old.first_desk) (desk_told desk)) (sym events)
             (holds_later desk folder (record { links = map told links.links; listeners = listeners; side = side core (desk_told desk) (Some journal.events) folder_now }) stays refl same run gives);
         shown = λ run gives. shows (is.shown run (gives_before run old.first_core old.desk desk same gives));
       }

@@ -15,6 +15,7 @@ pub mod FewEvents
 pub mod TakenSteps
 pub mod FolderEvents
 pub mod FolderSides
+pub mod ListedApps
 pub mod GreetedDaemons
 pub mod TakesTurned
 pub mod GoneRounds

@@ -1,5 +1,5 @@
 -- What is true of a daemon is true of one that was just made.
-use Rattle.std.proofs.Common.{◌≡◌, ◌≤◌, ◌+◌, ℕ, zero, suc, Bool, true, false, List, [], ◌∷◌, Some, None, length, map, replicate, slice_get, append-nil, refl, sym, ap, subst, ◌∙◌, ◌==◌, if◌then◌else◌, arith}
+use Rattle.std.proofs.Common.{◌≡◌, ◌≤◌, ◌+◌, ◌*◌, ℕ, zero, suc, Bool, true, false, List, [], ◌∷◌, Some, None, length, map, replicate, slice_get, append-nil, refl, sym, ap, subst, ◌∙◌, ◌==◌, if◌then◌else◌, arith}
 use Rattle.std.specs.Prelude.{count_by, slice_index_or, unwrap_or}
 use Rattle.std.proofs.lemmas.List.{length-replicate}
 use Rattle.dl_bytes.specs.declared.conf.Stored.{Stored}
@@ -7,7 +7,6 @@ use Rattle.dl_bytes.specs.declared.conf.StoredLevel.{StoredLevel}
 use Rattle.dl_events.specs.declared.event.Event.{Event}
 use Rattle.dl_levels.specs.History.{current_version}
 use Rattle.dl_losses.specs.Losses.{reported_of}
-use Rattle.dl_model.specs.Accounts.{name_of}
 use Rattle.dl_model.specs.Journal.{IsRunning}
 use Rattle.dl_events.specs.Journal.{Journaled}
 use Rattle.dl_outside.specs.Links.{Links}
@@ -20,6 +19,7 @@ use Rattle.dl_slots.specs.Table.{unset}
 use Rattle.dl_bytes.specs.Limits.{client_limit}
 use Rattle.dl_hub.specs.State.{Client, fresh, outbox_of}
 use Rattle.std.specs.Option.{option_and_then}
+use Rattle.dl_lib.specs.Known.{told_as}
 use Rattle.dl_core.specs.Settings.{begun}
 use Rattle.dl_core.specs.State.{Core}
 use Rattle.dl_turns.specs.Events.{IsDeskOf}
@@ -27,10 +27,11 @@ use Rattle.dl_turns.specs.Gone.{TellOver}
 use Rattle.dl_rounds.specs.Ready.{AreHeard, AreLinked, fresh_listener}
 use Rattle.dl_rounds.specs.Shown.{AllShowWhy}
 use Rattle.dl_rounds.specs.declared.listener.Listener.{Listener}
-use Rattle.dl_loop.specs.Daemon.{IsDaemon, TellTaken, is_noted}
+use Rattle.dl_taking.specs.Drained.{is_claim, is_noted}
+use Rattle.dl_loop.specs.Daemon.{IsDaemon, TellTaken}
 use Rattle.dl_loop.specs.Holds.{HoldsIn}
 use Rattle.dl_loop.specs.Made.{IsBegun, IsUntouched}
-use Rattle.dl_loop.specs.State.{desk_told}
+use Rattle.dl_loop.specs.State.{claim_limit, desk_told}
 use Rattle.dl_loop.specs.Told.{IsToldBy}
 use Rattle.dl_loop.proofs.DeskRest.{later_none}
 use Rattle.dl_settling.specs.Went.{TellBytes}
@@ -72,7 +73,7 @@ made_desk level stored desk untouched = record {
 }
 
 pub made_daemon : {L : Type 0} (told : L → LinkTold) (core : Core) (desk : DeskState) (journal : Journaled) (links : Links L) (listeners : List Listener) (calls : ℕ)
-    → IsBegun core → IsUntouched desk → journal.events ≡ [] → links ≡ record { links = []; room = 32 } → listeners ≡ replicate 32 fresh_listener → calls + 64 ≤ journal.spare
+    → IsBegun core → IsUntouched desk → journal.events ≡ [] → links ≡ record { links = []; room = 32 } → listeners ≡ replicate 32 fresh_listener → calls + 2 * claim_limit + 64 ≤ journal.spare
     → IsDaemon told (record {
       core = core;
       desk = desk;
@@ -81,9 +82,11 @@ pub made_daemon : {L : Type 0} (told : L → LinkTold) (core : Core) (desk : Des
       listeners = listeners;
       calls = calls;
       noted = 0;
+      claimed = 0;
       dropped = 0;
       failed = false;
       wanted = false;
+      greeted = false;
       first_core = core;
       first_desk = desk;
     })
@@ -100,18 +103,19 @@ made_daemon told core desk journal links listeners calls begins untouched events
       listeners = listeners;
       calls = calls;
       noted = 0;
+      claimed = 0;
       dropped = 0;
       failed = false;
       wanted = false;
+      greeted = false;
       first_core = c;
       first_desk = desk;
     })) (sym begins.3)
     (record {
       told_by = subst (λ es. IsToldBy es (length desk.apps) desk.handles) (sym events) (record {
-        admitted = λ app. sym (ap (map name_of) (untouched.taken app));
+        admitted = λ app. sym (ap (map (told_as app)) (untouched.taken app));
         losses = λ app. sym (ap (reported_of app) untouched.reported);
         alone = λ app beyond. (refl, refl);
-        unclaimed = λ app. refl;
         first = untouched.first;
         levels = untouched.sets;
       });
@@ -124,20 +128,22 @@ made_daemon told core desk journal links listeners calls begins untouched events
         unused = λ place listener there none. each_fresh 32 place listener there;
         desk_so = made_desk conf.level stored desk untouched;
       });
-      room = record { noted = sym (ap (count_by is_noted) events); few = omega arith; limit = refl; spare = omega (arith, room) };
+      room = record { noted = sym (ap (count_by is_noted) events); claimed = sym (ap (count_by is_claim) events); few = omega arith; few_claims = omega arith; limit = refl; spare = omega (arith, room) };
       bounds = record { few = omega arith; small = λ app. omega (arith, ap (reported_of app) untouched.reported) };
       few = omega arith;
+      few_claims = omega arith;
       apps = untouched.few;
       desk = later_none desk;
       running = subst IsRunning (sym events) refl;
-      runs = λ run gives. subst (λ (es : List Event). HoldsIn (TellTaken told) (TellBytes told) run (map told links.links) listeners es (begun conf stored 0 trace) (desk_told desk) (desk_told desk)) (sym events)
-          (subst (λ (ls : Links _). HoldsIn (TellTaken told) (TellBytes told) run (map told ls.links) listeners [] (begun conf stored 0 trace) (desk_told desk) (desk_told desk)) (sym no_links) (record {
+      runs = λ run gives. subst (λ (es : List Event). HoldsIn (TellTaken told) (TellBytes told) (false ≡ true) run (map told links.links) listeners es (begun conf stored 0 trace) (desk_told desk) (desk_told desk)) (sym events)
+          (subst (λ (ls : Links _). HoldsIn (TellTaken told) (TellBytes told) (false ≡ true) run (map told ls.links) listeners [] (begun conf stored 0 trace) (desk_told desk) (desk_told desk)) (sym no_links) (record {
             took = λ number. [];
             taken = λ tells place link there. absurd cc;
             after = gives.begins;
             noted = λ tells. noted_none run [] (λ number. []) listeners (begun conf stored 0 trace) gives.begins;
             formed = tt;
             posted = λ app. record { took = sym (append-nil _); refused = still _; full = tt };
+            there = λ greeted. absurd (cc greeted);
           }));
       shown = λ run gives. subst (λ (ls : Links _). AllShowWhy (TellOver told) journal.events (begun conf stored 0 trace).hub (map told ls.links)) (sym no_links) (λ number link there gone at. absurd (cc at));
     })

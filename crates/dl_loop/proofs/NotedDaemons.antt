@@ -1,12 +1,13 @@
 -- A daemon's clients stay as its journal has them.
 use Rattle.std.proofs.Common.{◌≡◌, ℕ, ◌+◌, ◌-◌, ◌<◌, ◌≤◌, inl, inr, Bool, true, false, cond, List, [], ◌∷◌, ◌++◌, length, map, slice_get, append-nil, append_assoc, length-append, Option, Some, None, is_some, refl, sym, ap, subst, ◌∙◌, arith}
 use Rattle.std.specs.Prelude.{IsSome, get_or}
-use Rattle.std.specs.List.{AllByRecursion, cons_option}
+use Rattle.std.specs.List.{cons_option}
 use Rattle.std.proofs.lemmas.Bool.{ne_eqb}
 use Rattle.std.proofs.lemmas.Bool.Decides.{eqb_tells}
 use Rattle.std.proofs.lemmas.List.Elements.{filter_map-append}
 use Rattle.std.proofs.lemmas.Option.{slice_get-get_or, slice_get_within}
 use Rattle.dl_bytes.specs.Limits.{message_limit}
+use Rattle.dl_bytes.specs.declared.conf.AppSpec.{AppSpec}
 use Rattle.dl_events.specs.declared.event.Event.{Event}
 use Rattle.dl_events.specs.declared.event.Event.TheVariants as event
 use Rattle.dl_events.specs.declared.event.Why.TheVariants as why
@@ -19,9 +20,6 @@ use Rattle.dl_hub.specs.State.{Client as HubClient, Hub, Waiting, client_of, out
 use Rattle.dl_core.specs.Follows.{IsAfter, Run}
 use Rattle.dl_core.specs.State.{Core}
 use Rattle.dl_core.proofs.Answered.{replies_are}
-use Rattle.dl_admission.specs.Admission.{Admits, AreNoted as AreNotedOf, Entry}
-use Rattle.dl_admission.specs.Part.{Part}
-use Rattle.dl_admission.specs.Slow.{slow_close}
 use Rattle.dl_turns.specs.Sent.{HasCut}
 use Rattle.dl_turns.specs.State.{Side, side}
 use Rattle.dl_rounds.specs.Clients.{Client, Clients, IsClient}
@@ -32,19 +30,17 @@ use Rattle.dl_rounds.specs.declared.listener.Listener.{Listener}
 use Rattle.dl_rounds.proofs.ByPlace.{get_before}
 use Rattle.dl_rounds.proofs.NotedClients.{gone_longer}
 use Rattle.dl_rounds.proofs.Turned.{open_and_gone, placed}
-use Rattle.dl_taking.specs.Drained.{IsOfDrain}
+use Rattle.dl_taking.specs.Drained.{GivesTook, IsDrain}
+use Rattle.dl_taking.specs.Side.{Side as Taking}
+use Rattle.dl_settling.specs.State.{clients_at}
 use Rattle.dl_settling.specs.Went.{TellBytes}
-use Rattle.dl_settling.proofs.NotedDrains.{noted_still}
-use Rattle.dl_settling.proofs.Ready.{replies, same_replies}
-use Rattle.dl_loop.specs.Daemon.{is_noted}
+use Rattle.dl_settling.proofs.NotedDrains.{noted_drain}
 use Rattle.dl_loop.specs.Holds.{AreNoted, AreTaken}
-use Rattle.dl_loop.proofs.TakenEvents.{IsCounted}
 use Rattle.dl_settling.proofs.WentClients.{each_told, did_before}
-use Rattle.dl_lemmas.proofs.Options.{one_is, as_some}
+use Rattle.dl_lemmas.proofs.Options.{one_is}
 use Rattle.dl_settling.proofs.ShownDrains.{outbox_at}
 use Rattle.dl_turns.proofs.HeardSides.{how_many}
-use Rattle.dl_lemmas.proofs.Lists.{empty_of as nothing, all_both, get_end}
-use Rattle.dl_taking.proofs.DrainedEvents.{closes_kinds}
+use Rattle.dl_lemmas.proofs.Lists.{empty_of as nothing, get_end}
 
 -- ---- what links tell
 
@@ -190,38 +186,12 @@ pub noted_connected : (run : Run) (events : List Event) (took : ℕ → List ℕ
 noted_connected run events took old new number c links listeners link next clients open_now unasked many given unused after taken noted = λ desk journal folder.
     connected_so run events took old new number c links listeners link next clients open_now unasked many given unused after taken noted desk journal folder
 
--- ---- calls and losses were taken
+-- ---- calls, claims and losses were taken
 
-of_drain : (e : Event) → is_noted e ≡ true → IsOfDrain e
-of_drain (event.Log app writer call moment) is = tt
-of_drain (event.Lost app count moment) is = tt
-of_drain (event.Claim claim moment) is = absurd cc
-of_drain (event.User channel msg moment) is = absurd cc
-of_drain (event.Level slot level) is = absurd cc
-of_drain (event.Connect client) is = absurd cc
-of_drain (event.Request client frame answer) is = absurd cc
-of_drain (event.Close client cause) is = absurd cc
-
--- Log and Lost events are noted, and Closes of clients that are too slow for them
-pub all_of_drain : (es : List Entry) (more : List Event) → AllByRecursion IsCounted es → AreNotedOf es more → AllByRecursion IsOfDrain more
-all_of_drain [] more all is = subst (AllByRecursion IsOfDrain) (sym is) tt
-all_of_drain (e ∷ es) more all is =
-    subst (AllByRecursion IsOfDrain) (sym is.2) (all_both IsOfDrain (map (slow_close e.need) is.0) (e.event ∷ is.1) (closes_kinds e.need is.0) (of_drain e.event all.0, all_of_drain es is.1 all.1 is.5))
-
-pub noted_taken : (run : Run) (events : List Event) (took : ℕ → List ℕ) {es : List Entry} {Gives : Run → Type 0} {n : ℕ} (old new : Part) (admits : Admits es Gives n old new) → AllByRecursion IsOfDrain admits.more → Gives run
-    → (links : List LinkTold) (listeners : List Listener) → AreNoted run events took links listeners old.core → AreNoted run (events ++ admits.more) took links listeners new.core
-noted_taken run events took old new admits kinds gives links listeners noted = λ desk journal folder.
-    let was_all = noted desk journal folder in record {
-      after = (admits.after run events took gives was_all.after).0;
-      took = was_all.took;
-      each = λ number client at there.
-          let place = placed new.core.hub number there in
-          let back : number - 1 + 1 ≡ number = omega (arith, place.3) in
-          let was : Client = record { link = client.link; listener = client.listener; side = side old.core desk journal folder } in
-          let there_was = as_some replies (client_of old.core.hub number) (client_of new.core.hub number) (same_replies old.core.hub new.core.hub number admits.clients.replies) there in
-          noted_still run events took old new admits kinds gives was_all.after number was client refl (ap (λ (s : Side). s.core) at.side) refl refl
-          (was_all.each number was (record { link = at.link; listener = at.listener; side = refl }) there_was) there (λ bytes is. was_all.took (number - 1) client.link bytes at.link is ∙ ap took back);
-    }
+pub noted_taken : (run : Run) (events : List Event) (took : ℕ → List ℕ) (specs : List AppSpec) (old new : Taking) (drain : IsDrain specs old new) → GivesTook specs new.took run
+    → (links : List LinkTold) (listeners : List Listener) → AreNoted run events took links listeners old.part.core → AreNoted run (events ++ drain.more) took links listeners new.part.core
+noted_taken run events took specs old new drain gives links listeners noted =
+    noted_any run (events ++ drain.more) took (clients_at links listeners new) (noted_drain run events took specs old new links listeners drain gives (noted old.desk old.part.events old.part.folder))
 
 -- ---- the links of clients that are gone were shut
 

@@ -1,14 +1,17 @@
 -- What a round was to each client that is still open after it.
-use Rattle.std.proofs.Common.{◌≡◌, ℕ, zero, suc, ◌+◌, ◌-◌, inl, inr, Bool, List, Option, Some, None, length, map, slice_get, refl, sym, ap, subst, ◌∙◌, arith}
+use Rattle.std.proofs.Common.{◌≡◌, ℕ, zero, suc, ◌+◌, ◌-◌, ◌<◌, ◌≤◌, inl, inr, Bool, List, [], ◌∷◌, Option, Some, None, length, map, slice_get, refl, sym, ap, subst, ◌∙◌, arith}
 use Rattle.std.specs.Prelude.{IsSome, IsSomeAnd, IfSome}
 use Rattle.std.specs.Option.{option_and_then}
 use Rattle.std.proofs.lemmas.Bool.Decides.{eqb_tells}
 use Rattle.std.proofs.lemmas.List.{length-map}
+use Rattle.dl_bytes.specs.declared.conf.AppSpec.{AppSpec}
 use Rattle.dl_events.specs.declared.event.Why.{Why}
 use Rattle.dl_outside.specs.Links.{Links}
 use Rattle.dl_outside.specs.Outside.{HasRisen, Stays}
 use Rattle.dl_outside.specs.Told.{LinkTold, NetTold}
 use Rattle.dl_hub.specs.State.{Client as HubClient, outbox_of}
+use Rattle.dl_taking.specs.declared.taking.Got.{Got}
+use Rattle.dl_taking.proofs.DrainedEvents.{step_drain}
 use Rattle.dl_turns.specs.State.{Side, side}
 use Rattle.dl_turns.specs.Turns.{HasGiven}
 use Rattle.dl_rounds.specs.Clients.{Client, Clients, VisitsAll}
@@ -18,11 +21,13 @@ use Rattle.dl_rounds.specs.Visits.{Heard, HearsAll, Pumped, ShutsFor}
 use Rattle.dl_rounds.specs.declared.listener.Listener.{Listener}
 use Rattle.dl_rounds.proofs.OneClient.{but_pump}
 use Rattle.dl_loop.specs.RoundSteps.{Serves}
-use Rattle.dl_loop.specs.Scene.{Scene}
+use Rattle.dl_loop.specs.Scene.{Scene, taking_of}
 use Rattle.dl_loop.specs.State.{DaemonState, clients_of, desk_told}
-use Rattle.dl_loop.specs.Takes.{TakesLossesIfMay, TakesTurns}
+use Rattle.dl_loop.specs.Takes.{TakesLossesIfMay, TakesOn, TakesTurns, found_none, gave, most_of}
 use Rattle.dl_loop.specs.declared.round.Round.{Round}
+use Rattle.dl_loop.proofs.TakenDaemons.{taken_apps}
 use Rattle.dl_loop.proofs.TakenEvents.{open_before}
+use Rattle.dl_loop.proofs.TakesTurned.{turn_same}
 use Rattle.dl_loop.proofs.Visited.{visits_keep}
 use Rattle.dl_rounds.proofs.VisitedClients.{same_link}
 
@@ -89,6 +94,18 @@ record LeavesClients {L : Type 0} (old new : Scene L) : Type 0 where
 leaves_both : {L : Type 0} (a b c : Scene L) → LeavesClients a b → LeavesClients b c → LeavesClients a c
 leaves_both a b c one two = record { links = two.links ∙ one.links; open_so = λ number some. one.open_so number (two.open_so number some) }
 
+-- calls and a claim, and then more
+leaves_on : {L : Type 0} (app done : ℕ) (empty : Bool) (gots : List Got) (old new : Scene L) → app < length old.daemon.desk.apps → TakesOn app done empty gots old new → LeavesClients old new
+leaves_on app done empty [] old new within none = subst (λ (s : Scene _). LeavesClients old s) (sym none.1) (record { links = refl; open_so = λ number is. is })
+leaves_on app done empty (got ∷ gots) old new within some =
+    let next = some.1 in
+    let drain = (step_drain old.daemon.desk.apps app _ got (taking_of old) (taking_of next) within some.2.takes).drain in
+    let same : next.daemon.desk.apps ≡ old.daemon.desk.apps = taken_apps old.daemon.desk next.daemon.desk some.2.desk in
+    leaves_both old next new (record {
+      links = ap (λ (d : DaemonState _). d.links) some.2.rest;
+      open_so = λ number is. open_before drain.more old.daemon.core.hub next.daemon.core.hub drain.clients number is;
+    }) (leaves_on app (done + gave got) (found_none (most_of done old.daemon) got) gots next new (subst (λ (specs : List AppSpec). app < length specs) (sym same) within) some.3)
+
 leaves_losses : {L : Type 0} (app : ℕ) (old new : Scene L) → TakesLossesIfMay app old new → LeavesClients old new
 leaves_losses app old new (inl some) = record {
   links = ap (λ (d : DaemonState _). d.links) some.2.rest;
@@ -96,14 +113,13 @@ leaves_losses app old new (inl some) = record {
 }
 leaves_losses app old new (inr none) = subst (λ (s : Scene _). LeavesClients old s) (sym none.1) (record { links = refl; open_so = λ number is. is })
 
-leaves_turns : {L : Type 0} (first many : ℕ) (old new : Scene L) → TakesTurns first many old new → LeavesClients old new
-leaves_turns first zero old new same = subst (λ (s : Scene _). LeavesClients old s) (sym same) (record { links = refl; open_so = λ number is. is })
-leaves_turns first (suc many) old new turns =
+leaves_turns : {L : Type 0} (first many : ℕ) (old new : Scene L) → first + many ≤ length old.daemon.desk.apps → TakesTurns first many old new → LeavesClients old new
+leaves_turns first zero old new within same = subst (λ (s : Scene _). LeavesClients old s) (sym same) (record { links = refl; open_so = λ number is. is })
+leaves_turns first (suc many) old new within turns =
     let turn = turns.1 in
-    leaves_both old turn.between new (record {
-      links = ap (λ (d : DaemonState _). d.links) turn.calls.rest;
-      open_so = λ number is. open_before turn.calls.takes.logs.more old.daemon.core.hub turn.between.daemon.core.hub turn.calls.takes.logs.clients number is;
-    }) (leaves_both turn.between turns.0 new (leaves_losses first turn.between turns.0 turn.losses) (leaves_turns (first + 1) many turns.0 new turns.2))
+    let next : first + 1 + many ≤ length turns.0.daemon.desk.apps = omega (arith, within, ap (λ (specs : List AppSpec). length specs) (turn_same first old turn.between turns.0 turn.calls turn.losses).apps) in
+    leaves_both old turn.between new (leaves_on first 0 _ turn.calls.0 old turn.between (omega (arith, within)) turn.calls.1)
+    (leaves_both turn.between turns.0 new (leaves_losses first turn.between turns.0 turn.losses) (leaves_turns (first + 1) many turns.0 new next turns.2))
 
 -- ---- the round
 
@@ -134,7 +150,7 @@ module _ (heard_each : (moved : Bool) (old new : Clients) → HearsAll moved old
       (omega (arith, length-map round.taken.daemon.links.links told, length-map round.taken.daemon.links.links (λ (link : L). fresh_listener)))
 
   left : LeavesClients round.heard round.taken
-  left = leaves_turns 0 (length round.heard.daemon.desk.apps) round.heard round.taken round.takes
+  left = leaves_turns 0 (length round.heard.daemon.desk.apps) round.heard round.taken (omega arith) round.takes
 
   open_heard : (number : ℕ) → IsSome (outbox_of new.daemon.core.hub number) → IsSome (outbox_of round.heard.daemon.core.hub number)
   open_heard number some = left.open_so number (pumped_open round.pumps.0 before after visits number some)

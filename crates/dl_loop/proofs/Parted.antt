@@ -59,9 +59,10 @@ part_is {L} told old new is parts =
         room = is.linked.room;
       };
       heard = is.heard;
-      room = record { noted = is.room.noted; few = is.room.few; limit = is.room.limit; spare = is.room.spare };
+      room = record { noted = is.room.noted; claimed = is.room.claimed; few = is.room.few; few_claims = is.room.few_claims; limit = is.room.limit; spare = is.room.spare };
       bounds = is.bounds;
       few = is.few;
+      few_claims = is.few_claims;
       apps = is.apps;
       desk = is.desk;
       running = is.running;
@@ -75,6 +76,7 @@ part_is {L} told old new is parts =
                 (taken_parted old.core.hub (map told old.links.links) (map told new.links.links) holds.took parts.shuts (holds.taken (λ l. (tells l).1))) (holds.noted tells);
             formed = holds.formed;
             posted = holds.posted;
+            there = holds.there;
           };
       shown = λ run gives. shown_parted old.journal.events old.core.hub (map told old.links.links) (map told new.links.links) parts.shuts (is.shown run gives);
     })
@@ -99,6 +101,7 @@ goes_parts {L} told net folder old new parts =
         folder = λ run gives. folder_none run.setting old.journal.events (end_of old.core.trace) folder;
       };
       of_round = tt;
+      greeted = refl;
       net_later = net_none net;
       dropped = inl refl;
     })

@@ -1,9 +1,10 @@
 -- What a daemon's step says, where the daemon before it is told by its fields.
-use Rattle.std.proofs.Common.{◌≡◌, ℕ, ◌+◌, ◌-◌, ◌<◌, Bool, cond, eqb, inl, inr, List, [], ◌∷◌, ◌++◌, Some, length, map, take, drop, refl, sym, ap, subst, ◌∙◌, arith}
+use Rattle.std.proofs.Common.{◌≡◌, ℕ, ◌+◌, ◌-◌, ◌<◌, Bool, true, false, not, nat_lt, ltb-true, cond, eqb, inl, inr, List, [], ◌∷◌, ◌++◌, Some, length, map, take, drop, refl, sym, ap, subst, ◌∙◌, arith}
+use mir.Val.{bool_byte}
 use Rattle.std.proofs.lemmas.Bool.Decides.{eqb_tells}
 use Rattle.dl_outside.specs.Told.{FolderTold, LinkTold, NetTold}
-use Rattle.dl_taking.specs.Takes.{TakesSome}
-use Rattle.dl_taking.specs.Took.{empties_of}
+use Rattle.dl_thread_rules.specs.Views.{bit}
+use Rattle.dl_taking.specs.declared.taking.Got.{Got}
 use Rattle.dl_turns.specs.State.{side}
 use Rattle.dl_rounds.specs.Clients.{Clients}
 use Rattle.dl_rounds.specs.Visits.{Heard, HearsAll}
@@ -11,11 +12,12 @@ use Rattle.dl_rounds.specs.declared.accepting.Arrival.{Arrival}
 use Rattle.dl_rounds.specs.declared.listener.Listener.{Listener}
 use Rattle.dl_rounds.proofs.ByPlace.{set_length}
 use Rattle.dl_loop.specs.RoundSteps.{AcceptsIfMay}
-use Rattle.dl_loop.specs.Scene.{scene, taking_of}
+use Rattle.dl_loop.specs.Scene.{scene}
 use Rattle.dl_loop.specs.State.{DaemonState, SameDesk, clients_of, desk_told}
 use Rattle.dl_loop.specs.Steps.{Hears, Parts, Pumps}
-use Rattle.dl_loop.specs.Takes.{SameButTaken, TakesCalls, most_of}
+use Rattle.dl_loop.specs.Takes.{TakesSomeOf, found_none, gave}
 use Rattle.dl_loop.proofs.Visited.{visits_keep}
+use Rattle.dl_lemmas.proofs.Bools.{both}
 
 module _ {L : Type 0} (told : L → LinkTold) (shown old new : DaemonState L) (is : shown ≡ old) where
   pub accepts_seen : (came : Arrival) (net net_now : NetTold L) → AcceptsIfMay told came net net_now shown new → AcceptsIfMay told came net net_now old new
@@ -60,22 +62,24 @@ heard_length moved old new hears = visits_keep Heard (λ (c : Clients). length c
 
 -- ---- taking
 
-pub calls_of : {L : Type 0} (app count most : ℕ) (folder folder_now : FolderTold) (old new : DaemonState L) → most ≡ most_of old
-    → TakesSome app most count (taking_of (scene old folder)) (taking_of (scene new folder_now)) → (count < most → empties_of new.desk.handles app ≡ empties_of old.desk.handles app + 1)
-    → desk_told new.desk ≡ desk_told old.desk → SameButTaken old.desk new.desk → new.noted ≡ old.noted + count
-    → new ≡ record old { core = new.core; desk = new.desk; journal = new.journal; noted = new.noted } → TakesCalls app count (scene old folder) (scene new folder_now)
-calls_of app count most folder folder_now old new is takes empty same desk noted rest = record {
-  takes = subst (λ n. TakesSome app n count (taking_of (scene old folder)) (taking_of (scene new folder_now))) is takes;
-  empty = subst (λ n. count < n → empties_of new.desk.handles app ≡ empties_of old.desk.handles app + 1) is empty;
-  told = same;
-  desk = desk;
-  noted = noted;
-  rest = rest;
-}
+pub some_seen : {L : Type 0} (app most : ℕ) (got : Got) (folder folder_now : FolderTold) (shown old new : DaemonState L) → shown ≡ old → TakesSomeOf app most got (scene shown folder) (scene new folder_now)
+    → TakesSomeOf app most got (scene old folder) (scene new folder_now)
+some_seen app most got folder folder_now shown old new is some = subst (λ (d : DaemonState _). TakesSomeOf app most got (scene d folder) (scene new folder_now)) is some
 
-pub calls_seen : {L : Type 0} (app count : ℕ) (folder folder_now : FolderTold) (shown old new : DaemonState L) → shown ≡ old → TakesCalls app count (scene shown folder) (scene new folder_now)
-    → TakesCalls app count (scene old folder) (scene new folder_now)
-calls_seen app count folder folder_now shown old new is calls = subst (λ (d : DaemonState _). TakesCalls app count (scene d folder) (scene new folder_now)) is calls
+-- fewer takes gave than might, and no claim came: so the ring was found empty
+pub none_came : (most : ℕ) (got : Got) → found_none most got ≡ true → (got.claimed ≡ false) × (got.calls < most)
+none_came most got is =
+    let parts = both (nat_lt (gave got) most) (not got.claimed) is in
+    let fewer = ltb-true (gave got) most parts.0 in
+    (unclaimed got.claimed parts.1, omega (arith, fewer)) where
+      unclaimed : (b : Bool) → not b ≡ true → b ≡ false
+      unclaimed true is = sym is
+      unclaimed false is = refl
+
+-- a truth value as a number
+pub as_bit : (b : Bool) → bool_byte b ≡ bit b
+as_bit true = refl
+as_bit false = refl
 
 -- one more is noted where there are losses, and none where there are none
 pub one_noted : (noted count : ℕ) → (count ≡ 0 → ⊥) → noted + 1 ≡ noted + cond (eqb count 0) 0 1

@@ -51,8 +51,14 @@ module _ (L : RattleType) (g : Ghosts L.Denot) where
                             (
                               search sendable,
                               (
-                                global.the_field_send,
-                                (snapshot_send Core.the_row, (snapshot_send Desk.the_row, tt)),
+                                search sendable,
+                                (
+                                  search sendable,
+                                  (
+                                    global.the_field_send,
+                                    (snapshot_send Core.the_row, (snapshot_send Desk.the_row, tt)),
+                                  ),
+                                ),
                               ),
                             ),
                           ),

@@ -1,5 +1,5 @@
 -- A daemon that stops.
-use Rattle.std.proofs.Common.{◌≡◌, ℕ, zero, suc, ◌-◌, ◌^◌, ◌<◌, ◌≤◌, List, [], ◌∷◌, ◌++◌, length, map, slice_get, Option, Some, refl, sym, ap, ◌∙◌, subst, arith}
+use Rattle.std.proofs.Common.{◌≡◌, ℕ, zero, suc, ◌+◌, ◌-◌, ◌^◌, ◌<◌, ◌≤◌, true, List, [], ◌∷◌, ◌++◌, length, map, slice_get, Option, Some, refl, sym, ap, ◌∙◌, subst, arith}
 use Rattle.std.specs.Prelude.{◌↔◌, IsSome, All, unwrap_or}
 use Rattle.std.specs.Option.{option_map}
 use Rattle.std.specs.List.{filter_map}
@@ -10,16 +10,18 @@ use Rattle.dl_bytes.specs.declared.outcome.Ends.{Ends}
 use Rattle.dl_events.specs.declared.event.Event.{Event}
 use Rattle.dl_levels.specs.declared.history.Change.{Change}
 use Rattle.dl_losses.specs.Losses.{reported_of}
-use Rattle.dl_model.specs.Accounts.{name_of}
 use Rattle.dl_model.specs.Journal.{IsOpen, IsWellFormed}
 use Rattle.dl_outside.specs.Links.{Links}
 use Rattle.dl_outside.specs.Told.{FolderTold, LinkTold}
+use Rattle.dl_ring.specs.declared.item.RingItem.{RingItem}
+use Rattle.dl_ring.specs.Items.{calls_in}
+use Rattle.dl_ring.proofs.Items.{calls_in-append}
 use Rattle.dl_writer.specs.State.{BookState, IsWhole}
 use Rattle.dl_desk.specs.Lists.{At}
 use Rattle.dl_desk.specs.State.{DeskState}
 use Rattle.dl_desk.specs.Told.{PostTold}
 use Rattle.dl_desk.specs.declared.app_handles.AppHandles.{AppHandles}
-use Rattle.dl_lib.specs.Known.{AreGathered, taken_of}
+use Rattle.dl_lib.specs.Known.{AreGathered, taken_of, told_as}
 use Rattle.dl_lib.specs.Making.{IsMadeOf, KeepsDesk}
 use Rattle.dl_lib.specs.State.{AccountState, ClosingState}
 use Rattle.dl_hub.specs.State.{outbox_of}
@@ -29,8 +31,8 @@ use Rattle.dl_core.specs.State.{Core}
 use Rattle.dl_folders.specs.Later.{IsFolderLater}
 use Rattle.dl_admission.specs.Kept.{end_of}
 use Rattle.dl_taking.specs.Drained.{GivesTook}
-use Rattle.dl_taking.specs.Draining.{closing_told, closing_took}
-use Rattle.dl_taking.specs.Takes.{TellAllTaken}
+use Rattle.dl_taking.specs.Draining.{all_claims_left, closing_told, closing_took}
+use Rattle.dl_taking.specs.Takes.{AreThere, TellAllTaken}
 use Rattle.dl_taking.specs.Took.{Took, took_by}
 use Rattle.dl_turns.specs.Gone.{TellOver}
 use Rattle.dl_turns.specs.Injected.{HasPosted}
@@ -40,12 +42,12 @@ use Rattle.dl_rounds.specs.Passing.{AreAsNoted, took_all}
 use Rattle.dl_rounds.specs.Ready.{AreHeard}
 use Rattle.dl_rounds.specs.Shown.{AllShowWhy}
 use Rattle.dl_settling.specs.Ends.{ends_in}
-use Rattle.dl_settling.specs.Room.{IsFew, together}
+use Rattle.dl_settling.specs.Room.{HasFewClaims, IsFew, together}
 use Rattle.dl_settling.specs.Settling.{Settles}
 use Rattle.dl_settling.specs.State as stopping
 use Rattle.dl_settling.specs.Stopped.{IsStop, account_told, account_took}
 use Rattle.dl_settling.specs.Went.{HaveEnded, HaveGone, TellBytes, TellStreams}
-use Rattle.dl_settling.proofs.Rooms.{left_fits}
+use Rattle.dl_settling.proofs.Rooms.{claims_left_fit, left_fits}
 use Rattle.dl_settling.proofs.WentClients.{streams_told}
 use Rattle.dl_loop.specs.Daemon.{IsDaemon}
 use Rattle.dl_loop.specs.Holds.{Gives}
@@ -84,19 +86,30 @@ module _ (desk : DeskState) (closing : ClosingState) (keeps : KeepsDesk desk clo
 
 -- ---- what a stop asks
 
+-- all claims have places
+pub claims_fit : {L : Type 0} (told : L → LinkTold) (d : DaemonState L) (books : List BookState) (closing : ClosingState) → IsDaemon told d → IsMadeOf d.desk books closing → AreGathered closing
+    → d.claimed + all_claims_left closing ≤ 1024
+claims_fit told d books closing is made gathered =
+    let apps : length closing.apps ≡ length d.desk.apps = ap (λ (specs : List AppSpec). length specs) made.kept.apps in
+    claims_left_fit closing d.claimed gathered (omega (arith, apps, is.apps))
+    (subst (λ (n : ℕ). HasFewClaims d.claimed (closing_took closing) n) (sym apps) (subst (λ (t : Took). HasFewClaims d.claimed t (length d.desk.apps)) (sym (took_kept d.desk closing made.kept)) is.few_claims))
+
 pub may_stop : {L : Type 0} (told : L → LinkTold) (d : DaemonState L) (books : List BookState) (closing : ClosingState) → IsDaemon told d → IsFew d.noted (took_by d.desk.handles) (length d.desk.apps)
-    → d.calls < 2 ^ 32 → IsMadeOf d.desk books closing → AreGathered closing → All IsWhole closing.books → together closing.books ≤ d.calls → MayStop d closing (d.calls - d.noted)
+    → d.calls < 2 ^ 32 → IsMadeOf d.desk books closing → AreGathered closing → All IsWhole closing.books → together closing.books ≤ d.calls → MayStop d closing (d.calls - d.noted) (1024 - d.claimed)
 may_stop told d books closing is few calls made gathered whole fits =
     let apps : length closing.apps ≡ length d.desk.apps = ap (λ (specs : List AppSpec). length specs) made.kept.apps in
+    let took = took_kept d.desk closing made.kept in
     let few_so : IsFew d.noted (closing_took closing) (length closing.apps) =
-    subst (λ (n : ℕ). IsFew d.noted (closing_took closing) n) (sym apps) (subst (λ (t : Took). IsFew d.noted t (length d.desk.apps)) (sym (took_kept d.desk closing made.kept)) few) in
+    subst (λ (n : ℕ). IsFew d.noted (closing_took closing) n) (sym apps) (subst (λ (t : Took). IsFew d.noted t (length d.desk.apps)) (sym took) few) in
     let left = left_fits closing d.noted d.calls gathered whole fits few_so in
+    let claims = claims_fit told d books closing is made gathered in
     let admitted = bounds_few d.noted d.core.hub.admitted d.desk.handles.losses.reported is.bounds (omega (arith, calls, is.room.few)) in
     record {
       apps = omega (arith, apps, is.apps);
       clients = omega (arith, is.room.limit);
       enough = omega (arith, left);
-      may = record { spare_so = omega (arith, is.room.spare); few = omega (arith, admitted, calls, apps, is.apps) };
+      enough_claims = omega (arith, claims);
+      may = record { spare_so = omega (arith, is.room.spare, claims); few = omega (arith, admitted, calls, apps, is.apps) };
       linked = is.linked;
       heard = subst (AreHeard d.listeners d.core) (sym (told_kept d.desk closing made.kept)) is.heard;
     }
@@ -104,7 +117,7 @@ may_stop told d books closing is few calls made gathered whole fits =
 -- ---- what it leaves
 
 module _ {L : Type 0} (told : L → LinkTold) (d : DaemonState L) (books : List BookState) (closing : ClosingState) (account : AccountState) (links : Links L) (folder folder_now : FolderTold)
-    (core : Core) (is : IsDaemon told d) (made : IsMadeOf d.desk books closing) (stop : IsStop told d.dropped core (stopping_of d closing) account links folder folder_now)
+    (core : Core) (is : IsDaemon told d) (greeted : d.greeted ≡ true) (made : IsMadeOf d.desk books closing) (stop : IsStop told d.dropped core (stopping_of d closing) account links folder folder_now)
     (went : (run : Run) (taken : ℕ → List ℕ) → TellBytes told → GivesTook account.apps (account_took account) run → AreAsNoted run d.journal.events taken (stopping.clients_of told (stopping_of d closing) folder)
     → HaveGone run account.events (map told links.links) account.outcome.links)
     (ended : (run : Run) (taken : ℕ → List ℕ) → GivesTook account.apps (account_took account) run → IsAfter run d.journal.events taken d.core
@@ -122,7 +135,7 @@ module _ {L : Type 0} (told : L → LinkTold) (d : DaemonState L) (books : List 
 
   tells : TellAllTaken account.events (account_took account)
   tells = subst (λ (es : List Event). TellAllTaken es (account_took account)) (sym stop.events)
-      (stop.tells d.journal.events (subst (TellAllTaken d.journal.events) (sym took_so) (record { admitted = is.told_by.admitted; losses = is.told_by.losses; unclaimed = is.told_by.unclaimed })))
+      (stop.tells d.journal.events (subst (TellAllTaken d.journal.events) (sym took_so) (record { admitted = is.told_by.admitted; losses = is.told_by.losses })))
 
   told_by_so : IsToldBy account.events (length account.apps) account.handles
   told_by_so = record {
@@ -131,10 +144,9 @@ module _ {L : Type 0} (told : L → LinkTold) (d : DaemonState L) (books : List 
     alone = λ app beyond.
         let other = stop.others app beyond in
         let before = is.told_by.alone app (subst (λ (specs : List AppSpec). length specs ≤ app) apps_so beyond) in (
-          tells.admitted app ∙ ap (map name_of) (other.0 ∙ ap (λ (t : Took). t.taken app) took_so) ∙ sym (is.told_by.admitted app) ∙ before.0,
+          tells.admitted app ∙ ap (map (told_as app)) (other.0 ∙ ap (λ (t : Took). t.taken app) took_so) ∙ sym (is.told_by.admitted app) ∙ before.0,
           tells.losses app ∙ other.1 ∙ ap (λ (t : Took). reported_of app t.reported) took_so ∙ sym (is.told_by.losses app) ∙ before.1,
         );
-    unclaimed = tells.unclaimed;
     first = stop.first ∙ made.kept.first ∙ is.told_by.first;
     levels = stop.sets ∙ ap (λ (cs : List Change). cs ++ filter_map level_in stop.more) (made.kept.sets ∙ is.told_by.levels) ∙ sym (filter_map-append level_in d.journal.events stop.more)
         ∙ ap (filter_map level_in) (sym stop.events);
@@ -145,8 +157,9 @@ module _ {L : Type 0} (told : L → LinkTold) (d : DaemonState L) (books : List 
     begins = gives.begins;
     frames = λ app.
         let more = stop.taken_more app in
-        all_first (λ item. GivesFrame item run) (taken_of d.desk.handles app) more.0
-        (subst (λ (items : List Item). GivesFrames items run) (more.1 ∙ ap (λ (t : Took). t.taken app ++ more.0) took_so) (gives.frames app));
+        all_first (λ (item : Item). GivesFrame item run) (calls_in (taken_of d.desk.handles app)) (calls_in more.0)
+        (subst (λ (items : List Item). GivesFrames items run)
+        (ap (λ (xs : List RingItem). calls_in xs) (more.1 ∙ ap (λ (t : Took). t.taken app ++ more.0) took_so) ∙ calls_in-append (taken_of d.desk.handles app) more.0) (gives.frames app));
     apids = subst (λ (specs : List AppSpec). (app : ℕ) → At specs app (λ spec. run.apid app ≡ spec.apid)) apps_so gives.apids;
   }
 
@@ -162,7 +175,7 @@ module _ {L : Type 0} (told : L → LinkTold) (d : DaemonState L) (books : List 
       record {
         took = taken;
         after = after;
-        formed = subst (IsWellFormed run.setting (source_of run)) events (on.formed is.running holds.formed);
+        formed = subst (IsWellFormed run.setting (source_of run)) events (on.formed (subst (λ (t : PostTold). AreThere t.apps d.core.registry) (sym told_so) (holds.there greeted)) is.running holds.formed);
         none_open = λ client open_so. not_some (outbox_of core.hub client) (stop.none_open client) ((outbox run account.events taken core client after).1 open_so);
         posted = λ app. subst (λ (es : List Event). HasPosted run.setting [] es app (desk_told d.first_desk) (account_told account)) events
             (posted_both run.setting [] d.journal.events stop.more app (desk_told d.first_desk) (desk_told d.desk) (account_told account) (holds.posted app)

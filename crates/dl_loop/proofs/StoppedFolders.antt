@@ -1,10 +1,8 @@
 -- What becomes of the folder at the daemon's stop.
-use Rattle.std.proofs.Common.{◌≡◌, ℕ, List, [], ◌∷◌, ◌++◌, Option, Some, None, refl, sym, ap, subst, ◌∙◌, append_assoc}
-use Rattle.std.specs.List.{AllByRecursion}
+use Rattle.std.proofs.Common.{◌≡◌, ℕ, List, ◌++◌, Option, Some, None, refl, sym, ap, subst, ◌∙◌, append_assoc}
 use Rattle.dl_bytes.specs.declared.conf.AppSpec.{AppSpec}
 use Rattle.dl_bytes.specs.declared.outcome.TraceEnd.{TraceEnd}
 use Rattle.dl_events.specs.declared.event.Event.{Event}
-use Rattle.dl_events.specs.declared.event.Event.TheVariants as event
 use Rattle.dl_outside.specs.Links.{Links}
 use Rattle.dl_outside.specs.Told.{FolderTold, LinkTold}
 use Rattle.dl_trace.specs.State.{Trace}
@@ -17,7 +15,7 @@ use Rattle.dl_folders.specs.Later.{IsFolderLater}
 use Rattle.dl_folders.proofs.LaterFolders.{folder_both}
 use Rattle.dl_folders.proofs.LeftFiles.{leaves_both}
 use Rattle.dl_admission.specs.Kept.{end_of}
-use Rattle.dl_taking.specs.Drained.{GivesTook, IsDrain, IsOfDrain}
+use Rattle.dl_taking.specs.Drained.{GivesTook, IsDrain}
 use Rattle.dl_taking.specs.Draining.{closing_took}
 use Rattle.dl_taking.specs.Took.{Took}
 use Rattle.dl_taking.proofs.DrainedEvents.{all_drain}
@@ -26,10 +24,10 @@ use Rattle.dl_settling.specs.Ends.{ends_of, trace_told}
 use Rattle.dl_settling.specs.Settling.{Closes, Drains, Settles}
 use Rattle.dl_settling.specs.State.{Stopping, clients_of, taking_of}
 use Rattle.dl_settling.specs.Stopped.{account_took}
-use Rattle.dl_settling.proofs.NoRequests.{AsksNothing}
 use Rattle.dl_settling.proofs.StoppedEvents.{same_took}
 use Rattle.dl_loop.proofs.FolderEvents.{folder_kept, leaves_kept}
 use Rattle.dl_loop.proofs.FolderSides.{FolderGoesOn, closed_on}
+use Rattle.dl_loop.proofs.TakenEvents.{drain_asks}
 
 -- ---- what a trace tells
 
@@ -47,17 +45,6 @@ pub record FolderStops {L : Type 0} (old : Stopping L) (core : Core) (account : 
   pub events : account.events ≡ old.journal.events ++ more
   pub later : (run : Run) (past : List Event) (taken : ℕ → List ℕ) → GivesTook account.apps (account_took account) run → IsAfter run past taken old.core
       → IsFolderLater run.setting past more (end_of old.core.trace) account.outcome.trace.end folder folder_now
-
-drained_asks : (more : List Event) → AllByRecursion IsOfDrain more → AllByRecursion AsksNothing more
-drained_asks [] is = tt
-drained_asks (event.Log app writer call moment ∷ more) is = (tt, drained_asks more is.1)
-drained_asks (event.Lost app count moment ∷ more) is = (tt, drained_asks more is.1)
-drained_asks (event.Close client cause ∷ more) is = (tt, drained_asks more is.1)
-drained_asks (event.Claim claim moment ∷ more) is = absurd is.0
-drained_asks (event.User channel msg moment ∷ more) is = absurd is.0
-drained_asks (event.Level slot level ∷ more) is = absurd is.0
-drained_asks (event.Connect client ∷ more) is = absurd is.0
-drained_asks (event.Request client frame answer ∷ more) is = absurd is.0
 
 module _ {L : Type 0} (told : L → LinkTold) (takes : WhatLinksTake) (dropped : ℕ) (old drained closed : Stopping L) (folder between folder_now : FolderTold)
     (drain : Drains old drained folder between) (closes : Closes told drained closed between folder_now) where
@@ -77,19 +64,19 @@ module _ {L : Type 0} (told : L → LinkTold) (takes : WhatLinksTake) (dropped :
 
   stops : FolderStops old closed.core (account_of closed.closing closed.journal.events (ends_of closed.core dropped)) folder folder_now
   stops =
-      let drained_events : drained.journal.events ≡ old.journal.events ++ first.admits.more = cc first.admits.events in
+      let drained_events : drained.journal.events ≡ old.journal.events ++ first.more = cc first.events in
       let closed_events : closed.journal.events ≡ drained.journal.events ++ on.0 = cc on.1.events in
       record {
         trace = refl;
-        leaves = leaves_both old.core drained.core closed.core folder between folder_now (leaves_kept old.core drained.core folder between first.admits.trace) on.1.leaves;
-        more = first.admits.more ++ on.0;
-        events = closed_events ∙ ap (λ (es : List Event). es ++ on.0) drained_events ∙ append_assoc old.journal.events first.admits.more on.0;
+        leaves = leaves_both old.core drained.core closed.core folder between folder_now (leaves_kept old.core drained.core folder between first.trace) on.1.leaves;
+        more = first.more ++ on.0;
+        events = closed_events ∙ ap (λ (es : List Event). es ++ on.0) drained_events ∙ append_assoc old.journal.events first.more on.0;
         later = λ run past taken gives is.
-            let one = first.admits.after run past taken (gives_first run gives) is in
-            subst (λ (e : Option TraceEnd). IsFolderLater run.setting past (first.admits.more ++ on.0) (end_of old.core.trace) e folder folder_now) (told_end closed.core.trace)
-            (folder_both run.setting past first.admits.more on.0 (end_of old.core.trace) (end_of drained.core.trace) (end_of closed.core.trace) folder between folder_now
-            (folder_kept old.core.trace drained.core.trace folder between first.admits.trace run.setting past first.admits.more (drained_asks first.admits.more first.kinds))
-            (on.1.later run (past ++ first.admits.more) taken one.0));
+            let one = first.after run past taken (gives_first run gives) is in
+            subst (λ (e : Option TraceEnd). IsFolderLater run.setting past (first.more ++ on.0) (end_of old.core.trace) e folder folder_now) (told_end closed.core.trace)
+            (folder_both run.setting past first.more on.0 (end_of old.core.trace) (end_of drained.core.trace) (end_of closed.core.trace) folder between folder_now
+            (folder_kept old.core.trace drained.core.trace folder between first.trace run.setting past first.more (drain_asks first.more first.kinds))
+            (on.1.later run (past ++ first.more) taken one.0));
       }
 
 pub folder_stops : {L : Type 0} (told : L → LinkTold) (dropped : ℕ) (old : Stopping L) (account : AccountState) (links : Links L) (folder folder_now : FolderTold) → WhatLinksTake

@@ -3,16 +3,15 @@ use Rattle.std.proofs.Common.{◌≡◌, ℕ, ◌+◌, ◌==◌, ◌≤◌, Bool
 use Rattle.std.proofs.lemmas.List.Elements.{filter_map-append}
 use Rattle.std.proofs.lemmas.List.Sums.{sum_by-append}
 use Rattle.std.specs.List.{filter_map}
-use Rattle.dl_bytes.specs.Claim.{Claimed}
 use Rattle.dl_events.specs.declared.event.Event.{Event}
 use Rattle.dl_events.specs.declared.event.Event.TheVariants as event
 use Rattle.dl_levels.specs.History.{levels_set}
 use Rattle.dl_model.specs.History.{level_for}
 use Rattle.dl_losses.specs.Losses.{reported_of}
-use Rattle.dl_model.specs.Accounts.{claim_of, claims, logged_of, name_of, order}
+use Rattle.dl_model.specs.Accounts.{takes, took_of}
 use Rattle.dl_model.specs.Report.{lost_of, reported}
 use Rattle.dl_desk.specs.Handles.{HandlesState}
-use Rattle.dl_lib.specs.Known.{taken_of}
+use Rattle.dl_lib.specs.Known.{taken_of, told_as}
 use Rattle.dl_lib.specs.Settled.{IsJournalOf}
 use Rattle.dl_lib.specs.State.{AccountState}
 use Rattle.dl_turns.specs.Later.{level_in}
@@ -43,25 +42,22 @@ told_journal events s told = record {
   admitted = λ app within. told.admitted app;
   losses = λ app within. told.losses app;
   alone = told.alone;
-  unclaimed = told.unclaimed;
 }
 
--- what a journal tells goes on with more events: with the calls that they admit, the losses that they tell and the levels that they set
+-- what a journal tells goes on with more events: with the calls and claims that they tell, the losses and the levels that they set
 pub told_more : (events more : List Event) (apps : ℕ) (old new : HandlesState) → IsToldBy events apps old
-    → ((app : ℕ) → map name_of (taken_of new app) ≡ map name_of (taken_of old app) ++ order app more)
+    → ((app : ℕ) → map (told_as app) (taken_of new app) ≡ map (told_as app) (taken_of old app) ++ takes app more)
     → ((app : ℕ) → reported_of app new.losses.reported ≡ reported_of app old.losses.reported + reported app more)
-    → ((app : ℕ) → apps ≤ app → (order app more ≡ []) × (reported app more ≡ 0))
-    → ((app : ℕ) → claims app more ≡ [])
+    → ((app : ℕ) → apps ≤ app → (takes app more ≡ []) × (reported app more ≡ 0))
     → new.levels.first ≡ old.levels.first → new.levels.sets ≡ old.levels.sets ++ filter_map level_in more
     → IsToldBy (events ++ more) apps new
-told_more events more apps old new told taken losses alone unclaimed first sets = record {
-  admitted = λ app. filter_map-append (logged_of app) events more ∙ ap (λ xs. xs ++ order app more) (told.admitted app) ∙ sym (taken app);
+told_more events more apps old new told taken losses alone first sets = record {
+  admitted = λ app. filter_map-append (took_of app) events more ∙ ap (λ xs. xs ++ takes app more) (told.admitted app) ∙ sym (taken app);
   losses = λ app. sum_by-append (lost_of app) events more ∙ ap (λ n. n + reported app more) (told.losses app) ∙ sym (losses app);
   alone = λ app beyond. (
-    filter_map-append (logged_of app) events more ∙ ap (λ xs. xs ++ order app more) (told.alone app beyond).0 ∙ (alone app beyond).0,
+    filter_map-append (took_of app) events more ∙ ap (λ xs. xs ++ takes app more) (told.alone app beyond).0 ∙ (alone app beyond).0,
     sum_by-append (lost_of app) events more ∙ ap (λ n. n + reported app more) (told.alone app beyond).1 ∙ ap (λ n. 0 + n) (alone app beyond).1,
   );
-  unclaimed = λ app. filter_map-append (claim_of app) events more ∙ ap (λ (cs : List Claimed). cs ++ claims app more) (told.unclaimed app) ∙ unclaimed app;
   first = first ∙ told.first;
   levels = sets ∙ ap (λ xs. xs ++ filter_map level_in more) told.levels ∙ sym (filter_map-append level_in events more);
 }

@@ -6,11 +6,13 @@ use Rattle.dl_model.specs.Journal.{IsWellFormed}
 use Rattle.dl_outside.specs.Told.{FolderTold, LinkTold}
 use Rattle.dl_desk.specs.Handles.{HandlesState}
 use Rattle.dl_desk.specs.Lists.{At}
+use Rattle.dl_ring.specs.Items.{calls_in}
 use Rattle.dl_desk.specs.Told.{PostTold}
 use Rattle.dl_lib.specs.Known.{taken_of}
 use Rattle.dl_core.specs.Admission.{GivesFrames}
 use Rattle.dl_core.specs.Follows.{IsAfter, Run, source_of}
 use Rattle.dl_core.specs.State.{Core}
+use Rattle.dl_taking.specs.Takes.{AreThere}
 use Rattle.dl_turns.specs.Injected.{HasPosted}
 use Rattle.dl_turns.specs.State.{side}
 use Rattle.dl_rounds.specs.Passing.{AreAsNoted}
@@ -19,7 +21,7 @@ use Rattle.dl_rounds.specs.declared.listener.Listener.{Listener}
 -- The run begins where the daemon began, and gives the frame of each call that was taken of a ring and the APID of each application.
 pub record Gives (run : Run) (first : Core) (apps : List AppSpec) (handles : HandlesState) : Type 0 where
   pub begins : IsAfter run [] (λ _. []) first
-  pub frames : (app : ℕ) → GivesFrames (taken_of handles app) run
+  pub frames : (app : ℕ) → GivesFrames (calls_in (taken_of handles app)) run
   pub apids : (app : ℕ) → At apps app (λ spec. run.apid app ≡ spec.apid)
 
 -- these links took just this, by the clients' numbers
@@ -34,11 +36,12 @@ AreNoted run events took links listeners core = (desk : PostTold) (journal : Opt
 
 -- In a run: the core is what these events make of it, for what the links took, where links tell that; where they tell what they gave too, links,
 -- listeners and journal tell the same of each client; the journal is well-formed; and the queues of injections took and refused, since the
--- daemon began, just those of its requests.
-pub record HoldsIn (TellTook TellBoth : Type 0) (run : Run) (links : List LinkTold) (listeners : List Listener) (events : List Event) (core : Core) (first desk : PostTold) : Type 0 where
+-- daemon began, just those of its requests. Where the applications told of themselves, each is there.
+pub record HoldsIn (TellTook TellBoth Greeted : Type 0) (run : Run) (links : List LinkTold) (listeners : List Listener) (events : List Event) (core : Core) (first desk : PostTold) : Type 0 where
   pub took : ℕ → List ℕ
   pub taken : TellTook → AreTaken links took
   pub after : IsAfter run events took core
   pub noted : TellBoth → AreNoted run events took links listeners core
   pub formed : IsWellFormed run.setting (source_of run) events
   pub posted : (app : ℕ) → HasPosted run.setting [] events app first desk
+  pub there : Greeted → AreThere desk.apps core.registry

@@ -2,7 +2,7 @@
 use Rattle.std.specs.Prelude.{◌≡◌, ◌⊎◌, ◌+◌, ◌≤◌, ℕ, List, ◌++◌, count_by, length}
 use Rattle.std.specs.List.{AllByRecursion}
 use Rattle.dl_bytes.specs.Limits.{open_client_limit}
-use Rattle.dl_bytes.specs.declared.item.Item.{Item}
+use Rattle.dl_ring.specs.declared.item.RingItem.{RingItem}
 use Rattle.dl_events.specs.declared.event.Event.{Event}
 use Rattle.dl_events.specs.declared.event.Event.TheVariants as event
 use Rattle.dl_model.specs.Journal.{is_connect}
@@ -33,7 +33,7 @@ pub record IsLaterBy {L : Type 0} (more : List Event) (old new : Scene L) : Type
   pub first_desk : new.daemon.first_desk ≡ old.daemon.first_desk
   pub desk : IsLater old.daemon.desk new.daemon.desk
   pub owners : new.daemon.desk.owners ≡ old.daemon.desk.owners
-  pub taken : (app : ℕ) → (items : List Item) × (taken_of new.daemon.desk.handles app ≡ taken_of old.daemon.desk.handles app ++ items)
+  pub taken : (app : ℕ) → (items : List RingItem) × (taken_of new.daemon.desk.handles app ≡ taken_of old.daemon.desk.handles app ++ items)
   pub connects : length new.daemon.links.links ≡ length old.daemon.links.links + count_by is_connect more
   pub holds : (run : Run) → Gives run new.daemon.first_core new.daemon.desk.apps new.daemon.desk.handles
       → HoldsTrace run old.daemon.journal.events old.daemon.core old.folder → HoldsTrace run new.daemon.journal.events new.daemon.core new.folder
@@ -51,11 +51,12 @@ pub record IsNetLater {L : Type 0} (old new : NetTold L) : Type 0 where
   pub launched : Stays old.launched new.launched
   pub faults : old.faults ≤ new.faults
 
--- Rounds of a daemon, however many: it is later by events that no program told of itself. A link was dropped only where as many clients came as
--- may be open at once.
+-- Rounds of a daemon, however many: it is later by events that no program told of itself, and its applications have told of themselves where they
+-- had before. A link was dropped only where as many clients came as may be open at once.
 pub record GoesRound {L : Type 0} (net net_now : NetTold L) (old new : Scene L) : Type 0 where
   pub more : List Event
   pub later : IsLaterBy more old new
   pub of_round : AllByRecursion IsOfRound more
+  pub greeted : new.daemon.greeted ≡ old.daemon.greeted
   pub net_later : IsNetLater net net_now
   pub dropped : (new.daemon.dropped ≡ old.daemon.dropped) ⊎ (open_client_limit ≤ length new.daemon.links.links)

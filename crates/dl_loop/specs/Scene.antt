@@ -15,11 +15,12 @@ pub record Scene (L : Type 0) : Type 0 where
 abbrev pub scene : {L : Type 0} → DaemonState L → FolderTold → Scene L
 scene daemon folder = record { daemon = daemon; folder = folder }
 
--- what is seen of it where calls and losses are taken
+-- what is seen of it where calls, claims and losses are taken
 abbrev pub taking_of : {L : Type 0} → Scene L → taking.Side
 taking_of s = record {
   part = part s.daemon.core (Some s.daemon.journal.events) s.folder;
   took = took_by s.daemon.desk.handles;
+  desk = desk_told s.daemon.desk;
   noted = length s.daemon.journal.events;
   spare = s.daemon.journal.spare;
 }

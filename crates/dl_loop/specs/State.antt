@@ -11,9 +11,13 @@ use Rattle.dl_turns.specs.State.{side}
 use Rattle.dl_rounds.specs.Clients.{Clients}
 use Rattle.dl_rounds.specs.declared.listener.Listener.{Listener}
 
+-- how many Claim events there may be: one more than all applications together have places
+abbrev pub claim_limit : ℕ
+claim_limit = 1025
+
 -- The daemon: its core, its desk and its journal; the link and the listener of each client, by the clients' numbers from 1; how many Log
--- and Lost events there may be, and how many there are; how many links were dropped, and whether an accept has failed or wanted memory;
--- and the core and the desk as they were handed in.
+-- and Lost events there may be, and how many there are; how many Claim events there are; how many links were dropped, and whether an accept has
+-- failed or wanted memory; whether its own applications have told of themselves; and the core and the desk as they were handed in.
 pub record DaemonState (L : Type 0) : Type 0 where
   pub core : Core
   pub desk : DeskState
@@ -22,9 +26,11 @@ pub record DaemonState (L : Type 0) : Type 0 where
   pub listeners : List Listener
   pub calls : ℕ
   pub noted : ℕ
+  pub claimed : ℕ
   pub dropped : ℕ
   pub failed : Bool
   pub wanted : Bool
+  pub greeted : Bool
   pub first_core : Core
   pub first_desk : DeskState
 
@@ -45,9 +51,9 @@ clients_of told d folder = record {
 }
 
 -- the daemon of these parts
-abbrev pub daemon_of : {L : Type 0} → Core → DeskState → Journaled → Links L → List Listener → ℕ → ℕ → ℕ → Bool → Bool → Core → DeskState
+abbrev pub daemon_of : {L : Type 0} → Core → DeskState → Journaled → Links L → List Listener → ℕ → ℕ → ℕ → ℕ → Bool → Bool → Bool → Core → DeskState
     → DaemonState L
-daemon_of core desk journal links listeners calls noted dropped failed wanted first_core first_desk = record {
+daemon_of core desk journal links listeners calls noted claimed dropped failed wanted greeted first_core first_desk = record {
   core = core;
   desk = desk;
   journal = journal;
@@ -55,9 +61,11 @@ daemon_of core desk journal links listeners calls noted dropped failed wanted fi
   listeners = listeners;
   calls = calls;
   noted = noted;
+  claimed = claimed;
   dropped = dropped;
   failed = failed;
   wanted = wanted;
+  greeted = greeted;
   first_core = first_core;
   first_desk = first_desk;
 }

@@ -1,7 +1,7 @@
 -- A daemon that stops: what it hands on, and what it leaves.
 use Rattle.std.specs.Prelude.{◌≡◌, ℕ, ◌≤◌, List, [], ◌++◌, length, map}
 use Rattle.std.specs.List.{AllByRecursion}
-use Rattle.dl_bytes.specs.declared.item.Item.{Item}
+use Rattle.dl_ring.specs.declared.item.RingItem.{RingItem}
 use Rattle.dl_events.specs.declared.event.Event.{Event}
 use Rattle.dl_model.specs.Journal.{IsOpen, IsWellFormed}
 use Rattle.dl_outside.specs.Links.{Links}
@@ -13,7 +13,7 @@ use Rattle.dl_core.specs.State.{Core}
 use Rattle.dl_folders.specs.Files.{Leaves}
 use Rattle.dl_folders.specs.Later.{IsFolderLater}
 use Rattle.dl_admission.specs.Kept.{end_of}
-use Rattle.dl_taking.specs.Draining.{MayNote, all_to_note, closing_told}
+use Rattle.dl_taking.specs.Draining.{MayNote, all_claims_left, all_to_note, closing_told}
 use Rattle.dl_rounds.specs.Ready.{AreHeard, AreLinked}
 use Rattle.dl_bytes.specs.Limits.{client_limit}
 use Rattle.dl_turns.specs.Gone.{TellOver}
@@ -51,7 +51,7 @@ pub record StopsIn {L : Type 0} (told : L → LinkTold) (run : Run) (d : DaemonS
   pub gone : TellBytes told → HaveGone run account.events (map told links.links) account.outcome.links
   pub ended : HaveEnded (TellOver told) run.setting account.events (map told links.links) account.outcome.links
 
--- What a stop leaves: the journal is longer by calls, losses, requests, levels and Closes alone; more was taken, and the journal tells just what
+-- What a stop leaves: the journal is longer by calls, claims, losses, requests, levels and Closes alone; more was taken, and the journal tells just what
 -- was taken, reported and set; as many links come back as there were, and so many are told as dropped; and in each run that the account may be of, it
 -- is as said above. No file of others changed in the folder, and the trace that is told of stayed in its directory, where one was kept; the folder's faults and its stored
 -- configuration are later by these events.
@@ -60,7 +60,7 @@ pub record IsStopped {L : Type 0} (told : L → LinkTold) (d : DaemonState L) (a
   pub events : account.events ≡ d.journal.events ++ more
   pub of_stop : AllByRecursion IsOfStop more
   pub apps : account.apps ≡ d.desk.apps
-  pub taken : (app : ℕ) → (items : List Item) × (taken_of account.handles app ≡ taken_of d.desk.handles app ++ items)
+  pub taken : (app : ℕ) → (items : List RingItem) × (taken_of account.handles app ≡ taken_of d.desk.handles app ++ items)
   pub told_by : IsToldBy account.events (length account.apps) account.handles
   pub many : length links.links ≡ length d.links.links
   pub dropped : account.outcome.dropped ≡ d.dropped
@@ -71,12 +71,13 @@ pub record IsStopped {L : Type 0} (told : L → LinkTold) (d : DaemonState L) (a
   pub folder_later : (run : Run) → Gives run d.first_core account.apps account.handles
       → IsFolderLater run.setting d.journal.events more (end_of d.core.trace) account.outcome.trace.end folder folder_now
 
--- what a stop asks of a daemon, where so many events may still be noted
-pub record MayStop {L : Type 0} (d : DaemonState L) (closing : ClosingState) (events : ℕ) : Type 0 where
+-- what a stop asks of a daemon, where so many Log and Lost events and so many Claim events may still be noted
+pub record MayStop {L : Type 0} (d : DaemonState L) (closing : ClosingState) (events claims : ℕ) : Type 0 where
   pub apps : length closing.apps ≤ 16
   pub clients : d.core.hub.limit ≤ client_limit
   pub enough : all_to_note closing ≤ events
-  pub may : MayNote events (length closing.apps) d.core.hub d.journal.spare
+  pub enough_claims : all_claims_left closing ≤ claims
+  pub may : MayNote events claims (length closing.apps) d.core.hub d.journal.spare
   pub linked : AreLinked d.links d.core d.journal.spare
   pub heard : AreHeard d.listeners d.core (closing_told closing)
 

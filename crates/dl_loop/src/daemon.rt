@@ -1,19 +1,20 @@
 //! The daemon, and its calls.
 
-ghost use Rattle.std.specs.Prelude.{◌≡◌, ◌+◌, ◌<◌, ◌≤◌, ℕ, [], length, IfOk, OnOk, OnErr};
+ghost use Rattle.std.specs.Prelude.{◌≡◌, ◌+◌, ◌*◌, ◌<◌, ◌≤◌, ℕ, true, false, [], length, IfOk, OnOk, OnErr};
 ghost use Rattle.std.specs.List.{AllByRecursion};
+ghost use Rattle.std.specs.Result.{is_ok};
 ghost use Rattle.dl_rounds.specs.Greetings.{IsIntroduced, hello_of, registered};
 ghost use Rattle.dl_outside.specs.Told.{NetTold};
 ghost use Rattle.dl_loop.specs.Daemon.{IsDaemon};
-ghost use Rattle.dl_loop.specs.Greeting.{Greets, GreetsFirst};
+ghost use Rattle.dl_loop.specs.Greeting.{AreListed, Greets, GreetsFirst};
 ghost use Rattle.dl_loop.specs.Later.{GoesRound, IsLaterGreeted};
 ghost use Rattle.dl_loop.specs.Made.{IsBegun, IsMade, IsUntouched, fresh_listeners};
 ghost use Rattle.dl_loop.specs.RoundSteps.{AcceptsIfMay, IsRound, Serves, answer_of};
 ghost use Rattle.dl_loop.specs.Scene.{scene};
+ghost use Rattle.dl_loop.specs.State.{claim_limit};
 ghost use Rattle.dl_loop.specs.Steps.{Hears, Parts, Pumps, is_failure, is_want};
-ghost use Rattle.dl_loop.specs.Takes.{TakesAll, TakesCalls, TakesLossesIfMay, TakesTurn};
 
-use crate::laws::{a_daemon_goes_on, a_daemon_goes_on_taking};
+use crate::laws::a_daemon_goes_on;
 use crate::round::Round;
 use dl_bytes::{Moment, OutOfMemory};
 use dl_core::Core;
@@ -22,7 +23,7 @@ use dl_events::{Journal, Kept};
 use dl_outside::{Clock, Folder, Link, LinkList, Net};
 use dl_rounds::{Arrival, Listener, accept_one, greet, listen_all, listeners, pump_all, shut_gone};
 use dl_settling::EndRoom;
-use dl_taking::{BATCH_LIMIT, Batch, report_losses, take_some};
+use dl_taking::Batch;
 use std::alloc::Global;
 use std::marker::Model;
 use std::snapshot::Snapshot;
@@ -31,8 +32,8 @@ use std::sync::Wait;
 /// How many clients may come.
 const CLIENT_LIMIT: u32 = 32;
 
-/// A Connect and a Close of each.
-const MORE_EVENTS: u64 = 64;
+/// A Connect and a Close of each client, and each claim with its Level event.
+const MORE_EVENTS: u64 = 2114;
 
 /// The live daemon over links of one kind.
 #[derive(Drop)]
@@ -51,11 +52,15 @@ pub struct Daemon<L: Link> {
     pub(crate) calls: u32,
     // how many there are
     pub(crate) noted: u32,
+    // how many Claim events there are
+    pub(crate) claimed: u32,
     // how many links were dropped
     pub(crate) dropped: u32,
     // whether an accept has failed, and whether one has wanted memory
     pub(crate) failed: bool,
     pub(crate) wanted: bool,
+    // whether its own applications have told of themselves
+    pub(crate) greeted: bool,
     pub(crate) alloc: Global,
     // the core and the desk as they were handed in, for contracts
     pub(crate) first_core: Snapshot<Core>,
@@ -68,16 +73,17 @@ impl<L: Link> Model for Daemon<L> {
 
     ghost Value = { DaemonState L };
 
-    ghost view = { λ d. daemon_of d.core d.desk d.journal d.links d.listeners.items d.calls d.noted d.dropped d.failed d.wanted
-        d.first_core.value d.first_desk.value };
+    ghost view = { λ d. daemon_of d.core d.desk d.journal d.links d.listeners.items d.calls d.noted d.claimed d.dropped d.failed d.wanted
+        d.greeted d.first_core.value d.first_desk.value };
 
-    ghost invariant = { λ d. IsDaemon L.told (daemon_of d.core d.desk d.journal d.links d.listeners.items d.calls d.noted d.dropped d.failed
-        d.wanted d.first_core.value d.first_desk.value) };
+    ghost invariant = { λ d. IsDaemon L.told (daemon_of d.core d.desk d.journal d.links d.listeners.items d.calls d.noted d.claimed d.dropped
+        d.failed d.wanted d.greeted d.first_core.value d.first_desk.value) };
 }
 
 impl<L: Link> Daemon<L> {
     /// A daemon of this core and this desk, which notes in this journal: so many Log and Lost events at most. It takes all memory that its rounds
-    /// and its stop need of their own: for what cuts the bytes of 32 clients, for their links, and for these events with a Connect and a Close of each.
+    /// and its stop need of their own: for what cuts the bytes of 32 clients, for their links, and for these events, for a Connect and a Close of
+    /// each client, and for 1025 claims with their Level events.
     pub fn make(
         alloc: Global,
         core: Core,
@@ -112,7 +118,7 @@ impl<L: Link> Daemon<L> {
         requires begun { IsBegun core }
         requires untouched { IsUntouched desk }
         requires empty { journal.events ≡ [] }
-        requires room { calls + 64 ≤ journal.spare }
+        requires room { calls + 2 * claim_limit + 64 ≤ journal.spare }
         requires links { rooms.links ≡ record { links = []; room = 32 } }
         requires listeners { rooms.listeners.items ≡ fresh_listeners }
         ensures made { IsMade result }
@@ -136,9 +142,11 @@ impl<L: Link> Daemon<L> {
             ends,
             calls,
             noted: 0,
+            claimed: 0,
             dropped: 0,
             failed: false,
             wanted: false,
+            greeted: false,
             alloc,
             first_core,
             first_desk,
@@ -152,8 +160,8 @@ impl<L: Link> Daemon<L> {
         let _ = &self.dropped;
     }
 
-    /// Notes what the applications of this process tell of themselves, before the first client comes. Where memory was wanting the first ones of
-    /// these messages are noted, each with its Level events.
+    /// Notes what the applications of this process tell of themselves, before the first client comes. The list is that of the desk's applications.
+    /// Where memory was wanting the first ones of these messages are noted, each with its Level events.
     pub fn hello<F: Folder>(
         &mut self,
         apps: &AppList,
@@ -163,12 +171,14 @@ impl<L: Link> Daemon<L> {
         requires introduced { AllByRecursion IsIntroduced apps.now }
         requires nobody { self.old.links.links ≡ [] }
         requires place { registered self.old.core + length apps.now ≤ length self.old.desk.apps }
+        requires listed { AreListed self.old.desk.apps apps.now }
         ensures greets { OnOk result (Greets moment (hello_of apps.now) (scene self.old (F.told folder.old)) (scene self.new (F.told folder.new))) }
         ensures first { OnErr result (GreetsFirst moment (hello_of apps.now)
             (scene self.old (F.told folder.old)) (scene self.new (F.told folder.new))) }
         ensures later { IsLaterGreeted (scene self.old (F.told folder.old)) (scene self.new (F.told folder.new)) }
+        ensures greeted { self.new.greeted ≡ is_ok result }
     {
-        greet(
+        let told = greet(
             self.alloc,
             &mut self.core,
             &mut self.desk,
@@ -176,12 +186,21 @@ impl<L: Link> Daemon<L> {
             apps,
             moment,
             folder,
-        )
+        );
+        self.greeted = told.is_ok();
+        told
     }
 
-    /// One round: an accept, unless one has failed or wanted memory before; each open client is listened to; each application's calls are taken, at
-    /// most 64, and then its losses; and each open client is sent what waits for it. The link of a client that is gone is shut then, also where it was
-    /// too slow for what was taken. The net rests where nothing came, was taken or went.
+    /// Whether the daemon's own applications have told of themselves: `hello` was Ok.
+    pub fn greeted(&self) -> bool
+        ensures { result ≡ self.now.greeted }
+    {
+        self.greeted
+    }
+
+    /// One round: an accept, unless one has failed or wanted memory before; each open client is listened to; each application's calls and claims are
+    /// taken, at most 64, and then its losses; and each open client is sent what waits for it. The link of a client that is gone is shut then, also
+    /// where it was too slow for what was taken. The net rests where nothing came, was taken or went.
     pub fn round<R: Wait, N: Net<L = L>, C: Clock, F: Folder>(
         &mut self,
         rt: &R,
@@ -191,6 +210,7 @@ impl<L: Link> Daemon<L> {
     ) -> Round
     where
         L: Drop,
+        requires greeted { self.old.greeted ≡ true }
         ensures round { IsRound L.told result (N.told net.old) (N.told net.new)
             (scene self.old (F.told folder.old)) (scene self.new (F.told folder.new)) }
         ensures goes { GoesRound (N.told net.old) (N.told net.new) (scene self.old (F.told folder.old)) (scene self.new (F.told folder.new)) }
@@ -217,7 +237,7 @@ fn make_rooms<L: Drop>(
     calls: u32,
 ) -> Result<Rooms<L>, OutOfMemory>
     ensures events { journal.new.events ≡ journal.old.events }
-    ensures room { OnOk result (calls + 64 ≤ journal.new.spare) }
+    ensures room { OnOk result (calls + 2 * claim_limit + 64 ≤ journal.new.spare) }
     ensures links { IfOk result (λ rooms. rooms.links ≡ record { links = []; room = 32 }) }
     ensures listeners { IfOk result (λ rooms. rooms.listeners.items ≡ fresh_listeners) }
 {
@@ -288,6 +308,7 @@ impl<L: Link> Daemon<L> {
     ) -> Round
     where
         L: Drop,
+        requires greeted { self.old.greeted ≡ true }
         ensures serves { Serves L.told result (N.told net.old) (N.told net.new)
             (scene self.old (F.told folder.old)) (scene self.new (F.told folder.new)) }
         ensures goes { GoesRound (N.told net.old) (N.told net.new) (scene self.old (F.told folder.old)) (scene self.new (F.told folder.new)) }
@@ -354,74 +375,6 @@ impl<L: Link> Daemon<L> {
             &mut self.listeners,
             folder,
         )
-    }
-
-    // Calls of an application are taken and admitted. Answers how many.
-    fn take_calls<R: Wait, C: Clock, F: Folder>(
-        &mut self,
-        rt: &R,
-        app: u8,
-        clock: &C,
-        folder: &mut F,
-    ) -> usize
-        requires { app < length self.old.desk.apps }
-        ensures { TakesCalls app result (scene self.old (F.told folder.old)) (scene self.new (F.told folder.new)) }
-    {
-        a_daemon_goes_on_taking::<L>();
-        let most = BATCH_LIMIT.min((self.calls - self.noted) as usize);
-        let count = take_some(
-            rt,
-            &mut self.core,
-            &mut self.desk,
-            &mut self.journal,
-            &mut self.batch,
-            app,
-            most,
-            clock,
-            folder,
-        );
-        self.noted += count as u32;
-        count
-    }
-
-    // The losses of an application are taken and told, where a Lost event may still come. Answers how many they were.
-    fn take_losses<C: Clock, F: Folder>(&mut self, app: u8, clock: &C, folder: &mut F) -> u64
-        requires { app < length self.old.desk.apps }
-        ensures { TakesLossesIfMay app (scene self.old (F.told folder.old)) (scene self.new (F.told folder.new)) }
-    {
-        a_daemon_goes_on_taking::<L>();
-        if self.noted == self.calls {
-            return 0;
-        }
-        let count = report_losses(
-            &mut self.core,
-            &mut self.desk,
-            &mut self.journal,
-            app,
-            clock,
-            folder,
-        );
-        if count != 0 {
-            self.noted += 1;
-        }
-        count
-    }
-
-    // Each application has its turn. Answers whether anything was taken.
-    fn take_all<R: Wait, C: Clock, F: Folder>(&mut self, rt: &R, clock: &C, folder: &mut F) -> bool
-        ensures takes { TakesAll (scene self.old (F.told folder.old)) (scene self.new (F.told folder.new)) }
-        ensures goes { (net : NetTold L) → GoesRound net net (scene self.old (F.told folder.old)) (scene self.new (F.told folder.new)) }
-    {
-        let apps = self.desk.apps().len() as u8;
-        let mut moved = false;
-        for app in 0..apps {
-            self.is_daemon();
-            let calls = self.take_calls(rt, app, clock, folder);
-            self.is_daemon();
-            let losses = self.take_losses(app, clock, folder);
-            moved |= calls != 0 || losses != 0;
-        }
-        moved
     }
 
     // Each open client is sent what waits for it. Answers whether anything moved.

@@ -1,6 +1,6 @@
 //! Laws of the daemon.
 
-ghost use Rattle.std.specs.Prelude.{◌≡◌, ◌<◌, ◌≤◌, ◌+◌, ◌/◌, ◌%◌, ◌^◌, ◌++◌, ◌∷◌, [], ℕ, Bool, List, length, min};
+ghost use Rattle.std.specs.Prelude.{◌≡◌, true, false, ◌<◌, ◌≤◌, ◌+◌, ◌/◌, ◌%◌, ◌^◌, ◌++◌, ◌∷◌, [], ℕ, Bool, List, length, min};
 ghost use Rattle.std.specs.List.{AllByRecursion};
 ghost use Rattle.dl_bytes.specs.declared.conf.AppSpec.{AppSpec};
 ghost use Rattle.dl_bytes.specs.declared.moment.Moment.{Moment};
@@ -11,24 +11,26 @@ ghost use Rattle.dl_losses.specs.declared.keeper.Report.{Report};
 ghost use Rattle.dl_model.specs.ClientEnds.{MayDrop};
 ghost use Rattle.dl_outside.specs.Links.{Links};
 ghost use Rattle.dl_outside.specs.Told.{FolderTold, NetTold};
+ghost use Rattle.dl_desk.specs.Apps.{AppState};
 ghost use Rattle.dl_desk.specs.Made.{IsNew};
 ghost use Rattle.dl_desk.specs.State.{DeskState};
 ghost use Rattle.dl_lib.specs.Settled.{IsJournalOf};
 ghost use Rattle.dl_lib.specs.State.{AccountState};
-ghost use Rattle.dl_rounds.specs.Greetings.{IsRegistration, MayGreet};
+ghost use Rattle.dl_rounds.specs.Greetings.{IsRegistration, MayGreet, hello_of, registered};
+ghost use Rattle.dl_taking.specs.declared.taking.Got.{Got};
 ghost use Rattle.dl_rounds.specs.Passing.{EachOpen, WasRead, WasSent};
 ghost use Rattle.dl_rounds.specs.declared.accepting.Arrival.{Arrival};
 ghost use Rattle.dl_loop.specs.Bounds.{HasBounds};
 ghost use Rattle.dl_loop.specs.Daemon.{IsDaemon};
-ghost use Rattle.dl_loop.specs.Greeting.{Greets};
+ghost use Rattle.dl_loop.specs.Greeting.{AreListed, Greets};
 ghost use Rattle.dl_loop.specs.Later.{GoesRound, IsLaterBy};
 ghost use Rattle.dl_loop.specs.Made.{IsMade, IsUntouched};
 ghost use Rattle.dl_loop.specs.RoundSteps.{IsRound};
 ghost use Rattle.dl_loop.specs.Scene.{Scene, scene};
-ghost use Rattle.dl_loop.specs.State.{DaemonState, clients_of, desk_told};
+ghost use Rattle.dl_loop.specs.State.{DaemonState, claim_limit, clients_of, desk_told};
 ghost use Rattle.dl_loop.specs.Steps.{Accepts, GoesOn, Hears, Parts, Pumps};
 ghost use Rattle.dl_loop.specs.Stops.{IsStopped};
-ghost use Rattle.dl_loop.specs.Takes.{TakesCalls, TakesLosses};
+ghost use Rattle.dl_loop.specs.Takes.{TakesLosses, TakesSomeOf};
 ghost use Rattle.dl_loop.specs.Told.{IsToldBy};
 ghost use Rattle.dl_loop.specs.declared.round.Round.{Round};
 
@@ -66,19 +68,25 @@ pub fn a_daemon_goes_on<L: Link>()
     dl_turns::laws::a_pump_is_its_events();
 }
 
-/// A daemon is one after calls of an application were taken, and after its losses were.
+/// A daemon is one after calls and a claim of an application were taken, and after its losses were.
 pub fn a_daemon_goes_on_taking<L: Link>()
-    ensures calls { (app count : ℕ) (folder folder_now : FolderTold) (old new : DaemonState L) → IsDaemon L.told old → app < length old.desk.apps
-        → TakesCalls app count (scene old folder) (scene new folder_now) → IsDaemon L.told new }
-    ensures losses { (app count : ℕ) (folder folder_now : FolderTold) (old new : DaemonState L) → IsDaemon L.told old → app < length old.desk.apps
-        → old.noted < old.calls → TakesLosses app count (scene old folder) (scene new folder_now) → IsDaemon L.told new }
+    ensures calls { (app most : ℕ) (got : Got) (folder folder_now : FolderTold) (old new : DaemonState L) → IsDaemon L.told old → old.greeted ≡ true
+        → app < length old.desk.apps → old.noted + most ≤ old.calls → old.claimed < claim_limit
+        → TakesSomeOf app most got (scene old folder) (scene new folder_now) → IsDaemon L.told new }
+    ensures losses { (app count : ℕ) (folder folder_now : FolderTold) (old new : DaemonState L) → IsDaemon L.told old → old.greeted ≡ true
+        → app < length old.desk.apps → old.noted < old.calls → TakesLosses app count (scene old folder) (scene new folder_now) → IsDaemon L.told new }
 {}
 
-/// A daemon is one after its own applications told of themselves, before the first client came.
+/// A daemon is one after its own applications told of themselves, before the first client came: after all that those of its desk tell, and after
+/// some of it, where it doesn't say that they have.
 pub fn a_daemon_goes_on_greeting<L: Link>()
-    ensures { (moment : Moment) (msgs : List UserMsg) (folder folder_now : FolderTold) (old new : DaemonState L) → IsDaemon L.told old
-        → old.links.links ≡ [] → AllByRecursion IsRegistration msgs → Greets moment msgs (scene old folder) (scene new folder_now)
+    ensures all { (moment : Moment) (apps : List AppState) (folder folder_now : FolderTold) (old new : DaemonState L) → IsDaemon L.told old
+        → old.links.links ≡ [] → registered old.core ≡ 0 → AllByRecursion IsRegistration (hello_of apps) → AreListed old.desk.apps apps
+        → Greets moment (hello_of apps) (scene old folder) (scene new folder_now)
         → MayGreet new.core (desk_told new.desk) new.journal.spare → old.journal.spare ≤ new.journal.spare → IsDaemon L.told new }
+    ensures some { (moment : Moment) (msgs : List UserMsg) (folder folder_now : FolderTold) (old new : DaemonState L) → IsDaemon L.told old
+        → old.links.links ≡ [] → AllByRecursion IsRegistration msgs → Greets moment msgs (scene old folder) (scene new folder_now)
+        → MayGreet new.core (desk_told new.desk) new.journal.spare → old.journal.spare ≤ new.journal.spare → new.greeted ≡ false → IsDaemon L.told new }
 {}
 
 /// Rounds of a daemon in a row are rounds of it, and none is one in which nothing happened.

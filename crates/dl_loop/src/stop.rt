@@ -1,6 +1,6 @@
 //! The daemon's stop.
 
-ghost use Rattle.std.specs.Prelude.{◌≡◌, ◌≤◌, ◌<◌, ◌^◌, All, IfErr, IfOk, OnErr, length};
+ghost use Rattle.std.specs.Prelude.{◌≡◌, true, ◌≤◌, ◌<◌, ◌^◌, All, IfErr, IfOk, OnErr, length};
 ghost use Rattle.dl_writer.specs.State.{IsWhole};
 ghost use Rattle.dl_lib.specs.Making.{AreMadeWith, IsMissing};
 ghost use Rattle.dl_settling.specs.Room.{together};
@@ -13,13 +13,16 @@ use dl_outside::{Clock, Folder, Link, LinkList, Net};
 use dl_settling::{Parts, settle};
 use std::sync::Wait;
 
+/// How many places all applications together have.
+const PLACES: u32 = 1024;
+
 /// A number of this type is in its range. It does nothing: its clause is what the stop learns.
 fn in_range(calls: u32)
     ensures { calls < 2 ^ 32 }
 {}
 
 impl<L: Link> Daemon<L> {
-    /// Once the writers have ended: takes and tells all that they left, closes each client that is open, and makes the account. The links of the
+    /// Once the writers have ended: takes and notes all that they left, closes each client that is open, and makes the account. The links of the
     /// clients come back by their numbers, all of them shut. Where a writer's book is missing, the books come back, and nothing was done.
     pub fn stop<R: Wait, N: Net<L = L>, C: Clock, F: Folder>(
         self,
@@ -31,6 +34,7 @@ impl<L: Link> Daemon<L> {
     ) -> Result<(Account, LinkList<L>), BookList>
     where
         L: Drop,
+        requires greeted { self.greeted ≡ true }
         requires made { AreMadeWith self.desk books }
         requires whole { All IsWhole books }
         requires few { together books ≤ self.calls }
@@ -50,6 +54,7 @@ impl<L: Link> Daemon<L> {
             ends,
             calls,
             noted,
+            claimed,
             dropped,
             alloc,
             ..
@@ -70,6 +75,7 @@ impl<L: Link> Daemon<L> {
             batch,
             ends,
             events: calls - noted,
+            claims: PLACES - claimed,
             dropped,
         };
         Ok(settle(rt, alloc, parts, clock, folder))

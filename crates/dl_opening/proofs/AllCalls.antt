@@ -11,11 +11,12 @@ use Rattle.dl_script.specs.Earlier.{Declared, logs_under, noted, nothing}
 use Rattle.dl_script.specs.Playable.{IsRunnable}
 use Rattle.dl_script.specs.Spelled.{MayFollow, scenario_claim}
 use Rattle.dl_writer.specs.State.{BookState, numbers}
+use Rattle.dl_crew.specs.Calls.{count_in, count_of}
 use Rattle.dl_crew.specs.Plays.{ArePairs}
 use Rattle.dl_opening.specs.Opening.{IsBookOf, IsOpened}
-use Rattle.dl_opening.specs.Scenario.{all_calls, calls_in, count_in, count_of, writers}
+use Rattle.dl_opening.specs.Scenario.{all_calls, calls_in, writers}
 use Rattle.dl_opening.specs.declared.opened.Opened.{Opened}
-use Rattle.dl_opening.proofs.Runnable.{no_cause}
+use Rattle.dl_opening.proofs.Runnable.{may_claim, no_cause}
 use Rattle.dl_lemmas.proofs.Lists.{head_is, tail_is}
 
 -- ---- what all lines ask
@@ -34,6 +35,10 @@ total_few known [] may few = omega (arith, few)
 total_few known (line.App app ∷ lines) may few = let rest = total_few (noted known (scenario_claim (line.App app))) lines may.1 few in omega (arith, rest)
 total_few known (line.Context context ∷ lines) may few = let rest = total_few (noted known (scenario_claim (line.Context context))) lines may.1 few in omega (arith, rest)
 total_few known (line.Writer apid ∷ lines) may few = let rest = total_few (noted known (scenario_claim (line.Writer apid))) lines may.1 few in omega (arith, rest)
+total_few known (line.Register asked ∷ lines) may few =
+    let same = ap (λ (d : Declared). d.calls) (may_claim known asked.writer asked.ctid may.0).notes in
+    let rest = total_few (noted known (scenario_claim (line.Register asked))) lines may.1 (omega (arith, same, few)) in
+    omega (arith, rest, same)
 total_few known (line.Calls number ctid severity count payload ∷ lines) may few =
     let unknown = no_cause (not (logs_under known number ctid)) Unknown ((ltb 1000000 (known.calls + count), Limit) ∷ []) may.0 in
     let limit = no_cause (ltb 1000000 (known.calls + count)) Limit [] unknown.rest in
@@ -46,27 +51,27 @@ total_few known (line.Leave client count ∷ lines) may few = let rest = total_f
 
 -- ---- what they ask of writers that are numbered in a row
 
-abbrev of_row : (ℕ → ℕ) → ℕ → ℕ → ℕ
+abbrev pub of_row : (ℕ → ℕ) → ℕ → ℕ → ℕ
 of_row f from zero = 0
 of_row f from (suc count) = f from + of_row f (from + 1) count
 
-row_zero : (f : ℕ → ℕ) (from count : ℕ) → ((n : ℕ) → from ≤ n → f n ≡ 0) → of_row f from count ≡ 0
+pub row_zero : (f : ℕ → ℕ) (from count : ℕ) → ((n : ℕ) → from ≤ n → f n ≡ 0) → of_row f from count ≡ 0
 row_zero f from zero none = refl
 row_zero f from (suc count) none =
     let here = none from (omega arith) in
     let rest = row_zero f (from + 1) count (λ n above. none n (omega (arith, above))) in
     omega (arith, here, rest)
 
-row_sum : (f g h : ℕ → ℕ) (from count : ℕ) → ((n : ℕ) → f n ≡ g n + h n) → of_row f from count ≡ of_row g from count + of_row h from count
+pub row_sum : (f g h : ℕ → ℕ) (from count : ℕ) → ((n : ℕ) → f n ≡ g n + h n) → of_row f from count ≡ of_row g from count + of_row h from count
 row_sum f g h from zero same = omega arith
 row_sum f g h from (suc count) same = let here = same from in let rest = row_sum f g h (from + 1) count same in omega (arith, here, rest)
 
-row_same : (f g : ℕ → ℕ) (from count : ℕ) → ((n : ℕ) → f n ≡ g n) → of_row f from count ≡ of_row g from count
+pub row_same : (f g : ℕ → ℕ) (from count : ℕ) → ((n : ℕ) → f n ≡ g n) → of_row f from count ≡ of_row g from count
 row_same f g from zero same = refl
 row_same f g from (suc count) same = let here = same from in let rest = row_same f g (from + 1) count same in omega (arith, here, rest)
 
 -- a line asks one writer at most
-once : (number calls from count : ℕ) → of_row (λ writer. cond (eqb number writer) calls 0) from count ≤ calls
+pub once : (number calls from count : ℕ) → of_row (λ writer. cond (eqb number writer) calls 0) from count ≤ calls
 once number calls from zero = omega arith
 once number calls from (suc count) = by_test (eqb number from) refl (once number calls (from + 1) count) where
   by_test : (b : Bool) → eqb number from ≡ b → of_row (λ writer. cond (eqb number writer) calls 0) (from + 1) count ≤ calls
@@ -82,6 +87,7 @@ line_once : (entry : ScenarioLine) (from count : ℕ) → of_row (λ writer. cou
 line_once (line.App app) from count = let none = row_zero (λ writer. 0) from count (λ n above. refl) in omega (arith, none)
 line_once (line.Context context) from count = let none = row_zero (λ writer. 0) from count (λ n above. refl) in omega (arith, none)
 line_once (line.Writer apid) from count = let none = row_zero (λ writer. 0) from count (λ n above. refl) in omega (arith, none)
+line_once (line.Register asked) from count = let none = row_zero (λ writer. 0) from count (λ n above. refl) in omega (arith, none)
 line_once (line.Calls number ctid severity calls payload) from count = once number calls from count
 line_once line.Client from count = let none = row_zero (λ writer. 0) from count (λ n above. refl) in omega (arith, none)
 line_once (line.Send client bytes) from count = let none = row_zero (λ writer. 0) from count (λ n above. refl) in omega (arith, none)

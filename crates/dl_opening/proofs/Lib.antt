@@ -7,3 +7,5 @@ pub mod OpenedBooks
 pub mod FoundContexts
 pub mod AskedCalls
 pub mod AllCalls
+pub mod ClaimedPlaces
+pub mod LeftPlaces

@@ -7,24 +7,26 @@ use Rattle.dl_desk.specs.Apps.{AppState}
 use Rattle.dl_desk.specs.Made.{IsAppOf, IsMadeWith, IsUnused, MakesWriter}
 use Rattle.dl_desk.specs.State.{DeskState}
 use Rattle.dl_writer.specs.State.{BookState, WriterState}
+use Rattle.dl_crew.specs.Calls.{count_of}
 use Rattle.dl_crew.specs.Plays.{ArePairs}
 use Rattle.dl_crew.proofs.Pairs.{pairs_more}
 use Rattle.dl_lib.proofs.OpenBooks.{AreOpen, one_open}
 use Rattle.dl_opening.specs.Opening.{IsBookOf, StaysSo}
-use Rattle.dl_opening.specs.Scenario.{apps, count_of, number_in, opened_app, spec_of, specs_of, writers}
+use Rattle.dl_opening.specs.Scenario.{apps, base_of, number_in, opened_app, spec_of, specs_of, writers}
 use Rattle.dl_opening.proofs.Declared.{map_at}
 
-pub is_app_of : (lines : List ScenarioLine) (desk : DeskState) (place : ℕ) (app : AppLine) (given : AppState) → slice_get (apps lines) place ≡ Some app
-    → given ≡ opened_app lines place app → desk.apps ≡ specs_of lines → IsAppOf desk given
-is_app_of lines desk place app given at is same = record {
+pub is_app_of : (lines : List ScenarioLine) (made : List (List ℕ)) (desk : DeskState) (place : ℕ) (app : AppLine) (given : AppState) → slice_get (apps lines) place ≡ Some app
+    → given ≡ opened_app lines made place app → desk.apps ≡ specs_of lines → IsAppOf desk given
+is_app_of lines made desk place app given at is same = record {
   spec = spec_of app;
   place = ap (λ (l : List AppSpec). slice_get l given.number) same ∙ ap (λ (a : AppState). slice_get (specs_of lines) a.number) is ∙ map_at spec_of (apps lines) place app at;
   apid = ap (λ (a : AppState). a.apid) is;
 }
 
-pub is_book_of : (lines : List ScenarioLine) (apid : List ℕ) (b : BookState) (w : WriterState) (room : ℕ) → b ≡ record { writer = w; room = room; records = [] }
-    → number_in apid (specs_of lines) ≡ Some w.app → IsUnused w → room ≡ count_of w.push.number lines → IsBookOf lines apid b
-is_book_of lines apid b w room is number unused enough = subst (IsBookOf lines apid) (sym is) (record { app = number; unused = unused; records = refl; room = enough })
+pub is_book_of : (lines : List ScenarioLine) (apid : List ℕ) (b : BookState) (w : WriterState) (room : ℕ) → b ≡ record { writer = w; room = room; records = []; claims = [] }
+    → number_in apid (specs_of lines) ≡ Some w.app → w.apid ≡ apid → w.base ≡ base_of lines w.app → IsUnused w → room ≡ count_of w.push.number lines → IsBookOf lines apid b
+is_book_of lines apid b w room is number id base unused enough =
+    subst (IsBookOf lines apid) (sym is) (record { app = number; id = id; base = base; unused = unused; records = refl; claims = refl; room = enough })
 
 -- the books so far
 pub record AreSoFar (lines done : List ScenarioLine) (first desk : DeskState) (books : List BookState) : Type 0 where

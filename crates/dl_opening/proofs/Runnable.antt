@@ -1,5 +1,5 @@
 -- What lines that can be run declare is within the limits.
-use Rattle.std.proofs.Common.{◌≡◌, ℕ, zero, suc, ◌+◌, ◌≤◌, ◌-◌, subst, cond, eqb, leb, ltb, Bool, true, false, not, List, [], ◌∷◌, length, Option, Some, None, refl, arith, length-append}
+use Rattle.std.proofs.Common.{◌≡◌, ℕ, zero, suc, ◌+◌, ◌≤◌, ◌-◌, subst, cond, eqb, leb, ltb, Bool, true, false, not, List, [], ◌∷◌, ◌++◌, length, Option, Some, None, refl, ap, arith, length-append}
 use Rattle.std.specs.Prelude.{slice_set}
 use Rattle.std.specs.List.{AllByRecursion}
 use Rattle.std.specs.Option.{option_map_or}
@@ -13,12 +13,14 @@ use Rattle.dl_script_fields.specs.declared.kind.ScriptKind.{ScriptKind}
 use Rattle.dl_script_fields.specs.declared.kind.ScriptKind.TheVariants.{Limit, Order, Twice, Unknown}
 use Rattle.dl_script_lines.specs.declared.scenario.ScenarioLine.{ScenarioLine}
 use Rattle.dl_script_lines.specs.declared.scenario.ScenarioLine.TheVariants as line
-use Rattle.dl_script.specs.Earlier.{Declared, changed, first_of, is_app, logs_under, noted, nothing, numbered}
+use Rattle.dl_script.specs.Earlier.{Declared, changed, first_of, is_app, logs_under, noted, nothing, numbered, places_on, refusal}
 use Rattle.dl_script.specs.Playable.{IsInRange, IsRunnable}
 use Rattle.dl_script.specs.Spelled.{MayFollow, scenario_claim}
+use Rattle.dl_script.specs.declared.claim.Claim.TheVariants as claim
 use Rattle.dl_script.specs.declared.claim.Client.{Client}
 use Rattle.dl_opening.specs.Opening.{HasRoomFor}
-use Rattle.dl_opening.specs.Scenario.{apps, clients, clients_in, count_in, count_of, spec_of, specs_of}
+use Rattle.dl_crew.specs.Calls.{count_in, count_of}
+use Rattle.dl_opening.specs.Scenario.{apps, clients, clients_in, spec_of, specs_of}
 use Rattle.dl_lemmas.proofs.Options.{some_is}
 
 -- none of several causes holds
@@ -29,6 +31,27 @@ pub record NoCause (cause : Bool) (others : List (Bool × ScriptKind)) : Type 0 
 pub no_cause : (cause : Bool) (kind : ScriptKind) (others : List (Bool × ScriptKind)) → first_of ((cause, kind) ∷ others) ≡ None → NoCause cause others
 no_cause true kind others is = absurd cc
 no_cause false kind others is = record { this = refl; rest = is }
+
+-- a writer may claim a place: its application has one left, and the place is noted alone
+pub record MayClaim (known : Declared) (writer : ℕ) (ctid : List ℕ) : Type 0 where
+  pub apid : List ℕ
+  pub own : numbered known.writers writer ≡ Some apid
+  pub room : places_on known apid ≤ 63
+  pub notes : noted known (claim.Place writer ctid) ≡ record known { places = known.places ++ record { writer = writer; apid = apid; ctid = ctid } ∷ [] }
+
+pub may_claim : (known : Declared) (writer : ℕ) (ctid : List ℕ) → refusal known (claim.Place writer ctid) ≡ None → MayClaim known writer ctid
+may_claim known writer ctid may = by_writer (numbered known.writers writer) refl may where
+  by_writer : (o : Option (List ℕ)) → numbered known.writers writer ≡ o → option_map_or (λ apid. first_of ((leb 64 (places_on known apid), Limit) ∷ [])) o (Some Unknown) ≡ None → MayClaim known writer ctid
+  by_writer None is none = absurd cc
+  by_writer (Some id) is none =
+      let limit = no_cause (leb 64 (places_on known id)) Limit [] none in
+      let below = leb-false 64 (places_on known id) limit.this in
+      record {
+        apid = id;
+        own = is;
+        room = omega (arith, below);
+        notes = ap (λ (o : Option (List ℕ)). option_map_or (λ apid. record known { places = known.places ++ record { writer = writer; apid = apid; ctid = ctid } ∷ [] }) o known) is;
+      }
 
 same_clients : (change : Client → Client) (number : ℕ) (all : List Client) → length (changed change number all) ≡ length all
 same_clients change number all = by_client (numbered all number) where
@@ -82,6 +105,17 @@ are_few known (line.Writer apid ∷ lines) may apps_few clients_few calls_few =
       clients = (let r = rest.clients in let c = client_counted (line.Writer apid) lines in omega (arith, r, c));
       calls = λ writer. (let r = rest.calls writer in let c = counted writer (line.Writer apid) lines in omega (arith, r, c));
     }
+are_few known (line.Register asked ∷ lines) may apps_few clients_few calls_few =
+    let claims = may_claim known asked.writer asked.ctid may.0 in
+    let same_apps = ap (λ (d : Declared). length d.apps) claims.notes in
+    let same_clients = ap (λ (d : Declared). length d.clients) claims.notes in
+    let same_calls = ap (λ (d : Declared). d.calls) claims.notes in
+    let rest = are_few (noted known (scenario_claim (line.Register asked))) lines may.1 (omega (arith, same_apps, apps_few)) (omega (arith, same_clients, clients_few)) (omega (arith, same_calls, calls_few)) in
+    record {
+      apps = (let r = rest.apps in omega (arith, r, same_apps));
+      clients = (let r = rest.clients in let c = client_counted (line.Register asked) lines in omega (arith, r, c, same_clients));
+      calls = λ writer. (let r = rest.calls writer in let c = counted writer (line.Register asked) lines in omega (arith, r, c, same_calls));
+    }
 are_few known (line.Calls number ctid severity count payload ∷ lines) may apps_few clients_few calls_few =
     let unknown = no_cause (not (logs_under known number ctid)) Unknown ((ltb 1000000 (known.calls + count), Limit) ∷ []) may.0 in
     let limit = no_cause (ltb 1000000 (known.calls + count)) Limit [] unknown.rest in
@@ -134,6 +168,7 @@ each_fit (line.App app ∷ lines) ranges zero spec at = subst IsFitSpec (some_is
 each_fit (line.App app ∷ lines) ranges (suc place) spec at = each_fit lines ranges.1 place spec at
 each_fit (line.Context context ∷ lines) ranges app spec at = each_fit lines ranges.1 app spec at
 each_fit (line.Writer apid ∷ lines) ranges app spec at = each_fit lines ranges.1 app spec at
+each_fit (line.Register asked ∷ lines) ranges app spec at = each_fit lines ranges.1 app spec at
 each_fit (line.Calls number ctid severity count payload ∷ lines) ranges app spec at = each_fit lines ranges.1 app spec at
 each_fit (line.Client ∷ lines) ranges app spec at = each_fit lines ranges.1 app spec at
 each_fit (line.Send client bytes ∷ lines) ranges app spec at = each_fit lines ranges.1 app spec at

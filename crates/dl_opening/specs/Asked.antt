@@ -1,12 +1,13 @@
 -- What the lines ask of a writer, in their own words.
-use Rattle.std.specs.Prelude.{◌≡◌, ℕ, ◌==◌, List, [], map, replicate, if◌then◌else◌}
+use Rattle.std.specs.Prelude.{◌≡◌, ℕ, ◌+◌, ◌==◌, nat_lt, List, [], ◌∷◌, map, replicate, if◌then◌else◌}
 use Rattle.std.specs.List.{flat_map}
+use Rattle.dl_bytes.specs.Claim.{Claimed}
 use Rattle.dl_bytes.specs.Payload.{Arguments}
 use Rattle.dl_bytes.specs.declared.level.Severity.{Severity}
 use Rattle.dl_script_lines.specs.declared.scenario.ScenarioLine.{ScenarioLine}
 use Rattle.dl_script_lines.specs.declared.scenario.ScenarioLine.TheVariants as line
-use Rattle.dl_crew.specs.Calls.{CallContent}
-use Rattle.dl_crew.specs.Plays.{calls_for}
+use Rattle.dl_crew.specs.Calls.{CallContent, IsClaimOf, calls_behind, calls_of, count_in, counted, register_in, registers_of}
+use Rattle.dl_crew.specs.Plays.{ArePairs}
 use Rattle.dl_writer.specs.State.{BookState}
 use Rattle.dl_opening.specs.declared.opened.Opened.{Opened}
 
@@ -27,10 +28,25 @@ asked_in apid writer _ = []
 abbrev pub asked_of : List ℕ → ℕ → List ScenarioLine → List AskedCall
 asked_of apid writer lines = flat_map (asked_in apid writer) lines
 
+-- How many calls the lines ask of a writer behind its `register` line with this number, from 0, where so many of its `register`
+-- lines stand before them.
+abbrev pub count_from : ℕ → ℕ → ℕ → List ScenarioLine → ℕ
+count_from writer number before [] = 0
+count_from writer number before (entry ∷ lines) =
+    (if nat_lt number before then count_in writer entry else 0) + count_from writer number (before + counted (register_in writer entry)) lines
+
+-- from the first line on
+abbrev pub count_behind : ℕ → ℕ → List ScenarioLine → ℕ
+count_behind writer number lines = count_from writer number 0 lines
+
 -- what a worker's call says of them
 abbrev pub without_slot : CallContent → AskedCall
 without_slot call = record { apid = call.apid; ctid = call.ctid; severity = call.severity; payload = call.payload }
 
--- the calls that a worker makes with this book are all that the lines ask of its writer
-abbrev pub IsAsked : List ScenarioLine → Opened → List ℕ → BookState → Type 0
-IsAsked lines o apid b = map without_slot (calls_for o.plan.contexts o.plan.lines b) ≡ asked_of apid b.writer.push.number lines
+-- The calls that a worker makes with this book are all that the lines ask of its writer, whatever places its claims get; and as
+-- many stand behind each of its claims.
+pub record IsAsked (lines : List ScenarioLine) (o : Opened) (apid : List ℕ) (b : BookState) : Type 0 where
+  pub calls : (claims : List Claimed) → ArePairs (IsClaimOf b.writer) (registers_of b.writer.push.number lines) claims
+      → map without_slot (calls_of o.plan.contexts b.writer claims o.plan.lines) ≡ asked_of apid b.writer.push.number lines
+  pub behind : (claims : List Claimed) → ArePairs (IsClaimOf b.writer) (registers_of b.writer.push.number lines) claims
+      → (number : ℕ) → calls_behind o.plan.contexts b.writer claims number o.plan.lines ≡ count_behind b.writer.push.number number lines

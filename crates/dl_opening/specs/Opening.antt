@@ -3,23 +3,27 @@ use Rattle.std.specs.Prelude.{◌≡◌, ℕ, ◌≤◌, List, [], length, Some,
 use Rattle.std.specs.List.{range_with_len}
 use Rattle.dl_bytes.specs.declared.conf.AppSpec.{AppSpec}
 use Rattle.dl_script_lines.specs.declared.scenario.ScenarioLine.{ScenarioLine}
+use Rattle.dl_crew.specs.Calls.{count_of}
 use Rattle.dl_crew.specs.Plays.{ArePairs}
 use Rattle.dl_desk.specs.Made.{IsMadeWith, IsNew, IsUnused}
 use Rattle.dl_desk.specs.State.{DeskState}
 use Rattle.dl_writer.specs.State.{BookState, numbers}
-use Rattle.dl_opening.specs.Scenario.{apps, count_of, handles_from, number_in, opened_from, scripts_of, specs_of, writers}
+use Rattle.dl_opening.specs.Scenario.{apps, base_of, handles_from, number_in, opened_from, scripts_of, specs_of, writers}
 use Rattle.dl_opening.specs.declared.opened.Opened.{Opened}
 
 -- the desk is new but for its writers
 abbrev pub IsNewBut : DeskState → List AppSpec → Type 0
 IsNewBut desk specs = IsNew (record desk { owners = [] }) specs
 
--- the book of a writer of the application with this id: it has no record yet, and room for all calls that the lines ask of
--- the writer, which has made none
+-- the book of a writer of the application with this id, which had all its declared contexts when the writer was made: it has no
+-- record and no claim yet, and room for all calls that the lines ask of the writer, which has made none
 pub record IsBookOf (lines : List ScenarioLine) (apid : List ℕ) (b : BookState) : Type 0 where
   pub app : number_in apid (specs_of lines) ≡ Some b.writer.app
+  pub id : b.writer.apid ≡ apid
+  pub base : b.writer.base ≡ base_of lines b.writer.app
   pub unused : IsUnused b.writer
   pub records : b.records ≡ []
+  pub claims : b.claims ≡ []
   pub room : b.room ≡ count_of b.writer.push.number lines
 
 -- no writer's calls are more than a book can hold
@@ -43,7 +47,7 @@ pub record AreBooksOf (lines : List ScenarioLine) (desk : DeskState) (books : Li
 -- the writers and the scripts of the clients, each in the order of its lines
 pub record IsOpened (lines : List ScenarioLine) (o : Opened) : Type 0 where
   pub desk : IsNewBut o.desk (specs_of lines)
-  pub applications : o.apps ≡ opened_from lines 0 (apps lines)
+  pub applications : o.apps ≡ opened_from lines (writers lines) 0 (apps lines)
   pub same_lines : o.plan.lines ≡ lines
   pub contexts : o.plan.contexts ≡ handles_from lines 0 (apps lines)
   pub books : AreBooksOf lines o.desk o.books

@@ -1,6 +1,7 @@
 -- What the lines of a scenario declare.
-use Rattle.std.specs.Prelude.{ℕ, ◌+◌, ◌==◌, List, [], ◌∷◌, ◌++◌, map, position, sum_by, Option, Some, None, if◌then◌else◌}
-use Rattle.std.specs.List.{filter_map, flat_map, range_with_len}
+use Rattle.std.specs.Prelude.{ℕ, ◌+◌, ◌==◌, Bool, false, List, [], ◌∷◌, ◌++◌, length, map, position, slice_get, sum_by, Option, Some, None, if◌then◌else◌}
+use Rattle.std.specs.List.{filter_map, flat_map, list_any, range_with_len}
+use Rattle.std.specs.Option.{option_map_or}
 use Rattle.std.specs.Str.{bytes_eq}
 use Rattle.dl_bytes.specs.Context.{Context}
 use Rattle.dl_bytes.specs.declared.conf.AppSpec.{AppSpec}
@@ -50,14 +51,22 @@ registered apid context = context_registration apid context.ctid context.level c
 abbrev pub hello_of : List ScenarioLine → AppLine → List UserMsg
 hello_of lines app = registration (spec_of app) ∷ map (registered app.apid) (contexts_of app.apid lines)
 
--- an application with its contexts, under this number
-abbrev pub opened_app : List ScenarioLine → ℕ → AppLine → AppState
-opened_app lines number app = record { number = number; apid = app.apid; hello = hello_of lines app }
+-- one of these ids is that of the application with this number
+abbrev pub is_one_of : List ScenarioLine → ℕ → List (List ℕ) → Bool
+is_one_of lines number made = list_any (λ apid. option_map_or (λ n. n == number) (number_in apid (specs_of lines)) false) made
+
+-- an application with its contexts, under this number, where the writers that were made are of the applications with these ids
+abbrev pub opened_app : List ScenarioLine → List (List ℕ) → ℕ → AppLine → AppState
+opened_app lines made number app = record { number = number; apid = app.apid; hello = hello_of lines app; started = is_one_of lines number made }
 
 -- applications with their contexts, numbered from here on
-abbrev pub opened_from : List ScenarioLine → ℕ → List AppLine → List AppState
-opened_from lines number [] = []
-opened_from lines number (app ∷ rest) = opened_app lines number app ∷ opened_from lines (number + 1) rest
+abbrev pub opened_from : List ScenarioLine → List (List ℕ) → ℕ → List AppLine → List AppState
+opened_from lines made number [] = []
+opened_from lines made number (app ∷ rest) = opened_app lines made number app ∷ opened_from lines made (number + 1) rest
+
+-- how many contexts are declared of the application with this number
+abbrev pub base_of : List ScenarioLine → ℕ → ℕ
+base_of lines number = option_map_or (λ app. length (contexts_of app.apid lines)) (slice_get (apps lines) number) 0
 
 -- the handles of an application's contexts, from this place on
 abbrev pub placed : ℕ → List ℕ → ℕ → List ContextLine → List Context
@@ -78,15 +87,6 @@ writer_in _ = None
 -- the application of each writer, by its id, in the order of their lines; they are numbered from 1
 abbrev pub writers : List ScenarioLine → List (List ℕ)
 writers lines = filter_map writer_in lines
-
--- how many calls a line asks of a writer
-abbrev pub count_in : ℕ → ScenarioLine → ℕ
-count_in writer (line.Calls number ctid severity count payload) = if number == writer then count else 0
-count_in writer _ = 0
-
--- and all lines together
-abbrev pub count_of : ℕ → List ScenarioLine → ℕ
-count_of writer lines = sum_by (count_in writer) lines
 
 -- how many calls a line asks for, whoever its writer is
 abbrev pub calls_in : ScenarioLine → ℕ

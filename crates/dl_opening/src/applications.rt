@@ -1,6 +1,6 @@
 //! The applications of a scenario, and their contexts.
 
-ghost use Rattle.std.specs.Prelude.{◌≡◌, ◌≤◌, ◌++◌, ◌-◌, IfOk, length, map, option_map};
+ghost use Rattle.std.specs.Prelude.{◌≡◌, ◌≤◌, ◌++◌, ◌-◌, [], IfOk, length, map, option_map};
 ghost use Rattle.std.specs.Option.{option_to_list};
 ghost use Rattle.dl_desk.specs.Apps.{declared_apps, next_context, with_context};
 ghost use Rattle.dl_opening.specs.Scenario.{app_in, apps, context_in, contexts_of, handles_from, opened_from, placed, registered, spec_of, specs_of};
@@ -52,7 +52,7 @@ pub fn contexts(
     requires specs { specs.now ≡ specs_of lines.now }
     requires new { list.old ≡ declared_apps 0 (specs_of lines.now) }
     ensures handles { IfOk result (λ contexts. contexts.items ≡ handles_from lines.now 0 (apps lines.now)) }
-    ensures apps { IfOk result (λ _. list.new ≡ opened_from lines.now 0 (apps lines.now)) }
+    ensures apps { IfOk result (λ _. list.new ≡ opened_from lines.now [] 0 (apps lines.now)) }
 {
     let mut contexts = Vec::new(alloc);
     for place in 0..list.len() {

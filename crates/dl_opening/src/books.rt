@@ -1,9 +1,10 @@
 //! The writers of a scenario, and their books.
 
-ghost use Rattle.std.specs.Prelude.{◌≡◌, ◌≢◌, ◌<◌, ◌≤◌, ◌+◌, ◌^◌, [], IfOk, IfSome, length};
+ghost use Rattle.std.specs.Prelude.{◌≡◌, ◌≢◌, ℕ, ◌<◌, ◌≤◌, ◌+◌, ◌++◌, ◌∷◌, ◌^◌, List, [], IfOk, IfSome, length};
 ghost use Rattle.dl_desk.specs.Made.{IsMadeWith, MakesWriter};
 ghost use Rattle.dl_opening.specs.Opening.{AreBooksOf, HasRoomFor, IsBookOf, StaysSo};
-ghost use Rattle.dl_opening.specs.Scenario.{apps, count_in, count_of, number_in, opened_from, specs_of, writer_in};
+ghost use Rattle.dl_crew.specs.Calls.{count_in, count_of};
+ghost use Rattle.dl_opening.specs.Scenario.{apps, number_in, opened_from, specs_of, writer_in, writers};
 
 use dl_bytes::{AppSpec, Id, OutOfMemory};
 use dl_desk::{AppList, Desk};
@@ -19,10 +20,10 @@ pub fn books(
     desk: &mut Desk,
 ) -> Result<BookList, OutOfMemory>
     requires few { HasRoomFor lines.now }
-    requires apps { list.old ≡ opened_from lines.now 0 (apps lines.now) }
+    requires apps { list.old ≡ opened_from lines.now [] 0 (apps lines.now) }
     requires specs { desk.old.apps ≡ specs_of lines.now }
     requires first { desk.old.owners ≡ [] }
-    ensures apps { list.new ≡ list.old }
+    ensures apps { IfOk result (λ _. list.new ≡ opened_from lines.now (writers lines.now) 0 (apps lines.now)) }
     ensures desk { IfOk result (λ _. StaysSo desk.old desk.new) }
     ensures books { IfOk result (AreBooksOf lines.now desk.new) }
 {
@@ -54,9 +55,10 @@ fn book(
     desk: &mut Desk,
 ) -> Result<Book, OutOfMemory>
     requires few { HasRoomFor lines.now }
-    requires apps { list.old ≡ opened_from lines.now 0 (apps lines.now) }
+    requires apps { (made : List (List ℕ)) × (list.old ≡ opened_from lines.now made 0 (apps lines.now)) }
     requires specs { desk.old.apps ≡ specs_of lines.now }
-    ensures apps { list.new ≡ list.old }
+    ensures apps { IfOk result (λ _. (made : List (List ℕ)) → list.old ≡ opened_from lines.now made 0 (apps lines.now)
+        → list.new ≡ opened_from lines.now (made ++ apid ∷ []) 0 (apps lines.now)) }
     ensures book { IfOk result (IsBookOf lines.now apid) }
     ensures number { IfOk result (λ b. b.writer.push.number ≡ length desk.old.owners + 1) }
     ensures room { IfOk result (λ _. length desk.old.owners ≢ 32) }

@@ -28,7 +28,8 @@ pub fn a_hole_has_one_cause()
     ensures accounts { (setting : Setting) (source : FrameSource) (first : ℕ) (events : List Event) (pending refusals : ℕ → ℕ) (pushed : List (List Claimed)) (records : List (List Record)) →
         IsWellFormed setting source events → IsAccounted first events pending refusals pushed records →
         (buffer client writer : ℕ) → AllByRecursion (HasOneCause source buffer client events) (records_by writer records) }
-    ensures taken { (source : FrameSource) (first : ℕ) (events : List Event) (pending refusals : ℕ → ℕ) (pushed : List (List Claimed)) (records : List (List Record)) → IsAccounted first events pending refusals pushed records →
+    ensures taken { (source : FrameSource) (first : ℕ) (events : List Event) (pending refusals : ℕ → ℕ) (pushed : List (List Claimed)) (records : List (List Record)) →
+        IsAccounted first events pending refusals pushed records →
         (buffer client writer : ℕ) → AllByRecursion (λ r. what_became_of source buffer client events r ≡ InRing → ⊥) (records_by writer records) }
     ensures told { (source : FrameSource) (buffer client app pending : ℕ) (events : List Event) (records : List Record) → AreTold app events pending records →
         reported app events + pending ≡ count_by (λ r. is_ring_full (what_became_of source buffer client events r)) records }

@@ -7,7 +7,7 @@ use mathlib.Core.Option.{some}
 use lib.ListN.{get_elem?}
 use Rattle.crossbeam_queue.specs.Fifo.{Pushes, Pops, Forks, Merges, Learns}
 use Rattle.crossbeam_queue.proofs.Lists.{at_set}
-use Rattle.dl_bytes.specs.declared.item.Item.{Item}
+use Rattle.dl_ring.specs.declared.item.RingItem.{RingItem}
 use Rattle.dl_thread_rules.specs.Views.{Each, total, bit, times}
 use Rattle.dl_thread_rules.proofs.Each.{each_set, each_snoc, each_end, each_one, set_there}
 use Rattle.dl_thread_rules.proofs.Totals.{total-set, total-snoc, total_at, total_two, total_alone, times-append}
@@ -17,12 +17,12 @@ use Rattle.dl_ring.specs.Order.{writer_of, of, passes, Rest}
 use Rattle.dl_ring.specs.Rule.{pusher, with_pushed, with_taken, with_given, with_joined, spent, opener, first_pusher, taker, pushers, numbered, pushes_of, Fits, Keeps}
 
 -- of a list with one more item of this number
-pub of_mine : (n : ℕ) (items : List Item) (x : Item) → writer_of x ≡ n → of n (items ++ x ∷ []) ≡ of n items ++ x ∷ []
-of_mine n items x is = filter-append (λ (y : Item). writer_of y == n) items (x ∷ []) ∙ ap (λ (b : Bool). of n items ++ cond b (x ∷ []) []) (eq-eqb (writer_of x) n is)
+pub of_mine : (n : ℕ) (items : List RingItem) (x : RingItem) → writer_of x ≡ n → of n (items ++ x ∷ []) ≡ of n items ++ x ∷ []
+of_mine n items x is = filter-append (λ (y : RingItem). writer_of y == n) items (x ∷ []) ∙ ap (λ (b : Bool). of n items ++ cond b (x ∷ []) []) (eq-eqb (writer_of x) n is)
 
 -- of a list with one more item of another number
-pub of_else : (n : ℕ) (items : List Item) (x : Item) → writer_of x ≢ n → of n (items ++ x ∷ []) ≡ of n items
-of_else n items x not = filter-append (λ (y : Item). writer_of y == n) items (x ∷ []) ∙ ap (λ (b : Bool). of n items ++ cond b (x ∷ []) []) (ne_eqb (writer_of x) n not) ∙ append-nil (of n items)
+pub of_else : (n : ℕ) (items : List RingItem) (x : RingItem) → writer_of x ≢ n → of n (items ++ x ∷ []) ≡ of n items
+of_else n items x not = filter-append (λ (y : RingItem). writer_of y == n) items (x ∷ []) ∙ ap (λ (b : Bool). of n items ++ cond b (x ∷ []) []) (ne_eqb (writer_of x) n not) ∙ append-nil (of n items)
 
 -- what holds of joined passes with other numbers
 joined_stay : (n : ℕ) (P Q : Sent → Type 0) → ((s : Sent) → s.number ≢ n → P s → Q s) → (xs : List Sent) → passes n xs ≡ 0 → All P xs → All Q xs
@@ -36,18 +36,18 @@ has_own : (v : View) → v.pushes ≡ true → numbered v.number v ≡ 1 + passe
 has_own v may = ap (λ (b : Bool). bit (b && v.number == v.number) + passes v.number v.joined) may ∙ ap (λ (b : Bool). bit b + passes v.number v.joined) (eq-eqb v.number v.number refl)
 
 -- one more item pushed
-pushes_more : (v : View) (x : Item) → v.pushes ≡ true → pushes_of (with_pushed v x) ≡ pushes_of v + 1
+pushes_more : (v : View) (x : RingItem) → v.pushes ≡ true → pushes_of (with_pushed v x) ≡ pushes_of v + 1
 pushes_more v x may =
     let taken_in : ℕ = total (λ (s : Sent). length s.items) v.joined in
     let one : length (v.pushed ++ x ∷ []) + taken_in ≡ (length v.pushed + taken_in) + 1 = omega (arith, length-append v.pushed (x ∷ [])) in
     ap (λ (b : Bool). cond b (length (v.pushed ++ x ∷ [])) 0 + taken_in) may ∙ one ∙ ap (λ (b : Bool). cond b (length v.pushed) 0 + taken_in + 1) (sym may)
 
 -- the numbers are apart: another view has none of this one's
-others_apart : (items : List Item) (views : List View) (k : Keeps items views) (n i j : ℕ) (v u : View) → get_elem? views i ≡ some v → get_elem? views j ≡ some u → j ≢ i → 1 ≤ numbered n v → numbered n u ≡ 0
+others_apart : (items : List RingItem) (views : List View) (k : Keeps items views) (n i j : ℕ) (v u : View) → get_elem? views i ≡ some v → get_elem? views j ≡ some u → j ≢ i → 1 ≤ numbered n v → numbered n u ≡ 0
 others_apart items views k n i j v u at at' apart some_here = let two = total_two (numbered n) views j i u v apart at' at in let is = k.once n in let most = k.apart n in omega arith
 
 -- what a view knows is as true of a longer list, if the item more has none of its numbers
-fits_more : (seat giver : ℕ) (taken : List Item) (given : List ℕ) (all : List Item) (x : Item) (at : ℕ) (u : View) → numbered (writer_of x) u ≡ 0 → Fits seat giver taken given all at u
+fits_more : (seat giver : ℕ) (taken : List RingItem) (given : List ℕ) (all : List RingItem) (x : RingItem) (at : ℕ) (u : View) → numbered (writer_of x) u ≡ 0 → Fits seat giver taken given all at u
     → Fits seat giver taken given (all ++ x ∷ []) at u
 fits_more seat giver taken given all x at u none f =
     record {
@@ -58,10 +58,10 @@ fits_more seat giver taken given all x at u none f =
     }
 
 -- a push that puts
-pub pushes : (n id : ℕ) (v : View) (x : Item) → v.pushes ≡ true → writer_of x ≡ v.number → Pushes Keeps n id v x (λ w. w ≡ with_pushed v x)
+pub pushes : (n id : ℕ) (v : View) (x : RingItem) → v.pushes ≡ true → writer_of x ≡ v.number → Pushes Keeps n id v x (λ w. w ≡ with_pushed v x)
 pushes n id v x may is items views room k at =
     let w : View = with_pushed v x in
-    let all : List Item = k.taken ++ items in
+    let all : List RingItem = k.taken ++ items in
     let longer : all ++ x ∷ [] ≡ k.taken ++ (items ++ x ∷ []) = append_assoc k.taken items (x ∷ []) in
     let own = has_own v may in
     let own' : numbered (writer_of x) v ≡ numbered v.number v = ap (λ (m : ℕ). numbered m v) is in
@@ -90,7 +90,7 @@ pushes n id v x may is items views room k at =
             let more = pushes_more v x may in
             omega (arith, length-append k.taken items, length-append k.taken (items ++ x ∷ []), length-append items (x ∷ [])));
         numbers = λ m none. ap (of m) (sym longer) ∙ of_else m all x (λ same. let e : times m (0 ∷ k.given) ≡ times v.number (0 ∷ k.given) = ap (λ (j : ℕ). times j (0 ∷ k.given)) (sym same ∙ is) in absurd (omega arith)) ∙ k.numbers m none;
-        known = subst (λ (l : List Item). Each (Fits k.seat k.giver k.taken k.given l) (set views id w)) longer
+        known = subst (λ (l : List RingItem). Each (Fits k.seat k.giver k.taken k.given l) (set views id w)) longer
             (each_set (Fits k.seat k.giver k.taken k.given (all ++ x ∷ [])) views id w now
             (λ j u apart e. fits_more k.seat k.giver k.taken k.given all x j u (others_apart items views k (writer_of x) id j v u at e apart (omega arith)) (k.known j u e)));
       },
@@ -98,7 +98,7 @@ pushes n id v x may is items views room k at =
     )
 
 -- what a refused push tells, of what the ring held
-pub in_order : (id : ℕ) (v : View) → v.pushes ≡ true → Learns Keeps id v (λ items. (taken : List Item) × (of v.number (taken ++ items) ≡ v.pushed))
+pub in_order : (id : ℕ) (v : View) → v.pushes ≡ true → Learns Keeps id v (λ items. (taken : List RingItem) × (of v.number (taken ++ items) ≡ v.pushed))
 in_order id v may items views k at = (k.taken, sym ((k.known id v at).pushes may))
 
 -- a view that stands for no pass has no number, and has pushed nothing
@@ -123,11 +123,11 @@ idle_pushes : (v : View) → pushers v ≡ 0 → pushes_of v ≡ 0
 idle_pushes v e = still_pushes v (not_pushing v.pushes (omega arith)) ∙ ap (λ (j : List Sent). total (λ (s : Sent). length s.items) j) (no_joined v.joined (omega arith))
 
 -- what the pass that takes knows of what is left
-rest_of : (items : List Item) (views : List View) → Keeps items views → (id : ℕ) (v : View) → v.takes ≡ true → get_elem? views id ≡ some v → Rest v.gives v.given v.taken v.joined items
+rest_of : (items : List RingItem) (views : List View) → Keeps items views → (id : ℕ) (v : View) → v.takes ≡ true → get_elem? views id ≡ some v → Rest v.gives v.given v.taken v.joined items
 rest_of items views k id v may at =
     let mine = k.known id v at in
     let same : v.taken ≡ k.taken = (mine.takes may).1 in
-    subst (λ (l : List Item). Rest v.gives v.given l v.joined items) (sym same)
+    subst (λ (l : List RingItem). Rest v.gives v.given l v.joined items) (sym same)
     (record {
       each = mine.joined;
       apart = λ n. (let a = total_at (numbered n) views id v at in let o = k.once n in let m = k.apart n in omega arith);
@@ -149,19 +149,19 @@ pub rests : (id : ℕ) (v : View) → v.takes ≡ true → Learns Keeps id v (λ
 rests id v may items views k at = rest_of items views k id v may at
 
 -- a take that gives
-pub takes : (id : ℕ) (v : View) → v.takes ≡ true → Pops Keeps id v (λ x w. (w ≡ with_taken v x) × ((items : List Item) × Rest w.gives w.given w.taken w.joined items))
+pub takes : (id : ℕ) (v : View) → v.takes ≡ true → Pops Keeps id v (λ x w. (w ≡ with_taken v x) × ((items : List RingItem) × Rest w.gives w.given w.taken w.joined items))
 takes id v may x items views k at =
     let w : View = with_taken v x in
     let mine = k.known id v at in
-    let taken : List Item = k.taken ++ x ∷ [] in
-    let all : List Item = taken ++ items in
+    let taken : List RingItem = k.taken ++ x ∷ [] in
+    let all : List RingItem = taken ++ items in
     let same : k.taken ++ (x ∷ items) ≡ all = sym (append_assoc k.taken (x ∷ []) items) in
     let known : Each (Fits k.seat k.giver taken k.given all) (set views id w) =
     each_set (Fits k.seat k.giver taken k.given all) views id w
-    (let f : Fits k.seat k.giver k.taken k.given all id v = subst (λ (l : List Item). Fits k.seat k.giver k.taken k.given l id v) same mine in
+    (let f : Fits k.seat k.giver k.taken k.given all id v = subst (λ (l : List RingItem). Fits k.seat k.giver k.taken k.given l id v) same mine in
     record { takes = λ _. ((mine.takes may).0, ap (λ l. l ++ x ∷ []) (mine.takes may).1); gives = f.gives; pushes = f.pushes; joined = f.joined })
     (λ j u apart e.
-    let f : Fits k.seat k.giver k.taken k.given all j u = subst (λ (l : List Item). Fits k.seat k.giver k.taken k.given l j u) same (k.known j u e) in
+    let f : Fits k.seat k.giver k.taken k.given all j u = subst (λ (l : List RingItem). Fits k.seat k.giver k.taken k.given l j u) same (k.known j u e) in
     record { takes = λ also. absurd (apart ((f.takes also).0 ∙ sym (mine.takes may).0)); gives = f.gives; pushes = f.pushes; joined = f.joined })
     in
     let after : Keeps items (set views id w) =
@@ -194,7 +194,7 @@ forks n id v may positive fresh items views k at =
     let given : List ℕ = k.given ++ n ∷ [] in
     let none : times n k.given ≡ 0 = ap (times n) (sym was) ∙ fresh in
     let more : (m : ℕ) → times m (0 ∷ given) ≡ times m (0 ∷ k.given) + bit (n == m) = λ m. (let t = times-append m k.given (n ∷ []) in omega arith) in
-    let all : List Item = k.taken ++ items in
+    let all : List RingItem = k.taken ++ items in
     let kept : Each (Fits k.seat k.giver k.taken given all) vs =
     each_set (Fits k.seat k.giver k.taken given all) views id left
     (record { takes = mine.takes; gives = λ _. ((mine.gives may).0, ap (λ l. l ++ n ∷ []) was); pushes = mine.pushes; joined = mine.joined })
@@ -253,7 +253,7 @@ pub merges : (id : ℕ) (v : View) (other : ℕ) (u : View) → v.takes ≡ true
 merges id v other u may not_takes pushing alone items views k at two at' =
     let both : View = with_joined v u in
     let vs : List View = set views id both in
-    let all : List Item = k.taken ++ items in
+    let all : List RingItem = k.taken ++ items in
     let sent : Sent = record { number = u.number; items = u.pushed } in
     let was : get_elem? views other ≡ some u = ⊎_elim (λ x. absurd (two x.0)) (λ x. x.1) (at_set views id other both u at') in
     let mine = k.known id v at in
@@ -341,7 +341,7 @@ opens id v is items views k at' =
     let at : get_elem? views id ≡ some opener = at' ∙ ap some is in
     let vs : List View = set views id first_pusher in
     let mine = k.known id opener at in
-    let all : List Item = k.taken ++ items in
+    let all : List RingItem = k.taken ++ items in
     let seat : ℕ = length vs in
     let kept : Each (Fits seat k.giver k.taken k.given all) vs =
     each_set (Fits seat k.giver k.taken k.given all) views id first_pusher

@@ -1,3 +1,4 @@
 pub mod Keeping
 pub mod Owners
 pub mod Boxing
+pub mod Items

@@ -1,7 +1,7 @@
 -- The rule of a ring: of what it holds, and of what each of its passes knows.
 use Rattle.std.specs.Prelude.{◌≡◌, ℕ, ◌+◌, ◌≤◌, ◌==◌, ◌&&◌, true, false, List, [], ◌∷◌, ◌++◌, length, if◌then◌else◌}
 use Rattle.std.specs.List.{All}
-use Rattle.dl_bytes.specs.declared.item.Item.{Item}
+use Rattle.dl_ring.specs.declared.item.RingItem.{RingItem}
 use Rattle.dl_ring.specs.declared.view.View.{View}
 use Rattle.dl_thread_rules.specs.Views.{Each, total, bit, times}
 use Rattle.dl_ring.specs.Order.{of, passes}
@@ -27,11 +27,11 @@ abbrev pub spent : View
 spent = record taker { takes = false }
 
 -- one more item pushed
-abbrev pub with_pushed : View → Item → View
+abbrev pub with_pushed : View → RingItem → View
 with_pushed v item = record v { pushed = v.pushed ++ item ∷ [] }
 
 -- one more item taken
-abbrev pub with_taken : View → Item → View
+abbrev pub with_taken : View → RingItem → View
 with_taken v item = record v { taken = v.taken ++ item ∷ [] }
 
 -- one more number given
@@ -60,7 +60,7 @@ pushes_of v = (if v.pushes then length v.pushed else 0) + total (λ sent. length
 
 -- What the pass with this seat knows, where `all` is what was taken and then what the ring holds: the one taker knows what
 -- was taken, the one giver which numbers were given, and each pusher what was pushed under its number.
-pub record Fits (seat giver : ℕ) (taken : List Item) (given : List ℕ) (all : List Item) (at : ℕ) (v : View) : Type 0 where
+pub record Fits (seat giver : ℕ) (taken : List RingItem) (given : List ℕ) (all : List RingItem) (at : ℕ) (v : View) : Type 0 where
   pub takes : v.takes ≡ true → (at ≡ seat) × (v.taken ≡ taken)
   pub gives : v.gives ≡ true → (at ≡ giver) × (v.given ≡ given)
   pub pushes : v.pushes ≡ true → v.pushed ≡ of v.number all
@@ -68,10 +68,10 @@ pub record Fits (seat giver : ℕ) (taken : List Item) (given : List ℕ) (all :
 
 -- Each number is 0 or was given, once, and there is one pass with it. What was taken and then what the ring holds has
 -- of each number what the pass with that number pushed, in order, and nothing of another number.
-pub record Keeps (items : List Item) (views : List View) : Type 0 where
+pub record Keeps (items : List RingItem) (views : List View) : Type 0 where
   pub seat : ℕ
   pub giver : ℕ
-  pub taken : List Item
+  pub taken : List RingItem
   pub given : List ℕ
   pub live : total pushers views ≡ length given + 1
   pub once : (n : ℕ) → total (numbered n) views ≡ times n (0 ∷ given)

@@ -1,16 +1,16 @@
 -- What contracts see of the passes of a ring.
 use Rattle.std.specs.Prelude.{ℕ, Bool, true, false, List, [], ◌∷◌, ◌++◌, if◌then◌else◌}
 use Rattle.atomic_table.specs.Seated.{TableId}
-use Rattle.dl_bytes.specs.declared.item.Item.{Item}
+use Rattle.dl_ring.specs.declared.item.RingItem.{RingItem}
 use Rattle.dl_ring.specs.declared.view.Sent.{Sent}
 
--- A pass that pushes: which ring it is of, and how many items that holds; its number; what the ring took of it, in order;
+-- A pass that pushes: which ring it is of, and how many items that holds; its number; what the ring took of it, calls and claims, in order;
 -- how many of its pushes were refused; and of the first pass, which numbers it gave.
 pub record PushState : Type 0 where
   pub ring : TableId
   pub capacity : ℕ
   pub number : ℕ
-  pub pushed : List Item
+  pub pushed : List RingItem
   pub refusals : ℕ
   pub first : Bool
   pub given : List ℕ
@@ -20,7 +20,7 @@ pub record PushState : Type 0 where
 pub record TakeState : Type 0 where
   pub ring : TableId
   pub capacity : ℕ
-  pub taken : List Item
+  pub taken : List RingItem
   pub empties : ℕ
   pub joined : List Sent
   pub first : Bool

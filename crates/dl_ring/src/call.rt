@@ -2,7 +2,9 @@
 
 ghost use Rattle.std.specs.Prelude.{◌≡◌};
 ghost use Rattle.dl_ring.specs.Items.{call_of, item_with};
+ghost use Rattle.dl_ring.specs.declared.item.RingItem.TheVariants as ring_item;
 
+use crate::item::RingItem;
 use dl_bytes::{Id, Item, Payload, Severity};
 
 /// What a call says of itself beside its payload, as in `Item`.
@@ -78,5 +80,26 @@ impl Call {
         for _argument in 0..payload.args() {
             item.payload.count_argument();
         }
+    }
+
+    /// Makes what lies in a box the call with this payload. A call that lies there is filled where it lies; only a claim is
+    /// replaced by a new item.
+    pub(crate) fn fill_box(&self, full: &mut RingItem, payload: &Payload)
+        ensures { full.new ≡ ring_item.Log (item_with self.now payload.now) }
+    {
+        match full {
+            RingItem::Log(item) => self.fill(item, payload),
+            RingItem::Register(_) => self.replace(full, payload),
+        }
+    }
+
+    // Puts the call with this payload in the place of a claim. It is a function of its own, so that a push into a box that
+    // holds a call has none of its cost.
+    #[cold]
+    #[inline(never)]
+    fn replace(&self, full: &mut RingItem, payload: &Payload)
+        ensures { full.new ≡ ring_item.Log (item_with self.now payload.now) }
+    {
+        *full = RingItem::Log(self.item(payload));
     }
 }

@@ -3,12 +3,14 @@
 ghost use Rattle.std.specs.Prelude.{◌≡◌, ◌+◌, ◌≤◌, ◌∷◌, [], ◌++◌, true, false, OnOk, OnErr, IfErr};
 ghost use Rattle.dl_thread_rules.specs.Views.{times};
 ghost use Rattle.dl_ring.specs.Items.{item_with};
-ghost use Rattle.dl_ring.specs.Order.{MetFull};
+ghost use Rattle.dl_ring.specs.Order.{writer_of, MetFull};
+ghost use Rattle.dl_ring.specs.declared.item.RingItem.TheVariants as ring_item;
 ghost use Rattle.dl_ring.specs.State.{unused_push};
 
 use crate::call::Call;
+use crate::item::RingItem;
 use crate::ring::{Push, Ring, RingPass, new_pass};
-use dl_bytes::{Item, Payload};
+use dl_bytes::Payload;
 use dl_thread_rules::one_more;
 use std::marker::{Brand, Model};
 use std::sync::{Arc, Wait};
@@ -50,8 +52,8 @@ impl Model for RingPush {
 impl RingPush {
     /// Puts an item at the end of the ring, or gives it back. After a refusal it is known that there was a moment at which
     /// the ring was full, with all that this pass had pushed taken before or lying in it.
-    pub fn push<R: Wait>(&mut self, rt: &R, item: Item) -> Result<(), Item>
-        requires { item.writer ≡ self.old.number }
+    pub fn push<R: Wait>(&mut self, rt: &R, item: RingItem) -> Result<(), RingItem>
+        requires { writer_of item ≡ self.old.number }
         ensures pushed { OnOk result (self.new ≡ record self.old { pushed = self.old.pushed ++ item ∷ [] }) }
         ensures refused { OnErr result (self.new ≡ record self.old { refusals = self.old.refusals + 1 }) }
         ensures back { IfErr result (λ back. back ≡ item) }
@@ -70,16 +72,16 @@ impl RingPush {
     }
 
     /// Puts the call with this payload at the end of the ring, and tells whether there was room. After a refusal the same is
-    /// known as after one of `push`. It is never a part of its caller, so that a call which is filtered has none of its cost.
+    /// known as after one of `push`. It is never inlined, so that a filtered call doesn't pay for it.
     #[inline(never)]
     pub fn push_call<R: Wait>(&mut self, rt: &R, call: &Call, payload: &Payload) -> bool
         requires { call.now.writer ≡ self.old.number }
-        ensures pushed { result ≡ true → self.new ≡ record self.old { pushed = self.old.pushed ++ item_with call.now payload.now ∷ [] } }
+        ensures pushed { result ≡ true → self.new ≡ record self.old { pushed = self.old.pushed ++ ring_item.Log (item_with call.now payload.now) ∷ [] } }
         ensures refused { result ≡ false → self.new ≡ record self.old { refusals = self.old.refusals + 1 } }
         ensures full { result ≡ false → MetFull self.old.capacity self.old.number self.old.pushed }
     {
         let mut full = self.ring.free_box(rt);
-        call.fill(&mut full, payload);
+        call.fill_box(&mut full, payload);
         match self.push_box(rt, full) {
             Ok(()) => true,
             Err(back) => {
@@ -113,8 +115,8 @@ impl RingPush {
 
 impl RingPush {
     // Puts a box at the end of the ring, or gives it back.
-    fn push_box<R: Wait>(&mut self, rt: &R, full: Box<Item>) -> Result<(), Box<Item>>
-        requires { full.value.writer ≡ self.old.number }
+    fn push_box<R: Wait>(&mut self, rt: &R, full: Box<RingItem>) -> Result<(), Box<RingItem>>
+        requires { writer_of full.value ≡ self.old.number }
         ensures pushed { OnOk result (self.new ≡ record self.old { pushed = self.old.pushed ++ full.value ∷ [] }) }
         ensures refused { OnErr result (self.new ≡ record self.old { refusals = self.old.refusals + 1 }) }
         ensures back { IfErr result (λ back. back ≡ full) }

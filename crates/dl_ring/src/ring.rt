@@ -10,12 +10,13 @@ ghost use Rattle.dl_ring.specs.Passes.{Owns};
 ghost use Rattle.dl_ring.specs.State.{unused_push, unused_take};
 
 use crate::call::Call;
+use crate::item::RingItem;
 use crate::push::RingPush;
 use crate::take::RingTake;
 use crate::view::View;
 use crossbeam_queue::protocol::{Join, Lesson, Outcome, Protocol, Split};
 use crossbeam_queue::{ArrayQueue, Pass, RuledArrayQueue};
-use dl_bytes::{Id, Item, OutOfMemory, Payload, Severity};
+use dl_bytes::{Id, OutOfMemory, Payload, Severity};
 use std::alloc::Global;
 use std::marker::{Brand, PhantomData};
 use std::sync::{Arc, Wait};
@@ -28,7 +29,7 @@ const HANDS: usize = 34;
 /// The rule of a ring: each pass's items come out in the order of its pushes, each once.
 pub struct InOrder;
 
-impl Protocol<Box<Item>, View> for InOrder {
+impl Protocol<Box<RingItem>, View> for InOrder {
     ghost use Rattle.dl_ring.specs.Boxes.{KeepsBoxed};
     ghost use Rattle.dl_ring.specs.Rule.{opener};
 
@@ -38,9 +39,9 @@ impl Protocol<Box<Item>, View> for InOrder {
 }
 
 /// The boxes that are full, in the order of their pushes.
-pub type Queue = RuledArrayQueue<Box<Item>, View, InOrder>;
+pub type Queue = RuledArrayQueue<Box<RingItem>, View, InOrder>;
 
-pub type RingPass = Pass<Box<Item>, View>;
+pub type RingPass = Pass<Box<RingItem>, View>;
 
 /// What the passes of a ring share. A box is full or free, or a pass fills or empties it.
 #[derive(Drop)]
@@ -48,41 +49,41 @@ pub struct Ring {
     /// The full ones.
     pub queue: Queue,
     /// The free ones.
-    pub free: ArrayQueue<Box<Item>>,
+    pub free: ArrayQueue<Box<RingItem>>,
 }
 
 /// A push: one item more, or the ring is full.
 pub struct Push;
 
-impl Outcome<Box<Item>, View> for Push {
+impl Outcome<Box<RingItem>, View> for Push {
     ghost use Rattle.std.specs.Prelude.{◌≡◌};
     ghost use Rattle.dl_ring.specs.Rule.{with_pushed};
 
     ghost then = { λ v full w. w ≡ with_pushed v full.value };
 }
 
-impl Lesson<Box<Item>, View> for Push {
+impl Lesson<Box<RingItem>, View> for Push {
     ghost use Rattle.std.specs.Prelude.{◌≡◌, ◌++◌, List};
-    ghost use Rattle.dl_bytes.specs.declared.item.Item.{Item as item_type};
+    ghost use Rattle.dl_ring.specs.declared.item.RingItem.{RingItem as ring_item};
     ghost use Rattle.dl_ring.specs.Boxes.{values};
     ghost use Rattle.dl_ring.specs.Order.{of};
 
-    ghost fact = { λ v boxes. (taken : List item_type) × (of v.number (taken ++ values boxes) ≡ v.pushed) };
+    ghost fact = { λ v boxes. (taken : List ring_item) × (of v.number (taken ++ values boxes) ≡ v.pushed) };
 }
 
 /// A take: the oldest item, or the ring is empty.
 pub struct Take;
 
-impl Outcome<Box<Item>, View> for Take {
+impl Outcome<Box<RingItem>, View> for Take {
     ghost use Rattle.std.specs.Prelude.{◌≡◌, List};
-    ghost use Rattle.dl_bytes.specs.declared.item.Item.{Item as item_type};
+    ghost use Rattle.dl_ring.specs.declared.item.RingItem.{RingItem as ring_item};
     ghost use Rattle.dl_ring.specs.Order.{Rest};
     ghost use Rattle.dl_ring.specs.Rule.{with_taken};
 
-    ghost then = { λ v full w. (w ≡ with_taken v full.value) × ((contents : List item_type) × Rest w.gives w.given w.taken w.joined contents) };
+    ghost then = { λ v full w. (w ≡ with_taken v full.value) × ((contents : List ring_item) × Rest w.gives w.given w.taken w.joined contents) };
 }
 
-impl Lesson<Box<Item>, View> for Take {
+impl Lesson<Box<RingItem>, View> for Take {
     ghost use Rattle.dl_ring.specs.Boxes.{values};
     ghost use Rattle.dl_ring.specs.Order.{Rest};
 
@@ -148,7 +149,7 @@ pub fn new_pass<N: Number>(queue: &Queue, pass: &mut RingPass, number: u8) -> Ri
 impl Ring {
     /// A free box, whatever it holds. There always is one, since each pass has one box at most: this waits only for a pass
     /// that is just giving one back or taking one.
-    pub fn free_box<R: Wait>(&self, rt: &R) -> Box<Item> {
+    pub fn free_box<R: Wait>(&self, rt: &R) -> Box<RingItem> {
         for _ in rt.forever() {
             if let Some(free) = self.free.pop(rt) {
                 return free;
@@ -159,13 +160,13 @@ impl Ring {
     }
 
     /// Gives a box back. There always is room, since the queue of free boxes has room for all of them.
-    pub fn give_back<R: Wait>(&self, rt: &R, free: Box<Item>) {
+    pub fn give_back<R: Wait>(&self, rt: &R, free: Box<RingItem>) {
         let _ = self.free.push(rt, free);
     }
 }
 
 /// What lies in a box before its first use.
-fn no_item() -> Item {
+fn no_item() -> RingItem {
     let call = Call {
         app: 0,
         writer: 0,
@@ -176,11 +177,11 @@ fn no_item() -> Item {
         ctid: Id::from_bytes([0; 4]),
         number: 0,
     };
-    call.item(&Payload::new())
+    RingItem::Log(call.item(&Payload::new()))
 }
 
 /// So many free boxes.
-fn free_boxes(alloc: Global, count: usize) -> Result<ArrayQueue<Box<Item>>, OutOfMemory>
+fn free_boxes(alloc: Global, count: usize) -> Result<ArrayQueue<Box<RingItem>>, OutOfMemory>
     requires { 0 < count }
 {
     let mut free = ArrayQueue::new(alloc, count)?;

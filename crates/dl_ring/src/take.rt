@@ -1,11 +1,12 @@
 //! The pass with which the daemon takes.
 
-ghost use Rattle.std.specs.Prelude.{◌≡◌, ◌+◌, true, false, List, ◌∷◌, [], ◌++◌, IfSome, OnSome, IfNone};
-ghost use Rattle.dl_bytes.specs.declared.item.Item.{Item as item_type};
+ghost use Rattle.std.specs.Prelude.{◌≡◌, ◌+◌, false, List, ◌∷◌, [], ◌++◌, IfSome, OnSome, IfNone};
+ghost use Rattle.dl_ring.specs.declared.item.RingItem.{RingItem as ring_item};
+ghost use Rattle.dl_ring.specs.Items.{took, is_call};
 ghost use Rattle.dl_ring.specs.Order.{Holds};
 ghost use Rattle.dl_ring.specs.State.{with_pass};
 
-use crate::call::Call;
+use crate::item::{RingItem, Taken};
 use crate::push::RingPush;
 use crate::ring::{Gather, Ring, RingPass, Take};
 use dl_bytes::Item;
@@ -45,9 +46,9 @@ impl Model for RingTake {
 
 impl RingTake {
     /// The oldest item, taken from the ring at one step. None comes only where the ring was empty at that step.
-    pub fn take<R: Wait>(&mut self, rt: &R) -> Option<Item>
+    pub fn take<R: Wait>(&mut self, rt: &R) -> Option<RingItem>
         ensures taken { IfSome result (λ item. self.new ≡ record self.old { taken = self.old.taken ++ item ∷ [] }) }
-        ensures rest { OnSome result ((contents : List item_type) × Holds self.new contents) }
+        ensures rest { OnSome result ((contents : List ring_item) × Holds self.new contents) }
         ensures none { IfNone result (self.new ≡ record self.old { empties = self.old.empties + 1 }) }
         ensures empty { IfNone result (Holds self.new []) }
     {
@@ -57,22 +58,22 @@ impl RingTake {
         Some(item)
     }
 
-    /// Takes the oldest item into one that the caller keeps, and tells whether there was one: what `take` does, with the
-    /// item's bytes copied once. Where there was none, the caller's item stays.
-    pub fn take_into<R: Wait>(&mut self, rt: &R, item: &mut Item) -> bool
-        ensures taken { result ≡ true → self.new ≡ record self.old { taken = self.old.taken ++ item.new ∷ [] } }
-        ensures rest { result ≡ true → (contents : List item_type) × Holds self.new contents }
-        ensures none { result ≡ false → self.new ≡ record self.old { empties = self.old.empties + 1 } }
-        ensures empty { result ≡ false → Holds self.new [] }
-        ensures kept { result ≡ false → item.new ≡ item.old }
+    /// Takes the oldest item: what `take` does, but a call is copied into an item that the caller keeps, and its bytes are
+    /// copied once. A claim comes in the answer. Where no call came, the caller's item stays.
+    pub fn take_into<R: Wait>(&mut self, rt: &R, item: &mut Item) -> Taken
+        ensures taken { IfSome (took result item.new) (λ x. self.new ≡ record self.old { taken = self.old.taken ++ x ∷ [] }) }
+        ensures rest { OnSome (took result item.new) ((contents : List ring_item) × Holds self.new contents) }
+        ensures none { IfNone (took result item.new) (self.new ≡ record self.old { empties = self.old.empties + 1 }) }
+        ensures empty { IfNone (took result item.new) (Holds self.new []) }
+        ensures kept { is_call result ≡ false → item.new ≡ item.old }
     {
         match self.take_box(rt) {
             Some(full) => {
-                Call::of(&full).fill(item, &full.payload);
+                let taken = full.copy_into(item);
                 self.ring.give_back(rt, full);
-                true
+                taken
             }
-            None => false,
+            None => Taken::Nothing,
         }
     }
 
@@ -96,7 +97,7 @@ impl RingTake {
     /// passes pushed. After the last join this is all that was ever pushed.
     pub fn look(&mut self)
         ensures same { self.new ≡ self.old }
-        ensures rest { (contents : List item_type) × Holds self.new contents }
+        ensures rest { (contents : List ring_item) × Holds self.new contents }
     {
         self.ring.queue.learn_as::<Take>(&mut self.pass);
     }
@@ -104,9 +105,9 @@ impl RingTake {
 
 impl RingTake {
     // The oldest box of the ring.
-    fn take_box<R: Wait>(&mut self, rt: &R) -> Option<Box<Item>>
+    fn take_box<R: Wait>(&mut self, rt: &R) -> Option<Box<RingItem>>
         ensures taken { IfSome result (λ full. self.new ≡ record self.old { taken = self.old.taken ++ full.value ∷ [] }) }
-        ensures rest { OnSome result ((contents : List item_type) × Holds self.new contents) }
+        ensures rest { OnSome result ((contents : List ring_item) × Holds self.new contents) }
         ensures none { IfNone result (self.new ≡ record self.old { empties = self.old.empties + 1 }) }
         ensures empty { IfNone result (Holds self.new []) }
     {

@@ -1,6 +1,6 @@
 //! What each pass of a ring knows, and what each kind of step makes of it.
 
-use dl_bytes::Item;
+use crate::item::RingItem;
 use std::collections::LinkedList;
 
 /// What a pass knows. No value of it is made: it stands in proofs alone.
@@ -10,7 +10,7 @@ pub struct View {
     /// The number of its writer.
     pub number: u8,
     /// What it pushed, in order.
-    pub pushed: LinkedList<Item>,
+    pub pushed: LinkedList<RingItem>,
     /// It may give numbers to new passes.
     pub gives: bool,
     /// The numbers that it gave to further passes.
@@ -18,7 +18,7 @@ pub struct View {
     /// It may take.
     pub takes: bool,
     /// What it took, in order.
-    pub taken: LinkedList<Item>,
+    pub taken: LinkedList<RingItem>,
     /// The passes that it took in.
     pub joined: LinkedList<Sent>,
 }
@@ -28,5 +28,5 @@ pub struct Sent {
     /// The number of its writer.
     pub number: u8,
     /// What it had pushed, in order.
-    pub items: LinkedList<Item>,
+    pub items: LinkedList<RingItem>,
 }

@@ -17,7 +17,7 @@ use Rattle.dl_script.specs.declared.read.Read.{Read}
 use Rattle.dl_script.specs.declared.word.ScenarioWord.{ScenarioWord}
 use Rattle.dl_script.specs.declared.word.ScenarioWord.TheVariants as word
 use Rattle.dl_script.proofs.ReadResults.{Gives, given, refused, then, then_so, either_way}
-use Rattle.dl_script.proofs.ReadFields.{app_in_range, call_in_range, context_in_range}
+use Rattle.dl_script.proofs.ReadFields.{app_in_range, call_in_range, claim_in_range, context_in_range}
 
 -- what was read is an entry with its claim, in range, or its arguments don't fit
 abbrev pub IsRead : Read ScenarioLine → Type 0
@@ -36,6 +36,7 @@ unfolding scenario_by_word
 word_read word.App fields = then_so (app_in_range fields) (λ app is. given (refl, is))
 word_read word.Context fields = then_so (context_in_range fields) (λ context is. given (refl, is))
 word_read word.Writer fields = then (id_line fields) (λ apid. given (refl, tt))
+word_read word.Register fields = then_so (claim_in_range fields) (λ asked is. given (refl, is))
 word_read word.Calls fields = then_so (call_in_range 1 1000000 fields) (λ call is. given (calls_read call is.0))
 word_read word.Client fields = then (bare_line fields) (λ done. given (refl, tt))
 word_read word.Send fields = then (bytes_line fields) (λ sent. given (refl, tt))

@@ -110,6 +110,7 @@ scenario_fields_for : (entry : ScenarioLine) → IsSayableScenarioLine entry →
 scenario_fields_for (scenario.App app) is = app_spells app is
 scenario_fields_for (scenario.Context context) is = context_spells context is
 scenario_fields_for (scenario.Writer apid) is = (is.0 ∷ [], is.1)
+scenario_fields_for (scenario.Register asked) is = claim_spells asked is
 scenario_fields_for (scenario.Calls writer ctid severity count payload) is = call_spells 1 1000000 (lit< tt) writer ctid severity count payload is.0 is.1 is.2 is.3 is.4
 scenario_fields_for scenario.Client is = ([], tt)
 scenario_fields_for (scenario.Send client bytes) is = sent_spells client bytes is.0 is.1

@@ -2,7 +2,7 @@
 use Rattle.std.proofs.Common.{◌≡◌, ℕ, List, Ok, refl, lit<}
 use Rattle.dl_script_lines.specs.declared.scenario.ScenarioLine.{ScenarioLine}
 use Rattle.dl_script_lines.specs.declared.scenario.ScenarioLine.TheVariants as scenario
-use Rattle.dl_script_fields.proofs.SpelledLines.{AreGood, nothing_says, nothing_good, app_says, app_good, context_says, context_good, apid_says, apid_good, call_says, call_good, sent_says, sent_good, leave_says, leave_good}
+use Rattle.dl_script_fields.proofs.SpelledLines.{AreGood, nothing_says, nothing_good, app_says, app_good, context_says, context_good, claim_says, claim_good, apid_says, apid_good, call_says, call_good, sent_says, sent_good, leave_says, leave_good}
 use Rattle.dl_script.specs.Line.{says, scenario_word, scenario_by_word, scenario_line_of}
 use Rattle.dl_script.specs.Spelled.{scenario_word_for, SpellsScenarioFields, SpellsScenarioLine, scenario_claim}
 use Rattle.dl_script.specs.declared.word.ScenarioWord.{ScenarioWord}
@@ -13,6 +13,7 @@ abbrev kind_for : ScenarioLine → ScenarioWord
 kind_for (scenario.App app) = scene.App
 kind_for (scenario.Context context) = scene.Context
 kind_for (scenario.Writer apid) = scene.Writer
+kind_for (scenario.Register asked) = scene.Register
 kind_for (scenario.Calls writer ctid severity count payload) = scene.Calls
 kind_for scenario.Client = scene.Client
 kind_for (scenario.Send client bytes) = scene.Send
@@ -22,6 +23,7 @@ word_is : (entry : ScenarioLine) → IsWord scenario_word (scenario_word_for ent
 word_is (scenario.App app) = record { letters = refl; plain = refl; known = refl; noted = λ more. refl }
 word_is (scenario.Context context) = record { letters = refl; plain = refl; known = refl; noted = λ more. refl }
 word_is (scenario.Writer apid) = record { letters = refl; plain = refl; known = refl; noted = λ more. refl }
+word_is (scenario.Register asked) = record { letters = refl; plain = refl; known = refl; noted = λ more. refl }
 word_is (scenario.Calls writer ctid severity count payload) = record { letters = refl; plain = refl; known = refl; noted = λ more. refl }
 word_is scenario.Client = record { letters = refl; plain = refl; known = refl; noted = λ more. refl }
 word_is (scenario.Send client bytes) = record { letters = refl; plain = refl; known = refl; noted = λ more. refl }
@@ -31,6 +33,7 @@ fields_good : (entry : ScenarioLine) (fields : List (List ℕ)) → SpellsScenar
 fields_good (scenario.App app) fields are = app_good fields app are
 fields_good (scenario.Context context) fields are = context_good fields context are
 fields_good (scenario.Writer apid) fields are = apid_good fields apid are
+fields_good (scenario.Register asked) fields are = claim_good fields asked are
 fields_good (scenario.Calls writer ctid severity count payload) fields are = call_good 1 1000000 (lit< tt) writer ctid severity count payload fields are
 fields_good scenario.Client fields are = nothing_good fields are
 fields_good (scenario.Send client bytes) fields are = sent_good fields client bytes are
@@ -41,6 +44,7 @@ unfolding scenario_by_word
 fields_say (scenario.App app) fields are = then _ _ _ (app_says fields app are)
 fields_say (scenario.Context context) fields are = then _ _ _ (context_says fields context are)
 fields_say (scenario.Writer apid) fields are = then _ _ _ (apid_says fields apid are)
+fields_say (scenario.Register asked) fields are = then _ _ _ (claim_says fields asked are)
 fields_say (scenario.Calls writer ctid severity count payload) fields are = then _ _ _ (call_says 1 1000000 (lit< tt) writer ctid severity count payload fields are)
 fields_say scenario.Client fields are = then _ _ _ (nothing_says fields are)
 fields_say (scenario.Send client bytes) fields are = then _ _ _ (sent_says fields client bytes are)

@@ -67,6 +67,7 @@ unfoldable pub scenario_by_word : ScenarioWord → List (List ℕ) → Result (R
 scenario_by_word scene.App fields = app_line fields >>= λ app. Ok (says (claim.App app.apid) (scenario.App app))
 scenario_by_word scene.Context fields = context_line fields >>= λ context. Ok (says (claim.Context context.apid context.ctid) (scenario.Context context))
 scenario_by_word scene.Writer fields = id_line fields >>= λ apid. Ok (says (claim.Writer apid) (scenario.Writer apid))
+scenario_by_word scene.Register fields = claim_line fields >>= λ asked. Ok (says (claim.Place asked.writer asked.ctid) (scenario.Register asked))
 scenario_by_word scene.Calls fields = call_line 1 1000000 fields >>= λ call. Ok (calls call)
 scenario_by_word scene.Client fields = bare_line fields >>= λ done. Ok (says claim.Client scenario.Client)
 scenario_by_word scene.Send fields = bytes_line fields >>= λ sent. Ok (says (claim.Send sent.0 (length sent.1)) (scenario.Send sent.0 sent.1))
@@ -104,6 +105,7 @@ scenario_word field =
     if is_word field (codes "app") then Some scene.App
     else if is_word field (codes "context") then Some scene.Context
     else if is_word field (codes "writer") then Some scene.Writer
+    else if is_word field (codes "register") then Some scene.Register
     else if is_word field (codes "calls") then Some scene.Calls
     else if is_word field (codes "client") then Some scene.Client
     else if is_word field (codes "send") then Some scene.Send

@@ -33,12 +33,13 @@ pub record IsPlayable (steps : List Step) : Type 0 where
 abbrev pub IsInRange : ScenarioLine → Type 0
 IsInRange (scenario.App app) = (app.apid ≢ zero_id) × (1 ≤ app.capacity) × (app.capacity ≤ 4096) × (length app.text ≤ 255)
 IsInRange (scenario.Context context) = (context.apid ≢ zero_id) × (context.ctid ≢ zero_id) × (length context.text ≤ 255)
+IsInRange (scenario.Register asked) = IsClaimInBounds asked
 IsInRange (scenario.Calls writer ctid severity count payload) = 1 ≤ count
 IsInRange _ = Unit {0}
 
--- Each line may follow those before it: there are at most 16 applications, each with another id, at most 64 contexts of each,
--- at most 32 writers, each with calls under contexts of its application alone, at most 1,000,000 calls, and at most 32
--- clients, of which each leaves once at most.
+-- Each line may follow those before it: there are at most 16 applications, each with another id, at most 64 contexts and
+-- claims of each, at most 32 writers, each with calls under contexts of its application and under those that it claims
+-- alone, at most 1,000,000 calls, and at most 32 clients, of which each leaves once at most.
 pub record IsRunnable (lines : List ScenarioLine) : Type 0 where
   pub follows : MayFollow scenario_claim nothing lines
   pub ranges : AllByRecursion IsInRange lines

@@ -108,6 +108,7 @@ abbrev pub scenario_word_for : ScenarioLine → List ℕ
 scenario_word_for (scenario.App app) = codes "app"
 scenario_word_for (scenario.Context context) = codes "context"
 scenario_word_for (scenario.Writer apid) = codes "writer"
+scenario_word_for (scenario.Register asked) = codes "register"
 scenario_word_for (scenario.Calls writer ctid severity count payload) = codes "calls"
 scenario_word_for scenario.Client = codes "client"
 scenario_word_for (scenario.Send client bytes) = codes "send"
@@ -118,6 +119,7 @@ abbrev pub SpellsScenarioFields : List (List ℕ) → ScenarioLine → Type 0
 SpellsScenarioFields fields (scenario.App app) = SpellsApp fields app
 SpellsScenarioFields fields (scenario.Context context) = SpellsContext fields context
 SpellsScenarioFields fields (scenario.Writer apid) = SpellsApid fields apid
+SpellsScenarioFields fields (scenario.Register asked) = SpellsClaim fields asked
 SpellsScenarioFields fields (scenario.Calls writer ctid severity count payload) = SpellsCall 1 1000000 fields writer ctid severity count payload
 SpellsScenarioFields fields scenario.Client = SpellsNothing fields
 SpellsScenarioFields fields (scenario.Send client bytes) = SpellsSent fields client bytes
@@ -132,6 +134,7 @@ abbrev pub scenario_claim : ScenarioLine → Claim
 scenario_claim (scenario.App app) = claim.App app.apid
 scenario_claim (scenario.Context context) = claim.Context context.apid context.ctid
 scenario_claim (scenario.Writer apid) = claim.Writer apid
+scenario_claim (scenario.Register asked) = claim.Place asked.writer asked.ctid
 scenario_claim (scenario.Calls writer ctid severity count payload) = claim.Calls writer ctid count
 scenario_claim scenario.Client = claim.Client
 scenario_claim (scenario.Send client bytes) = claim.Send client (length bytes)
@@ -212,6 +215,7 @@ abbrev pub IsSayableScenarioLine : ScenarioLine → Type 0
 IsSayableScenarioLine (scenario.App app) = IsSayableApp app
 IsSayableScenarioLine (scenario.Context context) = IsSayableContext context
 IsSayableScenarioLine (scenario.Writer apid) = HasName apid
+IsSayableScenarioLine (scenario.Register asked) = IsSayableClaim asked
 IsSayableScenarioLine (scenario.Calls writer ctid severity count payload) = (writer ≤ 255) × HasName ctid × (1 ≤ count) × (count ≤ 1000000) × HasArguments payload
 IsSayableScenarioLine scenario.Client = Unit {0}
 IsSayableScenarioLine (scenario.Send client bytes) = (client ≤ 4294967295) × HasBytes bytes

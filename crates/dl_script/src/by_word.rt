@@ -305,6 +305,11 @@ fn scenario_by_word(
             let apid = app_id(fields)?;
             Ok(says(Claim::Writer { apid }, ScenarioLine::Writer { apid }))
         }
+        ScenarioWord::Register => {
+            let asked = claim(alloc, fields)?;
+            let (writer, ctid) = (asked.writer, asked.ctid);
+            Ok(says(Claim::Place { writer, ctid }, ScenarioLine::Register(asked)))
+        }
         ScenarioWord::Calls => {
             let call = log_call(alloc, payload, fields, 1, 1_000_000)?;
             Ok(all_calls(call))

@@ -53,8 +53,8 @@ pub fn what_is_read_can_be_played()
     ensures bounded { (text : List ℕ) (steps : List Step) → steps_of text ≡ Ok steps → (length steps ≤ length text) × (length text ≤ size_limit) }
 {}
 
-/// So can a scenario that is read be run: each of its lines may follow those before it, its applications and contexts have
-/// names, its rings hold 1 to 4096 calls, and its descriptions are short.
+/// So can a scenario that is read be run: each of its lines may follow those before it, its applications, its contexts and
+/// those that writers claim have names, its rings hold 1 to 4096 calls, and its descriptions are short.
 pub fn what_is_read_can_be_run()
     ensures runnable { (text : List ℕ) (lines : List ScenarioLine) → scenario_of text ≡ Ok lines → IsRunnable lines }
     ensures bounded { (text : List ℕ) (lines : List ScenarioLine) → scenario_of text ≡ Ok lines → (length lines ≤ length text) × (length text ≤ size_limit) }

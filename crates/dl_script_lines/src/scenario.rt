@@ -1,7 +1,7 @@
 //! The lines of a scenario, which a run of threads plays.
 
 use crate::arguments::CallArguments;
-use crate::line::{AppLine, ContextLine};
+use crate::line::{AppLine, ClaimLine, ContextLine};
 use dl_bytes::{Bytes, Id, Sequence, Severity};
 
 /// The lines of a scenario, in order. Contracts see a list.
@@ -19,6 +19,9 @@ pub enum ScenarioLine {
         /// The application's id.
         apid: Id,
     },
+    /// `register`: a writer claims the next place of its application for a context. The claims that wait go into the
+    /// ring until it refuses one.
+    Register(ClaimLine),
     /// `calls`: log calls of a writer, one like the other.
     Calls {
         /// The writer's number, 1 to 32.

@@ -37,7 +37,7 @@ use Rattle.dl_settling.specs.Settling.{Settles}
 use Rattle.dl_settling.specs.State.{Stopping, clients_of, taking_of}
 use Rattle.dl_settling.specs.Stopped.{account_took}
 use Rattle.dl_settling.specs.Went.{HasEnded, HaveEnded}
-use Rattle.dl_settling.proofs.ShownDrains.{left_at, outbox_at, shown_taken}
+use Rattle.dl_settling.proofs.ShownDrains.{left_at, outbox_at, shown_drain}
 use Rattle.dl_settling.proofs.StoppedEvents.{same_took, shut_at}
 use Rattle.dl_settling.proofs.WentClients.{client_at, end_at, stream_of}
 use Rattle.dl_rounds.proofs.NotedClients.{left_of}
@@ -73,19 +73,19 @@ module _ {L : Type 0} (told : L → LinkTold) (dropped : ℕ) (old : Stopping L)
       subst (λ (specs : List AppSpec). GivesTook specs (closing_took drained.closing) run) apps (subst (λ (t : Took). GivesTook closed.closing.apps t run) took of_closed)
 
   -- once all was taken
-  drained_events : old.journal.events ++ first.admits.more ≡ drained.journal.events
+  drained_events : old.journal.events ++ first.more ≡ drained.journal.events
   drained_events = sym events_so where
-    events_so : drained.journal.events ≡ old.journal.events ++ first.admits.more
-    events_so = cc first.admits.events
+    events_so : drained.journal.events ≡ old.journal.events ++ first.more
+    events_so = cc first.events
 
   shown_drained : AllShowWhy (TellOver told) drained.journal.events drained.core.hub (map told drained.links.links)
   shown_drained =
       subst (λ (ls : Links L). AllShowWhy (TellOver told) drained.journal.events drained.core.hub (map told ls.links)) (sym settles.drains.links)
       (subst (λ (es : List Event). AllShowWhy (TellOver told) es drained.core.hub (map told old.links.links)) drained_events
-      (shown_taken run old.journal.events taken (taking_of old folder).part (taking_of drained settles.between).part first.admits first.kinds gives_so is (map told old.links.links) shown))
+      (shown_drain run old.journal.events taken old.closing.apps (taking_of old folder) (taking_of drained settles.between) first gives_so is (map told old.links.links) shown))
 
   after_drained : IsAfter run drained.journal.events taken drained.core
-  after_drained = subst (λ (es : List Event). IsAfter run es taken drained.core) drained_events (first.admits.after run old.journal.events taken gives_so is).0
+  after_drained = subst (λ (es : List Event). IsAfter run es taken drained.core) drained_events (first.after run old.journal.events taken gives_so is).0
 
   -- once each client was closed
   shown_closed : AllShowWhy (TellOver told) closed.journal.events closed.core.hub (map told closed.links.links)

@@ -1,5 +1,5 @@
--- Clients stay ready to be closed while calls and losses are admitted.
-use Rattle.std.proofs.Common.{◌≡◌, ℕ, zero, suc, ◌+◌, ◌-◌, ◌≤◌, Bool, true, false, cond, eqb, List, [], ◌∷◌, length, map, Option, Some, None, is_some, refl, sym, ap, ◌∙◌, subst, arith}
+-- Clients stay ready to be closed while calls, claims and losses are taken.
+use Rattle.std.proofs.Common.{◌≡◌, ℕ, zero, suc, ◌+◌, ◌-◌, ◌≤◌, Bool, true, false, cond, eqb, List, [], ◌∷◌, length, map, Option, Some, None, is_some, refl, sym, ap, ◌∙◌, arith}
 use Rattle.std.specs.Prelude.{IsSome, IsSomeAnd, slice_get, unwrap_or}
 use Rattle.std.specs.Option.{option_map}
 use Rattle.std.proofs.lemmas.List.{length-map}
@@ -9,7 +9,7 @@ use Rattle.dl_events.specs.declared.event.Why.{Why}
 use Rattle.dl_model.specs.Report.{why_of}
 use Rattle.dl_outside.specs.Links.{Links}
 use Rattle.dl_desk.specs.Told.{PostTold}
-use Rattle.dl_registry.specs.Kept.{Kept, owed_change}
+use Rattle.dl_registry.specs.Kept.{owed_change}
 use Rattle.dl_hub.specs.State.{Client, Hub, client_of, outbox_of, replies_of}
 use Rattle.dl_core.specs.State.{Core}
 use Rattle.dl_admission.specs.Admission.{KeepsClients}
@@ -61,12 +61,12 @@ served_by served (Some c) (Some d) same has = (ap (λ (o : Option ℕ). unwrap_o
 served_still : (noted : List Event) (number served : ℕ) (old new : Core) → KeepsClients noted old.hub new.hub → HasServed number served old → HasServed number served new
 served_still noted number served old new keeps has = served_by served (client_of old.hub number) (client_of new.hub number) (same_replies old.hub new.hub number keeps.replies) has
 
-pub heard_still : (noted : List Event) (listeners : List Listener) (old new : Core) (desk desk_now : PostTold) → AreHeard listeners old desk → KeepsClients noted old.hub new.hub → new.registry ≡ old.registry
-    → desk_now ≡ desk → AreHeard listeners new desk_now
-heard_still noted listeners old new desk desk_now heard keeps registry same = record {
+pub heard_still : (noted : List Event) (listeners : List Listener) (old new : Core) (desk desk_now : PostTold) → AreHeard listeners old desk → KeepsClients noted old.hub new.hub → IsDeskOf new.registry desk_now
+    → AreHeard listeners new desk_now
+heard_still noted listeners old new desk desk_now heard keeps desk_so = record {
   enough = omega (arith, heard.enough, keeps.same.limit);
   limits = λ place listener is open_so. heard.limits place listener is (was_open noted old.hub new.hub (place + 1) keeps open_so);
   counts = λ place listener is below. served_still noted (place + 1) listener.served old new keeps (heard.counts place listener is (omega (arith, below, as_many noted old.hub new.hub keeps)));
   unused = λ place listener is above. heard.unused place listener is (omega (arith, above, as_many noted old.hub new.hub keeps));
-  desk_so = subst (λ (d : PostTold). IsDeskOf new.registry d) (sym same) (subst (λ (k : Kept). IsDeskOf k desk) (sym registry) heard.desk_so);
+  desk_so = desk_so;
 }

@@ -1,4 +1,4 @@
--- The stream of a client that is not open stands, whatever is admitted and whoever is closed.
+-- The stream of a client that is not open stands, whatever is taken and whoever is closed.
 use Rattle.std.proofs.Common.{◌≡◌, ℕ, Bool, true, false, cond, eqb, List, [], ◌∷◌, ◌++◌, map, append_assoc, append-nil, refl, sym, ap, ◌∙◌, subst}
 use Rattle.std.specs.List.{AllByRecursion}
 use Rattle.dl_events.specs.declared.event.Event.{Event}
@@ -59,9 +59,9 @@ module _ (source : FrameSource) (buffer client : ℕ) (frames : List (List ℕ))
   stands_one past (event.Lost app count moment) is so =
       one_more past (event.Lost app count moment) (stands_each source.ecu buffer client frames (traffic source past) (frames_of source (event.Lost app count moment)) so)
   stands_one past (event.Close other cause) is so = one_more past (event.Close other cause) (stands_closed source.ecu buffer client other frames (traffic source past) so)
-  stands_one past (event.Claim claim moment) is so = absurd is
+  stands_one past (event.Claim claim moment) is so = one_more past (event.Claim claim moment) (stands_each source.ecu buffer client frames (traffic source past) [] so)
   stands_one past (event.User channel msg moment) is so = absurd is
-  stands_one past (event.Level slot level) is so = absurd is
+  stands_one past (event.Level slot level) is so = one_more past (event.Level slot level) (stands_each source.ecu buffer client frames (traffic source past) [] so)
   stands_one past (event.Connect other) is so = absurd is
   stands_one past (event.Request other frame answer) is so = absurd is
 

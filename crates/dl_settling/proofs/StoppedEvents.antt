@@ -4,13 +4,13 @@ use Rattle.std.specs.List.{AllByRecursion, filter_map}
 use Rattle.std.proofs.lemmas.List.{length-map}
 use Rattle.std.proofs.lemmas.List.Elements.{filter_map-append}
 use Rattle.std.proofs.lemmas.List.Sums.{sum_by-append}
-use Rattle.dl_bytes.specs.Claim.{Claimed}
 use Rattle.dl_bytes.specs.declared.conf.AppSpec.{AppSpec}
 use Rattle.dl_events.specs.declared.event.Event.{Event}
 use Rattle.dl_events.specs.declared.event.Event.TheVariants as event
 use Rattle.dl_levels.specs.declared.history.Change.{Change}
 use Rattle.dl_losses.specs.Losses.{reported_of}
-use Rattle.dl_model.specs.Accounts.{claim_of, claims, logged_of, order}
+use Rattle.dl_model.specs.Accounts.{takes, took_of}
+use Rattle.dl_model.specs.Accounts as model
 use Rattle.dl_model.specs.Journal.{IsWellFormed}
 use Rattle.dl_model.specs.Report.{lost_of, reported}
 use Rattle.dl_outside.specs.Links.{Links}
@@ -45,35 +45,33 @@ use Rattle.dl_lemmas.proofs.Lists.{there_too, within_of, all_both}
 
 -- ---- the kinds of events
 
--- events of calls and losses set no level and ask nothing
+-- events of taking ask nothing
 pub record AreOfDrain (more : List Event) : Type 0 where
   pub of_stop : AllByRecursion IsOfStop more
   pub asks : AllByRecursion AsksNothing more
-  pub levels : filter_map level_in more ≡ []
 
 of_drain : (more : List Event) → AllByRecursion IsOfDrain more → AreOfDrain more
-of_drain [] is = record { of_stop = tt; asks = tt; levels = refl }
-of_drain (event.Log app writer call moment ∷ more) is = let rest = of_drain more is.1 in record { of_stop = (tt, rest.of_stop); asks = (tt, rest.asks); levels = rest.levels }
-of_drain (event.Lost app count moment ∷ more) is = let rest = of_drain more is.1 in record { of_stop = (tt, rest.of_stop); asks = (tt, rest.asks); levels = rest.levels }
-of_drain (event.Close client cause ∷ more) is = let rest = of_drain more is.1 in record { of_stop = (tt, rest.of_stop); asks = (tt, rest.asks); levels = rest.levels }
-of_drain (event.Claim claim moment ∷ more) is = absurd is.0
+of_drain [] is = record { of_stop = tt; asks = tt }
+of_drain (event.Log app writer call moment ∷ more) is = let rest = of_drain more is.1 in record { of_stop = (tt, rest.of_stop); asks = (tt, rest.asks) }
+of_drain (event.Lost app count moment ∷ more) is = let rest = of_drain more is.1 in record { of_stop = (tt, rest.of_stop); asks = (tt, rest.asks) }
+of_drain (event.Claim claim moment ∷ more) is = let rest = of_drain more is.1 in record { of_stop = (tt, rest.of_stop); asks = (tt, rest.asks) }
+of_drain (event.Level slot level ∷ more) is = let rest = of_drain more is.1 in record { of_stop = (tt, rest.of_stop); asks = (tt, rest.asks) }
+of_drain (event.Close client cause ∷ more) is = let rest = of_drain more is.1 in record { of_stop = (tt, rest.of_stop); asks = (tt, rest.asks) }
 of_drain (event.User channel msg moment ∷ more) is = absurd is.0
-of_drain (event.Level slot level ∷ more) is = absurd is.0
 of_drain (event.Connect client ∷ more) is = absurd is.0
 of_drain (event.Request client frame answer ∷ more) is = absurd is.0
 
 -- events of clients take nothing
 pub record AreOfClients (more : List Event) : Type 0 where
   pub of_stop : AllByRecursion IsOfStop more
-  pub calls : (app : ℕ) → order app more ≡ []
+  pub takes_none : (app : ℕ) → takes app more ≡ []
   pub losses : (app : ℕ) → reported app more ≡ 0
-  pub unclaimed : (app : ℕ) → claims app more ≡ []
 
 of_clients : (more : List Event) → AllByRecursion IsOfClients more → AreOfClients more
-of_clients [] is = record { of_stop = tt; calls = λ app. refl; losses = λ app. refl; unclaimed = λ app. refl }
-of_clients (event.Request other frame answer ∷ more) is = let rest = of_clients more is.1 in record { of_stop = (tt, rest.of_stop); calls = rest.calls; losses = rest.losses; unclaimed = rest.unclaimed }
-of_clients (event.Level slot level ∷ more) is = let rest = of_clients more is.1 in record { of_stop = (tt, rest.of_stop); calls = rest.calls; losses = rest.losses; unclaimed = rest.unclaimed }
-of_clients (event.Close client cause ∷ more) is = let rest = of_clients more is.1 in record { of_stop = (tt, rest.of_stop); calls = rest.calls; losses = rest.losses; unclaimed = rest.unclaimed }
+of_clients [] is = record { of_stop = tt; takes_none = λ app. refl; losses = λ app. refl }
+of_clients (event.Request other frame answer ∷ more) is = let rest = of_clients more is.1 in record { of_stop = (tt, rest.of_stop); takes_none = rest.takes_none; losses = rest.losses }
+of_clients (event.Level slot level ∷ more) is = let rest = of_clients more is.1 in record { of_stop = (tt, rest.of_stop); takes_none = rest.takes_none; losses = rest.losses }
+of_clients (event.Close client cause ∷ more) is = let rest = of_clients more is.1 in record { of_stop = (tt, rest.of_stop); takes_none = rest.takes_none; losses = rest.losses }
 of_clients (event.Log app writer call moment ∷ more) is = absurd is.0
 of_clients (event.Claim claim moment ∷ more) is = absurd is.0
 of_clients (event.Lost app count moment ∷ more) is = absurd is.0
@@ -86,9 +84,8 @@ add_none n = omega arith
 -- a journal goes on telling what was taken
 tells_on : (past more : List Event) (took : Took) → AreOfClients more → TellAllTaken past took → TellAllTaken (past ++ more) took
 tells_on past more took none told = record {
-  admitted = λ app. filter_map-append (logged_of app) past more ∙ ap (λ (ns : List (ℕ × ℕ)). order app past ++ ns) (none.calls app) ∙ append-nil (order app past) ∙ told.admitted app;
+  admitted = λ app. filter_map-append (took_of app) past more ∙ ap (λ (ts : List model.Took). takes app past ++ ts) (none.takes_none app) ∙ append-nil (takes app past) ∙ told.admitted app;
   losses = λ app. sum_by-append (lost_of app) past more ∙ ap (λ (n : ℕ). reported app past + n) (none.losses app) ∙ add_none (reported app past) ∙ told.losses app;
-  unclaimed = λ app. filter_map-append (claim_of app) past more ∙ ap (λ (cs : List Claimed). cs ++ claims app more) (told.unclaimed app) ∙ none.unclaimed app;
 }
 
 -- ---- what was taken, while clients are closed
@@ -122,10 +119,10 @@ module _ {L : Type 0} (told : L → LinkTold) (old drained closed : Stopping L) 
   first = all_drain old.closing.apps (taking_of old folder) (taking_of drained between) drain.drains
 
   abbrev events_more : List Event
-  events_more = first.admits.more ++ later.more
+  events_more = first.more ++ later.more
 
-  drained_events : drained.journal.events ≡ old.journal.events ++ first.admits.more
-  drained_events = cc first.admits.events
+  drained_events : drained.journal.events ≡ old.journal.events ++ first.more
+  drained_events = cc first.events
 
   closed_events : closed.journal.events ≡ drained.journal.events ++ later.more
   closed_events = cc later.events
@@ -145,25 +142,25 @@ module _ {L : Type 0} (told : L → LinkTold) (old drained closed : Stopping L) 
   runs_so : (run : Run) (past : List Event) (taken : ℕ → List ℕ) → GivesTook closed.closing.apps (closing_took closed.closing) run → IsAfter run past taken old.core
       → RunsOn run past events_more taken later.sent old.core closed.core folder folder_now (closing_told old.closing) (closing_told closed.closing)
   runs_so run past taken gives is =
-      let one = first.admits.after run past taken (gives_so run gives) is in
-      let other = later.after run (past ++ first.admits.more) taken one.0 in
-      let joined = append_assoc past first.admits.more later.more in record {
+      let one = first.after run past taken (gives_so run gives) is in
+      let other = later.after run (past ++ first.more) taken one.0 in
+      let joined = append_assoc past first.more later.more in record {
         after = subst (λ (es : List Event). IsAfter run es (took_all taken later.sent) closed.core) joined other.0;
         holds = λ holds. subst (λ (es : List Event). HoldsTrace run es closed.core folder_now) joined (other.1 (one.1 holds));
-        formed = λ running well. subst (IsWellFormed run.setting (source_of run)) joined
-            (stays_formed drained.core later.more later.formed run (past ++ first.admits.more) taken one.0 (first.admits.formed run past taken (gives_so run gives) is running well));
-        posted = λ app. posted_both run.setting past first.admits.more later.more app (closing_told old.closing) (closing_told drained.closing) (closing_told closed.closing)
-            (posted_none run.setting past first.admits.more app (closing_told old.closing) (closing_told drained.closing) (of_drain first.admits.more first.kinds).asks
-            (ap (λ (t : PostTold). t.pushed app) drain.told) (ap (λ (t : PostTold). t.refusals app) drain.told))
-            (later.posts run (past ++ first.admits.more) taken one.0 app);
+        formed = λ there running well. subst (IsWellFormed run.setting (source_of run)) joined
+            (stays_formed drained.core later.more later.formed run (past ++ first.more) taken one.0 (first.formed run past taken (gives_so run gives) is there running well));
+        posted = λ app. posted_both run.setting past first.more later.more app (closing_told old.closing) (closing_told drained.closing) (closing_told closed.closing)
+            (posted_none run.setting past first.more app (closing_told old.closing) (closing_told drained.closing) (of_drain first.more first.kinds).asks
+            (ap (λ (t : PostTold). t.pushed app) first.desk) (ap (λ (t : PostTold). t.refusals app) first.desk))
+            (later.posts run (past ++ first.more) taken one.0 app);
       }
 
   stop_so : (dropped : ℕ) (links : Links L) → ShutsGone closed.core.hub (map told closed.links.links) (map told links.links)
       → IsStop told dropped closed.core old (account_of closed.closing closed.journal.events (ends_of closed.core dropped)) links folder folder_now
   stop_so dropped links shuts = record {
     more = events_more;
-    events = closed_events ∙ ap (λ (es : List Event). es ++ later.more) drained_events ∙ append_assoc old.journal.events first.admits.more later.more;
-    of_stop = all_both IsOfStop first.admits.more later.more (of_drain first.admits.more first.kinds).of_stop (of_clients later.more later.of_clients).of_stop;
+    events = closed_events ∙ ap (λ (es : List Event). es ++ later.more) drained_events ∙ append_assoc old.journal.events first.more later.more;
+    of_stop = all_both IsOfStop first.more later.more (of_drain first.more first.kinds).of_stop (of_clients later.more later.of_clients).of_stop;
     sent = later.sent;
     links_took = λ place link link_now is is_now.
         let between = there_too (map told closed.links.links) (map told links.links) place link_now shuts.many is_now in
@@ -178,12 +175,12 @@ module _ {L : Type 0} (told : L → LinkTold) (old drained closed : Stopping L) 
     runs = runs_so;
     tells = λ past tells.
         subst (λ (t : Took). TellAllTaken (past ++ events_more) t) (sym took_so)
-        (subst (λ (es : List Event). TellAllTaken es (closing_took drained.closing)) (append_assoc past first.admits.more later.more)
-        (tells_on (past ++ first.admits.more) later.more (closing_took drained.closing) (of_clients later.more later.of_clients) (first.told past tells)));
-    sets = later.desk.sets ∙ ap (λ (t : PostTold). t.sets ++ filter_map level_in later.more) drain.told
-        ∙ ap (λ (cs : List Change). old.closing.handles.levels.sets ++ cs)
-        (sym (filter_map-append level_in first.admits.more later.more ∙ ap (λ (cs : List Change). cs ++ filter_map level_in later.more) (of_drain first.admits.more first.kinds).levels));
-    first = later.desk.first ∙ ap (λ (t : PostTold). t.first) drain.told;
+        (subst (λ (es : List Event). TellAllTaken es (closing_took drained.closing)) (append_assoc past first.more later.more)
+        (tells_on (past ++ first.more) later.more (closing_took drained.closing) (of_clients later.more later.of_clients) (first.told past tells)));
+    sets = later.desk.sets ∙ ap (λ (t : PostTold). t.sets ++ filter_map level_in later.more) first.desk
+        ∙ append_assoc old.closing.handles.levels.sets (filter_map level_in first.more) (filter_map level_in later.more)
+        ∙ ap (λ (cs : List Change). old.closing.handles.levels.sets ++ cs) (sym (filter_map-append level_in first.more later.more));
+    first = later.desk.first ∙ ap (λ (t : PostTold). t.first) first.desk;
     others = λ app beyond.
         let so = first.others app (subst (λ (specs : List AppSpec). length specs ≤ app) apps_so beyond) in (
           ap (λ (t : Took). t.taken app) took_so ∙ so.0,

@@ -22,7 +22,7 @@ use Rattle.dl_core.specs.Follows.{IsAfter, Run, source_of}
 use Rattle.dl_core.specs.State.{Core}
 use Rattle.dl_well_formed.proofs.OpenClients.{its_stream}
 use Rattle.dl_taking.specs.Drained.{GivesTook, IsDrain}
-use Rattle.dl_taking.specs.Draining.{closing_told, closing_took}
+use Rattle.dl_taking.specs.Draining.{closing_took}
 use Rattle.dl_taking.specs.Took.{Took}
 use Rattle.dl_taking.proofs.DrainedEvents.{all_drain}
 use Rattle.dl_turns.specs.Gone.{TellOver}
@@ -144,17 +144,17 @@ module _ {L : Type 0} (told : L → LinkTold) (dropped : ℕ) (old : Stopping L)
 
   final : AreAsNoted run settles.closed.journal.events (took_all taken stays.later.sent) (clients_of told settles.closed folder_now)
   final =
-      let one = noted_drain run old.journal.events taken old.closing.apps (taking_of old folder) (taking_of settles.drained settles.between) (map told old.links.links) old.listeners (closing_told old.closing) first gives_so noted in
-      let between_is : clients_at (map told old.links.links) old.listeners (taking_of settles.drained settles.between) (closing_told old.closing) ≡ clients_of told settles.drained settles.between =
-      λ i. clients_at (map told (sym settles.drains.links i).links) (sym settles.drains.listeners i) (taking_of settles.drained settles.between) (sym settles.drains.told i) in
-      let drained_events : old.journal.events ++ first.admits.more ≡ settles.drained.journal.events = sym cc_first in
+      let one = noted_drain run old.journal.events taken old.closing.apps (taking_of old folder) (taking_of settles.drained settles.between) (map told old.links.links) old.listeners first gives_so noted in
+      let between_is : clients_at (map told old.links.links) old.listeners (taking_of settles.drained settles.between) ≡ clients_of told settles.drained settles.between =
+      λ i. clients_at (map told (sym settles.drains.links i).links) (sym settles.drains.listeners i) (taking_of settles.drained settles.between) in
+      let drained_events : old.journal.events ++ first.more ≡ settles.drained.journal.events = sym cc_first in
       let two : AreAsNoted run settles.drained.journal.events taken (clients_of told settles.drained settles.between) =
-      subst (λ (es : List Event). AreAsNoted run es taken (clients_of told settles.drained settles.between)) drained_events (subst (AreAsNoted run (old.journal.events ++ first.admits.more) taken) between_is one) in
+      subst (λ (es : List Event). AreAsNoted run es taken (clients_of told settles.drained settles.between)) drained_events (subst (AreAsNoted run (old.journal.events ++ first.more) taken) between_is one) in
       let from : TellFrom 0 (map told settles.drained.links.links) = λ place link above at. each_told told (λ (l : LinkTold). IsSome l.given × IsSome l.taken) settles.drained.links.links place link bytes at in
       subst (λ (es : List Event). AreAsNoted run es (took_all taken stays.later.sent) (clients_of told settles.closed folder_now)) (sym cc_second) (stays.stay run settles.drained.journal.events taken from two)
     where
-      cc_first : settles.drained.journal.events ≡ old.journal.events ++ first.admits.more
-      cc_first = cc first.admits.events
+      cc_first : settles.drained.journal.events ≡ old.journal.events ++ first.more
+      cc_first = cc first.events
 
       cc_second : settles.closed.journal.events ≡ settles.drained.journal.events ++ stays.later.more
       cc_second = cc stays.later.events

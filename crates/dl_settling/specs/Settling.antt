@@ -19,12 +19,11 @@ use Rattle.dl_settling.specs.State.{Stopping, clients_of, taking_of}
 abbrev pub SameButSet : ClosingState → ClosingState → Type 0
 SameButSet old new = record new { handles = rest_of new.handles } ≡ record old { handles = rest_of old.handles }
 
--- All that was left of each application was taken, admitted and told, application by application; then nothing is left. The links and the
--- listeners of the clients stand.
+-- All that was left of each application was taken, admitted and told, application by application; then nothing is left. Nothing has changed of
+-- what stands for the desk but what was taken, and the levels that claims set. The links and the listeners of the clients stand.
 pub record Drains {L : Type 0} (old new : Stopping L) (folder folder_now : FolderTold) : Type 0 where
   pub drains : DrainsAll old.closing.apps (taking_of old folder) (taking_of new folder_now)
   pub drained : IsDrained new.closing
-  pub told : closing_told new.closing ≡ closing_told old.closing
   pub same : SameButTaken old.closing new.closing
   pub links : new.links ≡ old.links
   pub listeners : new.listeners ≡ old.listeners

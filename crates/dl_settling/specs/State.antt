@@ -3,7 +3,6 @@ use Rattle.std.specs.Prelude.{List, Some, length, map}
 use Rattle.dl_events.specs.Journal.{Journaled}
 use Rattle.dl_outside.specs.Links.{Links}
 use Rattle.dl_outside.specs.Told.{FolderTold, LinkTold}
-use Rattle.dl_desk.specs.Told.{PostTold}
 use Rattle.dl_lib.specs.State.{ClosingState}
 use Rattle.dl_core.specs.State.{Core}
 use Rattle.dl_admission.specs.Part.{part}
@@ -26,11 +25,12 @@ pub record Stopping (L : Type 0) : Type 0 where
 abbrev pub stopping_of : {L : Type 0} → Parts L → Stopping L
 stopping_of parts = record { core = parts.core; closing = parts.closing; journal = parts.journal; links = parts.links; listeners = parts.listeners.items }
 
--- what is seen of it where calls and losses are taken, beside this folder
+-- what is seen of it where calls, claims and losses are taken, beside this folder
 abbrev pub taking_of : {L : Type 0} → Stopping L → FolderTold → taking.Side
 taking_of s folder = record {
   part = part s.core (Some s.journal.events) folder;
   took = closing_took s.closing;
+  desk = closing_told s.closing;
   noted = length s.journal.events;
   spare = s.journal.spare;
 }
@@ -43,6 +43,6 @@ clients_of told s folder = record {
   side = side s.core (closing_told s.closing) (Some s.journal.events) folder;
 }
 
--- clients with these links and listeners, where calls and losses are taken, beside what the desk tells
-abbrev pub clients_at : List LinkTold → List Listener → taking.Side → PostTold → Clients
-clients_at links listeners s desk = record { links = links; listeners = listeners; side = side s.part.core desk s.part.events s.part.folder }
+-- clients with these links and listeners, where calls, claims and losses are taken
+abbrev pub clients_at : List LinkTold → List Listener → taking.Side → Clients
+clients_at links listeners s = record { links = links; listeners = listeners; side = taking.turned s }

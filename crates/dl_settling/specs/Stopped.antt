@@ -1,10 +1,10 @@
 -- What a stop comes to, told by the events that it adds and by the bytes that links took.
 use Rattle.std.specs.Prelude.{◌≡◌, ℕ, ◌+◌, ◌≤◌, true, List, ◌++◌, length, map, slice_get, None, Some}
 use Rattle.std.specs.List.{AllByRecursion, filter_map}
-use Rattle.dl_bytes.specs.declared.item.Item.{Item}
 use Rattle.dl_events.specs.declared.event.Event.{Event}
 use Rattle.dl_events.specs.declared.event.Event.TheVariants as event
 use Rattle.dl_losses.specs.Losses.{reported_of}
+use Rattle.dl_ring.specs.declared.item.RingItem.{RingItem}
 use Rattle.dl_model.specs.Journal.{IsRunning, IsWellFormed}
 use Rattle.dl_outside.specs.Links.{Links}
 use Rattle.dl_outside.specs.Outside.{Grows}
@@ -16,7 +16,7 @@ use Rattle.dl_core.specs.Follows.{HoldsTrace, IsAfter, Run, source_of}
 use Rattle.dl_core.specs.State.{Core}
 use Rattle.dl_taking.specs.Drained.{GivesTook}
 use Rattle.dl_taking.specs.Draining.{closing_told, closing_took}
-use Rattle.dl_taking.specs.Takes.{TellAllTaken}
+use Rattle.dl_taking.specs.Takes.{AreThere, TellAllTaken}
 use Rattle.dl_taking.specs.Took.{Took, took_by}
 use Rattle.dl_turns.specs.Injected.{HasPosted}
 use Rattle.dl_turns.specs.Later.{level_in}
@@ -24,7 +24,7 @@ use Rattle.dl_rounds.specs.Passing.{took_all}
 use Rattle.dl_settling.specs.Ends.{ends_of}
 use Rattle.dl_settling.specs.State.{Stopping}
 
--- an event of a stop: a call, a report of losses, a request, a level, or a Close; no user message, and no client that comes
+-- an event of a stop: a call, a report of losses, a claim, a request, a level, or a Close; no user message, and no client that comes
 abbrev pub IsOfStop : Event → Type 0
 IsOfStop (event.User channel msg moment) = ⊥
 IsOfStop (event.Connect client) = ⊥
@@ -38,11 +38,11 @@ abbrev pub account_told : AccountState → PostTold
 account_told account = told_by (length account.apps) account.handles
 
 -- A run goes on with these events, and these bytes more that the links took: it makes of one core the other, and of one folder the other; a
--- well-formed journal stays so where no client was stopped before; and the queues of injections took and refused those of the requests.
+-- well-formed journal stays so where the desk's applications are there and no client was stopped before; and the queues of injections took and refused those of the requests.
 pub record RunsOn (run : Run) (past more : List Event) (taken sent : ℕ → List ℕ) (old new : Core) (folder folder_now : FolderTold) (told told_now : PostTold) : Type 0 where
   pub after : IsAfter run (past ++ more) (took_all taken sent) new
   pub holds : HoldsTrace run past old folder → HoldsTrace run (past ++ more) new folder_now
-  pub formed : IsRunning past → IsWellFormed run.setting (source_of run) past → IsWellFormed run.setting (source_of run) (past ++ more)
+  pub formed : AreThere told.apps old.registry → IsRunning past → IsWellFormed run.setting (source_of run) past → IsWellFormed run.setting (source_of run) (past ++ more)
   pub posted : (app : ℕ) → HasPosted run.setting past more app told told_now
 
 -- A stop after which the core is this one is its events: the journal is longer by them, and each run that gives what was taken goes on with them. A journal that told just what
@@ -65,7 +65,7 @@ pub record IsStop {L : Type 0} (told : L → LinkTold) (dropped : ℕ) (core : C
   pub first : account.handles.levels.first ≡ old.closing.handles.levels.first
   pub others : (app : ℕ) → length account.apps ≤ app
       → ((account_took account).taken app ≡ (closing_took old.closing).taken app) × (reported_of app (account_took account).reported ≡ reported_of app (closing_took old.closing).reported)
-  pub taken_more : (app : ℕ) → (items : List Item) × ((account_took account).taken app ≡ (closing_took old.closing).taken app ++ items)
+  pub taken_more : (app : ℕ) → (items : List RingItem) × ((account_took account).taken app ≡ (closing_took old.closing).taken app ++ items)
   pub apps : account.apps ≡ old.closing.apps
   pub books : account.books ≡ old.closing.books
   pub none_open : (number : ℕ) → outbox_of core.hub number ≡ None

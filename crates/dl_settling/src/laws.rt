@@ -9,21 +9,20 @@ ghost use Rattle.dl_model.specs.Backlog.{outbox_limit};
 ghost use Rattle.dl_model.specs.Setting.{Setting};
 ghost use Rattle.dl_outside.specs.Links.{Links};
 ghost use Rattle.dl_outside.specs.Told.{FolderTold, LinkTold};
-ghost use Rattle.dl_desk.specs.Told.{PostTold};
 ghost use Rattle.dl_writer.specs.State.{IsWhole};
 ghost use Rattle.dl_lib.specs.Known.{AreGathered};
 ghost use Rattle.dl_lib.specs.State.{AccountState, ClosingState};
 ghost use Rattle.dl_core.specs.Follows.{IsAfter, Run};
 ghost use Rattle.dl_core.specs.State.{Core};
 ghost use Rattle.dl_taking.specs.Drained.{GivesTook, IsDrain};
-ghost use Rattle.dl_taking.specs.Draining.{all_to_note, closing_took};
+ghost use Rattle.dl_taking.specs.Draining.{all_claims_left, all_to_note, closing_took};
 ghost use Rattle.dl_taking.specs.Side.{Side};
 ghost use Rattle.dl_turns.specs.Gone.{TellOver};
 ghost use Rattle.dl_rounds.specs.Passing.{AreAsNoted};
 ghost use Rattle.dl_rounds.specs.Shown.{AllShowWhy};
 ghost use Rattle.dl_rounds.specs.declared.listener.Listener.{Listener};
 ghost use Rattle.dl_settling.specs.Ends.{ends_in};
-ghost use Rattle.dl_settling.specs.Room.{IsFew, together};
+ghost use Rattle.dl_settling.specs.Room.{HasFewClaims, IsFew, together};
 ghost use Rattle.dl_settling.specs.Settling.{Settles};
 ghost use Rattle.dl_settling.specs.State.{Stopping, clients_at, clients_of};
 ghost use Rattle.dl_settling.specs.Stopped.{IsStop, account_took};
@@ -40,11 +39,11 @@ pub fn a_stop_is_its_events<L: Link>()
     dl_rounds::laws::clients_are_as_noted::<L>();
 }
 
-/// Clients that are as a run's events have them are so while calls and losses are admitted, where their links tell.
+/// Clients that are as a run's events have them are so while calls, claims and losses are taken, where their links tell.
 pub fn clients_stay_as_noted()
-    ensures { (run : Run) (past : List Event) (taken : ℕ → List ℕ) (specs : List AppSpec) (old new : Side) (links : List LinkTold) (listeners : List Listener) (desk : PostTold)
-        → (drain : IsDrain specs old new) → GivesTook specs new.took run → AreAsNoted run past taken (clients_at links listeners old desk)
-        → AreAsNoted run (past ++ drain.admits.more) taken (clients_at links listeners new desk) }
+    ensures { (run : Run) (past : List Event) (taken : ℕ → List ℕ) (specs : List AppSpec) (old new : Side) (links : List LinkTold) (listeners : List Listener)
+        → (drain : IsDrain specs old new) → GivesTook specs new.took run → AreAsNoted run past taken (clients_at links listeners old)
+        → AreAsNoted run (past ++ drain.more) taken (clients_at links listeners new) }
 {}
 
 /// What stands at the end of links tells, in each run, how many frames and bytes each client's stream has.
@@ -86,8 +85,11 @@ pub fn which_ends_are_complete<L: Link>()
 {}
 
 /// All that is left of the applications fits into what may still be noted, where the books are whole and have together at most so many records as
-/// there may be events: with the Log and Lost events that there are it makes no more than these records.
+/// there may be events: with the Log and Lost events that there are it makes no more than these records. Of claims there are at most 64 for each
+/// application: with the Claim events that there are those that are left make at most 1024.
 pub fn what_is_left_fits()
-    ensures { (closing : ClosingState) (noted calls : ℕ) → AreGathered closing → All IsWhole closing.books → together closing.books ≤ calls
+    ensures calls { (closing : ClosingState) (noted calls : ℕ) → AreGathered closing → All IsWhole closing.books → together closing.books ≤ calls
         → IsFew noted (closing_took closing) (length closing.apps) → noted + all_to_note closing ≤ calls }
+    ensures claims { (closing : ClosingState) (claimed : ℕ) → AreGathered closing → length closing.apps ≤ 16
+        → HasFewClaims claimed (closing_took closing) (length closing.apps) → claimed + all_claims_left closing ≤ 1024 }
 {}

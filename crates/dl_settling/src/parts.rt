@@ -27,6 +27,8 @@ pub struct Parts<L> {
     pub ends: EndRoom,
     /// How many Log and Lost events may still be noted.
     pub events: u32,
+    /// How many Claim events may.
+    pub claims: u32,
     /// How many links were dropped.
     pub dropped: u32,
 }

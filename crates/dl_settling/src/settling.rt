@@ -5,7 +5,7 @@ ghost use Rattle.dl_writer.specs.State.{IsWhole};
 ghost use Rattle.dl_lib.specs.Settled.{IsSettled, TellsLosses, TellsQueued};
 ghost use Rattle.dl_bytes.specs.Limits.{client_limit};
 ghost use Rattle.dl_rounds.specs.Ready.{AreHeard, AreLinked};
-ghost use Rattle.dl_taking.specs.Draining.{MayNote, all_to_note, closing_told};
+ghost use Rattle.dl_taking.specs.Draining.{MayNote, all_claims_left, all_to_note, closing_told};
 ghost use Rattle.dl_settling.specs.Settling.{Settles};
 ghost use Rattle.dl_settling.specs.State.{stopping_of};
 
@@ -15,7 +15,7 @@ use dl_bytes::Ends;
 use dl_lib::Account;
 use dl_outside::{Clock, Folder, Link, LinkList};
 use dl_rounds::{close_all, shut_gone};
-use dl_taking::drain_all;
+use dl_taking::{Budget, drain_all};
 use std::alloc::Global;
 use std::sync::Wait;
 
@@ -31,7 +31,8 @@ pub fn settle<R: Wait, L: Link, C: Clock, F: Folder>(
     requires apps { length parts.closing.apps ≤ 16 }
     requires clients { parts.core.hub.limit ≤ client_limit }
     requires enough { all_to_note parts.closing ≤ parts.events }
-    requires may { MayNote parts.events (length parts.closing.apps) parts.core.hub parts.journal.spare }
+    requires claims { all_claims_left parts.closing ≤ parts.claims }
+    requires may { MayNote parts.events parts.claims (length parts.closing.apps) parts.core.hub parts.journal.spare }
     requires linked { AreLinked parts.links parts.core parts.journal.spare }
     requires heard { AreHeard parts.listeners.items parts.core (closing_told parts.closing) }
     ensures settles { Settles L.told parts.dropped (stopping_of parts) result.0 result.1 (F.told folder.old) (F.told folder.new) }
@@ -48,6 +49,7 @@ pub fn settle<R: Wait, L: Link, C: Clock, F: Folder>(
         mut batch,
         ends,
         events,
+        claims,
         dropped,
     } = parts;
     drain_all(
@@ -56,7 +58,7 @@ pub fn settle<R: Wait, L: Link, C: Clock, F: Folder>(
         &mut closing,
         &mut journal,
         &mut batch,
-        events,
+        Budget { events, claims },
         clock,
         folder,
     );

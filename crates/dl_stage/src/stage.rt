@@ -22,6 +22,14 @@ const NOW: Moment = Moment {
 /// The clock that tells it.
 const CLOCK: StandingClock = StandingClock { moment: NOW };
 
+/// What comes of an accept that isn't made.
+const NO_ROUND: Round = Round {
+    accepted: false,
+    none: true,
+    failed: false,
+    wanted: false,
+};
+
 /// A folder with this configuration, and this scenario under the name `s`.
 pub fn folder(alloc: Global, conf: &str, scenario: &str) -> Result<MemoryFolder, OutOfMemory> {
     let mut folder = MemoryFolder::make(alloc, 8, 100_000)?;
@@ -71,7 +79,7 @@ where
     }
 }
 
-/// One round of the daemon.
+/// One round of the daemon. Before its own applications have told of themselves there is none, and nobody waited.
 pub fn go_round<R: Wait, F: Folder, N: Net>(
     rt: &R,
     players: &mut Players<N::L>,
@@ -81,6 +89,9 @@ pub fn go_round<R: Wait, F: Folder, N: Net>(
 where
     N::L: Drop,
 {
+    if !players.daemon.greeted() {
+        return NO_ROUND;
+    }
     players.daemon.round(rt, net, &CLOCK, folder)
 }
 

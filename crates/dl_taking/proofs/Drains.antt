@@ -1,93 +1,155 @@
 -- What draining keeps, batch after batch and application after application.
-use Rattle.std.proofs.Common.{◌≡◌, ◌≢◌, ℕ, zero, suc, ◌+◌, ◌-◌, ◌*◌, ◌<◌, ◌≤◌, Bool, false, cond, List, ◌++◌, length, length-append, eqb, eq-eqb, ne_eqb, true≢false, refl, sym, ap, ◌∙◌, subst, None, inl, inr, arith}
+use Rattle.std.proofs.Common.{◌≡◌, ◌≢◌, ℕ, zero, suc, ◌+◌, ◌-◌, ◌*◌, ◌<◌, ◌≤◌, Bool, true, false, List, [], ◌∷◌, ◌++◌, length, length-append, map, append-nil, eqb, eq-eqb, true≢false, refl, sym, ap, ◌∙◌, subst, None, inl, inr, arith}
 use Rattle.std.specs.Prelude.{min}
 use Rattle.std.proofs.lemmas.Bool.{cases_lt}
 use Rattle.std.proofs.lemmas.Bool.Decides.{eqb_tells}
+use Rattle.dl_bytes.specs.Claim.{Claimed}
 use Rattle.dl_bytes.specs.declared.conf.AppSpec.{AppSpec}
-use Rattle.dl_bytes.specs.declared.item.Item.{Item}
 use Rattle.dl_losses.specs.Losses.{reported_of}
 use Rattle.dl_losses.specs.declared.keeper.Report.{Report}
 use Rattle.dl_losses.proofs.Sums.{reported_else, reported_more}
+use Rattle.dl_ring.specs.declared.item.RingItem.{RingItem}
+use Rattle.dl_ring.specs.declared.item.RingItem.TheVariants.{Log, Register}
+use Rattle.dl_ring.specs.Items.{calls_in, claims_in}
+use Rattle.dl_ring.proofs.Items.{calls_in-append, claims_in-append, length-calls_in}
+use Rattle.dl_thread_rules.specs.Views.{bit}
+use Rattle.dl_desk.specs.Told.{PostTold}
 use Rattle.dl_writer.specs.State.{BookState}
 use Rattle.dl_lib.specs.Books.{lost_of, queued_of}
 use Rattle.dl_lib.specs.Known.{AreGathered, IsEmpty, IsTold, taken_of}
 use Rattle.dl_lib.specs.State.{ClosingState}
-use Rattle.dl_registry.specs.Kept.{owed_change}
+use Rattle.dl_registry.specs.Kept.{Kept, owed_change}
 use Rattle.dl_hub.specs.State.{Hub}
 use Rattle.dl_core.specs.State.{Core}
 use Rattle.dl_admission.specs.Admission.{Admits, Entry, Uses}
 use Rattle.dl_core.specs.Follows.{Run}
 use Rattle.dl_admission.specs.Part.{Part}
-use Rattle.dl_taking.specs.Draining.{DrainsApp, DrainsFirst, MayNote, SameButTaken, TakesBatch, TakesOn, calls_left, closing_took, losses_left, to_note, to_note_from}
+use Rattle.dl_turns.specs.Events.{IsDeskOf}
+use Rattle.dl_taking.specs.Draining.{DrainsApp, DrainsFirst, MayNote, SameButTaken, TakesBatch, TakesOn, calls_left, calls_pushed, claims_left, claims_left_from, claims_pushed, closing_took, losses_left, to_note, to_note_from}
 use Rattle.dl_taking.specs.Side.{Side}
-use Rattle.dl_taking.specs.Takes.{TakesSome}
-use Rattle.dl_taking.specs.Took.{Took, with_calls, with_losses}
-
--- ---- what was taken
-
-taken_there : (app : ℕ) (items : List Item) (took : Took) → length ((with_calls app items took).taken app) ≡ length (took.taken app) + length items
-taken_there app items took = ap (λ (b : Bool). length (cond b (took.taken app ++ items) (took.taken app))) (eq-eqb app app refl) ∙ length-append (took.taken app) items
-
-pub taken_else : (app other : ℕ) (items : List Item) (took : Took) → other ≢ app → (with_calls app items took).taken other ≡ took.taken other
-taken_else app other items took apart = ap (λ (b : Bool). cond b (took.taken other ++ items) (took.taken other)) (ne_eqb other app apart)
+use Rattle.dl_taking.specs.Takes.{TakesClaimIf, TakesSome}
+use Rattle.dl_taking.specs.Took.{Took, with_items, with_losses}
+use Rattle.dl_taking.specs.declared.taking.Got.{Got}
+use Rattle.dl_taking.proofs.DrainedEvents.{step_drain}
+use Rattle.dl_taking.proofs.PushedItems.{AreFewer, fewer_taken, queued_parts}
+use Rattle.dl_taking.proofs.Tooks.{calls_are, items_both, no_claims, taken_else, taken_here}
 
 -- ---- one batch
 
-pub one_batch : (app most count : ℕ) (old new : Side) → most ≤ 64 → TakesSome app most count old new → TakesBatch app old new
-one_batch app most count old new few takes = (
-  count,
+pub one_batch : (app most : ℕ) (got : Got) (old new : Side) → most ≤ 64 → TakesSome app most got old new → TakesBatch app old new
+one_batch app most got old new few takes = (
+  got,
   record {
     items = takes.items;
     moment = takes.moment;
+    between = takes.between;
     count_is = takes.count_is;
     few = omega (arith, few, takes.few);
     took = takes.took;
     logs = takes.logs;
     uses = takes.uses;
+    desk = takes.desk;
+    claim = takes.claim;
   },
 )
 
--- so many calls fewer are left
-pub fewer_left : (books books_now : List BookState) (app most count : ℕ) (old new : Side) → TakesSome app most count old new → books_now ≡ books
-    → length (new.took.taken app) ≤ queued_of app books_now → calls_left books_now new.took app + count ≡ calls_left books old.took app
-fewer_left books books_now app most count old new takes same within =
-    let long : length (new.took.taken app) ≡ length (old.took.taken app) + length takes.items = ap (λ (t : Took). length (t.taken app)) takes.took ∙ taken_there app takes.items old.took in
-    let queued : queued_of app books_now ≡ queued_of app books = ap (queued_of app) same in
-    omega (arith, long, queued, within, takes.count_is)
+-- what a step took of an application's ring: so many calls, and a claim where it is told
+pub record IsTakenOf (app : ℕ) (got : Got) (old new : Took) : Type 0 where
+  pub items : List RingItem
+  pub took : new ≡ with_items app items old
+  pub calls : length (calls_in items) ≡ got.calls
+  pub claims : length (claims_in items) ≡ bit got.claimed
 
-pub none_left : (books : List BookState) (app : ℕ) (took : Took) → length (took.taken app) ≤ queued_of app books → calls_left books took app ≡ 0 → length (took.taken app) ≡ queued_of app books
-none_left books app took within none = omega (arith, within, none)
+pub taken_of_step : (app most : ℕ) (got : Got) (old new : Side) → TakesSome app most got old new → IsTakenOf app got old.took new.took
+taken_of_step app most got old new takes = by got.claimed refl takes.claim where
+  by : (b : Bool) → got.claimed ≡ b → TakesClaimIf b app takes.moment takes.between new → IsTakenOf app got old.took new.took
+  by true is claim = record {
+    items = map Log takes.items ++ Register claim.claim ∷ [];
+    took = claim.took ∙ ap (with_items app (Register claim.claim ∷ [])) takes.took ∙ items_both app (map Log takes.items) (Register claim.claim ∷ []) old.took;
+    calls = ap length (calls_in-append (map Log takes.items) (Register claim.claim ∷ []) ∙ append-nil (calls_in (map Log takes.items)) ∙ calls_are takes.items) ∙ sym takes.count_is;
+    claims = ap length (claims_in-append (map Log takes.items) (Register claim.claim ∷ []) ∙ ap (λ (cs : List Claimed). cs ++ claim.claim ∷ []) (no_claims takes.items)) ∙ ap bit (sym is);
+  }
+  by false is same = record {
+    items = map Log takes.items;
+    took = ap (λ (s : Side). s.took) same ∙ takes.took;
+    calls = ap length (calls_are takes.items) ∙ sym takes.count_is;
+    claims = ap length (no_claims takes.items) ∙ ap bit (sym is);
+  }
+
+-- so many fewer are left
+pub record AreLeft (books books_now : List BookState) (app : ℕ) (got : Got) (old new : Took) : Type 0 where
+  pub calls : calls_left books_now new app + got.calls ≡ calls_left books old app
+  pub claims : claims_left books_now new app + bit got.claimed ≡ claims_left books old app
+
+pub fewer_left : (books books_now : List BookState) (app most : ℕ) (got : Got) (old new : Side) → TakesSome app most got old new → books_now ≡ books
+    → AreFewer books_now (new.took.taken app) app → AreLeft books books_now app got old.took new.took
+fewer_left books books_now app most got old new takes same fewer =
+    let step = taken_of_step app most got old new takes in
+    let all : new.took.taken app ≡ old.took.taken app ++ step.items = ap (λ (t : Took). t.taken app) step.took ∙ taken_here app step.items old.took in
+    let calls : length (calls_in (new.took.taken app)) ≡ length (calls_in (old.took.taken app)) + length (calls_in step.items) =
+    ap (λ (items : List RingItem). length (calls_in items)) all ∙ ap length (calls_in-append (old.took.taken app) step.items) ∙ length-append (calls_in (old.took.taken app)) (calls_in step.items) in
+    let claims : length (claims_in (new.took.taken app)) ≡ length (claims_in (old.took.taken app)) + length (claims_in step.items) =
+    ap (λ (items : List RingItem). length (claims_in items)) all ∙ ap length (claims_in-append (old.took.taken app) step.items) ∙ length-append (claims_in (old.took.taken app)) (claims_in step.items) in
+    record {
+      calls = omega (arith, calls, ap (calls_pushed app) same, fewer.calls, step.calls);
+      claims = omega (arith, claims, ap (claims_pushed app) same, fewer.claims, step.claims);
+    }
 
 -- as many were taken as the writers pushed, at most
-pub taken_within : (new : ClosingState) → AreGathered new → (old : ClosingState) (app : ℕ) → SameButTaken old new → app < length old.apps → length (taken_of new.handles app) ≤ queued_of app new.books
+pub taken_within : (new : ClosingState) → AreGathered new → (old : ClosingState) (app : ℕ) → SameButTaken old new → app < length old.apps → AreFewer new.books (taken_of new.handles app) app
 taken_within new gathered old app same below =
     let apps : length new.apps ≡ length old.apps = ap (λ (s : ClosingState). length s.apps) same in
     let contents = gathered.rings app (omega (arith, apps, below)) in
-    let long : length (taken_of new.handles app ++ contents.0) ≡ length (taken_of new.handles app) + length contents.0 = length-append (taken_of new.handles app) contents.0 in
-    omega (arith, long, contents.1.count)
+    fewer_taken app new.books (taken_of new.handles app) contents.0 contents.1
+
+-- where none is left the ring is empty, and only there
+pub none_left : (new : ClosingState) (app : ℕ) → AreFewer new.books (taken_of new.handles app) app → calls_left new.books (closing_took new) app ≡ 0 → claims_left new.books (closing_took new) app ≡ 0 → IsEmpty new app
+none_left new app fewer calls claims = omega (arith, fewer.calls, fewer.claims, calls, claims, length-calls_in (taken_of new.handles app), queued_parts app new.books)
+
+pub none_of : (new : ClosingState) (app : ℕ) → AreFewer new.books (taken_of new.handles app) app → IsEmpty new app
+    → (calls_left new.books (closing_took new) app ≡ 0) × (claims_left new.books (closing_took new) app ≡ 0)
+none_of new app fewer empty = (
+  omega (arith, fewer.calls, fewer.claims, empty, length-calls_in (taken_of new.handles app), queued_parts app new.books),
+  omega (arith, fewer.calls, fewer.claims, empty, length-calls_in (taken_of new.handles app), queued_parts app new.books),
+)
 
 pub apart_of : (a b : ℕ) → eqb a b ≡ false → a ≢ b
 apart_of a b is = λ same. absurd (true≢false (sym (eq-eqb a b same) ∙ is))
 
--- a batch that is not full was cut short by the ring, or by the events that may be noted
-pub by_count : (count most : ℕ) (new : ClosingState) (app : ℕ) → count ≤ most → (count < most → IsEmpty new app) → (calls_left new.books (closing_took new) app ≡ 0 → IsEmpty new app)
-    → (count ≡ most → calls_left new.books (closing_took new) app ≡ 0) → IsEmpty new app
-by_count count most new app few short none all = elim (cases_lt count most) [
+-- a batch without a claim that is not full was cut short by the ring, or by the events that may be noted
+pub by_count : (got : Got) (most : ℕ) (new : ClosingState) (app : ℕ) → got.calls ≤ most → (got.calls < most → IsEmpty new app) → (got.calls ≡ most → IsEmpty new app) → IsEmpty new app
+by_count got most new app few short all = elim (cases_lt got.calls most) [
   | inl below ↦ short below
-  | inr above ↦ none (all (omega (arith, few, above)))
+  | inr above ↦ all (omega (arith, few, above))
 ]
 
 -- ---- the journal's room
 
-pub may_after : (count frames left left_now reports reports_now : ℕ) (old new : Hub) (n0 n1 s0 s1 : ℕ) → Uses count old new n0 n1 s0 s1 → new.admitted ≡ old.admitted + frames
-    → left_now + count ≡ left → frames + 32769 * reports_now ≤ count + 32769 * reports → MayNote left reports old s0 → MayNote left_now reports_now new s1
-may_after count frames left left_now reports reports_now old new n0 n1 s0 s1 uses admitted used few may = record {
+-- after a step
+pub may_step : (specs : List AppSpec) (app most : ℕ) (got : Got) (old new : Side) → app < length specs → TakesSome app most got old new → (left left_now claims claims_now reports : ℕ) → left_now + got.calls ≡ left
+    → claims_now + bit got.claimed ≡ claims → MayNote left claims reports old.part.core.hub old.spare → MayNote left_now claims_now reports new.part.core.hub new.spare
+may_step specs app most got old new within takes left left_now claims claims_now reports used claims_used may =
+    let step = step_drain specs app most got old new within takes in
+    record {
+      spare_so = omega (arith, step.clients, step.spare_so, step.few, used, claims_used, may.spare_so);
+      few = omega (arith, step.drain.admitted, step.frames_so, used, claims_used, may.few);
+    }
+
+-- after losses were told
+pub may_after : (count frames left left_now claims reports reports_now : ℕ) (old new : Hub) (n0 n1 s0 s1 : ℕ) → Uses count old new n0 n1 s0 s1 → new.admitted ≡ old.admitted + frames
+    → left_now + count ≡ left → frames + 32769 * reports_now ≤ count + 32769 * reports → MayNote left claims reports old s0 → MayNote left_now claims reports_now new s1
+may_after count frames left left_now claims reports reports_now old new n0 n1 s0 s1 uses admitted used few may = record {
   spare_so = omega (arith, uses.clients, uses.spare_so, used, may.spare_so);
   few = omega (arith, admitted, used, few, may.few);
 }
 
 pub still_settled : (es : List Entry) (Gives : Run → Type 0) (n : ℕ) (old new : Part) → Admits es Gives n old new → owed_change old.core.registry ≡ None → owed_change new.core.registry ≡ None
 still_settled es Gives n old new admits settled = ap (λ (k : Core). owed_change k.registry) admits.rest ∙ settled
+
+pub still_desk : (es : List Entry) (Gives : Run → Type 0) (n : ℕ) (old new : Part) (desk desk_now : PostTold) → Admits es Gives n old new → desk_now ≡ desk → IsDeskOf old.core.registry desk
+    → IsDeskOf new.core.registry desk_now
+still_desk es Gives n old new desk desk_now admits same is =
+    subst (λ (k : Kept). IsDeskOf k desk_now) (sym (ap (λ (k : Core). k.registry) admits.rest)) (subst (λ (d : PostTold). IsDeskOf old.core.registry d) (sym same) is)
 
 -- ---- losses
 
@@ -103,9 +165,6 @@ losses_still : (books books_now : List BookState) (app : ℕ) (reports reports_n
     → lost_of app books_now - reported_of app reports_now ≡ lost_of app books - reported_of app reports
 losses_still books books_now app reports reports_now same told = ap (λ (bs : List BookState). lost_of app bs - reported_of app reports_now) same ∙ ap (λ (rs : List Report). lost_of app books - reported_of app rs) told
 
-pub none_of : (new : ClosingState) (app : ℕ) → IsEmpty new app → calls_left new.books (closing_took new) app ≡ 0
-none_of new app empty = omega (arith, empty)
-
 -- what is empty stays so while losses are told
 pub empty_behind : (old new : ClosingState) (app count : ℕ) → closing_took new ≡ with_losses app count (closing_took old) → SameButTaken old new → IsEmpty old app → IsEmpty new app
 empty_behind old new app count took same empty =
@@ -115,12 +174,13 @@ empty_behind old new app count took same empty =
 
 pub on_reported : (app count : ℕ) (old new : Side) → TakesOn app count old new → new.took.reported ≡ old.took.reported
 on_reported app zero old new takes = ap (λ (s : Side). s.took.reported) takes
-on_reported app (suc count) old new takes = ap (λ (t : Took). t.reported) takes.2.1.took ∙ on_reported app count old takes.0 takes.1
+on_reported app (suc count) old new takes = ap (λ (t : Took). t.reported) (taken_of_step app 64 takes.2.0 takes.0 new takes.2.1).took ∙ on_reported app count old takes.0 takes.1
 
 on_else : (app other count : ℕ) (old new : Side) → other ≢ app → TakesOn app count old new → new.took.taken other ≡ old.took.taken other
 on_else app other zero old new apart takes = ap (λ (s : Side). s.took.taken other) takes
 on_else app other (suc count) old new apart takes =
-    ap (λ (t : Took). t.taken other) takes.2.1.took ∙ taken_else app other takes.2.1.items takes.0.took apart ∙ on_else app other count old takes.0 apart takes.1
+    let step = taken_of_step app 64 takes.2.0 takes.0 new takes.2.1 in
+    ap (λ (t : Took). t.taken other) step.took ∙ taken_else app other step.items takes.0.took apart ∙ on_else app other count old takes.0 apart takes.1
 
 -- no losses of it are told while calls are taken
 pub on_losses : (app count : ℕ) (old new : Side) (was now : ClosingState) → TakesOn app count old new → old.took ≡ closing_took was → new.took ≡ closing_took now → SameButTaken was now
@@ -146,8 +206,12 @@ app_else specs app other old new apart drains = record {
 note_else : (books books_now : List BookState) (other : ℕ) (took took_now : Took) → books_now ≡ books → IsLeft other took took_now → to_note books_now took_now other ≡ to_note books took other
 note_else books books_now other took took_now same left =
     ap (λ (bs : List BookState). to_note bs took_now other) same
-    ∙ ap (λ (items : List Item). queued_of other books - length items + min 1 (lost_of other books - reported_of other took_now.reported)) left.calls
-    ∙ ap (λ (n : ℕ). queued_of other books - length (took.taken other) + min 1 (lost_of other books - n)) left.losses
+    ∙ ap (λ (items : List RingItem). calls_pushed other books - length (calls_in items) + min 1 (lost_of other books - reported_of other took_now.reported)) left.calls
+    ∙ ap (λ (n : ℕ). calls_left books took other + min 1 (lost_of other books - n)) left.losses
+
+claims_else : (books books_now : List BookState) (other : ℕ) (took took_now : Took) → books_now ≡ books → IsLeft other took took_now → claims_left books_now took_now other ≡ claims_left books took other
+claims_else books books_now other took took_now same left =
+    ap (λ (bs : List BookState). claims_left bs took_now other) same ∙ ap (λ (items : List RingItem). claims_pushed other books - length (claims_in items)) left.calls
 
 -- what is to be noted of later applications stays
 pub from_else : (books books_now : List BookState) (app more first : ℕ) (took took_now : Took) → books_now ≡ books → app < first → ((other : ℕ) → other ≢ app → IsLeft other took took_now)
@@ -157,6 +221,20 @@ from_else books books_now app (suc more) first took took_now same above left =
     let here : to_note books_now took_now first ≡ to_note books took first = note_else books books_now first took took_now same (left first (λ e. absurd (omega (arith, above, e)))) in
     let later : to_note_from books_now took_now (first + 1) more ≡ to_note_from books took (first + 1) more = from_else books books_now app more (first + 1) took took_now same (omega (arith, above)) left in
     omega (arith, here, later)
+
+claims_from_else : (books books_now : List BookState) (app more first : ℕ) (took took_now : Took) → books_now ≡ books → app < first → ((other : ℕ) → other ≢ app → IsLeft other took took_now)
+    → claims_left_from books_now took_now first more ≡ claims_left_from books took first more
+claims_from_else books books_now app zero first took took_now same above left = refl
+claims_from_else books books_now app (suc more) first took took_now same above left =
+    let here : claims_left books_now took_now first ≡ claims_left books took first = claims_else books books_now first took took_now same (left first (λ e. absurd (omega (arith, above, e)))) in
+    let later : claims_left_from books_now took_now (first + 1) more ≡ claims_left_from books took (first + 1) more = claims_from_else books books_now app more (first + 1) took took_now same (omega (arith, above)) left in
+    omega (arith, here, later)
+
+pub claims_first_of : (books : List BookState) (took : Took) (app many : ℕ) → app < many
+    → claims_left_from books took app (many - app) ≡ claims_left books took app + claims_left_from books took (app + 1) (many - (app + 1))
+claims_first_of books took app many below =
+    let one : many - app ≡ suc (many - (app + 1)) = omega (arith, below) in
+    ap (claims_left_from books took app) one
 
 pub first_of : (books : List BookState) (took : Took) (app many : ℕ) → app < many → to_note_from books took app (many - app) ≡ to_note books took app + to_note_from books took (app + 1) (many - (app + 1))
 first_of books took app many below =
@@ -178,7 +256,7 @@ drained_more specs app old new was now drains from to same empty told before n b
       let left = app_else specs app n old new other.1 drains in
       let so = before n (omega (arith, below, other.1)) in
       let books = ap (λ (s : ClosingState). s.books) same in (
-        ap (λ (t : Took). length (t.taken n)) (sym to) ∙ ap (λ (xs : List Item). length xs) left.calls ∙ ap (λ (t : Took). length (t.taken n)) from ∙ so.0 ∙ ap (queued_of n) (sym books),
+        ap (λ (t : Took). length (t.taken n)) (sym to) ∙ ap (λ (xs : List RingItem). length xs) left.calls ∙ ap (λ (t : Took). length (t.taken n)) from ∙ so.0 ∙ ap (queued_of n) (sym books),
         ap (λ (t : Took). reported_of n t.reported) (sym to) ∙ left.losses ∙ ap (λ (t : Took). reported_of n t.reported) from ∙ so.1 ∙ ap (lost_of n) (sym books),
       )
 ]
@@ -192,3 +270,12 @@ enough_more specs app many left left_now old new was now drains from to same bel
     from_else was.books now.books app (many - (app + 1)) (app + 1) (closing_took was) (closing_took now) (ap (λ (s : ClosingState). s.books) same) (omega arith)
     (λ other apart. subst (λ (t : Took). IsLeft other (closing_took was) t) to (subst (λ (t : Took). IsLeft other t new.took) from (app_else specs app other old new apart drains))) in
     omega (arith, later, first_of was.books (closing_took was) app many below, enough, used)
+
+pub claims_more : (specs : List AppSpec) (app many left left_now : ℕ) (old new : Side) (was now : ClosingState) → DrainsApp specs app old new → old.took ≡ closing_took was → new.took ≡ closing_took now → SameButTaken was now
+    → app < many → claims_left_from was.books (closing_took was) app (many - app) ≤ left → left_now + claims_left was.books (closing_took was) app ≡ left
+    → claims_left_from now.books (closing_took now) (app + 1) (many - (app + 1)) ≤ left_now
+claims_more specs app many left left_now old new was now drains from to same below enough used =
+    let later : claims_left_from now.books (closing_took now) (app + 1) (many - (app + 1)) ≡ claims_left_from was.books (closing_took was) (app + 1) (many - (app + 1)) =
+    claims_from_else was.books now.books app (many - (app + 1)) (app + 1) (closing_took was) (closing_took now) (ap (λ (s : ClosingState). s.books) same) (omega arith)
+    (λ other apart. subst (λ (t : Took). IsLeft other (closing_took was) t) to (subst (λ (t : Took). IsLeft other t new.took) from (app_else specs app other old new apart drains))) in
+    omega (arith, later, claims_first_of was.books (closing_took was) app many below, enough, used)

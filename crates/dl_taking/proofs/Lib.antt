@@ -1,5 +1,10 @@
 pub mod Tooks
+pub mod StayingApps
+pub mod Claims
 pub mod Steps
 pub mod Telling
-pub mod Drains
+pub mod JoinedDrains
+pub mod StepDrains
 pub mod DrainedEvents
+pub mod PushedItems
+pub mod Drains

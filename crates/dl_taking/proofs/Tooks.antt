@@ -1,36 +1,55 @@
--- What is taken, call after call.
-use Rattle.std.proofs.Common.{◌≡◌, ◌≢◌, ℕ, zero, suc, ◌+◌, ◌<◌, ◌==◌, Bool, true, false, cond, List, [], ◌∷◌, ◌++◌, length, append_assoc, append-nil, Option, Some, None, slice_get, inl, inr, refl, sym, ap, ◌∙◌, subst, arith}
-use Rattle.std.specs.Prelude.{◌↔◌, unwrap_or}
-use Rattle.std.specs.Option.{option_map}
+-- What is taken, one after the other.
+use Rattle.std.proofs.Common.{◌≡◌, ◌≢◌, ℕ, zero, suc, ◌+◌, ◌<◌, ◌==◌, Bool, true, false, cond, List, [], ◌∷◌, ◌++◌, length, append_assoc, append-nil, eq-eqb, ne_eqb, Option, Some, None, slice_get, inl, inr, refl, sym, ap, ◌∙◌, subst, arith}
+use Rattle.std.specs.Prelude.{◌↔◌, map, unwrap_or, IfNone, IfSome, OnSome}
+use Rattle.std.specs.Option.{option_map, IsNone}
 use Rattle.std.proofs.lemmas.Bool.Decides.{eqb_tells}
-use Rattle.dl_bytes.specs.declared.item.Item.{Item}
+use Rattle.std.proofs.lemmas.Simd.{map-map}
 use Rattle.dl_bytes.specs.declared.item.Injection.{Injection}
+use Rattle.dl_bytes.specs.declared.item.Item.{Item}
 use Rattle.dl_losses.specs.Losses.{reported_of}
 use Rattle.dl_losses.proofs.Sums.{reported_more}
+use Rattle.dl_ring.specs.declared.item.RingItem.{RingItem}
+use Rattle.dl_ring.specs.declared.item.RingItem.TheVariants.{Log}
+use Rattle.dl_ring.specs.Items.{calls_in, claims_in}
 use Rattle.dl_desk.specs.declared.app_handles.AppHandles.{AppHandles}
 use Rattle.dl_desk.specs.Handles.{HandlesState, with_empty_take, with_item, with_report}
 use Rattle.dl_desk.specs.Lists.{changed_at}
+use Rattle.dl_desk.specs.Posting.{without_pushes}
 use Rattle.dl_desk.specs.State.{DeskState}
 use Rattle.dl_desk.specs.Told.{told_by}
 use Rattle.dl_desk.proofs.Places.{map-changed_at}
 use Rattle.dl_lib.specs.Books.{lost_of}
 use Rattle.dl_lib.specs.Known.{IsEmpty, IsTold, taken_of}
 use Rattle.dl_lib.specs.State.{ClosingState}
-use Rattle.dl_taking.specs.Took.{Took, empties_of, took_by, untaken, with_calls, without_takes}
+use Rattle.dl_taking.specs.Took.{Took, empties_of, took_by, untaken, with_items, without_takes}
 
--- ---- calls behind calls
+-- ---- calls and claims behind others
 
-pub calls_none : (app : ℕ) (took : Took) → with_calls app [] took ≡ took
-calls_none app took = λ i. record { taken = λ other. by other (other == app) i; reported = took.reported } where
+pub items_none : (app : ℕ) (took : Took) → with_items app [] took ≡ took
+items_none app took = λ i. record { taken = λ other. by other (other == app) i; reported = took.reported } where
   by : (other : ℕ) (b : Bool) → cond b (took.taken other ++ []) (took.taken other) ≡ took.taken other
   by other true = append-nil (took.taken other)
   by other false = refl
 
-pub calls_both : (app : ℕ) (xs ys : List Item) (took : Took) → with_calls app ys (with_calls app xs took) ≡ with_calls app (xs ++ ys) took
-calls_both app xs ys took = λ i. record { taken = λ other. by other (other == app) i; reported = took.reported } where
+pub items_both : (app : ℕ) (xs ys : List RingItem) (took : Took) → with_items app ys (with_items app xs took) ≡ with_items app (xs ++ ys) took
+items_both app xs ys took = λ i. record { taken = λ other. by other (other == app) i; reported = took.reported } where
   by : (other : ℕ) (b : Bool) → cond b (cond b (took.taken other ++ xs) (took.taken other) ++ ys) (cond b (took.taken other ++ xs) (took.taken other)) ≡ cond b (took.taken other ++ (xs ++ ys)) (took.taken other)
   by other true = append_assoc (took.taken other) xs ys
   by other false = refl
+
+pub taken_else : (app other : ℕ) (items : List RingItem) (took : Took) → other ≢ app → (with_items app items took).taken other ≡ took.taken other
+taken_else app other items took apart = ap (λ (b : Bool). cond b (took.taken other ++ items) (took.taken other)) (ne_eqb other app apart)
+
+pub taken_here : (app : ℕ) (items : List RingItem) (took : Took) → (with_items app items took).taken app ≡ took.taken app ++ items
+taken_here app items took = ap (λ (b : Bool). cond b (took.taken app ++ items) (took.taken app)) (eq-eqb app app refl)
+
+pub calls_are : (items : List Item) → calls_in (map Log items) ≡ items
+calls_are [] = refl
+calls_are (item ∷ items) = ap (λ (is : List Item). item ∷ is) (calls_are items)
+
+pub no_claims : (items : List Item) → claims_in (map Log items) ≡ []
+no_claims [] = refl
+no_claims (item ∷ items) = no_claims items
 
 -- ---- handles that take
 
@@ -58,31 +77,31 @@ module _ {A B : Type 0} (q : A → B) where
   there (suc app) f g (x ∷ xs) d within goes = there app f g xs d (omega (arith, within)) goes
 
 module _ (s : HandlesState) (app : ℕ) where
-  abbrev takes_item : Item → AppHandles → AppHandles
+  abbrev takes_item : RingItem → AppHandles → AppHandles
   takes_item item e = record e { ring = record e.ring { taken = e.ring.taken ++ item ∷ [] } }
 
   abbrev finds_none : AppHandles → AppHandles
   finds_none e = record e { ring = record e.ring { empties = e.ring.empties + 1 } }
 
-  pub took_item : (item : Item) → app < length s.apps → took_by (with_item s app item) ≡ with_calls app (item ∷ []) (took_by s)
+  pub took_item : (item : RingItem) → app < length s.apps → took_by (with_item s app item) ≡ with_items app (item ∷ []) (took_by s)
   took_item item within = λ i. record { taken = λ n. by_place n i; reported = s.losses.reported } where
     by_place : (n : ℕ) → taken_of (with_item s app item) n ≡ cond (n == app) (taken_of s n ++ item ∷ []) (taken_of s n)
     by_place n = elim (eqb_tells n app) [
       | inl same ↦ rw same.0 (subst (λ (k : ℕ). taken_of (with_item s app item) k ≡ taken_of s k ++ item ∷ []) (sym same.1)
-          (there (λ (e : AppHandles). e.ring.taken) app (takes_item item) (λ (items : List Item). items ++ item ∷ []) s.apps [] within (λ e. refl)))
-      | inr apart ↦ rw apart.0 (ap (λ (o : Option (List Item)). unwrap_or o []) (elsewhere (λ (e : AppHandles). e.ring.taken) app (takes_item item) s.apps n apart.1))
+          (there (λ (e : AppHandles). e.ring.taken) app (takes_item item) (λ (items : List RingItem). items ++ item ∷ []) s.apps [] within (λ e. refl)))
+      | inr apart ↦ rw apart.0 (ap (λ (o : Option (List RingItem)). unwrap_or o []) (elsewhere (λ (e : AppHandles). e.ring.taken) app (takes_item item) s.apps n apart.1))
     ]
 
   pub took_empty : took_by (with_empty_take s app) ≡ took_by s
-  took_empty = λ i. record { taken = λ n. ap (λ (o : Option (List Item)). unwrap_or o []) (kept (λ (e : AppHandles). e.ring.taken) app finds_none s.apps n (λ e. refl)) i; reported = s.losses.reported }
+  took_empty = λ i. record { taken = λ n. ap (λ (o : Option (List RingItem)). unwrap_or o []) (kept (λ (e : AppHandles). e.ring.taken) app finds_none s.apps n (λ e. refl)) i; reported = s.losses.reported }
 
-  pub empties_item : (item : Item) → empties_of (with_item s app item) app ≡ empties_of s app
+  pub empties_item : (item : RingItem) → empties_of (with_item s app item) app ≡ empties_of s app
   empties_item item = ap (λ (o : Option ℕ). unwrap_or o 0) (kept (λ (e : AppHandles). e.ring.empties) app (takes_item item) s.apps app (λ e. refl))
 
   pub empties_more : app < length s.apps → empties_of (with_empty_take s app) app ≡ empties_of s app + 1
   empties_more within = there (λ (e : AppHandles). e.ring.empties) app finds_none (λ (n : ℕ). n + 1) s.apps 0 within (λ e. refl)
 
-  pub told_item : (apps : ℕ) (item : Item) → told_by apps (with_item s app item) ≡ told_by apps s
+  pub told_item : (apps : ℕ) (item : RingItem) → told_by apps (with_item s app item) ≡ told_by apps s
   told_item apps item = λ i. record {
     apps = apps;
     first = s.levels.first;
@@ -100,48 +119,85 @@ module _ (s : HandlesState) (app : ℕ) where
     refusals = λ n. ap (λ (o : Option ℕ). unwrap_or o 0) (kept (λ (e : AppHandles). e.queue.refusals) app finds_none s.apps n (λ e. refl)) i;
   }
 
-  pub untaken_item : (item : Item) → untaken (with_item s app item) ≡ untaken s
-  untaken_item item = ap (λ (apps : List AppHandles). record s { apps = apps; losses = record s.losses { reported = [] } }) (map-changed_at without_takes app (takes_item item) s.apps (λ e. refl))
+  abbrev bare : AppHandles → AppHandles
+  bare e = without_takes (without_pushes e)
+
+  untaken_by : (f : AppHandles → AppHandles) → ((e : AppHandles) → bare (f e) ≡ bare e) → map without_takes (map without_pushes (changed_at app f s.apps)) ≡ map without_takes (map without_pushes s.apps)
+  untaken_by f same =
+      map-map without_takes without_pushes (changed_at app f s.apps) ∙ map-changed_at bare app f s.apps same ∙ sym (map-map without_takes without_pushes s.apps)
+
+  abbrev with_bare : List AppHandles → HandlesState
+  with_bare apps = record s { apps = apps; levels = record s.levels { sets = [] }; losses = record s.losses { reported = [] } }
+
+  pub untaken_item : (item : RingItem) → untaken (with_item s app item) ≡ untaken s
+  untaken_item item = ap with_bare (untaken_by (takes_item item) (λ e. refl))
 
   pub untaken_empty : untaken (with_empty_take s app) ≡ untaken s
-  untaken_empty = ap (λ (apps : List AppHandles). record s { apps = apps; losses = record s.losses { reported = [] } }) (map-changed_at without_takes app finds_none s.apps (λ e. refl))
+  untaken_empty = ap with_bare (untaken_by finds_none (λ e. refl))
 
 -- ---- the desk
 
 module _ (old new : DeskState) (app : ℕ) where
-  pub desk_told : (found : Bool) (item : Item) → (found ≡ true → new ≡ record old { handles = with_item old.handles app item })
-      → (found ≡ false → new ≡ record old { handles = with_empty_take old.handles app }) → told_by (length new.apps) new.handles ≡ told_by (length old.apps) old.handles
-  desk_told true item some none = ap (λ (d : DeskState). told_by (length d.apps) d.handles) (some refl) ∙ told_item old.handles app (length old.apps) item
-  desk_told false item some none = ap (λ (d : DeskState). told_by (length d.apps) d.handles) (none refl) ∙ told_empty old.handles app (length old.apps)
+  pub desk_told : (x : Option RingItem) → IfSome x (λ item. new ≡ record old { handles = with_item old.handles app item })
+      → IfNone x (new ≡ record old { handles = with_empty_take old.handles app }) → told_by (length new.apps) new.handles ≡ told_by (length old.apps) old.handles
+  desk_told (Some item) some none = ap (λ (d : DeskState). told_by (length d.apps) d.handles) some ∙ told_item old.handles app (length old.apps) item
+  desk_told None some none = ap (λ (d : DeskState). told_by (length d.apps) d.handles) none ∙ told_empty old.handles app (length old.apps)
 
-  pub desk_same : (found : Bool) (item : Item) → (found ≡ true → new ≡ record old { handles = with_item old.handles app item })
-      → (found ≡ false → new ≡ record old { handles = with_empty_take old.handles app }) → record new { handles = untaken new.handles } ≡ record old { handles = untaken old.handles }
-  desk_same true item some none = ap (λ (d : DeskState). record d { handles = untaken d.handles }) (some refl) ∙ ap (λ (h : HandlesState). record old { handles = h }) (untaken_item old.handles app item)
-  desk_same false item some none = ap (λ (d : DeskState). record d { handles = untaken d.handles }) (none refl) ∙ ap (λ (h : HandlesState). record old { handles = h }) (untaken_empty old.handles app)
+  pub desk_same : (x : Option RingItem) → IfSome x (λ item. new ≡ record old { handles = with_item old.handles app item })
+      → IfNone x (new ≡ record old { handles = with_empty_take old.handles app }) → record new { handles = untaken new.handles } ≡ record old { handles = untaken old.handles }
+  desk_same (Some item) some none = ap (λ (d : DeskState). record d { handles = untaken d.handles }) some ∙ ap (λ (h : HandlesState). record old { handles = h }) (untaken_item old.handles app item)
+  desk_same None some none = ap (λ (d : DeskState). record d { handles = untaken d.handles }) none ∙ ap (λ (h : HandlesState). record old { handles = h }) (untaken_empty old.handles app)
 
-  -- a take that found none, and one that gave a call
-  pub desk_empty : app < length old.handles.apps → new ≡ record old { handles = with_empty_take old.handles app } → empties_of new.handles app ≡ empties_of old.handles app + 1
-  desk_empty within is = ap (λ (d : DeskState). empties_of d.handles app) is ∙ empties_more old.handles app within
+  pub desk_took : app < length old.handles.apps → (x : Option RingItem) → IfSome x (λ item. new ≡ record old { handles = with_item old.handles app item })
+      → IfSome x (λ item. took_by new.handles ≡ with_items app (item ∷ []) (took_by old.handles))
+  desk_took within (Some item) some = ap (λ (d : DeskState). took_by d.handles) some ∙ took_item old.handles app item within
+  desk_took within None some = tt
 
-  pub desk_full : (item : Item) → new ≡ record old { handles = with_item old.handles app item } → empties_of new.handles app ≡ empties_of old.handles app
-  desk_full item is = ap (λ (d : DeskState). empties_of d.handles app) is ∙ empties_item old.handles app item
+  pub desk_took_none : (x : Option RingItem) → IfNone x (new ≡ record old { handles = with_empty_take old.handles app }) → IfNone x (took_by new.handles ≡ took_by old.handles)
+  desk_took_none (Some item) none = tt
+  desk_took_none None none = ap (λ (d : DeskState). took_by d.handles) none ∙ took_empty old.handles app
+
+  -- a take that found none, and one that gave a call or a claim
+  pub desk_empty : app < length old.handles.apps → (x : Option RingItem) → IfNone x (new ≡ record old { handles = with_empty_take old.handles app })
+      → IfNone x (empties_of new.handles app ≡ empties_of old.handles app + 1)
+  desk_empty within (Some item) none = tt
+  desk_empty within None none = ap (λ (d : DeskState). empties_of d.handles app) none ∙ empties_more old.handles app within
+
+  pub desk_later : (x : Option RingItem) → IfSome x (λ item. new ≡ record old { handles = with_item old.handles app item })
+      → OnSome x ((later : DeskState) → empties_of later.handles app ≡ empties_of new.handles app + 1 → empties_of later.handles app ≡ empties_of old.handles app + 1)
+  desk_later (Some item) some = λ later found. found ∙ ap (λ (d : DeskState). empties_of d.handles app + 1) some ∙ ap (λ (n : ℕ). n + 1) (empties_item old.handles app item)
+  desk_later None some = tt
+
+-- what always is, is so of one that gave something
+pub on_some : {A : Type 0} (P : Type 0) → P → (x : Option A) → OnSome x P
+on_some P is (Some x) = is
+on_some P is None = tt
 
 -- ---- what stands for it once the writers are back
 
 module _ (old new : ClosingState) (app : ℕ) where
-  pub closing_told : (found : Bool) (item : Item) → (found ≡ true → new ≡ record old { handles = with_item old.handles app item })
-      → (found ≡ false → new ≡ record old { handles = with_empty_take old.handles app }) → told_by (length new.apps) new.handles ≡ told_by (length old.apps) old.handles
-  closing_told true item some none = ap (λ (c : ClosingState). told_by (length c.apps) c.handles) (some refl) ∙ told_item old.handles app (length old.apps) item
-  closing_told false item some none = ap (λ (c : ClosingState). told_by (length c.apps) c.handles) (none refl) ∙ told_empty old.handles app (length old.apps)
+  pub closing_told : (x : Option RingItem) → IfSome x (λ item. new ≡ record old { handles = with_item old.handles app item })
+      → IfNone x (new ≡ record old { handles = with_empty_take old.handles app }) → told_by (length new.apps) new.handles ≡ told_by (length old.apps) old.handles
+  closing_told (Some item) some none = ap (λ (c : ClosingState). told_by (length c.apps) c.handles) some ∙ told_item old.handles app (length old.apps) item
+  closing_told None some none = ap (λ (c : ClosingState). told_by (length c.apps) c.handles) none ∙ told_empty old.handles app (length old.apps)
 
-  pub closing_same : (found : Bool) (item : Item) → (found ≡ true → new ≡ record old { handles = with_item old.handles app item })
-      → (found ≡ false → new ≡ record old { handles = with_empty_take old.handles app }) → record new { handles = untaken new.handles } ≡ record old { handles = untaken old.handles }
-  closing_same true item some none = ap (λ (c : ClosingState). record c { handles = untaken c.handles }) (some refl) ∙ ap (λ (h : HandlesState). record old { handles = h }) (untaken_item old.handles app item)
-  closing_same false item some none = ap (λ (c : ClosingState). record c { handles = untaken c.handles }) (none refl) ∙ ap (λ (h : HandlesState). record old { handles = h }) (untaken_empty old.handles app)
+  pub closing_same : (x : Option RingItem) → IfSome x (λ item. new ≡ record old { handles = with_item old.handles app item })
+      → IfNone x (new ≡ record old { handles = with_empty_take old.handles app }) → record new { handles = untaken new.handles } ≡ record old { handles = untaken old.handles }
+  closing_same (Some item) some none = ap (λ (c : ClosingState). record c { handles = untaken c.handles }) some ∙ ap (λ (h : HandlesState). record old { handles = h }) (untaken_item old.handles app item)
+  closing_same None some none = ap (λ (c : ClosingState). record c { handles = untaken c.handles }) none ∙ ap (λ (h : HandlesState). record old { handles = h }) (untaken_empty old.handles app)
 
-pub empty_now : (old new : ClosingState) (app : ℕ) → new ≡ record old { handles = with_empty_take old.handles app } → IsEmpty old app → IsEmpty new app
-empty_now old new app is empty =
-    subst (λ (c : ClosingState). IsEmpty c app) (sym is) (ap (λ (t : Took). length (t.taken app)) (took_empty old.handles app) ∙ empty)
+  pub closing_took_item : app < length old.handles.apps → (x : Option RingItem) → IfSome x (λ item. new ≡ record old { handles = with_item old.handles app item })
+      → IfSome x (λ item. took_by new.handles ≡ with_items app (item ∷ []) (took_by old.handles))
+  closing_took_item within (Some item) some = ap (λ (c : ClosingState). took_by c.handles) some ∙ took_item old.handles app item within
+  closing_took_item within None some = tt
+
+  pub closing_took_none : (x : Option RingItem) → IfNone x (new ≡ record old { handles = with_empty_take old.handles app }) → IfNone x (took_by new.handles ≡ took_by old.handles)
+  closing_took_none (Some item) none = tt
+  closing_took_none None none = ap (λ (c : ClosingState). took_by c.handles) none ∙ took_empty old.handles app
+
+  pub empty_now : (x : Option RingItem) → IfNone x (new ≡ record old { handles = with_empty_take old.handles app }) → IsNone x ↔ IsEmpty old app → IfNone x (IsEmpty new app)
+  empty_now (Some item) none empty = tt
+  empty_now None none empty = subst (λ (c : ClosingState). IsEmpty c app) (sym none) (ap (λ (t : Took). length (t.taken app)) (took_empty old.handles app) ∙ empty.0 refl)
 
 pub told_now : (old new : ClosingState) (app count : ℕ) → new ≡ record old { handles = with_report old.handles app count }
     → reported_of app old.handles.losses.reported + count ≡ lost_of app old.books → IsTold new app

@@ -3,14 +3,17 @@ use Rattle.std.specs.Prelude.{◌≡◌, ℕ, zero, suc, ◌+◌, ◌-◌, ◌*�
 use Rattle.dl_bytes.specs.Limits.{admitted_limit}
 use Rattle.dl_bytes.specs.declared.conf.AppSpec.{AppSpec}
 use Rattle.dl_losses.specs.Losses.{reported_of}
+use Rattle.dl_ring.specs.Items.{calls_in, claims_in}
+use Rattle.dl_thread_rules.specs.Views.{total}
 use Rattle.dl_desk.specs.Told.{PostTold, told_by}
 use Rattle.dl_writer.specs.State.{BookState}
-use Rattle.dl_lib.specs.Books.{lost_of, queued_of}
+use Rattle.dl_lib.specs.Books.{books_of, lost_of}
 use Rattle.dl_lib.specs.State.{ClosingState}
 use Rattle.dl_hub.specs.State.{Hub, is_open}
 use Rattle.dl_taking.specs.Side.{Side}
 use Rattle.dl_taking.specs.Takes.{Reports, TakesSome}
 use Rattle.dl_taking.specs.Took.{Took, took_by, untaken}
+use Rattle.dl_taking.specs.declared.taking.Got.{Got}
 
 -- what was taken, once the writers are back
 abbrev pub closing_took : ClosingState → Took
@@ -20,21 +23,31 @@ closing_took closing = took_by closing.handles
 abbrev pub closing_told : ClosingState → PostTold
 closing_told closing = told_by (length closing.apps) closing.handles
 
--- nothing has changed but what was taken
+-- nothing has changed but what was taken, and what is told of levels and injections
 abbrev pub SameButTaken : ClosingState → ClosingState → Type 0
 SameButTaken old new = record new { handles = untaken new.handles } ≡ record old { handles = untaken old.handles }
 
 -- ---- what is left
 
--- how many calls the ring of an application still holds, of those that the writers of these books pushed
+-- how many calls the writers of these books pushed into an application's ring, and how many claims
+abbrev pub calls_pushed : ℕ → List BookState → ℕ
+calls_pushed app books = total (λ b. length (calls_in b.writer.push.pushed)) (books_of app books)
+
+abbrev pub claims_pushed : ℕ → List BookState → ℕ
+claims_pushed app books = total (λ b. length (claims_in b.writer.push.pushed)) (books_of app books)
+
+-- how many of these calls the ring of an application still holds, and how many of these claims
 abbrev pub calls_left : List BookState → Took → ℕ → ℕ
-calls_left books took app = queued_of app books - length (took.taken app)
+calls_left books took app = calls_pushed app books - length (calls_in (took.taken app))
+
+abbrev pub claims_left : List BookState → Took → ℕ → ℕ
+claims_left books took app = claims_pushed app books - length (claims_in (took.taken app))
 
 -- how many of its losses were not reported yet
 abbrev pub losses_left : List BookState → Took → ℕ → ℕ
 losses_left books took app = lost_of app books - reported_of app took.reported
 
--- how many events tell what is left of an application: one for each call, and one for all losses together
+-- how many Log and Lost events tell what is left of an application: one for each call, and one for all losses together
 abbrev pub to_note : List BookState → Took → ℕ → ℕ
 to_note books took app = calls_left books took app + min 1 (losses_left books took app)
 
@@ -47,24 +60,34 @@ to_note_from books took app (suc more) = to_note books took app + to_note_from b
 abbrev pub all_to_note : ClosingState → ℕ
 all_to_note closing = to_note_from closing.books (closing_took closing) 0 (length closing.apps)
 
--- So many events may still be noted, beside a Close of each open client, and among them the reports of so many applications: a report has
--- at most 32,769 frames.
-pub record MayNote (events reports : ℕ) (hub : Hub) (spare : ℕ) : Type 0 where
-  pub spare_so : count_by is_open hub.clients + events ≤ spare
-  pub few : hub.admitted + events + 32769 * reports ≤ admitted_limit
+-- how many claims are left of so many applications, from this number on
+abbrev pub claims_left_from : List BookState → Took → ℕ → ℕ → ℕ
+claims_left_from books took app zero = 0
+claims_left_from books took app (suc more) = claims_left books took app + claims_left_from books took (app + 1) more
+
+-- how many are left of all
+abbrev pub all_claims_left : ClosingState → ℕ
+all_claims_left closing = claims_left_from closing.books (closing_took closing) 0 (length closing.apps)
+
+-- So many Log and Lost events may still be noted, and so many Claim events, each with a Level event behind it, beside a Close of each open
+-- client; and two more events, which a ring's last take may want. Among the Lost events are the reports of so many applications: a report has at
+-- most 32,769 frames.
+pub record MayNote (events claims reports : ℕ) (hub : Hub) (spare : ℕ) : Type 0 where
+  pub spare_so : count_by is_open hub.clients + events + 2 * claims + 2 ≤ spare
+  pub few : hub.admitted + events + claims + 32769 * reports ≤ admitted_limit
 
 -- ---- how it is taken
 
--- some calls of an application were taken together, at most 64, and admitted
+-- some calls of an application were taken together, and a claim behind them, where it is told: at most 64
 abbrev pub TakesBatch : ℕ → Side → Side → Type 0
-TakesBatch app old new = (count : ℕ) × TakesSome app 64 count old new
+TakesBatch app old new = (got : Got) × TakesSome app 64 got old new
 
 -- so many batches, one after the other
 abbrev pub TakesOn : ℕ → ℕ → Side → Side → Type 0
 TakesOn app zero old new = new ≡ old
 TakesOn app (suc count) old new = (next : Side) × TakesOn app count old next × TakesBatch app next new
 
--- Calls of an application were taken in batches, each admitted at one moment, and then its losses, which were told in one report.
+-- Calls and claims of an application were taken in batches, each noted at one moment, and then its losses, which were told in one report.
 pub record DrainsApp (specs : List AppSpec) (app : ℕ) (old new : Side) : Type 0 where
   pub count : ℕ
   pub emptied : Side

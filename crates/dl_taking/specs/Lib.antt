@@ -1,4 +1,5 @@
 pub mod Took
+pub mod Resting
 pub mod Side
 pub mod Takes
 pub mod Filling

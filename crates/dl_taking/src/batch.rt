@@ -1,10 +1,12 @@
 //! Calls that were taken together, and are noted at one moment.
 
-ghost use Rattle.std.specs.Prelude.{◌≡◌, ◌<◌, true, false, [], length, IfOk};
+ghost use Rattle.std.specs.Prelude.{◌≡◌, ◌≢◌, ◌<◌, [], length, IfOk};
+ghost use Rattle.dl_ring.specs.declared.item.Taken.TheVariants.{Nothing};
 ghost use Rattle.dl_taking.specs.Filling.{FillsOne};
 
 use crate::taker::Taker;
 use dl_bytes::{Id, Item, OutOfMemory, Payload, Severity};
+use dl_desk::Taken;
 use std::alloc::Global;
 use std::marker::Model;
 use std::sync::Wait;
@@ -64,26 +66,24 @@ impl Batch {
         self.count = 0;
     }
 
-    /// Takes the oldest call in the ring of an application to the end of the batch, as the application's own, and tells whether there was one:
-    /// there was none only where the ring was found empty.
-    pub fn take<R: Wait, D: Taker>(&mut self, rt: &R, desk: &mut D, app: u8) -> bool
+    /// Takes the oldest of an application's ring: a call to the end of the batch, as the application's own, and a claim into the answer. Nothing
+    /// came only where the ring was found empty.
+    pub fn take<R: Wait, D: Taker>(&mut self, rt: &R, desk: &mut D, app: u8) -> Taken
         requires app { app < length (D.specs desk.old) }
         requires room { length self.old < 64 }
-        ensures taken { result ≡ true → FillsOne app (D.took desk.old) (D.took desk.new) self.old self.new }
-        ensures none { result ≡ false → D.took desk.new ≡ D.took desk.old }
-        ensures kept { result ≡ false → self.new ≡ self.old }
-        ensures empty { result ≡ false → D.found_empty desk.old desk.new app }
-        ensures later { result ≡ true → (later : D) → D.found_empty desk.new later app → D.found_empty desk.old later app }
+        ensures takes { FillsOne app result (D.took desk.old) (D.took desk.new) self.old self.new }
+        ensures empty { result ≡ Nothing → D.found_empty desk.old desk.new app }
+        ensures later { result ≢ Nothing → (later : D) → D.found_empty desk.new later app → D.found_empty desk.old later app }
         ensures told { D.told desk.new ≡ D.told desk.old }
         ensures rest { D.same_but_taken desk.old desk.new }
     {
         let item = &mut self.items[self.count];
-        if !desk.take_into(rt, app, item) {
-            return false;
+        let taken = desk.take_into(rt, app, item);
+        if let Taken::Call = taken {
+            item.app = app;
+            self.count += 1;
         }
-        item.app = app;
-        self.count += 1;
-        true
+        taken
     }
 }
 

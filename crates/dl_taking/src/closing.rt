@@ -2,15 +2,17 @@
 
 use crate::taker::Taker;
 use dl_bytes::{Id, Item};
+use dl_desk::Taken;
 use dl_lib::Closing;
 use std::sync::Wait;
 
 impl Taker for Closing {
     ghost use Rattle.std.specs.Prelude.{◌≡◌, refl};
-    ghost use Rattle.std.proofs.Common.{ap, ◌∙◌};
+    ghost use Rattle.std.proofs.Common.{ap, sym, ◌∙◌};
     ghost use Rattle.dl_lib.specs.Known.{IsEmpty, IsTold};
     ghost use Rattle.dl_lib.specs.State.{ClosingState};
-    ghost use Rattle.dl_taking.specs.Took.{HasLosses, took_by, untaken};
+    ghost use Rattle.dl_taking.specs.Resting.{took_still};
+    ghost use Rattle.dl_taking.specs.Took.{HasLosses, took_by, untaken, without_taken};
 
     ghost took = { λ c. took_by c.handles };
 
@@ -24,7 +26,7 @@ impl Taker for Closing {
 
     ghost same_but_taken = { λ old new. record new { handles = untaken new.handles } ≡ record old { handles = untaken old.handles } };
 
-    fn take_into<R: Wait>(&mut self, rt: &R, app: u8, item: &mut Item) -> bool {
+    fn take_into<R: Wait>(&mut self, rt: &R, app: u8, item: &mut Item) -> Taken {
         self.have_handles();
         Closing::take_into(self, rt, app, item)
     }
@@ -40,6 +42,10 @@ impl Taker for Closing {
     ghost taken_refl = { λ p. refl };
 
     ghost taken_trans = { λ p q r first second. second ∙ first };
+
+    ghost rest_took = { λ p q same. sym (took_still q.handles) ∙ ap (λ (c : ClosingState). took_by c.handles) same ∙ took_still p.handles };
+
+    ghost rest_taken = { λ p q same. ap (λ (c : ClosingState). record c { handles = without_taken c.handles }) same };
 
     ghost taken_specs = { λ p q same. ap (λ (c : ClosingState). c.apps) same };
 

@@ -2,14 +2,15 @@
 
 use crate::taker::Taker;
 use dl_bytes::{Id, Item};
-use dl_desk::Desk;
+use dl_desk::{Desk, Taken};
 use std::sync::Wait;
 
 impl Taker for Desk {
     ghost use Rattle.std.specs.Prelude.{◌≡◌, ◌+◌, refl};
-    ghost use Rattle.std.proofs.Common.{ap, ◌∙◌};
+    ghost use Rattle.std.proofs.Common.{ap, sym, ◌∙◌};
     ghost use Rattle.dl_desk.specs.State.{DeskState};
-    ghost use Rattle.dl_taking.specs.Took.{empties_of, took_by, untaken};
+    ghost use Rattle.dl_taking.specs.Resting.{took_still};
+    ghost use Rattle.dl_taking.specs.Took.{empties_of, took_by, untaken, without_taken};
 
     ghost took = { λ d. took_by d.handles };
 
@@ -25,7 +26,7 @@ impl Taker for Desk {
 
     ghost same_but_taken = { λ old new. record new { handles = untaken new.handles } ≡ record old { handles = untaken old.handles } };
 
-    fn take_into<R: Wait>(&mut self, rt: &R, app: u8, item: &mut Item) -> bool {
+    fn take_into<R: Wait>(&mut self, rt: &R, app: u8, item: &mut Item) -> Taken {
         self.have_handles();
         Desk::take_into(self, rt, app, item)
     }
@@ -41,6 +42,10 @@ impl Taker for Desk {
     ghost taken_refl = { λ p. refl };
 
     ghost taken_trans = { λ p q r first second. second ∙ first };
+
+    ghost rest_took = { λ p q same. sym (took_still q.handles) ∙ ap (λ (d : DeskState). took_by d.handles) same ∙ took_still p.handles };
+
+    ghost rest_taken = { λ p q same. ap (λ (d : DeskState). record d { handles = without_taken d.handles }) same };
 
     ghost taken_specs = { λ p q same. ap (λ (d : DeskState). d.apps) same };
 

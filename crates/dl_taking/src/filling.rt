@@ -1,25 +1,38 @@
 //! A batch filled from a ring.
 
 ghost use Rattle.std.specs.Prelude.{◌≡◌, ◌<◌, ◌≤◌, length};
+ghost use Rattle.std.specs.Option.{IsNone};
 ghost use Rattle.dl_taking.specs.Filling.{Fills};
 
 use crate::batch::Batch;
 use crate::taker::Taker;
+use dl_bytes::Claim;
+use dl_desk::Taken;
 use std::sync::Wait;
 
-/// Takes the oldest calls in the ring of an application, so many at most: fewer only where it found the ring empty.
-pub fn fill<R: Wait, D: Taker>(rt: &R, desk: &mut D, batch: &mut Batch, app: u8, most: usize)
+/// Takes the oldest of an application's ring, so many at most: calls, which make the batch, up to the first claim, which is the answer. Without
+/// one they are fewer only where it found the ring empty.
+pub fn fill<R: Wait, D: Taker>(
+    rt: &R,
+    desk: &mut D,
+    batch: &mut Batch,
+    app: u8,
+    most: usize,
+) -> Option<Claim>
     requires app { app < length (D.specs desk.old) }
     requires most { most ≤ 64 }
-    ensures fills { Fills app most (D.took desk.old) (D.took desk.new) batch.new }
-    ensures empty { length batch.new < most → D.found_empty desk.old desk.new app }
+    ensures fills { Fills app most result (D.took desk.old) (D.took desk.new) batch.new }
+    ensures empty { IsNone result → length batch.new < most → D.found_empty desk.old desk.new app }
     ensures told { D.told desk.new ≡ D.told desk.old }
     ensures rest { D.same_but_taken desk.old desk.new }
 {
     batch.clear();
     while batch.len() < most {
-        if !batch.take(rt, desk, app) {
-            return;
+        match batch.take(rt, desk, app) {
+            Taken::Call => {}
+            Taken::Claim(claim) => return Some(claim),
+            Taken::Nothing => return None,
         }
     }
+    None
 }

@@ -1,20 +1,22 @@
-//! Laws of taking: the journal tells just what was taken.
+//! Laws of taking: it is its events, and the journal tells just what was taken.
 
-ghost use Rattle.std.specs.Prelude.{◌++◌, ℕ, List};
+ghost use Rattle.std.specs.Prelude.{◌<◌, ◌==◌, ℕ, List, length, if◌then◌else◌};
 ghost use Rattle.dl_bytes.specs.declared.conf.AppSpec.{AppSpec};
-ghost use Rattle.dl_events.specs.declared.event.Event.{Event};
-ghost use Rattle.dl_taking.specs.Drained.{IsDrain};
+ghost use Rattle.dl_thread_rules.specs.Views.{bit};
+ghost use Rattle.dl_core.specs.Admission.{lost_frames};
+ghost use Rattle.dl_taking.specs.Drained.{IsDrain, IsTake};
 ghost use Rattle.dl_taking.specs.Draining.{DrainsAll};
 ghost use Rattle.dl_taking.specs.Side.{Side};
-ghost use Rattle.dl_taking.specs.Takes.{Reports, TakesSome, TellAllTaken};
+ghost use Rattle.dl_taking.specs.Takes.{Reports, TakesSome};
+ghost use Rattle.dl_taking.specs.declared.taking.Got.{Got};
 
-/// Where a journal admits just the calls that were taken and tells just the losses that were reported, it does so with the events of
-/// calls that are taken, and with those of losses that are told.
+/// Calls of an application, with a claim behind them, are their events when they are taken; so are its losses. Where a journal told just what was
+/// taken, it does so with these events.
 pub fn what_is_taken_is_told()
-    ensures calls { (app most count : ℕ) (old new : Side) (past : List Event) (takes : TakesSome app most count old new) → TellAllTaken past old.took
-        → TellAllTaken (past ++ takes.logs.more) new.took }
-    ensures losses { (specs : List AppSpec) (app count : ℕ) (old new : Side) (past : List Event) (reports : Reports specs app count old new)
-        → TellAllTaken past old.took → TellAllTaken (past ++ reports.tells.more) new.took }
+    ensures calls { (specs : List AppSpec) (app most : ℕ) (got : Got) (old new : Side) → app < length specs → TakesSome app most got old new
+        → IsTake specs got.calls (bit got.claimed) got.calls old new }
+    ensures losses { (specs : List AppSpec) (app count : ℕ) (old new : Side) → app < length specs → (reports : Reports specs app count old new)
+        → IsTake specs (if count == 0 then 0 else 1) 0 (length (lost_frames old.part.core.ecu reports.apid count)) old new }
 {}
 
 /// A drain is its events: they are admitted, each in its turn, in each run that gives what was taken; and they tell just that.

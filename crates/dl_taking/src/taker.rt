@@ -1,16 +1,17 @@
-//! What takes calls and losses: the desk while the writers log, and what stands for it once they are back.
+//! What takes calls, claims and losses: the desk while the writers log, and what stands for it once they are back.
 
-ghost use Rattle.std.specs.Prelude.{◌≡◌, ◌<◌, ◌^◌, ℕ, true, false, List, ◌∷◌, [], length};
+ghost use Rattle.std.specs.Prelude.{◌≡◌, ◌<◌, ◌^◌, ℕ, false, List, ◌∷◌, [], length, IfSome, IfNone, OnSome};
 ghost use Rattle.dl_bytes.specs.declared.conf.AppSpec.{AppSpec as spec_type};
 ghost use Rattle.dl_losses.specs.Losses.{reported_of};
+ghost use Rattle.dl_ring.specs.Items as ring;
 ghost use Rattle.dl_desk.specs.Lists.{At};
-ghost use Rattle.dl_taking.specs.Took.{Took, with_calls, with_losses};
+ghost use Rattle.dl_taking.specs.Took.{Took, with_items, with_losses};
 
 use dl_bytes::{Id, Item};
-use dl_desk::Post;
+use dl_desk::{Post, Taken};
 use std::sync::Wait;
 
-/// Takes the calls in the rings of applications, and their losses.
+/// Takes the calls and the claims in the rings of applications, and their losses.
 pub trait Taker: Post {
     /// What was taken so far.
     ghost took: { Self → Took };
@@ -27,18 +28,18 @@ pub trait Taker: Post {
     /// All losses of an application that will ever be counted are known to be reported.
     ghost has_told: { Self → ℕ → Type 0 };
 
-    /// All else that contracts see of the two is the same.
+    /// All else that contracts see of the two is the same, but what they tell of levels and injections.
     ghost same_but_taken: { Self → Self → Type 0 };
 
-    /// Takes the oldest call in the ring of an application into one that the caller keeps, and tells whether there was one. There was none only
-    /// where the ring was empty at that step; then the caller's call stays.
-    fn take_into<R: Wait>(&mut self, rt: &R, app: u8, item: &mut Item) -> bool
+    /// Takes the oldest of an application's ring: a call into one that the caller keeps, and a claim into the answer. Nothing came only where the
+    /// ring was empty at that step; the caller's call stays but where one came.
+    fn take_into<R: Wait>(&mut self, rt: &R, app: u8, item: &mut Item) -> Taken
         requires { app < length (specs self.old) }
-        ensures taken { result ≡ true → took self.new ≡ with_calls app (item.new ∷ []) (took self.old) }
-        ensures none { result ≡ false → took self.new ≡ took self.old }
-        ensures empty { result ≡ false → found_empty self.old self.new app }
-        ensures later { result ≡ true → (later : Self) → found_empty self.new later app → found_empty self.old later app }
-        ensures kept { result ≡ false → item.new ≡ item.old }
+        ensures taken { IfSome (ring.took result item.new) (λ x. took self.new ≡ with_items app (x ∷ []) (took self.old)) }
+        ensures none { IfNone (ring.took result item.new) (took self.new ≡ took self.old) }
+        ensures empty { IfNone (ring.took result item.new) (found_empty self.old self.new app) }
+        ensures later { OnSome (ring.took result item.new) ((later : Self) → found_empty self.new later app → found_empty self.old later app) }
+        ensures kept { ring.is_call result ≡ false → item.new ≡ item.old }
         ensures told { Self.told self.new ≡ Self.told self.old }
         ensures rest { same_but_taken self.old self.new };
 
@@ -62,6 +63,12 @@ pub trait Taker: Post {
 
     /// The same.
     ghost taken_trans: { (p q r : Self) → same_but_taken p q → same_but_taken q r → same_but_taken p r };
+
+    /// What sets levels and injects leaves what was taken, and what stays while that is taken.
+    ghost rest_took: { (p q : Self) → Self.same_rest p q → took q ≡ took p };
+
+    /// The same.
+    ghost rest_taken: { (p q : Self) → Self.same_rest p q → same_but_taken p q };
 
     /// The applications are among what stays.
     ghost taken_specs: { (p q : Self) → same_but_taken p q → specs q ≡ specs p };

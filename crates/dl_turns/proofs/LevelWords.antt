@@ -1,5 +1,5 @@
 -- Level words that follow the registry.
-use Rattle.std.proofs.Common.{◌≡◌, ◌≢◌, ℕ, ◌+◌, ◌*◌, ◌/◌, ◌<◌, Bool, true, false, cond, List, [], ◌∷◌, ◌++◌, length, Option, Some, None, Result, Ok, Err, inl, inr, refl, sym, ap, subst, ◌∙◌, arith}
+use Rattle.std.proofs.Common.{◌≡◌, ◌≢◌, ℕ, suc, ◌+◌, ◌-◌, ◌*◌, ◌/◌, ◌<◌, ◌≤◌, Bool, true, false, cond, List, [], ◌∷◌, ◌++◌, length, Option, Some, None, Result, Ok, Err, inl, inr, refl, sym, ap, subst, ◌∙◌, arith}
 use Rattle.std.specs.Prelude.{◌==◌, IsErr, IsSome, OnOk, ◌↔◌}
 use Rattle.std.specs.List.{AllByRecursion, find}
 use Rattle.std.specs.Map.{values_of}
@@ -10,6 +10,7 @@ use Rattle.std.proofs.lemmas.Bool.Decides.{eqb_tells}
 use Rattle.std.proofs.lemmas.List.{get_or-set_other, get_or-set_same}
 use Rattle.dl_events.specs.declared.event.Event.{Event}
 use Rattle.dl_events.specs.Journal as notes
+use Rattle.dl_events.specs.Journal.{one_more}
 use Rattle.dl_events.specs.declared.event.Event.TheVariants as event
 use Rattle.dl_levels.specs.History as words
 use Rattle.dl_levels.specs.History.{change}
@@ -25,6 +26,7 @@ use Rattle.dl_model.specs.declared.registry.Slot.{Slot}
 use Rattle.dl_registry.specs.Kept.{Kept, owed_change, slots, with_change}
 use Rattle.dl_slots.specs.Table.{raised, unset}
 use Rattle.dl_registry.proofs.Following.{change_is_level}
+use Rattle.dl_core.specs.Admission.{more_noted}
 use Rattle.dl_core.specs.Follows.{AddsAlone}
 use Rattle.dl_core.specs.State.{Core}
 use Rattle.dl_core.proofs.Noted.{added_one}
@@ -115,6 +117,17 @@ levels_next next old between new one others = (next ∷ others.0, (between, one,
 
 pub levels_none : (old new : Side) → new ≡ old → owed_change new.core.registry ≡ None → HaveSetLevels old new
 levels_none old new same none = ([], (same, ap (λ (s : Side). owed_change s.core.registry) (sym same) ∙ none))
+
+-- ---- how many were noted
+
+pub noted_none : (waits noted : ℕ) → noted ≡ more_noted (waits - waits) noted
+noted_none waits noted = let none : 0 ≡ waits - waits = omega arith in ap (λ (n : ℕ). more_noted n noted) none
+
+pub noted_next : (waits waits_now waits_new noted noted_now noted_new : ℕ) → waits_now ≤ waits → waits_new + 1 ≡ waits_now → noted_now ≡ more_noted (waits - waits_now) noted
+    → noted_new ≡ one_more noted_now → noted_new ≡ more_noted (waits - waits_new) noted
+noted_next waits waits_now waits_new noted noted_now noted_new few fewer so one =
+    let more : suc (waits - waits_now) ≡ waits - waits_new = omega (arith, few, fewer) in
+    one ∙ ap one_more so ∙ ap (λ (n : ℕ). more_noted n noted) more
 
 -- only the registry of a core changed
 abbrev pub OnlyRegistry : Core → Core → Type 0

@@ -1,9 +1,11 @@
 //! Level events: the level words follow the registry.
 
-ghost use Rattle.std.specs.Prelude.{◌≡◌, ◌≤◌, ◌+◌, ◌<◌, true, false, None, Some};
+ghost use Rattle.std.specs.Prelude.{◌≡◌, ◌≤◌, ◌+◌, ◌-◌, ◌<◌, true, false, None, Some};
+ghost use Rattle.dl_events.specs.Journal.{one_more};
 ghost use Rattle.dl_outside.specs.Told.{FolderTold};
 ghost use Rattle.dl_model.specs.declared.registry.LevelChange.{LevelChange};
 ghost use Rattle.dl_registry.specs.Kept.{owed_change};
+ghost use Rattle.dl_core.specs.Admission.{more_noted};
 ghost use Rattle.dl_core.specs.Waiting.{waiting};
 ghost use Rattle.dl_turns.specs.Events.{HaveSetLevels, IsDeskOf, SetsLevel};
 ghost use Rattle.dl_turns.specs.State.{side};
@@ -23,6 +25,7 @@ fn note_level<D: Post, J: Journal>(core: &mut Core, desk: &mut D, journal: &mut 
     ensures none { result ≡ false → (owed_change core.new.registry ≡ None) × (core.new ≡ core.old) × (desk.new ≡ desk.old) × (journal.new ≡ journal.old) }
     ensures desk { IsDeskOf core.new.registry (D.told desk.new) }
     ensures spare { result ≡ true → (waiting core.new.registry + 1 ≡ waiting core.old.registry) × (J.spare journal.new + 1 ≡ J.spare journal.old) }
+    ensures noted { result ≡ true → J.noted journal.new ≡ one_more (J.noted journal.old) }
     ensures apps { (D.told desk.new).apps ≡ (D.told desk.old).apps }
     ensures first { (D.told desk.new).first ≡ (D.told desk.old).first }
     ensures rest { D.same_rest desk.old desk.new }
@@ -48,6 +51,7 @@ pub fn note_levels<D: Post, J: Journal>(core: &mut Core, desk: &mut D, journal: 
     ensures core { core.new ≡ record core.old { registry = core.new.registry } }
     ensures desk { IsDeskOf core.new.registry (D.told desk.new) }
     ensures spare { J.spare journal.new + waiting core.old.registry ≡ J.spare journal.old + waiting core.new.registry }
+    ensures noted { J.noted journal.new ≡ more_noted (waiting core.old.registry - waiting core.new.registry) (J.noted journal.old) }
     ensures apps { (D.told desk.new).apps ≡ (D.told desk.old).apps }
     ensures first { (D.told desk.new).first ≡ (D.told desk.old).first }
     ensures rest { D.same_rest desk.old desk.new }

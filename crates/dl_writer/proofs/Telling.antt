@@ -1,9 +1,11 @@
--- The records of a whole book go on telling all that its writer did, with one call more.
+-- The records and the claims of a whole book go on telling all that its writer did, with one call more and with claims that the
+-- ring took.
 use Rattle.std.proofs.Common.{◌≡◌, ℕ, zero, suc, ◌+◌, ◌%◌, ◌≤◌, Bool, true, false, cond, Result, Ok, Err, List, [], ◌∷◌, ◌++◌, length, refl, sym, ap, subst, ◌∙◌, length-append, arith}
 use Rattle.std.specs.Prelude.{map, not, is_ok, IsOk, All, Contains}
 use Rattle.std.specs.List.{range_with_len, AllByRecursion}
 use Rattle.std.proofs.lemmas.List.{append-nil, map-append, length-map}
 use Rattle.std.proofs.lemmas.List.Elements.{filter-append, All-push, All-weaker, All-contains, Contains-append_left, Contains-append_right, recursion_from_All}
+use Rattle.dl_bytes.specs.Claim.{Claimed}
 use Rattle.dl_bytes.specs.Context.{Context}
 use Rattle.dl_bytes.specs.Level.{passes}
 use Rattle.dl_bytes.specs.Payload.{Arguments}
@@ -16,10 +18,15 @@ use Rattle.dl_model.specs.Accounts.{with_answer, AreNumbered, AreCounted, IsNoOl
 use Rattle.dl_model.specs.Report.{is_answer}
 use Rattle.dl_levels.specs.declared.history.Read.{Read}
 use Rattle.dl_levels.specs.History.{NoneAbove}
+use Rattle.dl_ring.specs.Items.{calls_in, claims_in}
+use Rattle.dl_ring.specs.declared.item.RingItem.{RingItem}
+use Rattle.dl_ring.specs.declared.item.RingItem.TheVariants.{Log}
+use Rattle.dl_ring.proofs.Items.{calls_in-append}
 use Rattle.dl_writer.specs.Calls.{Tells, after, passed, pushed_after, refusals_after, counted_after, read_of}
 use Rattle.dl_writer.specs.Records.{IsOf, TellAll}
 use Rattle.dl_injections.specs.State.{TakeState}
 use Rattle.dl_writer.specs.State.{WriterState}
+use Rattle.dl_writer.proofs.Claims.{claims_in-call}
 
 -- what holds of each, with one more
 all-more : {X : Type 0} (P : X → Type 0) (xs : List X) (x : X) → AllByRecursion P xs → P x → AllByRecursion P (xs ++ x ∷ [])
@@ -86,11 +93,18 @@ never_fall-more : (rs : List Record) (r : Record) → NeverFall rs → AllByRecu
 never_fall-more [] r h older = (tt, tt)
 never_fall-more (s ∷ rs) r h older = (all-more (IsNoOlder s) rs r h.0 older.0, never_fall-more rs r h.1 older.1)
 
-pushed-more : (a : Answer) (r : Record) (pushed : List Item) (queued : List Record) → pushed ≡ map (λ (s : Record). s.item) queued
-    → pushed_after a r.item pushed ≡ map (λ (s : Record). s.item) (queued ++ cond (is_answer answer.Queued a) (r ∷ []) [])
+pushed-more : (a : Answer) (r : Record) (pushed : List RingItem) (queued : List Record) → calls_in pushed ≡ map (λ (s : Record). s.item) queued
+    → calls_in (pushed_after a r.item pushed) ≡ map (λ (s : Record). s.item) (queued ++ cond (is_answer answer.Queued a) (r ∷ []) [])
 pushed-more answer.Filtered r pushed queued e = e ∙ ap (map (λ (s : Record). s.item)) (sym (append-nil queued))
 pushed-more answer.Lost r pushed queued e = e ∙ ap (map (λ (s : Record). s.item)) (sym (append-nil queued))
-pushed-more answer.Queued r pushed queued e = ap (λ (items : List Item). items ++ r.item ∷ []) e ∙ sym (map-append (λ (s : Record). s.item) queued (r ∷ []))
+pushed-more answer.Queued r pushed queued e =
+    calls_in-append pushed (Log r.item ∷ []) ∙ ap (λ (items : List Item). items ++ r.item ∷ []) e ∙ sym (map-append (λ (s : Record). s.item) queued (r ∷ []))
+
+-- a call is no claim
+pub claims-stay : (a : Answer) (item : Item) (pushed : List RingItem) → claims_in (pushed_after a item pushed) ≡ claims_in pushed
+claims-stay answer.Filtered item pushed = refl
+claims-stay answer.Lost item pushed = refl
+claims-stay answer.Queued item pushed = claims_in-call pushed item
 
 lost-more : (a : Answer) (r : Record) (counted : List ℕ) (lost : List Record) → counted ≡ map (λ (s : Record). s.item.app) lost
     → counted_after a r.item counted ≡ map (λ (s : Record). s.item.app) (lost ++ cond (is_answer answer.Lost a) (r ∷ []) [])
@@ -105,9 +119,9 @@ refused-more answer.Queued r refusals lost h = omega (arith, length-append lost 
 refused-more answer.Lost r refusals lost h = omega (arith, length-append lost (r ∷ []))
 
 -- the counter of the next call is how many records passed
-counts : (w : WriterState) (rs : List Record) → TellAll w rs → passed w ≡ 0 + length (with_answer answer.Queued rs) + length (with_answer answer.Lost rs)
-counts w rs h =
-    let queued : length w.push.pushed ≡ length (with_answer answer.Queued rs) = ap length h.queued ∙ length-map (with_answer answer.Queued rs) (λ (s : Record). s.item) in
+counts : (w : WriterState) (rs : List Record) (claims : List Claimed) → TellAll w rs claims → passed w ≡ 0 + length (with_answer answer.Queued rs) + length (with_answer answer.Lost rs)
+counts w rs claims h =
+    let queued : length (calls_in w.push.pushed) ≡ length (with_answer answer.Queued rs) = ap length h.queued ∙ length-map (with_answer answer.Queued rs) (λ (s : Record). s.item) in
     let lost : length w.losses.counted ≡ length (with_answer answer.Lost rs) = ap length h.lost ∙ length-map (with_answer answer.Lost rs) (λ (s : Record). s.item.app) in
     omega (arith, queued, lost)
 
@@ -122,11 +136,11 @@ last_is_there : {X : Type 0} (x : X) → Contains (x ∷ []) x
 last_is_there x = (0, omega arith, refl)
 
 -- a whole book goes on telling all
-pub told_more : (w : WriterState) (ctx : Context) (severity : Severity) (at : ℕ) (payload : Arguments) (r : Record) (rs : List Record)
-    → length rs ≡ w.calls → TellAll w rs → Tells w ctx severity at payload r → TellAll (after w r) (rs ++ r ∷ [])
-told_more w ctx severity at payload r rs whole h tells =
+pub told_more : (w : WriterState) (ctx : Context) (severity : Severity) (at : ℕ) (payload : Arguments) (r : Record) (rs : List Record) (claims : List Claimed)
+    → length rs ≡ w.calls → TellAll w rs claims → Tells w ctx severity at payload r → TellAll (after w r) (rs ++ r ∷ []) claims
+told_more w ctx severity at payload r rs claims whole h tells =
     let call : r.item.call ≡ length rs + 1 = ap (λ (i : Item). i.call) tells.message ∙ ap (λ n. n + 1) (sym whole) in
-    let counter : r.item.mcnt ≡ (0 + length (with_answer answer.Queued rs) + length (with_answer answer.Lost rs)) % 256 = ap (λ (i : Item). i.mcnt) tells.message ∙ ap (λ n. n % 256) (counts w rs h) in
+    let counter : r.item.mcnt ≡ (0 + length (with_answer answer.Queued rs) + length (with_answer answer.Lost rs)) % 256 = ap (λ (i : Item). i.mcnt) tells.message ∙ ap (λ n. n % 256) (counts w rs claims h) in
     let so : is_answer answer.Filtered r.answer ≡ not (passes r.item.severity r.held) = tells.filtered ∙ ap (λ (s : Severity). not (passes s r.held)) (sym (ap (λ (i : Item). i.severity) tells.message)) in
     record {
       own = All-push (IsOf (after w r)) rs r h.own (ap (λ (i : Item). i.app) tells.message, ap (λ (i : Item). i.writer) tells.message);
@@ -139,6 +153,7 @@ told_more w ctx severity at payload r rs whole h tells =
           (Contains-append_right w.reader.reads (read_of r ∷ []) (read_of r) (last_is_there (read_of r)));
       never_fall = never_fall-more rs r h.never_fall (recursion_from_All (λ (s : Record). IsNoOlder s r) rs (older w rs r h.loaded tells.newest));
       queued = pushed-more r.answer r w.push.pushed (with_answer answer.Queued rs) h.queued ∙ ap (map (λ (s : Record). s.item)) (sym (with_answer-more answer.Queued rs r));
+      claimed = claims-stay r.answer r.item w.push.pushed ∙ h.claimed;
       lost = lost-more r.answer r w.losses.counted (with_answer answer.Lost rs) h.lost ∙ ap (map (λ (s : Record). s.item.app)) (sym (with_answer-more answer.Lost rs r));
       refused = subst (λ (lost : List Record). length lost ≤ refusals_after r.answer w.push.refusals) (sym (with_answer-more answer.Lost rs r)) (refused-more r.answer r w.push.refusals (with_answer answer.Lost rs) h.refused);
     }
@@ -148,18 +163,39 @@ pub pushed_all : {A B X : Type 0} (answer : Result A B) (more same new : List X)
 pushed_all (Ok a) more same new ok e = e
 pushed_all (Err b) more same new ok e = absurd cc
 
+-- a book with these records and claims is whole
+abbrev pub Whole : WriterState → List Record → List Claimed → Type 0
+Whole w rs claims = (length rs ≡ w.calls) × (length claims ≡ length (claims_in w.push.pushed))
+
 -- what a book knows of its records, with one call more
-pub book_told : (w new : WriterState) (ctx : Context) (severity : Severity) (at : ℕ) (payload : Arguments) (r : Record) (rs all : List Record)
-    → new ≡ after w r → all ≡ rs ++ r ∷ [] → Tells w ctx severity at payload r → (length rs ≡ w.calls → TellAll w rs) → length all ≡ new.calls → TellAll new all
-book_told w new ctx severity at payload r rs all made kept tells told whole =
+pub book_told : (w new : WriterState) (ctx : Context) (severity : Severity) (at : ℕ) (payload : Arguments) (r : Record) (rs all : List Record) (claims : List Claimed)
+    → new ≡ after w r → all ≡ rs ++ r ∷ [] → Tells w ctx severity at payload r → (Whole w rs claims → TellAll w rs claims) → Whole new all claims → TellAll new all claims
+book_told w new ctx severity at payload r rs all claims made kept tells told whole =
     let count : length all ≡ length rs + 1 = ap length kept ∙ length-append rs (r ∷ []) in
     let calls : new.calls ≡ w.calls + 1 = ap (λ (v : WriterState). v.calls) made in
-    let before : length rs ≡ w.calls = omega (arith, count, calls, whole) in
-    subst (λ (v : WriterState). TellAll v all) (sym made) (subst (TellAll (after w r)) (sym kept) (told_more w ctx severity at payload r rs before (told before) tells))
+    let was : length rs ≡ w.calls = omega (arith, count, calls, whole.0) in
+    let same : claims_in new.push.pushed ≡ claims_in w.push.pushed = ap (λ (v : WriterState). claims_in v.push.pushed) made ∙ claims-stay r.answer r.item w.push.pushed in
+    let before : Whole w rs claims = (was, whole.1 ∙ ap length same) in
+    subst (λ (v : WriterState). TellAll v all claims) (sym made) (subst (λ (xs : List Record). TellAll (after w r) xs claims) (sym kept) (told_more w ctx severity at payload r rs claims was (told before) tells))
 
--- injections are no part of what the records tell
-told_without : (w : WriterState) (injections : TakeState) (rs : List Record) → TellAll w rs → TellAll (record w { injections = injections }) rs
-told_without w injections rs h = record {
+-- no claim is kept that the ring didn't take
+pub book_taken : (w new : WriterState) (r : Record) (claims : List Claimed) → new ≡ after w r → length claims ≤ length (claims_in w.push.pushed) → length claims ≤ length (claims_in new.push.pushed)
+book_taken w new r claims made few =
+    subst (λ n. length claims ≤ n) (sym (ap (λ (v : WriterState). length (claims_in v.push.pushed)) made ∙ ap length (claims-stay r.answer r.item w.push.pushed))) few
+
+-- a whole book stays whole
+pub book_whole : (w new : WriterState) (r : Record) (rs all : List Record) (claims : List Claimed) → new ≡ after w r → all ≡ rs ++ r ∷ [] → Whole w rs claims → Whole new all claims
+book_whole w new r rs all claims made kept whole =
+    let count : length all ≡ length rs + 1 = ap length kept ∙ length-append rs (r ∷ []) in
+    let calls : new.calls ≡ w.calls + 1 = ap (λ (v : WriterState). v.calls) made in
+    let same : length (claims_in new.push.pushed) ≡ length (claims_in w.push.pushed) = ap (λ (v : WriterState). length (claims_in v.push.pushed)) made ∙ ap length (claims-stay r.answer r.item w.push.pushed) in
+    (omega (arith, count, calls, whole.0), whole.1 ∙ sym same)
+
+-- ---- injections
+
+-- the records tell nothing of injections
+told_without : (w : WriterState) (injections : TakeState) (rs : List Record) (claims : List Claimed) → TellAll w rs claims → TellAll (record w { injections = injections }) rs claims
+told_without w injections rs claims h = record {
   own = h.own;
   numbered = h.numbered;
   counted = h.counted;
@@ -167,10 +203,15 @@ told_without w injections rs h = record {
   loaded = h.loaded;
   never_fall = h.never_fall;
   queued = h.queued;
+  claimed = h.claimed;
   lost = h.lost;
   refused = h.refused;
 }
 
-pub told_after_injection : (w new : WriterState) (rs : List Record) → new ≡ record w { injections = new.injections } → (length rs ≡ w.calls → TellAll w rs) → length rs ≡ new.calls → TellAll new rs
-told_after_injection w new rs rest told whole =
-    subst (λ (v : WriterState). TellAll v rs) (sym rest) (told_without w new.injections rs (told (whole ∙ ap (λ (v : WriterState). v.calls) rest)))
+pub told_after_injection : (w new : WriterState) (rs : List Record) (claims : List Claimed) → new ≡ record w { injections = new.injections } → (Whole w rs claims → TellAll w rs claims) → Whole new rs claims → TellAll new rs claims
+told_after_injection w new rs claims rest told whole =
+    let was : Whole w rs claims = subst (λ (v : WriterState). Whole v rs claims) rest whole in
+    subst (λ (v : WriterState). TellAll v rs claims) (sym rest) (told_without w new.injections rs claims (told was))
+
+pub taken_after_injection : (w new : WriterState) (claims : List Claimed) → new ≡ record w { injections = new.injections } → length claims ≤ length (claims_in w.push.pushed) → length claims ≤ length (claims_in new.push.pushed)
+taken_after_injection w new claims rest few = subst (λ (v : WriterState). length claims ≤ length (claims_in v.push.pushed)) (sym rest) few

@@ -11,7 +11,10 @@ use Rattle.dl_events.specs.declared.record.Answer.{Answer}
 use Rattle.dl_events.specs.declared.record.Answer.TheVariants as answer
 use Rattle.dl_events.specs.declared.record.Record.{Record}
 use Rattle.dl_model.specs.Report.{is_answer}
+use Rattle.dl_ring.specs.Items.{calls_in}
 use Rattle.dl_ring.specs.Order.{MetFull}
+use Rattle.dl_ring.specs.declared.item.RingItem.{RingItem}
+use Rattle.dl_ring.specs.declared.item.RingItem.TheVariants.{Log}
 use Rattle.dl_levels.specs.declared.history.Read.{Read}
 use Rattle.dl_levels.specs.History.{read, NoneAbove}
 use Rattle.dl_levels.specs.States.{ReaderState}
@@ -36,7 +39,7 @@ record_fault b ctx = if length b.records == b.room then Some book.Full else opti
 
 -- how many calls of a writer passed their level: each was queued or lost
 abbrev pub passed : WriterState → ℕ
-passed w = length w.push.pushed + length w.losses.counted
+passed w = length (calls_in w.push.pushed) + length w.losses.counted
 
 -- The call as a message: it has the next number of its writer's calls, and its message counter is how many of the calls
 -- before it passed, modulo 256.
@@ -74,9 +77,9 @@ abbrev pub read_of : Record → Read
 read_of r = read r.slot r.version r.held
 
 -- a queued item was pushed
-abbrev pub pushed_after : Answer → Item → List Item → List Item
+abbrev pub pushed_after : Answer → Item → List RingItem → List RingItem
 pushed_after answer.Filtered item pushed = pushed
-pushed_after answer.Queued item pushed = pushed ++ item ∷ []
+pushed_after answer.Queued item pushed = pushed ++ Log item ∷ []
 pushed_after answer.Lost item pushed = pushed
 
 -- a lost one was refused

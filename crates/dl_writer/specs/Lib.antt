@@ -1,6 +1,7 @@
 pub mod Faults
 pub mod State
 pub mod Calls
+pub mod Claiming
 pub mod Met
 pub mod Records
 pub mod WriterInside

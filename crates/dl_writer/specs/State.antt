@@ -1,30 +1,42 @@
 -- What contracts see of a writer and of a book.
 use Rattle.std.specs.Prelude.{◌≡◌, ℕ, List, length, map}
+use Rattle.dl_bytes.specs.Claim.{Claimed}
 use Rattle.dl_events.specs.declared.record.Record.{Record}
+use Rattle.dl_ring.specs.Items.{claims_in}
 use Rattle.dl_ring.specs.State.{PushState}
 use Rattle.dl_levels.specs.States.{ReaderState}
 use Rattle.dl_losses.specs.States as losses
 use Rattle.dl_injections.specs.State.{TakeState}
 
--- A writer: its application's number; how many calls it made; and its handles of the ring, of the level words, of the loss
--- words and of the queue of injections, which show what it pushed, read, counted and took. Its number is that of its push.
+-- A writer: its application's number; how many calls it made; its application's id, and how many contexts the application had
+-- when the writer was made; the claims that wait for the ring, in order; how many `register` calls it answered but for those
+-- that were refused by their arguments, and how many of these with a full table; and its handles of the ring, of the level
+-- words, of the loss words and of the queue of injections, which show what it pushed, read, claimed, counted and took. Its
+-- number is that of its push.
 pub record WriterState : Type 0 where
   pub app : ℕ
   pub calls : ℕ
+  pub apid : List ℕ
+  pub base : ℕ
+  pub waiting : List Claimed
+  pub registers : ℕ
+  pub table_full : ℕ
   pub push : PushState
   pub reader : ReaderState
   pub losses : losses.WriterState
   pub injections : TakeState
 
--- a book: its writer, for how many records it has room, and the records of the calls that were made through it, in order
+-- a book: its writer, for how many records it has room, the records of the calls that were made through it, in order, and the
+-- claims that the ring took of its writer through it, in order
 pub record BookState : Type 0 where
   pub writer : WriterState
   pub room : ℕ
   pub records : List Record
+  pub claims : List Claimed
 
--- a book is whole where it has a record of every call of its writer
+-- a book is whole where it has a record of every call of its writer, and every claim that the ring took of it
 abbrev pub IsWhole : BookState → Type 0
-IsWhole b = length b.records ≡ b.writer.calls
+IsWhole b = (length b.records ≡ b.writer.calls) × (length b.claims ≡ length (claims_in b.writer.push.pushed))
 
 -- the numbers of the books' writers
 abbrev pub numbers : List BookState → List ℕ

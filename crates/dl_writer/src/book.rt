@@ -1,27 +1,33 @@
-//! A writer together with the records of its calls.
+//! A writer together with the records of its calls, and the claims that the ring took of it.
 
-ghost use Rattle.std.specs.Prelude.{◌≡◌, ◌+◌, ◌^◌, ◌<◌, ◌≤◌, ◌∷◌, ◌++◌, ℕ, [], IfErr, IfOk, IfSome, IfNone, OnErr, OnSome, length};
+ghost use Rattle.std.specs.Prelude.{◌≡◌, ◌+◌, ◌^◌, ◌<◌, ◌≤◌, ◌∷◌, ◌++◌, ℕ, [], Err, IfErr, IfOk, IfSome, IfNone, OnErr, OnSome, length};
 ghost use Rattle.std.specs.Result.{result_err};
 ghost use Rattle.dl_injections.specs.Order.{Rises, MetEmpty};
+ghost use Rattle.dl_ring.specs.Items.{calls_in, claims_in};
 ghost use Rattle.dl_writer.specs.Calls.{asked, record_fault, with_empty, with_injection, Keeps};
+ghost use Rattle.dl_writer.specs.Claiming.{name_fault, AnnouncesInto, IsTableFull, KeepsAnnounced, KeepsRegistered};
 ghost use Rattle.dl_writer.specs.Records.{TellAll};
 ghost use Rattle.dl_writer.specs.State.{IsWhole};
+ghost use Rattle.dl_writer.specs.declared.fault.RegisterFault.TheVariants as register_fault;
 
-use crate::fault::BookFault;
+use crate::claim_room::ClaimRoom;
+use crate::fault::{BookFault, RegisterFault};
 use crate::writer::Writer;
-use dl_bytes::{Ctx, Injection, Payload, Severity};
+use dl_bytes::{Claim, Ctx, Id, Injection, OwnLevel, Payload, Severity};
 use dl_events::{Answer, Record};
 use std::alloc::Global;
 use std::marker::Model;
 use std::sync::Wait;
 
-/// Logs through its writer, and keeps the record of each call. Made of a writer without calls it is whole: it has a
-/// record of every call, and they tell all that the writer did.
+/// Logs through its writer, and keeps the record of each call and the claims that the ring took. Made of a writer without
+/// calls and claims it is whole: it has a record of every call, and every claim that the ring took, and they tell all that the
+/// writer did.
 #[derive(Drop)]
 pub struct Book {
     writer: Writer,
     room: u32,
     records: Vec<Record>,
+    claims: ClaimRoom,
 }
 
 impl Model for Book {
@@ -36,19 +42,24 @@ impl Model for Book {
 }
 
 impl Book {
-    /// A book with room for this many records, for which it takes all memory here. Without memory the writer comes back.
+    /// A book with room for this many records and for 64 claims, for which it takes all memory here. Without memory the writer
+    /// comes back.
     pub fn make(alloc: Global, writer: Writer, room: u32) -> Result<Book, Writer>
-        ensures book { IfOk result (λ book. book ≡ record { writer = writer; room = room; records = [] }) }
+        ensures book { IfOk result (λ book. book ≡ record { writer = writer; room = room; records = []; claims = [] }) }
         ensures back { IfErr result (λ back. back ≡ writer) }
     {
-        match Vec::with_capacity(alloc, room as usize) {
-            Ok(records) => Ok(Book {
-                writer,
-                room,
-                records,
-            }),
-            Err(_) => Err(writer),
-        }
+        let Ok(records) = Vec::with_capacity(alloc, room as usize) else {
+            return Err(writer);
+        };
+        let Ok(claims) = ClaimRoom::make(alloc) else {
+            return Err(writer);
+        };
+        Ok(Book {
+            writer,
+            room,
+            records,
+            claims,
+        })
     }
 
     /// Logs a message as `Writer::log` does, and keeps the record of the call. No memory.
@@ -72,6 +83,33 @@ impl Book {
         let answer = record.answer;
         self.records.push(record).unwrap();
         Ok(answer)
+    }
+
+    /// Claims a context as `Writer::register` does, and keeps the claims that the ring took. No memory.
+    pub fn register<R: Wait>(
+        &mut self,
+        rt: &R,
+        ctid: Id,
+        level: OwnLevel,
+        text: &[u8],
+    ) -> Result<Ctx, RegisterFault>
+        ensures named { IfSome (name_fault ctid text.now) (λ fault. (result ≡ Err fault) × (self.new ≡ self.old)) }
+        ensures registered { IfOk result (λ ctx. KeepsRegistered self.old ctid level text.now ctx self.new) }
+        ensures full { IfNone (name_fault ctid text.now) (IfErr result (λ fault. (fault ≡ register_fault.TableFull)
+            × (self.new ≡ record self.old { writer = self.new.writer }) × IsTableFull self.old.writer self.new.writer)) }
+        ensures whole { IsWhole self.old → IsWhole self.new }
+    {
+        let ctx = self.writer.claim_context(rt, ctid, level, text)?;
+        self.announce(rt);
+        Ok(ctx)
+    }
+
+    /// Announces the claims that wait as `Writer::announce` does, and keeps those that the ring took. No memory.
+    pub fn announce<R: Wait>(&mut self, rt: &R) -> u8
+        ensures announced { KeepsAnnounced self.old self.new result }
+        ensures whole { IsWhole self.old → IsWhole self.new }
+    {
+        announce_into(rt, &mut self.writer, &mut self.claims)
     }
 
     /// The writer's call of this name.
@@ -104,10 +142,26 @@ impl Book {
 
     /// How many calls the ring took of its writer, those before the book was made too.
     pub fn queued(&self) -> u64
-        ensures value { result ≡ length self.now.writer.push.pushed }
+        ensures value { result ≡ length (calls_in self.now.writer.push.pushed) }
         ensures range { result ≤ 2 ^ 40 }
     {
         self.writer.queued()
+    }
+
+    /// How many calls and claims the ring took of its writer, those before the book was made too.
+    pub fn pushed(&self) -> u64
+        ensures value { result ≡ length self.now.writer.push.pushed }
+        ensures range { result ≤ 2 ^ 41 }
+    {
+        self.writer.pushed()
+    }
+
+    /// How many claims of its writer wait for the ring, at most 64.
+    pub fn waiting(&self) -> u8
+        ensures value { result ≡ length self.now.writer.waiting }
+        ensures range { result ≤ 64 }
+    {
+        self.writer.waiting()
     }
 
     /// How many injections its writer was given, those before the book was made too.
@@ -120,22 +174,44 @@ impl Book {
     /// The records of the calls that were made through it, in order.
     pub fn records(&self) -> &[Record]
         ensures value { result.now ≡ self.now.records }
-        ensures told { IsWhole self.now → TellAll self.now.writer self.now.records }
+        ensures told { IsWhole self.now → TellAll self.now.writer self.now.records self.now.claims }
     {
         self.records.as_slice()
     }
 
-    /// The writer, and the records.
-    pub fn into_parts(self) -> (Writer, Vec<Record>)
+    /// The claims that the ring took of its writer through it, in order.
+    pub fn claims(&self) -> &[Claim]
+        ensures value { result.now ≡ self.now.claims }
+        ensures range { length self.now.claims ≤ 64 }
+    {
+        self.claims.all()
+    }
+
+    /// The writer, the records, and the claims that the ring took.
+    pub fn into_parts(self) -> (Writer, Vec<Record>, Vec<Claim>)
         ensures writer { result.0 ≡ self.writer }
         ensures records { result.1.items ≡ self.records }
-        ensures told { IsWhole self → TellAll self.writer self.records }
+        ensures claims { result.2.items ≡ self.claims }
+        ensures told { IsWhole self → TellAll self.writer self.records self.claims }
     {
         let Book {
             writer,
             room: _,
             records,
+            claims,
         } = self;
-        (writer, records)
+        (writer, records, claims.into_list())
     }
+}
+
+// Announces the claims of a writer that wait, and keeps those that the ring took behind those that are kept already.
+fn announce_into<R: Wait>(rt: &R, writer: &mut Writer, kept: &mut ClaimRoom) -> u8
+    requires { length kept.old ≤ length (claims_in writer.old.push.pushed) }
+    ensures { AnnouncesInto writer.old kept.old writer.new kept.new result }
+{
+    while let Some(claim) = writer.announce_next(rt) {
+        writer.have_claims();
+        kept.add(claim);
+    }
+    writer.waiting()
 }

@@ -1,4 +1,4 @@
-//! Why a call was not made.
+//! Why a call was not made, or a context not claimed.
 
 /// Why a writer refused a call. Nothing changed.
 #[derive(Clone, Copy, Debug, PartialEq, Eq)]
@@ -18,6 +18,17 @@ pub enum BookFault {
     Foreign,
     /// The writer made as many calls as it can, 2^40.
     Spent,
+}
+
+/// Why a context was not claimed: the first that applies, in this order.
+#[derive(Clone, Copy, Debug, PartialEq, Eq)]
+pub enum RegisterFault {
+    /// The context's id is zero. Nothing changed.
+    ZeroId,
+    /// The description has more than 48 bytes. Nothing changed.
+    TooLong,
+    /// No place of the application is left. Nothing changed but what the claim step itself leaves.
+    TableFull,
 }
 
 impl From<LogFault> for BookFault {

@@ -15,19 +15,26 @@
 //! }
 //! ```
 //!
-//! A book that was made of a writer without calls has a record of each of its calls. Then its records tell all that the
-//! writer did (`Book::records`), and with the daemon's journal they are the writer's account (`laws`).
+//! A book that was made of a writer without calls and claims has a record of each of its calls, and each claim that the ring
+//! took. Then these tell all that the writer did (`Book::records`), and with the daemon's journal they are the writer's account
+//! (`laws`).
+//!
+//! A context that wasn't declared before the writer was made is claimed by the writer (`Book::register`, `Writer::register`).
+//! The claim waits where the ring is full, and goes into it by a later `announce`.
 #![tactic(auto)]
 
 mod book;
 mod book_list;
+mod claim_room;
 mod fault;
 pub mod laws;
+mod register;
 mod writer;
 
 pub use book::Book;
 pub use book_list::BookList;
-pub use dl_bytes::WRITER_CALL_LIMIT;
+pub use claim_room::ClaimRoom;
+pub use dl_bytes::{Claim, WRITER_CALL_LIMIT};
 pub use dl_events::{Answer, Record};
-pub use fault::{BookFault, LogFault};
-pub use writer::{Writer, WriterHandles};
+pub use fault::{BookFault, LogFault, RegisterFault};
+pub use writer::{Owner, Writer, WriterHandles};

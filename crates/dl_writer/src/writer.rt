@@ -5,7 +5,7 @@ ghost use Rattle.std.specs.Result.{result_err};
 ghost use Rattle.dl_bytes.specs.Context.{slot_of};
 ghost use Rattle.dl_bytes.specs.Level.{passes};
 ghost use Rattle.dl_model.specs.Report.{is_answer};
-ghost use Rattle.dl_ring.specs.Items.{item_with};
+ghost use Rattle.dl_ring.specs.Items.{calls_in, item_with};
 ghost use Rattle.dl_ring.specs.Order.{MetFull};
 ghost use Rattle.dl_ring.specs.State.{unused_push};
 ghost use Rattle.dl_injections.specs.Order.{Rises, MetEmpty};
@@ -13,8 +13,9 @@ ghost use Rattle.dl_injections.specs.State.{unused_take};
 ghost use Rattle.dl_writer.specs.Met.{last_call, record_of};
 ghost use Rattle.dl_writer.specs.Calls.{after, answered, asked, call_fault, passed, with_empty, with_injection, LooksUp, Sends, Tells};
 
+use crate::claim_room::ClaimRoom;
 use crate::fault::LogFault;
-use dl_bytes::{Ctx, Injection, Level, Payload, Severity, WRITER_CALL_LIMIT};
+use dl_bytes::{Ctx, Id, Injection, Level, Payload, Severity, WRITER_CALL_LIMIT};
 use dl_events::{Answer, Record};
 use dl_injections::InjectTake;
 use dl_levels::{LevelReader, Seen};
@@ -37,6 +38,17 @@ pub struct WriterHandles {
     pub injections: InjectTake,
 }
 
+/// The application that a writer is of.
+#[derive(Clone, Copy, Debug)]
+pub struct Owner {
+    /// Its number, 0 to 15.
+    pub app: u8,
+    /// Its id.
+    pub apid: Id,
+    /// How many contexts it has when the writer is made, at most 64: their places are the first ones.
+    pub base: u8,
+}
+
 // What a call met, and what became of it.
 struct Met {
     // the level that its one load found
@@ -44,21 +56,29 @@ struct Met {
     answer: Answer,
 }
 
-/// Logs for one thread of an application. Its calls take no memory and no lock.
+/// Logs for one thread of an application, and claims contexts for it. Its calls take no memory and no lock.
 #[derive(Drop)]
 pub struct Writer {
-    app: u8,
-    number: u8,
+    pub(crate) owner: Owner,
+    pub(crate) number: u8,
     // how many calls it made
     calls: u64,
     // how many of them passed their level, modulo 256: the message counter of the next one that does
     mcnt: u8,
     // how many of these the ring took
     queued: u64,
+    // how many of its claims the ring took
+    pub(crate) claimed: u8,
     // how many injections it was given
     injected: u64,
-    push: RingPush,
-    reader: LevelReader,
+    // the claims that the ring didn't take yet
+    pub(crate) waiting: ClaimRoom,
+    // how many `register` calls came to a claim step
+    pub(crate) registers: u64,
+    // how many of these found no place left
+    pub(crate) table_full: u64,
+    pub(crate) push: RingPush,
+    pub(crate) reader: LevelReader,
     losses: LossWriter,
     injections: InjectTake,
 }
@@ -75,16 +95,32 @@ impl Model for Writer {
 }
 
 impl Writer {
-    /// A writer of this application, 0 to 15, with this number, 1 to 32. Its handles were not used yet.
-    pub fn of(app: u8, number: u8, handles: WriterHandles) -> Writer
-        requires app { app < 16 }
+    /// A writer of this application, with this number, 1 to 32. Its handles were not used yet, and the room for claims that
+    /// wait is empty.
+    pub fn of(owner: Owner, number: u8, handles: WriterHandles, waiting: ClaimRoom) -> Writer
+        requires app { owner.app < 16 }
+        requires base { owner.base ≤ 64 }
         requires number { (1 ≤ number) × (number ≤ 32) }
         requires push { handles.push ≡ unused_push handles.push.ring handles.push.capacity number false }
-        requires reader { 64 * app + 64 ≤ handles.reader.slots }
-        requires apps { app < handles.losses.apps }
+        requires reader { 64 * owner.app + 64 ≤ handles.reader.slots }
+        requires claims { (handles.reader.given ≡ []) × (handles.reader.refused ≡ []) }
+        requires apps { owner.app < handles.losses.apps }
         requires losses { handles.losses.counted ≡ [] }
         requires injections { handles.injections ≡ unused_take handles.injections.queue false }
-        ensures { result ≡ record { app = app; calls = 0; push = handles.push; reader = handles.reader; losses = handles.losses; injections = handles.injections } }
+        requires waiting { waiting ≡ [] }
+        ensures { result ≡ record {
+          app = owner.app;
+          calls = 0;
+          apid = owner.apid;
+          base = owner.base;
+          waiting = [];
+          registers = 0;
+          table_full = 0;
+          push = handles.push;
+          reader = handles.reader;
+          losses = handles.losses;
+          injections = handles.injections;
+        } }
     {
         let WriterHandles {
             push,
@@ -93,12 +129,16 @@ impl Writer {
             injections,
         } = handles;
         Writer {
-            app,
+            owner,
             number,
             calls: 0,
             mcnt: 0,
             queued: 0,
+            claimed: 0,
             injected: 0,
+            waiting,
+            registers: 0,
+            table_full: 0,
             push,
             reader,
             losses,
@@ -188,15 +228,23 @@ impl Writer {
         ensures value { result ≡ self.now.app }
         ensures range { result < 16 }
     {
-        self.app
+        self.owner.app
     }
 
     /// How many of its calls the ring took.
     pub fn queued(&self) -> u64
-        ensures value { result ≡ length self.now.push.pushed }
+        ensures value { result ≡ length (calls_in self.now.push.pushed) }
         ensures range { result ≤ 2 ^ 40 }
     {
         self.queued
+    }
+
+    /// How many of its calls and claims the ring took.
+    pub fn pushed(&self) -> u64
+        ensures value { result ≡ length self.now.push.pushed }
+        ensures range { result ≤ 2 ^ 41 }
+    {
+        self.queued + u64::from(self.claimed)
     }
 
     /// How many injections it was given.
@@ -211,16 +259,11 @@ impl Writer {
         ensures { result ≡ record { push = self.push; reader = self.reader; losses = self.losses; injections = self.injections } }
     {
         let Writer {
-            app: _,
-            number: _,
-            calls: _,
-            mcnt: _,
-            queued: _,
-            injected: _,
             push,
             reader,
             losses,
             injections,
+            ..
         } = self;
         WriterHandles {
             push,
@@ -246,7 +289,7 @@ impl Writer {
         ensures told { IfOk result (λ met. Tells self.old ctx.now severity at payload.now (record_of self.old ctx.now severity at payload.now met)) }
         ensures made { IfOk result (λ met. self.new ≡ after self.old (record_of self.old ctx.now severity at payload.now met)) }
     {
-        if ctx.app() != self.app {
+        if ctx.app() != self.owner.app {
             return Err(LogFault::Foreign);
         }
         if self.calls == WRITER_CALL_LIMIT {
@@ -283,7 +326,7 @@ impl Writer {
             self.queued += 1;
             Answer::Queued
         } else {
-            self.losses.count(self.app);
+            self.losses.count(self.owner.app);
             Answer::Lost
         }
     }
@@ -293,7 +336,7 @@ impl Writer {
         ensures { result ≡ last_call self.now ctx.now severity at }
     {
         Call {
-            app: self.app,
+            app: self.owner.app,
             writer: self.number,
             severity,
             mcnt: self.mcnt,

@@ -46,7 +46,7 @@ fn context(app: &mut App) -> Result<Ctx, OutOfMemory>
 }
 
 /// The book of the next writer of an application, with room for so many records.
-#[tactic(auto, using(crate::proofs::Apps::still))]
+#[tactic(auto, using(dl_lib::proofs::OpenBooks::same_app))]
 fn book(alloc: Global, app: &mut App, desk: &mut Desk, room: u32) -> Result<Book, OutOfMemory>
     requires { IsAppOf desk.old app.old }
     ensures still { IfOk result (λ _. IsAppOf desk.new app.new) }

@@ -1,5 +1,6 @@
-//! Two threads log through a ring of two calls, while the daemon's side takes what it finds there. What became of each call depends on
-//! the schedule; what is printed does not: every call was queued, filtered or lost, every queued one was taken, and every lost one was told.
+//! Two threads log through a ring of two calls, each under a context that it claims itself, while the daemon's side takes what it finds
+//! there and sets the level of each context that was claimed. What became of each call depends on the schedule; what is printed does
+//! not: every call was queued, filtered or lost, every queued one was taken, and every lost one was told.
 #![tactic(auto)]
 
 ghost use Rattle.std.specs.Prelude.{◌≡◌, ◌<◌, length};
@@ -7,8 +8,8 @@ ghost use Rattle.std.specs.Prelude.{◌≡◌, ◌<◌, length};
 mod declared;
 
 use declared::{Declared, declare};
-use dl_bytes::{OutOfMemory, Payload, Severity};
-use dl_lib::{Answer, Book, Ctx, Desk};
+use dl_bytes::{Id, Level, OutOfMemory, OwnLevel, Payload, Severity};
+use dl_lib::{Answer, Book, Ctx, Desk, RingItem};
 use std::process::ExitCode;
 use std::sync::Wait;
 use std::thread;
@@ -58,9 +59,21 @@ impl Calls {
     }
 }
 
+/// Claims a context that asks for the level info, or else gives the declared one. Where the ring is full the claim waits for the next
+/// `announce`.
+fn claim<R: Wait>(rt: &R, book: &mut Book, declared: Ctx) -> Ctx {
+    let Some(own) = OwnLevel::of(4) else {
+        return declared;
+    };
+    let name = [b'T', b'H', b'R', b'0' + book.number() % 10];
+    book.register(rt, Id::from_bytes(name), own, b"what one thread says")
+        .unwrap_or(declared)
+}
+
 /// Makes a thread's calls: each fourth is above the level of its context.
-fn log_all<R: Wait>(rt: &R, book: Book, ctx: Ctx) -> Calls {
+fn log_all<R: Wait>(rt: &R, book: Book, declared: Ctx) -> Calls {
     let mut book = book;
+    let ctx = claim(rt, &mut book, declared);
     let text = Payload::new();
     let mut calls = Calls {
         queued: 0,
@@ -68,6 +81,9 @@ fn log_all<R: Wait>(rt: &R, book: Book, ctx: Ctx) -> Calls {
         lost: 0,
     };
     for at in 0..CALLS {
+        if book.waiting() != 0 {
+            book.announce(rt);
+        }
         let severity = if at % 4 == 0 {
             Severity::Debug
         } else {
@@ -80,6 +96,21 @@ fn log_all<R: Wait>(rt: &R, book: Book, ctx: Ctx) -> Calls {
     calls
 }
 
+/// Notes what was taken of the ring: of a claim it sets the level of the context, so that its calls pass from then on.
+fn note(desk: &mut Desk, item: &RingItem, heard: Heard) -> Heard
+    requires { 0 < length desk.old.apps }
+    ensures { length desk.new.apps ≡ length desk.old.apps }
+{
+    let mut heard = heard;
+    match item {
+        RingItem::Log(_) => heard.taken = heard.taken.saturating_add(1),
+        RingItem::Register(claim) => {
+            let _worn = desk.set(u16::from(claim.place()), Level::from(Severity::Info));
+        }
+    }
+    heard
+}
+
 /// Looks into the ring and at the losses some times.
 fn hear<R: Wait>(rt: &R, desk: &mut Desk) -> Heard
     requires { 0 < length desk.old.apps }
@@ -87,10 +118,9 @@ fn hear<R: Wait>(rt: &R, desk: &mut Desk) -> Heard
 {
     let mut heard = Heard { taken: 0, told: 0 };
     for _look in 0..LOOKS {
-        if desk.take(rt, 0).is_some() {
-            heard.taken = heard.taken.saturating_add(1);
-        } else {
-            thread::yield_now();
+        match desk.take(rt, 0) {
+            Some(item) => heard = note(desk, &item, heard),
+            None => thread::yield_now(),
         }
         heard.told = heard.told.saturating_add(desk.losses(0));
     }
@@ -103,10 +133,10 @@ fn drain<R: Wait>(rt: &R, desk: &mut Desk, heard: Heard) -> Heard
 {
     let mut heard = heard;
     for _call in 0..u64::MAX {
-        if desk.take(rt, 0).is_none() {
+        let Some(item) = desk.take(rt, 0) else {
             break;
-        }
-        heard.taken = heard.taken.saturating_add(1);
+        };
+        heard = note(desk, &item, heard);
     }
     heard.told = heard.told.saturating_add(desk.losses(0));
     heard

@@ -1,21 +1,21 @@
 //! Threads, each with a book of its own, on one ring.
 
-ghost use Rattle.std.specs.Prelude.{◌≡◌, ◌+◌, ◌<◌, ◌≤◌, List, length, map, All, IfOk, OnSome, vec_len};
+ghost use Rattle.std.specs.Prelude.{◌≡◌, ◌<◌, ◌≤◌, length, map, All, IfOk, OnSome, vec_len};
 ghost use Rattle.std.specs.List.{range_with_len};
 ghost use Rattle.dl_desk.specs.Made.{IsLater, IsMadeWith};
 ghost use Rattle.dl_desk.specs.State.{DeskState};
 ghost use Rattle.dl_lib.specs.Known.{IsDrained};
-ghost use Rattle.dl_lib.specs.Making.{AreMadeWith};
 ghost use Rattle.dl_writer.specs.State.{numbers};
 
+use crate::jobs::{Job, OfWriter, Worked, work};
 use crate::programs::{Heard, Program, hear_all, no_ends, one_app};
-use dl_bytes::{Level, OutOfMemory, Payload, Severity};
-use dl_lib::{Account, Answer, Book, BookList, Closing, Ctx, Desk, Kept, Record};
+use dl_bytes::{Level, OutOfMemory, Severity};
+use dl_lib::{Account, Answer, Book, BookList, Claim, ClaimList, Closing, Ctx, Desk, Kept, Record};
 use std::alloc::Global;
 use std::snapshot::Snapshot;
 use std::sync::Wait;
 use std::thread;
-use std::thread::{Promise, PromisedHandle, Scope, Threads};
+use std::thread::{PromisedHandle, Scope, Threads};
 
 /// How many calls the threads of a crowd make together.
 const ALL: u64 = 4000;
@@ -23,49 +23,21 @@ const ALL: u64 = 4000;
 /// How often the level is set.
 const SETS: u32 = 2000;
 
-/// What a thread's book will be: that of a writer which was made with this desk, under this number.
-#[derive(Drop)]
-struct OfWriter {
-    desk: Snapshot<Desk>,
-    number: u8,
-}
-
-impl Promise<Book> for OfWriter {
-    ghost use Rattle.std.specs.Prelude.{◌≡◌};
-    ghost use Rattle.dl_desk.specs.Made.{IsMadeWith};
-
-    ghost kept_by = { λ p b. IsMadeWith p.desk.value b.writer × (b.writer.push.number ≡ p.number) };
-}
-
-/// Makes a thread's calls, and gives its book back.
-fn log_all<R: Wait>(rt: &R, book: Book, ctx: Ctx, calls: u32) -> Book
-    ensures made { (desk : DeskState) → IsMadeWith desk book.writer → IsMadeWith desk result.writer }
-    ensures number { result.writer.push.number ≡ book.writer.push.number }
-{
-    let mut book = book;
-    let text = Payload::new();
-    for at in 0..calls {
-        let _answer = book.log(rt, &ctx, Severity::Warn, at, &text);
-    }
-    book
-}
-
 /// Takes calls and losses while threads log, until half of all calls were heard of.
 fn hear_half<R: Wait>(rt: &R, desk: &mut Desk) -> Heard
     requires { 0 < length desk.old.apps }
     ensures { IsLater desk.old desk.new }
 {
-    let mut heard = Heard { taken: 0, lost: 0 };
+    let mut heard = Heard::nothing();
     for _round in rt.forever() {
-        if heard.taken.saturating_add(heard.lost) >= ALL / 2 {
+        if heard.calls.saturating_add(heard.lost) >= ALL / 2 {
             break;
         }
-        if desk.take(rt, 0).is_some() {
-            heard.taken = heard.taken.saturating_add(1);
-        } else {
-            thread::yield_now();
+        match desk.take(rt, 0) {
+            Some(item) => heard = heard.with(&item),
+            None => thread::yield_now(),
         }
-        heard.lost = heard.lost.saturating_add(desk.losses(0));
+        heard = heard.with_lost(desk.losses(0));
     }
     heard
 }
@@ -114,85 +86,113 @@ fn serve<R: Wait>(rt: &R, desk: &mut Desk, meanwhile: Meanwhile) -> Heard
     ensures { IsLater desk.old desk.new }
 {
     match meanwhile {
-        Meanwhile::Waits => Heard { taken: 0, lost: 0 },
+        Meanwhile::Waits => Heard::nothing(),
         Meanwhile::SetsLevels => {
             set_often(desk);
-            Heard { taken: 0, lost: 0 }
+            Heard::nothing()
         }
         Meanwhile::Takes => hear_half(rt, desk),
     }
 }
 
-/// Starts a thread for each book, which makes so many calls.
+/// Starts a thread for each book, which does its part of the job.
 fn start<'s, E: 's, R: Threads + Wait + Sync>(
     scope: &'s Scope<'s, E>,
     rt: &'s R,
     alloc: Global,
     desk: &Desk,
     books: Vec<Book>,
-    ctx: Ctx,
-    calls: u32,
-) -> Result<Vec<PromisedHandle<Book, OfWriter>>, OutOfMemory>
-    requires { All (λ b. IsMadeWith desk.now b.writer) books.items }
-    ensures numbered { IfOk result (λ children. map (λ c. c.promise.number) children.items ≡ map (λ b. b.writer.push.number) books.items) }
+    declared: Ctx,
+    job: Job,
+) -> Result<Vec<PromisedHandle<Worked, OfWriter>>, OutOfMemory>
+    requires made { All (λ b. IsMadeWith desk.now b.writer) books.items }
+    requires bases { All (λ b. b.writer.base ≡ 1) books.items }
+    ensures numbered { IfOk result (λ children. map (λ c. c.promise.before.value.writer.push.number) children.items ≡ map (λ b. b.writer.push.number) books.items) }
+    ensures bases { IfOk result (λ children. All (λ c. c.promise.before.value.writer.base ≡ 1) children.items) }
     ensures same { IfOk result (λ children. All (λ c. c.promise.desk.value ≡ desk.now) children.items) }
 {
     let mut children = Vec::new(alloc);
     for book in books {
+        let before = Snapshot::of(&book);
         let promise = OfWriter {
             desk: Snapshot::of(desk),
-            number: book.number(),
+            before,
         };
-        let child = scope.spawn_with(promise, move || log_all(rt, book, ctx, calls))?;
+        let child = scope.spawn_with(promise, move || work(rt, book, declared, job))?;
         children.push(child)?;
     }
     Ok(children)
 }
 
-/// Waits for all threads, and gives their books.
-fn join_all<R: Threads>(rt: &R, children: Vec<PromisedHandle<Book, OfWriter>>) -> BookList
-    requires { vec_len children ≤ 32 }
-    ensures numbered { numbers result ≡ map (λ c. c.promise.number) children.items }
-    ensures made { (desk : DeskState) → All (λ c. c.promise.desk.value ≡ desk) children.items → All (λ b. IsMadeWith desk b.writer) result }
-{
-    let mut books = BookList::none();
-    for child in children {
-        books.add(child.join(rt));
-    }
-    books
+/// What all threads give back: their books, and how many of their claims found the table full.
+#[derive(Drop)]
+struct Back {
+    books: BookList,
+    full: u64,
 }
 
-/// All books at once, each in a thread of its own that makes so many calls: what the desk heard meanwhile, and the daemon's
-/// side once all are back.
+/// Waits for all threads.
+fn join_all<R: Threads>(rt: &R, children: Vec<PromisedHandle<Worked, OfWriter>>) -> Back
+    requires few { vec_len children ≤ 32 }
+    requires bases { All (λ c. c.promise.before.value.writer.base ≡ 1) children.items }
+    ensures numbered { numbers result.books ≡ map (λ c. c.promise.before.value.writer.push.number) children.items }
+    ensures made { (desk : DeskState) → All (λ c. c.promise.desk.value ≡ desk) children.items → All (λ b. IsMadeWith desk b.writer) result.books }
+    ensures bases { All (λ b. b.writer.base ≡ 1) result.books }
+{
+    let mut books = BookList::none();
+    let mut full = 0u64;
+    for child in children {
+        let worked = child.join(rt);
+        full = full.saturating_add(worked.full);
+        books.add(worked.book);
+    }
+    Back { books, full }
+}
+
+/// What happened while the threads worked, and the daemon's side once all are back.
+#[derive(Drop)]
+struct Gathered {
+    heard: Heard,
+    full: u64,
+    closing: Closing,
+}
+
+/// All books at once, each in a thread of its own that does its part of the job.
 fn crowd<R: Threads + Wait + Sync>(
     rt: &R,
     alloc: Global,
     desk: Desk,
     books: Vec<Book>,
-    ctx: Ctx,
-    calls: u32,
+    declared: Ctx,
+    job: Job,
     meanwhile: Meanwhile,
-) -> Result<Option<(Heard, Closing)>, OutOfMemory>
+) -> Result<Option<Gathered>, OutOfMemory>
     requires apps { 0 < length desk.apps }
     requires few { vec_len books ≤ 32 }
     requires made { All (λ b. IsMadeWith desk b.writer) books.items }
     requires numbered { map (λ b. b.writer.push.number) books.items ≡ range_with_len 1 (vec_len books) }
+    requires bases { All (λ b. b.writer.base ≡ 1) books.items }
 {
     thread::scope(
         thread::scope_env(),
         rt,
-        move |scope| -> Result<Option<(Heard, Closing)>, OutOfMemory>
+        move |scope| -> Result<Option<Gathered>, OutOfMemory>
             requires apps { 0 < length desk.apps }
             requires few { vec_len books ≤ 32 }
             requires made { All (λ b. IsMadeWith desk b.writer) books.items }
             requires numbered { map (λ b. b.writer.push.number) books.items ≡ range_with_len 1 (vec_len books) }
+            requires bases { All (λ b. b.writer.base ≡ 1) books.items }
         {
             let mut desk = desk;
-            let children = start(scope, rt, alloc, &desk, books, ctx, calls)?;
+            let children = start(scope, rt, alloc, &desk, books, declared, job)?;
             let heard = serve(rt, &mut desk, meanwhile);
-            let books = join_all(rt, children);
+            let Back { books, full } = join_all(rt, children);
             match Closing::make(desk, books) {
-                Ok(closing) => Ok(Some((heard, closing))),
+                Ok(closing) => Ok(Some(Gathered {
+                    heard,
+                    full,
+                    closing,
+                })),
                 Err(_) => Ok(None),
             }
         },
@@ -258,19 +258,41 @@ fn counted(account: &Account) -> Calls {
     all
 }
 
-/// What a crowd's calls became, and what the daemon heard of them in all.
+/// Marks the places of these claims, and tells whether none of them was marked before.
+fn mark(places: &mut [bool; 64], claims: &[Claim]) -> bool {
+    for claim in claims {
+        let place = usize::from(claim.place());
+        if places[place] {
+            return false;
+        }
+        places[place] = true;
+    }
+    true
+}
+
+/// How many places the writers claimed behind the declared context, where no place was claimed twice.
+fn claimed(claims: &ClaimList) -> Option<u64> {
+    let mut places = [false; 64];
+    places[0] = true;
+    let mut count = 0u64;
+    for writer in 1..=claims.writers() {
+        let theirs = claims.of(writer);
+        if !mark(&mut places, theirs) {
+            return None;
+        }
+        count = count.saturating_add(theirs.len() as u64);
+    }
+    Some(count)
+}
+
+/// What a crowd's calls became, how many places were claimed, how many claims found the table full, and what the daemon heard in
+/// all.
 #[derive(Clone, Copy)]
 struct Outcome {
     calls: Calls,
+    claimed: Option<u64>,
+    full: u64,
     heard: Heard,
-}
-
-/// What was heard before and after.
-fn both(before: Heard, after: Heard) -> Heard {
-    Heard {
-        taken: before.taken.saturating_add(after.taken),
-        lost: before.lost.saturating_add(after.lost),
-    }
 }
 
 /// What is left once the threads are back, where it is all.
@@ -287,37 +309,43 @@ fn hear_rest<R: Wait>(rt: &R, closing: &mut Closing) -> Option<Heard>
     Some(heard)
 }
 
-/// What became of all calls, of what was heard before the threads were back and of the daemon's side then.
-fn drained<R: Wait>(rt: &R, alloc: Global, before: Heard, closing: Closing) -> Option<Outcome> {
-    let mut closing = closing;
+/// What became of all calls and claims, of what was heard before the threads were back and of the daemon's side then.
+fn drained<R: Wait>(rt: &R, alloc: Global, gathered: Gathered) -> Option<Outcome> {
+    let Gathered {
+        heard,
+        full,
+        mut closing,
+    } = gathered;
     match hear_rest(rt, &mut closing) {
         Some(after) => {
             let account = closing.finish(Kept::make(alloc), no_ends(alloc));
             Some(Outcome {
                 calls: counted(&account),
-                heard: both(before, after),
+                claimed: claimed(account.claims()),
+                full,
+                heard: heard.and(after),
             })
         }
         None => None,
     }
 }
 
-/// What becomes of the calls of so many threads on one ring that holds so many.
+/// What becomes of the calls and the claims of so many threads on one ring that holds so many.
 fn run_crowd<R: Threads + Wait + Sync>(
     rt: &R,
     alloc: Global,
     capacity: u16,
     threads: u8,
-    calls: u32,
+    job: Job,
     meanwhile: Meanwhile,
 ) -> Option<Outcome>
     requires capacity { (1 ≤ capacity) × (capacity ≤ 4096) }
     requires few { threads ≤ 32 }
 {
-    match one_app(alloc, capacity, threads, calls) {
+    match one_app(alloc, capacity, threads, job.calls) {
         Ok(Program { desk, ctx, books }) => {
-            match crowd(rt, alloc, desk, books, ctx, calls, meanwhile) {
-                Ok(Some((before, closing))) => drained(rt, alloc, before, closing),
+            match crowd(rt, alloc, desk, books, ctx, job, meanwhile) {
+                Ok(Some(gathered)) => drained(rt, alloc, gathered),
                 Ok(None) | Err(_) => None,
             }
         }
@@ -328,9 +356,9 @@ fn run_crowd<R: Threads + Wait + Sync>(
 /// Whether each call has a record, each queued one was taken, and each lost one told, before the threads were back or after.
 fn are_told(outcome: Option<Outcome>) -> [bool; 3] {
     match outcome {
-        Some(Outcome { calls, heard }) => [
+        Some(Outcome { calls, heard, .. }) => [
             calls.queued.saturating_add(calls.lost) == ALL,
-            heard.taken == calls.queued,
+            heard.calls == calls.queued,
             heard.lost == calls.lost,
         ],
         None => [false; 3],
@@ -340,15 +368,15 @@ fn are_told(outcome: Option<Outcome>) -> [bool; 3] {
 /// Whatever the schedule: each call has a record, each queued one is taken, and each lost one is told, once.
 #[test]
 fn each_loss_is_told_once(rt: HostRuntime) {
-    let outcome = run_crowd(&rt, rt.alloc(), 1, 8, 500, Meanwhile::Takes);
+    let outcome = run_crowd(&rt, rt.alloc(), 1, 8, Job::calls(500), Meanwhile::Takes);
     assert!(rt; are_told(outcome) == [true; 3]);
 }
 
 /// Whether the ring took all calls, all were taken from it, and none was lost.
 fn are_taken(outcome: Option<Outcome>) -> [bool; 3] {
     match outcome {
-        Some(Outcome { calls, heard }) => {
-            [calls.queued == ALL, heard.taken == ALL, heard.lost == 0]
+        Some(Outcome { calls, heard, .. }) => {
+            [calls.queued == ALL, heard.calls == ALL, heard.lost == 0]
         }
         None => [false; 3],
     }
@@ -357,7 +385,7 @@ fn are_taken(outcome: Option<Outcome>) -> [bool; 3] {
 /// Eight threads on one ring that holds all that they log.
 #[test]
 fn ring_crowd(rt: HostRuntime) {
-    let outcome = run_crowd(&rt, rt.alloc(), 4096, 8, 500, Meanwhile::Waits);
+    let outcome = run_crowd(&rt, rt.alloc(), 4096, 8, Job::calls(500), Meanwhile::Waits);
     assert!(rt; are_taken(outcome) == [true; 3]);
 }
 
@@ -372,6 +400,63 @@ fn met_levels(outcome: Option<Outcome>) -> bool {
 /// Whatever the schedule: each level that a call met is one that its context held, and no version falls.
 #[test]
 fn levels_are_held(rt: HostRuntime) {
-    let outcome = run_crowd(&rt, rt.alloc(), 16, 2, 2000, Meanwhile::SetsLevels);
+    let outcome = run_crowd(
+        &rt,
+        rt.alloc(),
+        16,
+        2,
+        Job::calls(2000),
+        Meanwhile::SetsLevels,
+    );
     assert!(rt; met_levels(outcome));
+}
+
+/// Whether each of two writers claimed a context, and all calls under these were filtered: nobody set their levels.
+fn are_off(outcome: Option<Outcome>) -> [bool; 4] {
+    match outcome {
+        Some(outcome) => [
+            outcome.claimed == Some(2),
+            outcome.heard.claims == 2,
+            outcome.calls.calls == 2000 && outcome.calls.queued == 0,
+            outcome.calls.lost == 0 && outcome.heard.calls == 0,
+        ],
+        None => [false; 4],
+    }
+}
+
+/// Two writers claim a context each, and make 1000 calls each under it.
+#[test]
+fn two_writers_claim(rt: HostRuntime) {
+    let job = Job {
+        claimers: 2,
+        claims: 1,
+        calls: 1000,
+    };
+    let outcome = run_crowd(&rt, rt.alloc(), 4096, 2, job, Meanwhile::Waits);
+    assert!(rt; are_off(outcome) == [true; 4]);
+}
+
+/// Whether 63 places were claimed behind the declared context, no place twice, and all other claims found the table full.
+fn are_apart(outcome: Option<Outcome>) -> [bool; 3] {
+    match outcome {
+        Some(outcome) => [
+            outcome.claimed == Some(63),
+            outcome.full == 65,
+            outcome.calls.calls == 2500,
+        ],
+        None => [false; 3],
+    }
+}
+
+/// Eight threads claim sixteen contexts each of one application while two others log: no place is claimed twice, and the table is full
+/// once all are.
+#[test]
+fn no_place_twice(rt: HostRuntime) {
+    let job = Job {
+        claimers: 8,
+        claims: 16,
+        calls: 250,
+    };
+    let outcome = run_crowd(&rt, rt.alloc(), 4096, 10, job, Meanwhile::Waits);
+    assert!(rt; are_apart(outcome) == [true; 3]);
 }

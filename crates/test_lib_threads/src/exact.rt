@@ -1,10 +1,10 @@
-//! Rings and queues that are filled to the brim: a call is lost exactly where the ring is full.
+//! Rings and queues that are filled to the brim: a call is lost, and a claim waits, exactly where the ring is full.
 
 ghost use Rattle.std.specs.Prelude.{◌≡◌, ◌<◌, ◌≤◌, length};
 
 use crate::programs::{Program, injection, one_app};
-use dl_bytes::{Payload, Severity};
-use dl_lib::{Answer, Book, Ctx, Desk};
+use dl_bytes::{Id, OwnLevel, Payload, Severity};
+use dl_lib::{Answer, Book, Ctx, Desk, RingItem};
 use std::alloc::Global;
 use std::sync::Wait;
 
@@ -43,8 +43,8 @@ fn gives<R: Wait>(rt: &R, desk: &mut Desk, writer: u8, call: u64) -> bool
     ensures { length desk.new.apps ≡ length desk.old.apps }
 {
     match desk.take(rt, 0) {
-        Some(item) => item.writer == writer && item.call == call,
-        None => false,
+        Some(RingItem::Log(item)) => item.writer == writer && item.call == call,
+        Some(RingItem::Register(_)) | None => false,
     }
 }
 
@@ -117,11 +117,48 @@ fn wait_sixteen<R: Wait>(rt: &R, desk: &mut Desk, books: &mut [Book]) -> [bool; 
     ]
 }
 
+/// Claims a context, and answers its place and how many claims wait then.
+fn claim<R: Wait>(rt: &R, book: &mut Book, ctid: [u8; 4]) -> Option<(u8, u8)> {
+    let own = OwnLevel::of(-1)?;
+    match book.register(rt, Id::from_bytes(ctid), own, b"") {
+        Ok(ctx) => Some((ctx.place(), book.waiting())),
+        Err(_) => None,
+    }
+}
+
+/// Whether the next take gives the claim of this place.
+fn gives_claim<R: Wait>(rt: &R, desk: &mut Desk, place: u8) -> bool
+    requires { 0 < length desk.old.apps }
+    ensures { length desk.new.apps ≡ length desk.old.apps }
+{
+    match desk.take(rt, 0) {
+        Some(RingItem::Register(claim)) => claim.place() == place,
+        Some(RingItem::Log(_)) | None => false,
+    }
+}
+
+/// Of two claims behind a context, where the ring holds one item: whether the second one waits until the first one is taken.
+fn claims_wait<R: Wait>(rt: &R, desk: &mut Desk, books: &mut [Book]) -> [bool; 5]
+    requires { 0 < length desk.old.apps }
+{
+    let Some(book) = books.first_mut() else {
+        return [false; 5];
+    };
+    [
+        claim(rt, book, *b"CTXA") == Some((1, 0)),
+        claim(rt, book, *b"CTXB") == Some((2, 1)),
+        book.announce(rt) == 1,
+        gives_claim(rt, desk, 1),
+        book.announce(rt) == 0 && book.claims().len() == 2 && gives_claim(rt, desk, 2),
+    ]
+}
+
 /// What is tried on a program.
 #[derive(Clone, Copy)]
 enum Trial {
     FullRing,
     FullQueue,
+    WaitingClaims,
 }
 
 /// What is so of a trial with these books.
@@ -131,6 +168,7 @@ fn tried<R: Wait>(rt: &R, desk: &mut Desk, ctx: &Ctx, books: &mut [Book], trial:
     match trial {
         Trial::FullRing => nine_each(rt, desk, ctx, books),
         Trial::FullQueue => wait_sixteen(rt, desk, books),
+        Trial::WaitingClaims => claims_wait(rt, desk, books),
     }
 }
 
@@ -159,4 +197,9 @@ fn ring_exact(rt: HostRuntime) {
 #[test]
 fn sixteen_injections_wait(rt: HostRuntime) {
     assert!(rt; is_so(&rt, rt.alloc(), 1, 1, Trial::FullQueue) == [true; 5]);
+}
+
+#[test]
+fn claims_wait_for_the_ring(rt: HostRuntime) {
+    assert!(rt; is_so(&rt, rt.alloc(), 1, 1, Trial::WaitingClaims) == [true; 5]);
 }

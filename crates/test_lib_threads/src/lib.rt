@@ -6,6 +6,8 @@ mod crowds;
 #[cfg(test)]
 mod exact;
 #[cfg(test)]
+mod jobs;
+#[cfg(test)]
 mod limits;
 #[cfg(test)]
 mod programs;

@@ -2,10 +2,11 @@
 
 ghost use Rattle.std.specs.Prelude.{◌≡◌, ◌+◌, ◌<◌, ◌≤◌, [], length, map, All, IfOk};
 ghost use Rattle.std.specs.List.{range_with_len};
+ghost use Rattle.dl_desk.specs.Apps.{contexts};
 ghost use Rattle.dl_desk.specs.Made.{IsAppOf, IsMadeWith, MakesWriter};
 
 use dl_bytes::{Bytes, Id, Injection, Level, OutOfMemory, OwnLevel, Payload, Sequence, Severity};
-use dl_lib::{App, AppSpec, Book, Closing, Ctx, Desk, Ends, TraceState};
+use dl_lib::{App, AppSpec, Book, Closing, Ctx, Desk, Ends, RingItem, TraceState};
 use std::alloc::Global;
 use std::sync::Wait;
 
@@ -24,6 +25,7 @@ pub fn one_app(alloc: Global, capacity: u16, writers: u8, room: u32) -> Result<P
     ensures apps { IfOk result (λ p. length p.desk.apps ≡ 1) }
     ensures made { IfOk result (λ p. All (λ b. IsMadeWith p.desk b.writer) p.books.items) }
     ensures numbered { IfOk result (λ p. map (λ b. b.writer.push.number) p.books.items ≡ range_with_len 1 writers) }
+    ensures bases { IfOk result (λ p. All (λ b. b.writer.base ≡ 1) p.books.items) }
 {
     let specs = [spec(alloc, *b"LOG1", capacity)];
     let (mut desk, mut apps) = Desk::make(alloc, &specs)?;
@@ -52,6 +54,7 @@ pub fn spec(alloc: Global, apid: [u8; 4], capacity: u16) -> AppSpec
 pub fn context(app: &mut App) -> Result<Ctx, OutOfMemory>
     ensures number { app.new.number ≡ app.old.number }
     ensures apid { app.new.apid ≡ app.old.apid }
+    ensures first { IfOk result (λ _. contexts app.new ≡ length app.old.hello) }
 {
     let Some(own) = OwnLevel::of(-1) else {
         return Err(OutOfMemory);
@@ -63,9 +66,12 @@ pub fn context(app: &mut App) -> Result<Ctx, OutOfMemory>
 }
 
 /// The book of the next writer of an application.
+#[tactic(auto, using(dl_lib::proofs::OpenBooks::same_app))]
 pub fn book(alloc: Global, app: &mut App, desk: &mut Desk, room: u32) -> Result<Book, OutOfMemory>
     requires { IsAppOf desk.old app.old }
-    ensures same { app.new ≡ app.old }
+    ensures still { IsAppOf desk.new app.new }
+    ensures same { (app.new.number ≡ app.old.number) × (app.new.apid ≡ app.old.apid) × (app.new.hello ≡ app.old.hello) }
+    ensures base { IfOk result (λ b. b.writer.base ≡ contexts app.old) }
     ensures number { IfOk result (λ b. b.writer.push.number ≡ length desk.old.owners + 1) }
     ensures made { IfOk result (λ b. IsMadeWith desk.new b.writer) }
     ensures desk { IfOk result (λ _. MakesWriter app.old.number desk.old desk.new) }
@@ -89,9 +95,11 @@ pub fn open_books(
 ) -> Result<Vec<Book>, OutOfMemory>
     requires app { IsAppOf desk.old app.old }
     requires first { desk.old.owners ≡ [] }
+    requires one { contexts app.old ≡ 1 }
     ensures apps { IfOk result (λ _. desk.new.apps ≡ desk.old.apps) }
     ensures made { IfOk result (λ books. All (λ b. IsMadeWith desk.new b.writer) books.items) }
     ensures numbered { IfOk result (λ books. map (λ b. b.writer.push.number) books.items ≡ range_with_len 1 writers) }
+    ensures bases { IfOk result (λ books. All (λ b. b.writer.base ≡ 1) books.items) }
 {
     let mut books = Vec::new(alloc);
     for writer in 0..writers {
@@ -121,44 +129,71 @@ pub fn no_ends(alloc: Global) -> Ends {
     }
 }
 
-/// How many calls a daemon took, and how many lost ones it was told.
+/// How many calls and claims a daemon took, and how many lost calls it was told.
 #[derive(Clone, Copy)]
 pub struct Heard {
-    pub taken: u64,
+    pub calls: u64,
+    pub claims: u64,
     pub lost: u64,
 }
 
-/// Takes a call of the first application, where one waits.
-fn takes<R: Wait>(rt: &R, closing: &mut Closing) -> bool
-    requires { 0 < length closing.old.apps }
-    ensures { closing.new.apps ≡ closing.old.apps }
-{
-    match closing.take(rt, 0) {
-        Some(_) => true,
-        None => false,
+impl Heard {
+    /// Of nothing.
+    pub fn nothing() -> Heard {
+        Heard {
+            calls: 0,
+            claims: 0,
+            lost: 0,
+        }
+    }
+
+    /// The same with an item of the ring.
+    pub fn with(self, item: &RingItem) -> Heard {
+        let mut heard = self;
+        let count = match item {
+            RingItem::Log(_) => &mut heard.calls,
+            RingItem::Register(_) => &mut heard.claims,
+        };
+        *count = count.saturating_add(1);
+        heard
+    }
+
+    /// The same with losses.
+    pub fn with_lost(self, lost: u64) -> Heard {
+        Heard {
+            lost: self.lost.saturating_add(lost),
+            ..self
+        }
+    }
+
+    /// What was heard before and after.
+    pub fn and(self, after: Heard) -> Heard {
+        Heard {
+            calls: self.calls.saturating_add(after.calls),
+            claims: self.claims.saturating_add(after.claims),
+            lost: self.lost.saturating_add(after.lost),
+        }
     }
 }
 
-/// Takes what waits of the first application, and answers how many calls.
-fn take_all<R: Wait>(rt: &R, closing: &mut Closing) -> u64
+/// Takes what is oldest in the ring of the first application, where something waits.
+fn takes<R: Wait>(rt: &R, closing: &mut Closing) -> Option<RingItem>
     requires { 0 < length closing.old.apps }
     ensures { closing.new.apps ≡ closing.old.apps }
 {
-    for taken in 0..u64::MAX {
-        if !takes(rt, closing) {
-            return taken;
-        }
-    }
-    u64::MAX
+    closing.take(rt, 0)
 }
 
 /// Takes what waits of the first application, and hears of its losses.
 pub fn hear_all<R: Wait>(rt: &R, closing: &mut Closing) -> Heard
     requires { 0 < length closing.old.apps }
 {
-    let taken = take_all(rt, closing);
-    Heard {
-        taken,
-        lost: closing.losses(0),
+    let mut heard = Heard::nothing();
+    for _taken in 0..u64::MAX {
+        let Some(item) = takes(rt, closing) else {
+            break;
+        };
+        heard = heard.with(&item);
     }
+    heard.with_lost(closing.losses(0))
 }

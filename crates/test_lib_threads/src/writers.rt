@@ -8,8 +8,8 @@ use dl_bytes::{Ctx, Id, Level, Payload, Severity};
 use dl_injections::{InjectTake, make_injections};
 use dl_levels::{LevelKeeper, LevelReader, make_levels};
 use dl_losses::{LossWriter, make_losses};
-use dl_ring::{RingPush, RingTake, make_ring};
-use dl_writer::{Answer, Book, Writer, WriterHandles};
+use dl_ring::{RingItem, RingPush, RingTake, make_ring};
+use dl_writer::{Answer, Book, ClaimRoom, Owner, Writer, WriterHandles};
 use std::alloc::Global;
 use std::sync::Wait;
 
@@ -23,7 +23,7 @@ fn is_set(keeper: LevelKeeper) -> bool
 
 /// A writer's reader of 64 levels, of which the first is info.
 fn reader(alloc: Global) -> Option<LevelReader>
-    ensures { IfSome result (λ r. r.slots ≡ 64) }
+    ensures { IfSome result (λ r. (r.slots ≡ 64) × (r.given ≡ []) × (r.refused ≡ [])) }
 {
     match make_levels(alloc, 64, 0) {
         Ok((keeper, mut readers)) => {
@@ -66,7 +66,7 @@ fn book_of(
     injections: InjectTake,
 ) -> Option<Book>
     requires push { push ≡ unused_push push.ring push.capacity 1 false }
-    requires reader { reader.slots ≡ 64 }
+    requires reader { (reader.slots ≡ 64) × (reader.given ≡ []) × (reader.refused ≡ []) }
     requires losses { (losses.apps ≡ 1) × (losses.counted ≡ []) }
     requires injections { injections ≡ unused_take injections.queue false }
 {
@@ -76,13 +76,21 @@ fn book_of(
         losses,
         injections,
     };
-    Book::make(alloc, Writer::of(0, 1, handles), 3).ok()
+    let owner = Owner {
+        app: 0,
+        apid: Id::from_bytes(*b"LOG1"),
+        base: 0,
+    };
+    match ClaimRoom::make(alloc) {
+        Ok(room) => Book::make(alloc, Writer::of(owner, 1, handles, room), 3).ok(),
+        Err(_) => None,
+    }
 }
 
 /// The same with the queue of injections to come.
 fn book_with(alloc: Global, push: RingPush, reader: LevelReader, losses: LossWriter) -> Option<Book>
     requires push { push ≡ unused_push push.ring push.capacity 1 false }
-    requires reader { reader.slots ≡ 64 }
+    requires reader { (reader.slots ≡ 64) × (reader.given ≡ []) × (reader.refused ≡ []) }
     requires losses { (losses.apps ≡ 1) × (losses.counted ≡ []) }
 {
     match injections(alloc) {
@@ -94,7 +102,7 @@ fn book_with(alloc: Global, push: RingPush, reader: LevelReader, losses: LossWri
 /// The same with the count of losses to come.
 fn book_over(alloc: Global, push: RingPush, reader: LevelReader) -> Option<Book>
     requires push { push ≡ unused_push push.ring push.capacity 1 false }
-    requires reader { reader.slots ≡ 64 }
+    requires reader { (reader.slots ≡ 64) × (reader.given ≡ []) × (reader.refused ≡ []) }
 {
     match losses(alloc) {
         Some(losses) => book_with(alloc, push, reader, losses),
@@ -149,8 +157,8 @@ fn are_answered<R: Wait>(rt: &R, book: &mut Book) -> [bool; 3] {
 /// Whether the ring has the first call.
 fn has_first<R: Wait>(rt: &R, ring: &mut RingTake) -> bool {
     match ring.take(rt) {
-        Some(item) => item.at == 100,
-        None => false,
+        Some(RingItem::Log(item)) => item.at == 100,
+        Some(RingItem::Register(_)) | None => false,
     }
 }
 

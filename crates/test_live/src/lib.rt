@@ -4,6 +4,8 @@
 #[cfg(test)]
 mod beside;
 #[cfg(test)]
+mod claims;
+#[cfg(test)]
 mod endless;
 #[cfg(test)]
 mod ends;

@@ -39,7 +39,7 @@ fn logs(events: &[Event]) -> u64 {
 }
 
 /// How many calls the daemon took.
-fn taken<L>(left: &Left<L>) -> u64 {
+pub fn taken<L>(left: &Left<L>) -> u64 {
     match left.account() {
         Some(account) => logs(account.events()),
         None => 0,

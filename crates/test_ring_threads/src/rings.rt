@@ -1,10 +1,12 @@
-//! Rings: an item comes back exactly where the ring is full, and none comes exactly where it is empty.
+//! Rings: an item comes back exactly where the ring is full, and none comes exactly where it is empty. Calls and claims
+//! come out as they went in, in whatever box.
 
-ghost use Rattle.std.specs.Prelude.{◌≡◌, ◌≤◌, ◌<◌, true};
+ghost use Rattle.std.specs.Prelude.{◌≡◌, ◌≤◌, ◌<◌, true, IfSome};
+ghost use Rattle.dl_ring.specs.Order.{writer_of};
 ghost use Rattle.dl_ring.specs.State.{unused_push};
 
-use dl_bytes::{Id, Item, OutOfMemory, Payload, Severity};
-use dl_ring::{RingPush, RingTake, make_ring};
+use dl_bytes::{Claim, ClaimText, Id, Item, OutOfMemory, OwnLevel, Payload, Severity};
+use dl_ring::{Call, RingItem, RingPush, RingTake, Taken, make_ring};
 use std::alloc::Global;
 use std::sync::Wait;
 use std::test::Fail;
@@ -17,8 +19,11 @@ const MANY: u64 = 5000;
 /// The calls of each writer of a crowd.
 const CALLS: u64 = 500;
 
+/// The argument of a call that carries one.
+const TEXT: &[u8] = b"one argument";
+
 /// What a writer logs at this call.
-fn item(writer: u8, call: u64) -> Item
+fn call_item(writer: u8, call: u64) -> Item
     ensures { result.writer ≡ writer }
 {
     Item {
@@ -34,6 +39,32 @@ fn item(writer: u8, call: u64) -> Item
     }
 }
 
+/// The same, for a ring.
+fn item(writer: u8, call: u64) -> RingItem
+    ensures { writer_of result ≡ writer }
+{
+    RingItem::Log(call_item(writer, call))
+}
+
+/// The claim of a writer on this place, for a context that follows the default level.
+fn claim(writer: u8, place: u8) -> Option<Claim>
+    requires { place < 64 }
+    ensures { IfSome result (λ claim. claim.writer ≡ writer) }
+{
+    let ctid = Id::from_bytes([b'C', b'T', b'X', place]);
+    let level = OwnLevel::of(-1)?;
+    let text = ClaimText::of(b"claimed while it runs")?;
+    Some(Claim::of(0, writer, place, ctid, level, text))
+}
+
+/// Pushes this call of a writer, and tells whether it came back.
+fn comes_back<R: Wait>(rt: &R, push: &mut RingPush, writer: u8, call: u64) -> bool
+    requires { push.old.number ≡ writer }
+    ensures { (push.new.number ≡ writer) × (push.new.ring ≡ push.old.ring) }
+{
+    push.push(rt, item(writer, call)).is_err()
+}
+
 /// Pushes the calls of a writer from `first` on until one comes back, and answers which one that was.
 fn fill<R: Wait>(rt: &R, push: &mut RingPush, writer: u8, first: u64) -> u64
     requires number { push.old.number ≡ writer }
@@ -43,11 +74,50 @@ fn fill<R: Wait>(rt: &R, push: &mut RingPush, writer: u8, first: u64) -> u64
     ensures first { first ≤ result }
 {
     for call in first..first + MANY {
-        if push.push(rt, item(writer, call)).is_err() {
+        if comes_back(rt, push, writer, call) {
             return call;
         }
     }
     first + MANY
+}
+
+/// Pushes a claim of the writer 1 on this place, and answers the place that came back, if one did.
+fn refused_place<R: Wait>(rt: &R, push: &mut RingPush, place: u8) -> Option<u8>
+    requires number { push.old.number ≡ 1 }
+    requires place { place < 64 }
+    ensures { (push.new.number ≡ 1) × (push.new.ring ≡ push.old.ring) }
+{
+    let claim = claim(1, place)?;
+    match push.push(rt, RingItem::Register(claim)) {
+        Err(RingItem::Register(back)) => Some(back.place()),
+        _ => None,
+    }
+}
+
+/// The place that the next take claims, if it gives a claim. The caller's item is where a call would come.
+fn claimed_place<R: Wait>(rt: &R, take: &mut RingTake, kept: &mut Item) -> Option<u8>
+    ensures { take.new.ring ≡ take.old.ring }
+{
+    match take.take_into(rt, kept) {
+        Taken::Claim(claim) => Some(claim.place()),
+        _ => None,
+    }
+}
+
+/// Pushes this call of the writer 1, which carries an argument, and tells whether the ring had room.
+fn push_call<R: Wait>(rt: &R, push: &mut RingPush, call: u64) -> bool
+    requires { push.old.number ≡ 1 }
+    ensures { push.new.number ≡ 1 }
+{
+    push.push_call(rt, &Call::of(&call_item(1, call)), &Payload::of(TEXT, 1))
+}
+
+/// The call that the next take copies into the caller's item, if it gives one with its argument.
+fn copied_call<R: Wait>(rt: &R, take: &mut RingTake, kept: &mut Item) -> Option<u64> {
+    match take.take_into(rt, kept) {
+        Taken::Call if kept.payload.bytes() == TEXT && kept.payload.args() == 1 => Some(kept.call),
+        _ => None,
+    }
 }
 
 /// Whether the next takes give the calls of a writer from `first` up to `end`, in order.
@@ -55,7 +125,7 @@ fn gives<R: Wait>(rt: &R, take: &mut RingTake, writer: u8, first: u64, end: u64)
     ensures { take.new.ring ≡ take.old.ring }
 {
     for call in first..end {
-        let Some(item) = take.take(rt) else {
+        let Some(RingItem::Log(item)) = take.take(rt) else {
             return false;
         };
         if item.writer != writer || item.call != call {
@@ -72,7 +142,7 @@ fn fill_in_turn<R: Wait>(rt: &R, one: &mut RingPush, two: &mut RingPush, calls: 
     ensures two { (two.new.number ≡ 2) × (two.new.ring ≡ two.old.ring) }
 {
     for call in 0..calls {
-        if one.push(rt, item(1, call)).is_err() || two.push(rt, item(2, call)).is_err() {
+        if comes_back(rt, one, 1, call) || comes_back(rt, two, 2, call) {
             return false;
         }
     }
@@ -117,7 +187,7 @@ fn log_all<R: Wait>(rt: &R, writer: Writer) -> u64 {
     let Writer { number, mut push } = writer;
     let mut queued = 0;
     for call in 0..CALLS {
-        if push.push(rt, item(number, call)).is_ok() {
+        if !comes_back(rt, &mut push, number, call) {
             queued += 1;
         }
     }
@@ -178,14 +248,46 @@ fn ring_exact_of_two_writers(rt: HostRuntime) -> Result<(), Fail> {
     let mut one = first.split(1);
     let mut two = first.split(2);
     assert!(rt; fill_in_turn(&rt, &mut one, &mut two, 8));
-    assert!(rt; one.push(&rt, item(1, 9)).is_err());
-    assert!(rt; two.push(&rt, item(2, 9)).is_err());
+    assert!(rt; comes_back(&rt, &mut one, 1, 9));
+    assert!(rt; comes_back(&rt, &mut two, 2, 9));
     assert!(rt; gives_in_turn(&rt, &mut take, 8));
     assert!(rt; take.take(&rt).is_none());
     assert_eq!(rt; take.join(one), 1);
     assert_eq!(rt; take.join(two), 1);
     assert_eq!(rt; take.join(first), 0);
     take.look();
+    Ok(())
+}
+
+#[test]
+fn ring_exact_of_claims(rt: HostRuntime) -> Result<(), Fail> {
+    let (mut first, mut take) = make_ring(rt.alloc(), 2)?;
+    let mut push = first.split(1);
+    let mut kept = call_item(2, 7);
+    assert_eq!(rt; refused_place(&rt, &mut push, 5), None);
+    assert_eq!(rt; refused_place(&rt, &mut push, 63), None);
+    assert_eq!(rt; refused_place(&rt, &mut push, 8), Some(8));
+    assert_eq!(rt; claimed_place(&rt, &mut take, &mut kept), Some(5));
+    assert_eq!(rt; claimed_place(&rt, &mut take, &mut kept), Some(63));
+    assert!(rt; matches!(take.take_into(&rt, &mut kept), Taken::Nothing));
+    assert_eq!(rt; kept.call, 7);
+    assert_eq!(rt; take.join(push), 1);
+    Ok(())
+}
+
+#[test]
+fn ring_boxes_hold_claims_and_calls_in_turn(rt: HostRuntime) -> Result<(), Fail> {
+    let (mut first, mut take) = make_ring(rt.alloc(), 1)?;
+    let mut push = first.split(1);
+    let mut kept = call_item(2, 7);
+    for turn in 0..64u8 {
+        let call = u64::from(turn);
+        assert_eq!(rt; refused_place(&rt, &mut push, turn), None);
+        assert_eq!(rt; claimed_place(&rt, &mut take, &mut kept), Some(turn));
+        assert!(rt; push_call(&rt, &mut push, call));
+        assert!(rt; !push_call(&rt, &mut push, call));
+        assert_eq!(rt; copied_call(&rt, &mut take, &mut kept), Some(call));
+    }
     Ok(())
 }
 

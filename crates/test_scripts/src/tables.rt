@@ -17,7 +17,7 @@ const TAKEN: [&str; 4] = [
 ];
 
 /// Lines that may not: the first bad one, and what is wrong with it.
-const REFUSED: [(&str, u32, ScriptKind); 19] = [
+const REFUSED: [(&str, u32, ScriptKind); 18] = [
     (
         "calls 1 TEST info 1000000\ncalls 1 TEST info 1 fill:1390",
         5,
@@ -32,7 +32,6 @@ const REFUSED: [(&str, u32, ScriptKind); 19] = [
     ("user 1 00", 4, ScriptKind::Word),
     ("claim 1 CTX2 info", 4, ScriptKind::Word),
     ("announce 1", 4, ScriptKind::Word),
-    ("register 1 CTX2 info", 4, ScriptKind::Word),
     ("client 1", 4, ScriptKind::Fields),
     ("send 1 00", 4, ScriptKind::Unknown),
     ("client\nsend 1 0", 5, ScriptKind::Hex),
@@ -43,12 +42,82 @@ const REFUSED: [(&str, u32, ScriptKind); 19] = [
     ("leave 1", 4, ScriptKind::Fields),
 ];
 
+/// Lines of both scripts that may stand behind them: contexts that writers register.
+const REGISTERED: [&str; 5] = [
+    "register 1 CTX2 debug \"c\"\nregister 1 CTX3 default",
+    "register 1 CTX2 off \"1234567890123456789012345678901234567890123456\\\"8\"",
+    "register 1 CTX2 info\nregister 1 CTX2 info\nregister 1 TEST info",
+    "writer LOG1\nregister 1 CTX2 info\nregister 2 CTX2 debug",
+    "app LOG2 1\nregister 1 CTX2 info\ncontext LOG2 CTX2 info\napp LOG3 1",
+];
+
+/// Lines of both that may not: the first bad one, and what is wrong with it.
+const UNREGISTERED: [(&str, u32, ScriptKind); 15] = [
+    ("registers 1 CTX2 info", 4, ScriptKind::Word),
+    ("register 1 CTX2", 4, ScriptKind::Fields),
+    ("register 1 CTX2 info c", 4, ScriptKind::Fields),
+    ("register 1 CTX2 info \"c\" \"c\"", 4, ScriptKind::Fields),
+    ("register one CTX2 info", 4, ScriptKind::Number),
+    ("register 256 CTX22 info", 4, ScriptKind::Id),
+    ("register 1 CTX2 loud", 4, ScriptKind::Level),
+    (
+        "register 2 CTX2 info \"1234567890123456789012345678901234567890123456789\"",
+        4,
+        ScriptKind::Text,
+    ),
+    (
+        "register 1 CTX2 info\ncontext LOG1 TEST info",
+        5,
+        ScriptKind::Order,
+    ),
+    (
+        "writer LOG1\nregister 2 CTX2 info\ncontext LOG1 CTX3 info",
+        6,
+        ScriptKind::Order,
+    ),
+    ("register 2 CTX2 info", 4, ScriptKind::Unknown),
+    ("register 0 CTX2 info", 4, ScriptKind::Unknown),
+    ("register 257 CTX2 info", 4, ScriptKind::Unknown),
+    ("register 2 CTX2 info\nwriter LOG1", 4, ScriptKind::Unknown),
+    ("register 1 CTX2 info\nwriter LOG2", 5, ScriptKind::Unknown),
+];
+
+/// Lines of a scenario that may stand behind them: calls under contexts that the same writer registered.
+const CALLED: [&str; 3] = [
+    "register 1 CTX2 info\ncalls 1 CTX2 info 1000000",
+    "register 1 CTX2 info\ncalls 1 TEST info 1\nregister 1 TEST off\ncalls 1 TEST info 1",
+    "writer LOG1\nregister 1 CTX2 info\ncalls 1 CTX2 info 1\nregister 2 CTX2 debug\ncalls 2 CTX2 info 1",
+];
+
+/// Lines that may not: the first bad one, and what is wrong with it.
+const UNCALLED: [(&str, u32, ScriptKind); 4] = [
+    (
+        "calls 1 CTX2 info 1\nregister 1 CTX2 info",
+        4,
+        ScriptKind::Unknown,
+    ),
+    (
+        "register 1 CTX2 info\ncalls 1 CTX3 info 1",
+        5,
+        ScriptKind::Unknown,
+    ),
+    (
+        "writer LOG1\nregister 2 CTX2 info\ncalls 1 CTX2 info 1",
+        6,
+        ScriptKind::Unknown,
+    ),
+    (
+        "register 1 CTX2 info\ncalls 1 CTX2 info 1000000\ncalls 1 CTX2 info 1",
+        6,
+        ScriptKind::Limit,
+    ),
+];
+
 /// Lines of a step script that may stand behind them: claims of writers.
-const CLAIMED: [&str; 9] = [
+const CLAIMED: [&str; 8] = [
     "claim 1 CTX2 debug \"c\"\nannounce 1\nregister 1 CTX3 default",
     "announce 1",
     "claim 1 CTX2 off \"123456789012345678901234567890123456789012345678\"",
-    "register 1 CTX2 off \"1234567890123456789012345678901234567890123456\\\"8\"",
     "claim 1 CTX2 info\nclaim 1 CTX2 info\nregister 1 TEST info",
     "claim 1 CTX2 info\nload 1 CTX2 info 1\ncall 1 CTX2 info 2\nlog 1 CTX2 info 3",
     "writer LOG1\nclaim 1 CTX2 info\nregister 2 CTX2 debug\nlog 2 CTX2 info 1",
@@ -57,24 +126,17 @@ const CLAIMED: [&str; 9] = [
 ];
 
 /// Lines that may not: the first bad one, and what is wrong with it.
-const UNCLAIMED: [(&str, u32, ScriptKind); 26] = [
+const UNCLAIMED: [(&str, u32, ScriptKind); 20] = [
     ("claims 1 CTX2 info", 4, ScriptKind::Word),
     ("claim 1 CTX2", 4, ScriptKind::Fields),
     ("claim 1 CTX2 info \"c\" \"c\"", 4, ScriptKind::Fields),
-    ("register 1 CTX2 info c", 4, ScriptKind::Fields),
     ("announce", 4, ScriptKind::Fields),
     ("announce 1 CTX2", 4, ScriptKind::Fields),
     ("claim one CTX2 info", 4, ScriptKind::Number),
     ("announce one", 4, ScriptKind::Number),
     ("claim 1 CTX22 info", 4, ScriptKind::Id),
-    ("register 1 CTX2 loud", 4, ScriptKind::Level),
     (
         "claim 1 CTX2 info \"1234567890123456789012345678901234567890123456789\"",
-        4,
-        ScriptKind::Text,
-    ),
-    (
-        "register 2 CTX2 info \"1234567890123456789012345678901234567890123456789\"",
         4,
         ScriptKind::Text,
     ),
@@ -83,16 +145,9 @@ const UNCLAIMED: [(&str, u32, ScriptKind); 26] = [
         5,
         ScriptKind::Order,
     ),
-    (
-        "register 1 CTX2 info\ncontext LOG1 TEST info",
-        5,
-        ScriptKind::Order,
-    ),
     ("claim 2 CTX2 info", 4, ScriptKind::Unknown),
     ("claim 0 CTX2 info", 4, ScriptKind::Unknown),
     ("claim 257 CTX2 info", 4, ScriptKind::Unknown),
-    ("register 2 CTX2 info", 4, ScriptKind::Unknown),
-    ("register 0 CTX2 info", 4, ScriptKind::Unknown),
     ("announce 2", 4, ScriptKind::Unknown),
     ("announce 0", 4, ScriptKind::Unknown),
     (
@@ -178,6 +233,17 @@ fn scenarios(rt: HostRuntime) -> Result<(), Fail> {
 }
 
 #[test]
+fn registers(rt: HostRuntime) -> Result<(), Fail> {
+    for reading in [Reading::Scenario, Reading::Steps] {
+        assert_eq!(rt; refused(rt.alloc(), reading, &REGISTERED)?, None);
+        assert_eq!(rt; other(rt.alloc(), reading, &UNREGISTERED)?, None);
+    }
+    assert_eq!(rt; refused(rt.alloc(), Reading::Scenario, &CALLED)?, None);
+    assert_eq!(rt; other(rt.alloc(), Reading::Scenario, &UNCALLED)?, None);
+    Ok(())
+}
+
+#[test]
 fn claims(rt: HostRuntime) -> Result<(), Fail> {
     assert_eq!(rt; refused(rt.alloc(), Reading::Steps, &CLAIMED)?, None);
     assert_eq!(rt; other(rt.alloc(), Reading::Steps, &UNCLAIMED)?, None);
@@ -194,15 +260,33 @@ fn behind_claims(alloc: Global, line: &str) -> Result<Option<ScriptError>, Alloc
     fault(alloc, Reading::Steps, &lines)
 }
 
-/// Why a step script is refused in which 63 more contexts stand behind the context, and this line behind them.
-fn behind_contexts(alloc: Global, line: &str) -> Result<Option<ScriptError>, AllocError> {
+/// Why a script is refused in which 63 registers stand behind the context, and this line behind them.
+fn behind_registers(
+    alloc: Global,
+    reading: Reading,
+    line: &str,
+) -> Result<Option<ScriptError>, AllocError> {
+    let mut lines = String::new(alloc);
+    for _register in 0..63usize {
+        lines.push_str("register 1 CTX2 info\n")?;
+    }
+    lines.push_str(line)?;
+    fault(alloc, reading, &lines)
+}
+
+/// Why a script is refused in which 63 more contexts stand behind the context, and this line behind them.
+fn behind_contexts(
+    alloc: Global,
+    reading: Reading,
+    line: &str,
+) -> Result<Option<ScriptError>, AllocError> {
     let mut lines = String::new(alloc);
     for context in 1..64usize {
         let declares = format!(in alloc; "context LOG1 C{context} info\n")?;
         lines.push_str(&declares)?;
     }
     lines.push_str(line)?;
-    fault(alloc, Reading::Steps, &lines)
+    fault(alloc, reading, &lines)
 }
 
 #[test]
@@ -219,9 +303,40 @@ fn places(rt: HostRuntime) -> Result<(), Fail> {
         behind_claims(alloc, "app LOG2 1\nwriter LOG2\nclaim 2 CTX2 info")?,
         None
     );
-    assert_eq!(rt; behind_contexts(alloc, "log 1 C63 info 1")?, None);
-    assert_eq!(rt; behind_contexts(alloc, "claim 1 C63 info")?, full);
-    assert_eq!(rt; behind_contexts(alloc, "context LOG1 CTX2 info")?, full);
+    assert_eq!(rt;
+        behind_contexts(alloc, Reading::Steps, "log 1 C63 info 1")?,
+        None
+    );
+    assert_eq!(rt;
+        behind_contexts(alloc, Reading::Steps, "claim 1 C63 info")?,
+        full
+    );
+    assert_eq!(rt;
+        behind_registers(alloc, Reading::Scenario, "calls 1 CTX2 info 1")?,
+        None
+    );
+    for reading in [Reading::Scenario, Reading::Steps] {
+        assert_eq!(rt;
+            behind_registers(alloc, reading, "register 1 CTX3 info")?,
+            full
+        );
+        assert_eq!(rt;
+            behind_registers(
+                alloc,
+                reading,
+                "app LOG2 1\nwriter LOG2\nregister 2 CTX2 info"
+            )?,
+            None
+        );
+        assert_eq!(rt;
+            behind_contexts(alloc, reading, "register 1 C63 info")?,
+            full
+        );
+        assert_eq!(rt;
+            behind_contexts(alloc, reading, "context LOG1 CTX2 info")?,
+            full
+        );
+    }
     Ok(())
 }
 

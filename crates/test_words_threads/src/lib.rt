@@ -1,6 +1,8 @@
-//! Level words and loss words, alone and between real threads. It is compiled for its tests alone.
+//! Level words, loss words and claim words, alone and between real threads. It is compiled for its tests alone.
 #![tactic(auto)]
 
+#[cfg(test)]
+mod claims;
 #[cfg(test)]
 mod counts;
 #[cfg(test)]

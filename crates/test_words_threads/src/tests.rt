@@ -1,3 +1,4 @@
+use crate::claims::claim_together;
 use crate::levels::watch_together;
 use crate::losses::count_together;
 use std::test::Fail;
@@ -13,5 +14,14 @@ fn eight_writers_count(rt: HostRuntime) -> Result<(), Fail> {
 #[test]
 fn four_readers_watch(rt: HostRuntime) -> Result<(), Fail> {
     assert!(rt; !watch_together(&rt, rt.alloc())?);
+    Ok(())
+}
+
+/// Eight threads claim sixteen numbers each: 64 of the claims are given, each another number, and the others find none left.
+#[test]
+fn eight_writers_claim(rt: HostRuntime) -> Result<(), Fail> {
+    let (_keeper, given) = claim_together(&rt, rt.alloc())?;
+    assert_eq!(rt; given.count, 64);
+    assert_eq!(rt; given.bits, u64::MAX);
     Ok(())
 }

@@ -6,7 +6,7 @@ use Rattle.dl_crew.proofs.threads.+crew+fn-crew-join+arg2.Goals as goal
 
 pub join-done-requires-after_bounds : goal.join-done-requires-after_bounds
 join-done-requires-after_bounds g t c κs within =
-    let P = CanPlay c.args.plan.now.contexts c.args.plan.now.lines in
+    let P = CanPlay c.args.plan.now.lines in
     let front = all_front P c.args.books c.pop.new.self c.in-Some.last c.in-Some.ensures.taken c.requires.room in
     let last = all_last P c.args.books c.pop.new.self c.in-Some.last c.in-Some.ensures.taken c.requires.room in
     let all = ap length c.in-Some.ensures.taken ∙ length-append c.pop.new.self (c.in-Some.last ∷ []) in

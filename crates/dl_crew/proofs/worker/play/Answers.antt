@@ -1,52 +1,67 @@
-use Rattle.std.proofs.Common.{◌≡◌, ◌<◌, ℕ, ◌+◌, get_or, take, List, [], replicate, length, sym, ◌∙◌, subst}
-use Rattle.std.proofs.lemmas.List.{length-replicate}
+use Rattle.std.proofs.Common.{◌≡◌, ◌<◌, [], get_or, take, List, length, sym, ap, subst, arith}
+use Rattle.std.proofs.lemmas.List.{take_all}
 use Rattle.dl_bytes.specs.Context.{Context}
 use Rattle.dl_script_lines.specs.declared.scenario.ScenarioLine.{ScenarioLine}
-use Rattle.dl_writer.specs.State.{BookState}
-use Rattle.dl_crew.specs.Calls.{calls_in, calls_of, content}
-use Rattle.dl_crew.specs.Plays.{HasRoom, Plays}
-use Rattle.dl_crew.proofs.Played.{line_more, line_asks_none, room_for_line, same_asked}
+use Rattle.dl_crew.proofs.LinesSoFar.{taken_more}
+use Rattle.dl_crew.proofs.Played.{is_announced}
+use Rattle.dl_crew.proofs.PlayedScripts.{HasCome, announced_last, claims_here, come_more, come_none, names_here, played_all, played_so_far, room_here}
 use Rattle.dl_crew.proofs.worker.play.Goals as goal
-use Rattle.dl_crew.proofs.worker.play.Goals.{in-Some, in_default}
 
-pub make_calls-requires-clause-room : goal.make_calls-requires-clause-room
-make_calls-requires-clause-room g c =
+pub loop-line-init : goal.loop-line-init
+loop-line-init g c =
+    subst (λ (own : List Context). HasCome c.args.plan.now.contexts own [] c.args.book c.args.book) (sym c.none.ensures) (come_none c.args.plan.now.contexts c.args.book)
+
+pub play_line-requires-clause-room : goal.play_line-requires-clause-room
+play_line-requires-clause-room g c =
     let l = c.loop-line in
-    let book = c.args.book in
-    let lines = c.args.plan.now.lines in
-    let contexts = c.args.plan.now.contexts in
-    let calls = c.in-Some.calls in
-    let all = replicate calls.count (content calls.ctx calls.severity calls.payload) in
+    let line = c.line-item.result in
     let less = subst (λ (ls : List ScenarioLine). l.line-index < length ls) c.all-line-items.ensures c.loop-line-test.true in
-    let here = subst (λ (ls : List ScenarioLine). get_or ls l.line-index c.line-item.result ≡ c.line-item.result) c.all-line-items.ensures (sym c.line-item.is) in
-    let said = subst (λ (ctxs : List Context). all ≡ calls_in ctxs c.app.result c.number.result c.line-item.result) c.all.ensures c.in-Some.ensures.calls in
-    let asked = same_asked contexts c.app.result book.writer.app c.number.result book.writer.push.number c.line-item.result all (c.app.ensures.value ∙ l.invariant.app)
-    (c.number.ensures.value ∙ l.invariant.number) said in
-    subst (λ (n : ℕ). HasRoom n l.book) (length-replicate calls.count (content calls.ctx calls.severity calls.payload))
-    (room_for_line (calls_in contexts book.writer.app book.writer.push.number) lines l.line-index c.line-item.result less here book l.book l.invariant all asked c.requires.has)
+    let here = subst (λ (ls : List ScenarioLine). get_or ls l.line-index line ≡ line) c.all-line-items.ensures (sym c.line-item.is) in
+    room_here c.args.plan.now.contexts l.work.own c.args.plan.now.lines l.line-index line less here c.args.book l.work.book l.invariant c.requires
+
+pub play_line-requires-clause-claims : goal.play_line-requires-clause-claims
+play_line-requires-clause-claims g c =
+    let l = c.loop-line in
+    let line = c.line-item.result in
+    let less = subst (λ (ls : List ScenarioLine). l.line-index < length ls) c.all-line-items.ensures c.loop-line-test.true in
+    let here = subst (λ (ls : List ScenarioLine). get_or ls l.line-index line ≡ line) c.all-line-items.ensures (sym c.line-item.is) in
+    claims_here c.args.plan.now.contexts l.work.own c.args.plan.now.lines l.line-index line less here c.args.book l.work.book l.invariant c.requires
+
+pub play_line-requires-clause-names : goal.play_line-requires-clause-names
+play_line-requires-clause-names g c =
+    let l = c.loop-line in
+    let line = c.line-item.result in
+    let less = subst (λ (ls : List ScenarioLine). l.line-index < length ls) c.all-line-items.ensures c.loop-line-test.true in
+    let here = subst (λ (ls : List ScenarioLine). get_or ls l.line-index line ≡ line) c.all-line-items.ensures (sym c.line-item.is) in
+    names_here c.args.plan.now.contexts l.work.own c.args.plan.now.lines l.line-index line less here c.args.book l.work.book l.invariant c.requires
+
+pub returns-in_default : goal.returns-in_default
+returns-in_default g c =
+    let l = c.loop-line in
+    let line = c.line-item.result in
+    let less = subst (λ (ls : List ScenarioLine). l.line-index < length ls) c.all-line-items.ensures c.loop-line-test.true in
+    let here = subst (λ (ls : List ScenarioLine). get_or ls l.line-index line ≡ line) c.all-line-items.ensures (sym c.line-item.is) in
+    played_so_far c.args.plan.now.contexts l.work.own c.args.plan.now.lines l.line-index line less here c.args.book l.work.book l.invariant c.requires c.play_line.new.work.book c.in_default.ensures.full
 
 pub loop-line-preserved : goal.loop-line-preserved
 loop-line-preserved g c =
     let l = c.loop-line in
-    let book = c.args.book in
     let lines = c.args.plan.now.lines in
-    let contexts = c.args.plan.now.contexts in
-    let asks = calls_in contexts book.writer.app book.writer.push.number in
-    let apps = c.app.ensures.value ∙ l.invariant.app in
-    let numbers = c.number.ensures.value ∙ l.invariant.number in
+    let line = c.line-item.result in
+    let work = c.play_line.new.work in
     let less = subst (λ (ls : List ScenarioLine). l.line-index < length ls) c.all-line-items.ensures c.loop-line-test.true in
-    let here = subst (λ (ls : List ScenarioLine). get_or ls l.line-index c.line-item.result ≡ c.line-item.result) c.all-line-items.ensures (sym c.line-item.is) in
-    elim c.match-asked_in.branch [
-      | in-Some w ↦
-          let calls = w.in-Some.calls in
-          let all = replicate calls.count (content calls.ctx calls.severity calls.payload) in
-          let said = subst (λ (ctxs : List Context). all ≡ calls_in ctxs c.app.result c.number.result c.line-item.result) c.all.ensures w.in-Some.ensures.calls in
-          subst (λ (b : BookState). Plays (calls_of contexts book.writer.app book.writer.push.number (take (l.line-index + 1) lines)) book b) (sym w.book-is)
-          (line_more asks lines l.line-index c.line-item.result less here book l.book l.invariant all w.make_calls.new.book
-          (same_asked contexts c.app.result book.writer.app c.number.result book.writer.push.number c.line-item.result all apps numbers said) w.make_calls.ensures)
-      | in_default w ↦
-          let said = subst (λ (ctxs : List Context). [] ≡ calls_in ctxs c.app.result c.number.result c.line-item.result) c.all.ensures w.in_default.ensures.calls in
-          subst (λ (b : BookState). Plays (calls_of contexts book.writer.app book.writer.push.number (take (l.line-index + 1) lines)) book b) (sym w.book-is)
-          (line_asks_none asks lines l.line-index c.line-item.result less here book l.book l.invariant
-          (sym (same_asked contexts c.app.result book.writer.app c.number.result book.writer.push.number c.line-item.result [] apps numbers said)))
-    ]
+    let here = subst (λ (ls : List ScenarioLine). get_or ls l.line-index line ≡ line) c.all-line-items.ensures (sym c.line-item.is) in
+    subst (λ (ls : List ScenarioLine). HasCome c.args.plan.now.contexts work.own ls c.args.book work.book) (sym (taken_more lines l.line-index line less here c.args.book.writer.push.number))
+    (come_more c.args.plan.now.contexts l.work.own work.own (take l.line-index lines) line c.args.book l.work.book work.book l.invariant c.in-Ok.ensures.played)
+
+pub returns : goal.returns
+returns g c =
+    let l = c.loop-line in
+    let contexts = c.args.plan.now.contexts in
+    let lines = c.args.plan.now.lines in
+    let mid = l.work.book in
+    let new = c.announce_waiting.new.book in
+    let announced = is_announced mid new c.announce_waiting.ensures.whole (length new.writer.waiting) c.announce_waiting.ensures.announced in
+    let many = ap length c.all-line-items.ensures in
+    let all = subst (λ (ls : List ScenarioLine). HasCome contexts l.work.own ls c.args.book mid) (take_all l.line-index lines (omega (arith, many, c.loop-line-test.false))) l.invariant in
+    played_all contexts l.work.own lines c.args.book new (announced_last contexts l.work.own lines c.args.book mid new all announced)

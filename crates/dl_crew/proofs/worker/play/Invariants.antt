@@ -1,7 +1,6 @@
 use Rattle.std.proofs.Common.{take}
-use Rattle.dl_crew.specs.Calls.{calls_of}
-use Rattle.dl_crew.specs.Plays.{Plays}
+use Rattle.dl_crew.proofs.PlayedScripts.{HasCome}
 use Rattle.dl_crew.proofs.worker.play.Given as goal
 
 abbrev pub invariant-loop-line : goal.invariant-loop-line
-invariant-loop-line g l = Plays (calls_of l.plan.contexts l.fn.book.writer.app l.fn.book.writer.push.number (take l.line-index l.plan.lines)) l.fn.book l.book
+invariant-loop-line g l = HasCome l.plan.contexts l.work.own (take l.line-index l.plan.lines) l.fn.book l.work.book

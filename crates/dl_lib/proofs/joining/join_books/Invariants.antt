@@ -3,7 +3,7 @@ use Rattle.dl_lib.proofs.Loops.{IsJoining}
 use Rattle.dl_lib.proofs.joining.join_books.Given as goal
 
 abbrev pub invariant-loop-book : goal.invariant-loop-book
-invariant-loop-book l = IsJoining l.fn.handles l.fn.books l.handles l.books l.records
+invariant-loop-book l = IsJoining l.fn.handles l.fn.books l.handles l.books l.entries
 
 abbrev pub decreases-loop-book : goal.decreases-loop-book
 decreases-loop-book l = length l.books

@@ -10,8 +10,8 @@ loop-place-preserved c = elim c.if-app.branch [
       let more = sum_own (λ (b : BookState). length b.writer.push.pushed) c.args.app c.args.books.now c.loop-place.place c.of-book.result.now c.of-book.ensures (sym c.app.ensures.value ∙ w.if-app.true) in
       let sum = c.loop-place.invariant.sum in
       let small = c.loop-place.invariant.small in
-      let own = w.queued-queued.ensures.value in
-      let range = w.queued-queued.ensures.range in
+      let own = w.pushed-queued.ensures.value in
+      let range = w.pushed-queued.ensures.range in
       let is = w.queued-is in
       record { sum = omega (arith, more, sum, own, is); small = omega (arith, small, range, is) }
   | else-app w ↦

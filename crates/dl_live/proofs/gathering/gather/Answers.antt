@@ -1,9 +1,12 @@
-use Rattle.std.proofs.Common.{◌≡◌, inl, inr, ℕ, ◌+◌, Bool, cond, ap, subst, arith}
+use Rattle.std.proofs.Common.{◌≡◌, inl, inr, ℕ, ◌+◌, Bool, cond, ap, subst, ◌∙◌, arith}
 use Rattle.dl_loop.specs.Coming.{HaveCome, came_in}
 use Rattle.dl_loop.specs.Scene.{scene}
 use Rattle.dl_live.proofs.GatheredLinks.{all_came, gathered, last_round}
 use Rattle.dl_live.proofs.gathering.gather.Goals as goal
 use Rattle.dl_live.proofs.gathering.gather.Goals.{then-round-via-then-round, then-round-via-else-round+then-round-2}
+
+pub round-round-requires : goal.round-round-requires
+round-round-requires g c = record { greeted = c.loop-came.invariant.goes.greeted ∙ c.requires.greeted }
 
 pub returns-then-round : goal.returns-then-round
 returns-then-round g c =

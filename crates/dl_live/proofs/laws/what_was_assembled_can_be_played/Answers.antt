@@ -1,5 +1,5 @@
 use Rattle.std.proofs.Common.{refl}
-use Rattle.dl_live.proofs.Starting.{few, few_books, few_scripts, introduced, made, nobody, place, room, whole}
+use Rattle.dl_live.proofs.Starting.{few, few_books, few_scripts, introduced, listed, made, nobody, place, room, whole}
 use Rattle.dl_live.proofs.laws.what_was_assembled_can_be_played.Goals as goal
 
 pub returns-clause-introduced : goal.returns-clause-introduced
@@ -7,6 +7,9 @@ returns-clause-introduced g c = introduced
 
 pub returns-clause-nobody : goal.returns-clause-nobody
 returns-clause-nobody g c = nobody
+
+pub returns-clause-listed : goal.returns-clause-listed
+returns-clause-listed g c = listed
 
 pub returns-clause-place : goal.returns-clause-place
 returns-clause-place g c = place

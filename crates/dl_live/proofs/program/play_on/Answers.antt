@@ -1,8 +1,17 @@
-use Rattle.std.proofs.Common.{ap}
+use Rattle.std.proofs.Common.{ap, ◌∙◌}
 use Rattle.dl_folders.proofs.LeftFiles.{leaves_both}
 use Rattle.dl_loop.specs.Scene.{scene}
 use Rattle.dl_live.proofs.PlayedSteps.{few_books_now, few_now, has_played, made_now, none_missing_now, room_now, whole_now}
 use Rattle.dl_live.proofs.program.play_on.Goals as goal
+
+pub gather-gathered-requires-clause-greeted : goal.gather-gathered-requires-clause-greeted
+gather-gathered-requires-clause-greeted g c = c.requires.under_way.out.greeted
+
+pub beside-late-requires-clause-greeted : goal.beside-late-requires-clause-greeted
+beside-late-requires-clause-greeted g c κs within = c.gather-gathered.ensures.rounds.goes.greeted ∙ c.requires.under_way.out.greeted
+
+pub stop-requires-clause-greeted : goal.stop-requires-clause-greeted
+stop-requires-clause-greeted g c = c.beside-late.ensures.goes.goes.greeted ∙ c.gather-gathered.ensures.rounds.goes.greeted ∙ c.requires.under_way.out.greeted
 
 pub beside-late-requires-clause-few : goal.beside-late-requires-clause-few
 beside-late-requires-clause-few g c κs within = few_books_now c.requires.under_way.first c.args.players c.args.launched c.requires.under_way.net (g.N.Net.told c.args.net.now) c.requires.under_way.folder (g.F.Folder.told c.args.folder.now)

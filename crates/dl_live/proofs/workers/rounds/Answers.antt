@@ -1,7 +1,10 @@
-use Rattle.std.proofs.Common.{◌+◌}
+use Rattle.std.proofs.Common.{◌+◌, ◌∙◌}
 use Rattle.dl_loop.specs.Coming.{came_in}
 use Rattle.dl_loop.specs.Scene.{scene}
 use Rattle.dl_live.proofs.workers.rounds.Goals as goal
+
+pub round-wanted-requires : goal.round-wanted-requires
+round-wanted-requires g c = record { greeted = c.loop-round.invariant.goes.greeted ∙ c.requires.greeted }
 
 pub loop-round-preserved : goal.loop-round-preserved
 loop-round-preserved g c =

@@ -1,5 +1,5 @@
 use Rattle.std.proofs.Common.{◌≡◌, take}
-use Rattle.dl_opening.specs.Scenario.{count_of}
+use Rattle.dl_crew.specs.Calls.{count_of}
 use Rattle.dl_opening.proofs.books.count.Given as goal
 
 abbrev pub invariant-loop-line : goal.invariant-loop-line

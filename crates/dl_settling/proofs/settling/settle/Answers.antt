@@ -1,7 +1,5 @@
 use Rattle.std.proofs.Common.{◌≡◌, List, length, map, refl, sym, ap, ◌∙◌, subst, arith}
 use Rattle.std.proofs.lemmas.List.{length-map}
-use Rattle.dl_registry.specs.Kept.{owed_change}
-use Rattle.dl_core.specs.State.{Core}
 use Rattle.dl_turns.specs.Gone.{TellOver}
 use Rattle.dl_rounds.specs.Ready.{AreHeard}
 use Rattle.dl_rounds.specs.declared.listener.Listener.{Listener}
@@ -21,16 +19,16 @@ pub close_all-requires-clause-linked : goal.close_all-requires-clause-linked
 close_all-requires-clause-linked g c =
     let now = c.drain_all.new in
     let drain = all_drain c.args.parts.closing.apps _ _ c.drain_all.ensures.drains in
-    linked_still drain.admits.more c.args.parts.links c.args.parts.core now.core c.args.parts.journal.spare now.journal.spare c.requires.linked drain.admits.clients
-    (ap (λ (k : Core). owed_change k.registry) drain.admits.rest ∙ c.requires.linked.settled) (omega (arith, c.drain_all.ensures.may.spare_so))
+    linked_still drain.more c.args.parts.links c.args.parts.core now.core c.args.parts.journal.spare now.journal.spare c.requires.linked drain.clients
+    c.drain_all.ensures.settled (omega (arith, c.drain_all.ensures.may.spare_so))
 
 pub close_all-requires-clause-heard : goal.close_all-requires-clause-heard
 close_all-requires-clause-heard g c =
     let now = c.drain_all.new in
     let drain = all_drain c.args.parts.closing.apps _ _ c.drain_all.ensures.drains in
-    heard_still drain.admits.more c.deref_mut.result.now c.args.parts.core now.core (closing_told c.args.parts.closing) (closing_told now.closing)
-    (subst (λ (ls : List Listener). AreHeard ls c.args.parts.core (closing_told c.args.parts.closing)) (sym c.deref_mut.ensures.value) c.requires.heard) drain.admits.clients
-    (ap (λ (k : Core). k.registry) drain.admits.rest) c.drain_all.ensures.told
+    heard_still drain.more c.deref_mut.result.now c.args.parts.core now.core (closing_told c.args.parts.closing) (closing_told now.closing)
+    (subst (λ (ls : List Listener). AreHeard ls c.args.parts.core (closing_told c.args.parts.closing)) (sym c.deref_mut.ensures.value) c.requires.heard) drain.clients
+    c.drain_all.ensures.desk
 
 pub finish-account-requires : goal.finish-account-requires
 finish-account-requires g c = drained_stays c.drain_all.new.closing c.close_all.new.desk c.close_all.ensures.rest c.drain_all.ensures.drained
@@ -40,7 +38,7 @@ fill-requires-clause-few g c =
     let drain = all_drain c.args.parts.closing.apps _ _ c.drain_all.ensures.drains in
     let many : length c.shut_gone.new.links.links ≡ length c.close_all.new.links.links =
     sym (length-map c.shut_gone.new.links.links g.L.Link.told) ∙ c.shut_gone.ensures.shuts.many ∙ length-map c.close_all.new.links.links g.L.Link.told in
-    omega (arith, c.len.ensures, many, c.close_all.ensures.linked.many, c.close_all.ensures.linked.few, c.close_all.ensures.same.limit, drain.admits.clients.same.limit, c.requires.clients)
+    omega (arith, c.len.ensures, many, c.close_all.ensures.linked.many, c.close_all.ensures.linked.few, c.close_all.ensures.same.limit, drain.clients.same.limit, c.requires.clients)
 
 pub returns-clause-settles : goal.returns-clause-settles
 returns-clause-settles g c =
@@ -52,7 +50,7 @@ returns-clause-settles g c =
     record {
       drained = drained;
       between = g.F.Folder.told one.new.folder;
-      drains = record { drains = one.ensures.drains; drained = one.ensures.drained; told = one.ensures.told; same = one.ensures.rest; links = refl; listeners = refl };
+      drains = record { drains = one.ensures.drains; drained = one.ensures.drained; same = one.ensures.rest; links = refl; listeners = refl };
       closed = closed;
       closes = record {
         closes = subst (λ (ls : List Listener). ClosesAll (TellOver g.L.Link.told) (clients_of g.L.Link.told (record drained { listeners = ls }) (g.F.Folder.told one.new.folder)) (clients_of g.L.Link.told closed (g.F.Folder.told other.new.folder)))

@@ -13,4 +13,5 @@ returns-clause-reports g c = record {
   tells = c.tell.ensures.tells;
   uses = subst (λ (n : ℕ). Uses n c.args.core.now.hub c.tell.new.core.hub (g.J.Journal.noted c.args.journal.now) (g.J.Journal.noted c.tell.new.journal)
       (g.J.Journal.spare c.args.journal.now) (g.J.Journal.spare c.tell.new.journal)) (one_report c.args.core.now.ecu c.args.app c.apid-apid.result c.losses-count.result c.now.result) c.tell.ensures.uses;
+  desk = c.losses-count.ensures.told;
 }

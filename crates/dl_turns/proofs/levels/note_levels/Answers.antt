@@ -1,8 +1,9 @@
-use Rattle.std.proofs.Common.{refl, ap, ◌∙◌, arith}
+use Rattle.std.proofs.Common.{◌-◌, refl, sym, ap, ◌∙◌, arith}
+use Rattle.dl_core.specs.Admission.{more_noted}
 use Rattle.dl_core.specs.State.{Core}
 use Rattle.dl_core.specs.Waiting.{waiting}
 use Rattle.dl_turns.specs.State.{side}
-use Rattle.dl_turns.proofs.LevelWords.{levels_next, levels_none, registry_both}
+use Rattle.dl_turns.proofs.LevelWords.{levels_next, levels_none, noted_next, noted_none, registry_both}
 use Rattle.dl_turns.proofs.levels.note_levels.Goals as goal
 
 pub loop-init : goal.loop-init
@@ -12,6 +13,8 @@ loop-init g c = record {
   desk = c.requires.desk;
   room = c.requires.spare;
   spare = refl;
+  fewer = omega arith;
+  noted = noted_none (waiting c.args.core.now.registry) (g.J.Journal.noted c.args.journal.now);
   apps = refl;
   first = refl;
   same = g.met.D.Post.rest_refl c.args.desk.now;
@@ -33,6 +36,9 @@ loop-preserved g c =
       desk = one.desk;
       room = omega (arith, fewer.0, fewer.1, so.room);
       spare = omega (arith, fewer.0, fewer.1, so.spare);
+      fewer = omega (arith, fewer.0, so.fewer);
+      noted = noted_next (waiting c.args.core.now.registry) (waiting c.loop.core.registry) (waiting c.note_level.new.core.registry) (g.J.Journal.noted c.args.journal.now)
+          (g.J.Journal.noted c.loop.journal) (g.J.Journal.noted c.note_level.new.journal) so.fewer fewer.0 so.noted (one.noted c.loop-test.true);
       apps = one.apps ∙ so.apps;
       first = one.first ∙ so.first;
       same = g.met.D.Post.rest_trans c.args.desk.now c.loop.desk c.note_level.new.desk so.same one.rest;
@@ -55,6 +61,12 @@ returns-clause-spare g c =
     let journal = ap g.J.Journal.spare none.3 in
     let registry = ap (λ (core : Core). waiting core.registry) none.1 in
     omega (arith, c.loop.invariant.spare, journal, registry)
+
+pub returns-clause-noted : goal.returns-clause-noted
+returns-clause-noted g c =
+    let none = c.note_level.ensures.none c.loop-test.false in
+    ap g.J.Journal.noted none.3 ∙ c.loop.invariant.noted
+    ∙ ap (λ (core : Core). more_noted (waiting c.args.core.now.registry - waiting core.registry) (g.J.Journal.noted c.args.journal.now)) (sym none.1)
 
 pub returns-clause-apps : goal.returns-clause-apps
 returns-clause-apps g c = c.note_level.ensures.apps ∙ c.loop.invariant.apps

@@ -1,5 +1,6 @@
-use Rattle.std.proofs.Common.{◌≡◌, ◌≤◌, ◌+◌}
+use Rattle.std.proofs.Common.{◌≡◌, ◌≤◌, ◌+◌, ◌-◌}
 use Rattle.dl_outside.specs.Told.{FolderTold}
+use Rattle.dl_core.specs.Admission.{more_noted}
 use Rattle.dl_core.specs.Waiting.{waiting}
 use Rattle.dl_turns.specs.Events.{HaveSetLevels, IsDeskOf}
 use Rattle.dl_turns.specs.State.{Side, side}
@@ -15,6 +16,8 @@ invariant-loop g l = record {
   desk : IsDeskOf l.core.registry (g.D.Post.told l.desk);
   room : waiting l.core.registry ≤ g.J.Journal.spare l.journal;
   spare : g.J.Journal.spare l.journal + waiting l.fn.core.registry ≡ g.J.Journal.spare l.fn.journal + waiting l.core.registry;
+  fewer : waiting l.core.registry ≤ waiting l.fn.core.registry;
+  noted : g.J.Journal.noted l.journal ≡ more_noted (waiting l.fn.core.registry - waiting l.core.registry) (g.J.Journal.noted l.fn.journal);
   apps : (g.D.Post.told l.desk).apps ≡ (g.D.Post.told l.fn.desk).apps;
   first : (g.D.Post.told l.desk).first ≡ (g.D.Post.told l.fn.desk).first;
   same : g.D.Post.same_rest l.fn.desk l.desk;

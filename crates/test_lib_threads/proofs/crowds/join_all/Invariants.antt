@@ -8,6 +8,7 @@ use Rattle.test_lib_threads.proofs.crowds.join_all.Given as goal
 abbrev pub invariant-loop-child : goal.invariant-loop-child
 invariant-loop-child g l = record {
   few : length l.books + length (into_iter_items l.child-iterator) ≡ vec_len l.fn.children;
-  numbered : numbers l.books ++ map (λ c. c.promise.number) (into_iter_items l.child-iterator) ≡ map (λ c. c.promise.number) l.fn.children.items;
+  numbered : numbers l.books ++ map (λ c. c.promise.before.value.writer.push.number) (into_iter_items l.child-iterator) ≡ map (λ c. c.promise.before.value.writer.push.number) l.fn.children.items;
   made : (desk : DeskState) → All (λ c. c.promise.desk.value ≡ desk) l.fn.children.items → All (λ b. IsMadeWith desk b.writer) l.books × All (λ c. c.promise.desk.value ≡ desk) (into_iter_items l.child-iterator);
+  based : All (λ b. b.writer.base ≡ 1) l.books × All (λ c. c.promise.before.value.writer.base ≡ 1) (into_iter_items l.child-iterator);
 }

@@ -23,7 +23,16 @@ pub invariant_of-desk-2 : goal.invariant_of-desk-2
 invariant_of-desk-2 c =
     let few : length c.args.self.apps.items ≤ 16 = subst (λ (n : ℕ). n ≤ 16) c.args.self.apps.ok.0 c.requires.few in
     let words : c.words_for-count.result ≡ words_for (length c.args.self.apps.items) = c.words_for-count.ensures.value ∙ ap words_for (c.len.ensures ∙ c.args.self.apps.ok.0) in
-    let readers = c.in_ok-levels.ensures.reader ∙ ap (λ (n : ℕ). let r : levels.ReaderState = record { table = c.in_ok-levels.levels.table; slots = 64 * n; reads = []; splits_left = 64 } in r) (c.from.ensures ∙ words) in
+    let readers = c.in_ok-levels.ensures.reader ∙ ap (λ (n : ℕ). let r : levels.ReaderState = record {
+      table = c.in_ok-levels.levels.table;
+      slots = 64 * n;
+      reads = [];
+      splits_left = 64;
+      claims = c.in_ok-levels.levels.claims;
+      given = [];
+      refused = [];
+    } in r) (c.from.ensures ∙ words) in
+    let keeper = c.in_ok-levels.ensures.keeper in
     let counters = c.in_ok-losses.ensures.writer ∙ ap (λ (n : ℕ). let r : losses.WriterState = record { table = c.in_ok-losses.losses.table; apps = n; counted = []; splits_left = 64 } in r) words in
     rw c.over.ensures
     (begins (record {
@@ -34,7 +43,8 @@ invariant_of-desk-2 c =
       counters = c.in_ok-losses.counters;
       owners = c.new.result.items;
     }) few c.requires.parts.handles c.new.ensures readers counters
-    (ap (λ (k : losses.KeeperState). k.counted) c.in_ok-losses.ensures.keeper) (ap (λ (k : losses.KeeperState). k.shares) c.in_ok-losses.ensures.keeper))
+    (ap (λ (k : losses.KeeperState). k.counted) c.in_ok-losses.ensures.keeper) (ap (λ (k : losses.KeeperState). k.shares) c.in_ok-losses.ensures.keeper)
+    (ap (λ (k : levels.KeeperState). k.given) keeper, ap (λ (k : levels.KeeperState). k.refused) keeper, ap (λ (k : levels.KeeperState). k.shares) keeper))
 
 pub invariant_of-result : goal.invariant_of-result
 invariant_of-result c =

@@ -22,6 +22,7 @@ invariant_of-self c = let within : c.from-place.result < c.self.inside.seat.tabl
       some = search rules;
       bare = search rules;
       keeps = search rules;
+      apps = search rules;
       all = search rules;
       last = subst (λ (z : View × TableId). AreLast z.0.first z.0.sets z.1.words (set c.self.inside.versions.items c.from-place.result (c.index-version.result.now + 1)))
           (λ i. (sym c.swap.ensures.2.0 i, sym c.swap.ensures.0 i))

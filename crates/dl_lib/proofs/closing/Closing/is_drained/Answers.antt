@@ -11,7 +11,7 @@ returns-then-self-app-ne0 c =
     let i = c.self.inside in
     let within : c.loop-app.app < length i.apps = subst (λ (n : ℕ). c.loop-app.app < n) c.len-app-end.ensures c.loop-app-test.true in (
       λ so. absurd (true≢false (sym so)),
-      λ drained. absurd (not_drained (closing_state i) i.calls i.losses i.injected.items i.records c.self.invariant c.loop-app.app within
+      λ drained. absurd (not_drained (closing_state i) i.items i.losses i.injected.items i.entries c.self.invariant c.loop-app.app within
           (elim c.then-self-app-ne0.branch [ then-self-app-ne0-via-then-self-app-ne0 w ↦ inl w.if-self-app-ne0.true | then-self-app-ne0-via-else-self-app-ne0+then-self-app-ne0-2 w ↦ inr w.if-self-app-ne0-2.true ])
           (subst IsDrained (sym c.self.view_is) drained)),
     )
@@ -21,5 +21,5 @@ loop-app-preserved c =
     let i = c.self.inside in
     let within : c.loop-app.app < length i.apps = subst (λ (n : ℕ). c.loop-app.app < n) c.len-app-end.ensures c.loop-app-test.true in
     subst (λ (s : ClosingState). (n : ℕ) → n < c.loop-app.app + 1 → IsEmpty s n × IsTold s n) c.self.view_is
-    (one_drained (closing_state i) i.calls i.losses i.injected.items i.records c.self.invariant c.loop-app.app within c.if-self-app-ne0.false c.if-self-app-ne0-2.false
+    (one_drained (closing_state i) i.items i.losses i.injected.items i.entries c.self.invariant c.loop-app.app within c.if-self-app-ne0.false c.if-self-app-ne0-2.false
     (subst (λ (s : ClosingState). (n : ℕ) → n < c.loop-app.app → IsEmpty s n × IsTold s n) (sym c.self.view_is) c.loop-app.invariant))

@@ -5,4 +5,4 @@ use Rattle.dl_lib.proofs.closing.Closing.losses.Goals as goal
 pub invariant_of-self : goal.invariant_of-self
 invariant_of-self c =
     let i = c.self.inside in
-    reports (closing_state i) i.calls i.losses i.injected.items i.records c.self.invariant c.args.app c.from.result c.losses.result c.losses.new.self c.from.ensures c.losses.ensures.reported c.losses.ensures.all
+    reports (closing_state i) i.items i.losses i.injected.items i.entries c.self.invariant c.args.app c.from.result c.losses.result c.losses.new.self c.from.ensures c.losses.ensures.reported c.losses.ensures.all

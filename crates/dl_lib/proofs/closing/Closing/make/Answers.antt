@@ -1,7 +1,7 @@
 use Rattle.std.proofs.Common.{ℕ, sym, subst}
 use Rattle.dl_desk.specs.Made.{IsMadeWith}
 use Rattle.dl_lib.specs.Making.{AreAmong, AreNumberedTo}
-use Rattle.dl_lib.proofs.InOrder.{all_of_ordered, are_numbered}
+use Rattle.dl_lib.proofs.InOrder.{all_of_ordered, are_numbered, bases_of_ordered}
 use Rattle.dl_lib.proofs.closing.Closing.make.Goals as goal
 
 pub in_order-requires-clause-numbered : goal.in_order-requires-clause-numbered
@@ -12,3 +12,6 @@ in_order-requires-clause-numbered c =
 
 pub gather-requires-clause-made : goal.gather-requires-clause-made
 gather-requires-clause-made c = all_of_ordered (λ b. IsMadeWith c.args.desk b.writer) c.args.books c.in_order.result c.in_order.ensures.order c.requires.each
+
+pub gather-requires-clause-bases : goal.gather-requires-clause-bases
+gather-requires-clause-bases c = bases_of_ordered c.args.books c.in_order.result c.in_order.ensures.order c.requires.bases

@@ -11,9 +11,11 @@ invariant_of-result g c = made_is g.L.Link.told _ (record {
   listeners = c.requires.listeners;
   room = c.requires.room;
   noted = refl;
+  claimed = refl;
   dropped = refl;
   failed = refl;
   wanted = refl;
+  greeted = refl;
   first_core = c.of-first_core.ensures;
   first_desk = c.of-first_desk.ensures;
 })

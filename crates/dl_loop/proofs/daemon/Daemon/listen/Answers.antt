@@ -11,7 +11,7 @@ invariant_of-self g c =
     let s = c.self.inside in
     let n = c.listen_all.new in
     let long : length n.listeners ≡ s.listeners.len = heard_length c.listen_all.result _ _ made.visits ∙ c.deref_mut.ensures.len in
-    subst (λ (ls : List Listener). IsDaemon g.L.Link.told (daemon_of n.core n.desk n.journal n.links ls s.calls s.noted s.dropped s.failed s.wanted s.first_core.value s.first_desk.value))
+    subst (λ (ls : List Listener). IsDaemon g.L.Link.told (daemon_of n.core n.desk n.journal n.links ls s.calls s.noted s.claimed s.dropped s.failed s.wanted s.greeted s.first_core.value s.first_desk.value))
     (sym (slice_back s.listeners.len s.listeners.items n.listeners long))
     (c.a_daemon_goes_on.ensures.heard c.listen_all.result (g.F.Folder.told c.args.folder.now) (g.F.Folder.told n.folder) _ _ c.self.invariant
     (hears_of g.L.Link.told c.listen_all.result _ _ (g.F.Folder.told c.args.folder.now) (g.F.Folder.told n.folder) c.deref_mut.result.now n.listeners c.deref_mut.ensures.value refl made.visits made.rest refl)

@@ -1,4 +1,4 @@
-use Rattle.std.proofs.Common.{◌≡◌, ◌-◌, length}
+use Rattle.std.proofs.Common.{◌≡◌, ◌-◌, true, length}
 use Rattle.dl_outside.specs.Told.{NetTold}
 use Rattle.dl_loop.specs.Later.{GoesRound}
 use Rattle.dl_loop.specs.Scene.{Scene, scene}
@@ -12,4 +12,5 @@ invariant-loop-app g l = record {
       → TakesTurns 0 (length l.fn.self.desk.apps) (scene l.fn.self (g.F.Folder.told l.fn.folder)) end;
   goes : (net : NetTold g.row.L.Denot) → GoesRound net net (scene l.fn.self (g.F.Folder.told l.fn.folder)) (scene l.self (g.F.Folder.told l.folder));
   apps : l.self.desk.apps ≡ l.fn.self.desk.apps;
+  greeted : l.self.greeted ≡ true;
 }

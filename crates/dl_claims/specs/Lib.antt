@@ -1,0 +1,4 @@
+pub mod Claims
+pub mod States
+pub mod Rule
+pub mod Passes

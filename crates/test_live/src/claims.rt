@@ -1,0 +1,118 @@
+//! Writers that claim contexts in running threads, and log under them.
+
+use crate::playing::{Left, MUCH, folder, left_by, net, open_gate};
+use crate::rings::taken;
+use dl_bytes::OutOfMemory;
+use dl_events::{ClaimList, Event};
+use dl_lib::Account;
+use dl_memory::MemoryFolder;
+use dl_memory_net::{MemoryNet, SignGate};
+use std::alloc::Global;
+use std::sync::Wait;
+use std::test::Fail;
+use std::thread::Threads;
+
+/// Two writers, each of which claims a context with this level and makes a thousand calls under it.
+fn two_claim(alloc: Global, level: &str) -> Result<String, OutOfMemory> {
+    format!(in alloc;
+        "app LOG1 4096\nwriter LOG1\nwriter LOG1\nregister 1 CTXA {level}\ncalls 1 CTXA info 1000 \"hi\"\nregister 2 CTXB {level}\ncalls 2 CTXB fatal 1000 \"hi\"\n"
+    )
+}
+
+/// What it prints where so many of the calls were queued: the others were filtered.
+fn report(alloc: Global, queued: u64) -> Result<String, OutOfMemory> {
+    let filtered = 2000u64.saturating_sub(queued);
+    format!(in alloc; "app LOG1 calls 2000 queued {queued} filtered {filtered} lost 0 reported 0\n")
+}
+
+/// Whether the daemon noted a claim.
+fn is_claim(event: &Event) -> bool {
+    matches!(event, Event::Claim { .. })
+}
+
+/// How many claims the daemon noted.
+fn noted(events: &[Event]) -> usize {
+    let mut count = 0usize;
+    for event in events {
+        if is_claim(event) {
+            count = count.saturating_add(1);
+        }
+    }
+    count
+}
+
+/// How many claims the rings took.
+fn claimed(claims: &ClaimList) -> usize {
+    let mut count = 0usize;
+    for writer in 0..claims.writers() {
+        count = count.saturating_add(claims.of(writer + 1).len());
+    }
+    count
+}
+
+/// Whether an account tells of two claims.
+fn has_two(account: &Account) -> bool {
+    noted(account.events()) == 2 && claimed(account.claims()) == 2
+}
+
+/// What is looked at of a run.
+#[derive(Clone, Copy)]
+struct Found {
+    /// Whether it ended well, each call was queued or filtered, and both claims were taken.
+    is_well: bool,
+    /// How many calls the daemon took.
+    queued: u64,
+}
+
+/// What is looked at of a run that left this.
+fn look_at<L>(alloc: Global, left: &Left<L>) -> Result<Found, OutOfMemory> {
+    let queued = taken(left);
+    let report = report(alloc, queued)?;
+    let printed = left.status() == 0 && left.printed() == report.as_bytes();
+    Ok(Found {
+        is_well: printed && left.account().is_some_and(|account| has_two(account)),
+        queued,
+    })
+}
+
+/// What a run of this folder comes to.
+fn found_in<R: Threads + Wait + Sync>(
+    rt: &R,
+    alloc: Global,
+    folder: &mut MemoryFolder,
+    net: &mut MemoryNet,
+    gate: &SignGate,
+) -> Result<Found, OutOfMemory> {
+    let left = left_by(rt, alloc, folder, net, gate)?;
+    let found = look_at(alloc, &left);
+    drop(left);
+    found
+}
+
+/// What a run comes to whose writers claim contexts with this level.
+fn played<R: Threads + Wait + Sync>(
+    rt: &R,
+    alloc: Global,
+    level: &str,
+) -> Result<Found, OutOfMemory> {
+    let scenario = two_claim(alloc, level)?;
+    let mut folder = folder(alloc, "", scenario.as_str())?;
+    let gate = open_gate(alloc)?;
+    let mut net = net(alloc, MUCH);
+    found_in(rt, alloc, &mut folder, &mut net, &gate)
+}
+
+#[test]
+fn claimed_off(rt: HostRuntime) -> Result<(), Fail> {
+    // neither before the daemon takes the claim nor behind it a call passes
+    let found = played(&rt, rt.alloc(), "off")?;
+    assert!(rt; found.is_well && found.queued == 0);
+    Ok(())
+}
+
+#[test]
+fn claimed_at_info(rt: HostRuntime) -> Result<(), Fail> {
+    let found = played(&rt, rt.alloc(), "info")?;
+    assert!(rt; found.is_well);
+    Ok(())
+}
