@@ -11,6 +11,7 @@ mod levels;
 mod outboxes;
 mod serving;
 
+pub use clients::open_clients;
 pub use gathered::Gathered;
 pub use hearing::hear;
 pub use outboxes::Outboxes;

@@ -20,7 +20,7 @@ use Rattle.dl_writer.specs.Claiming.{Announces, KeepsAnnounced, refusal_of}
 use Rattle.dl_writer.specs.State.{BookState, WriterState, IsWhole}
 use Rattle.dl_desk.specs.Made.{IsMadeWith}
 use Rattle.dl_crew.specs.Calls.{CallContent, content, content_of}
-use Rattle.dl_crew.specs.Plays.{Does, HasRoom, Makes, Stays}
+use Rattle.dl_crew.specs.Plays.{CallsInTurn, Does, HasRoom, Makes, Stays}
 
 -- ---- one thing after the other
 
@@ -78,8 +78,13 @@ does_on kept more claims others refused again first second third a b = record {
       omega (arith, before, then, both));
 }
 
+-- calls, and then more
+calls_then : (calls more : List CallContent) (first second third : BookState) → CallsInTurn calls first second → CallsInTurn more second third → CallsInTurn (calls ++ more) first third
+calls_then [] more first second third a b = subst (λ (s : BookState). CallsInTurn more s third) a b
+calls_then (call ∷ calls) more first second third (mid, one, rest) b = (mid, one, calls_then calls more mid second third rest b)
+
 pub makes_none : (b : BookState) → Makes [] b b
-makes_none b = record { kept = []; refused = 0; stays = stays_none b; does = does_none b; contents = refl; registers = refl; table_full = refl }
+makes_none b = record { kept = []; refused = 0; stays = stays_none b; does = does_none b; contents = refl; in_turn = refl; registers = refl; table_full = refl }
 
 pub makes_on : (calls more : List CallContent) (first second third : BookState) → Makes calls first second → Makes more second third → Makes (calls ++ more) first third
 makes_on calls more first second third a b = record {
@@ -88,6 +93,7 @@ makes_on calls more first second third a b = record {
   stays = stays_on first second third a.stays b.stays;
   does = does_on a.kept b.kept [] [] a.refused b.refused first second third a.does b.does;
   contents = map-append content_of a.kept b.kept ∙ ap (λ (l : List CallContent). l ++ map content_of b.kept) a.contents ∙ ap (λ (l : List CallContent). calls ++ l) b.contents;
+  in_turn = calls_then calls more first second third a.in_turn b.in_turn;
   registers = b.registers ∙ a.registers;
   table_full = b.table_full ∙ a.table_full;
 }
@@ -270,8 +276,8 @@ module _ (old mid new : BookState) (ctx : Context) (severity : Severity) (at : �
       ∙ ap (λ (n : ℕ). record { apid = ctx.apid; ctid = ctx.ctid; slot = n; severity = severity; payload = payload }) k.told.place
 
   -- behind an announcement
-  pub is_made : (first : BookState) → Announced first old → Makes (content ctx severity payload ∷ []) first new
-  is_made first a =
+  pub is_made : (first : BookState) → Announced first old → KeepsAnnounced first old (length old.writer.waiting) → Makes (content ctx severity payload ∷ []) first new
+  is_made first a announces =
       let same = ap length claims_so in
       record {
         kept = k.made ∷ [];
@@ -289,6 +295,24 @@ module _ (old mid new : BookState) (ctx : Context) (severity : Severity) (at : �
           waits = λ less. (let one = a.late (omega (arith, less, same)) in omega (arith, one));
         };
         contents = ap (λ (c : CallContent). c ∷ []) content_so;
+        in_turn = (
+          new,
+          record {
+            ctx = ctx;
+            severity = severity;
+            payload = payload;
+            said = refl;
+            announced = old;
+            announces = announces;
+            at = at;
+            answer = what;
+            logged = mid;
+            logs = k;
+            asks = asks.asks;
+            rest = asks.rest;
+          },
+          refl,
+        );
         registers = ap (λ (w : WriterState). w.registers) writer_so ∙ a.registers;
         table_full = ap (λ (w : WriterState). w.table_full) writer_so ∙ a.table_full;
       }

@@ -11,7 +11,7 @@ use Rattle.dl_desk.specs.Made.{IsMadeWith}
 use Rattle.dl_writer.specs.Claiming.{KeepsRegistered, after_number, claim_at, refusal_of}
 use Rattle.dl_writer.specs.State.{BookState, IsWhole, WriterState}
 use Rattle.dl_crew.specs.Calls.{CallContent, IsClaimOf, calls_in, count_in, register_in}
-use Rattle.dl_crew.specs.Plays.{ArePairs, Does, HasRoom, Makes, PlaysLine, Stays}
+use Rattle.dl_crew.specs.Plays.{ArePairs, CallsInTurn, ClaimsAsked, Does, HasRoom, Makes, PlaysLine, Stays}
 use Rattle.dl_crew.proofs.LinesSoFar.{line_asks}
 use Rattle.dl_crew.proofs.Played.{some_refused}
 
@@ -31,19 +31,28 @@ room_for_calls contexts own app number writer count entry calls b same said long
 pub line_of_calls : (contexts own now : List Context) (entry : ScenarioLine) (old new : BookState) (app number : ℕ) (calls : List CallContent) → now ≡ own
     → app ≡ old.writer.app → number ≡ old.writer.push.number → register_in number entry ≡ None → calls ≡ calls_in contexts own app number entry
     → Makes calls old new → PlaysLine contexts own now entry old new
-line_of_calls contexts own now entry old new app number calls handles apps numbers none said makes = record {
-  kept = makes.kept;
-  claims = [];
-  refused = makes.refused;
-  stays = makes.stays;
-  does = makes.does;
-  registered = subst (λ (o : Option ClaimLine). ArePairs (IsClaimOf old.writer) (option_to_list o) []) (sym (ap (λ (n : ℕ). register_in n entry) (sym numbers) ∙ none)) tt;
-  handles = handles ∙ sym (append-nil own);
-  calls = makes.contents ∙ said ∙ ap (λ (a : ℕ). calls_in contexts own a number entry) apps ∙ ap (λ (n : ℕ). calls_in contexts own old.writer.app n entry) numbers;
-  late = λ less. omega arith;
-  registers = (let same = makes.registers in omega (arith, same));
-  table_full = makes.table_full;
-}
+line_of_calls contexts own now entry old new app number calls handles apps numbers none said makes =
+    let asks_none : register_in old.writer.push.number entry ≡ None = ap (λ (n : ℕ). register_in n entry) (sym numbers) ∙ none in
+    let here : calls ≡ calls_in contexts own old.writer.app old.writer.push.number entry =
+    said ∙ ap (λ (a : ℕ). calls_in contexts own a number entry) apps ∙ ap (λ (n : ℕ). calls_in contexts own old.writer.app n entry) numbers in
+    record {
+      kept = makes.kept;
+      claims = [];
+      refused = makes.refused;
+      stays = makes.stays;
+      does = makes.does;
+      registered = subst (λ (o : Option ClaimLine). ArePairs (IsClaimOf old.writer) (option_to_list o) []) (sym asks_none) tt;
+      handles = handles ∙ sym (append-nil own);
+      calls = makes.contents ∙ here;
+      late = λ less. omega arith;
+      in_turn = record {
+        claimed = old;
+        claims = subst (λ (o : Option ClaimLine). ClaimsAsked o own now old old) (sym asks_none) (handles, refl);
+        calls = subst (λ (l : List CallContent). CallsInTurn l old new) here makes.in_turn;
+      };
+      registers = (let same = makes.registers in omega (arith, same));
+      table_full = makes.table_full;
+    }
 
 -- ---- a line that claims
 
@@ -149,6 +158,11 @@ module _ (old new : BookState) (asked : ClaimLine) (ctx : Context) (whole_so : I
         handles = handles ∙ ap (λ (c : Context). own ++ c ∷ []) k.registered.joins.handle;
         calls = none;
         late = λ less. (let one = some_refused a.left (omega (arith, less, count, parts)) in omega (arith, one));
+        in_turn = record {
+          claimed = new;
+          claims = subst (λ (o : Option ClaimLine). ClaimsAsked o own now old new) (sym asks) (ctx, handles, k);
+          calls = subst (λ (l : List CallContent). CallsInTurn l new new) none refl;
+        };
         registers = ap (λ (w : WriterState). w.registers) writer_so;
         table_full = ap (λ (w : WriterState). w.table_full) writer_so;
       }

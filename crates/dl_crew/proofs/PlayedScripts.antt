@@ -13,7 +13,7 @@ use Rattle.dl_script_lines.specs.declared.scenario.ScenarioLine.{ScenarioLine}
 use Rattle.dl_writer.specs.State.{BookState}
 use Rattle.dl_crew.specs.Calls.{CallContent, IsClaimOf, calls_behind, calls_from, calls_in, calls_of, content_of, count_in, count_of, handle_of, handles_of, register_in, registers_of}
 use Rattle.dl_writer.specs.Claiming.{name_fault}
-use Rattle.dl_crew.specs.Plays.{ArePairs, CanPlay, Does, FindsFull, HasPlayed, HasRoom, Plays, PlaysLine, Stays}
+use Rattle.dl_crew.specs.Plays.{ArePairs, CanPlay, Does, FindsFull, HasPlayed, HasRoom, InTurn, LineInTurn, LinesInTurn, Plays, PlaysLine, Stays}
 use Rattle.dl_crew.proofs.LinesSoFar.{all_here, behind_none, behind_on, behind_same, calls_few, calls_on, calls_same, count_fits, registers_fit, registers_more}
 use Rattle.dl_crew.proofs.Pairs.{as_many, pairs_behind}
 use Rattle.dl_crew.proofs.Played.{Announced, all_claims, does_none, does_on, stays_none, stays_on}
@@ -143,6 +143,15 @@ module _ (contexts own now : List Context) (lines : List ScenarioLine) (entry : 
     table_full = one.table_full ∙ come.table_full;
   }
 
+-- ---- one line after the other
+
+pub lines_more : (contexts first own now : List Context) (lines : List ScenarioLine) (entry : ScenarioLine) (old mid new : BookState)
+    → LinesInTurn contexts first own lines old mid → LineInTurn contexts own now entry mid new → LinesInTurn contexts first now (lines ++ entry ∷ []) old new
+lines_more contexts first own now [] entry old mid new (known, same) one =
+    (new, now, subst (λ (b : BookState). LineInTurn contexts first now entry b new) same (subst (λ (l : List Context). LineInTurn contexts l now entry mid new) known one), (refl, refl))
+lines_more contexts first own now (line ∷ lines) entry old mid new (after, known, played, rest) one =
+    (after, known, played, lines_more contexts known own now lines entry after mid new rest one)
+
 -- ---- behind the last line
 
 -- one announcement more
@@ -222,15 +231,19 @@ module _ (contexts own : List Context) (lines : List ScenarioLine) (place : ℕ)
         let before = come.registers in
         let now = full.registers in
         omega (arith, many, fits, one, same, before, now));
-    all = λ same. (let before = come.table_full in let now = full.table_full in absurd (omega (arith, same, before, now)));
+    all = λ same. absurd (no_full same);
+    in_turn = λ same. absurd (no_full same);
   } where
+    no_full : new.writer.table_full ≡ old.writer.table_full → ⊥
+    no_full same = let before = come.table_full in let now = full.table_full in omega (arith, same, before, now)
+
     one_asked : (o : Option ClaimLine) → is_some o ≡ true → length (option_to_list o) ≡ 1
     one_asked None is = absurd cc
     one_asked (Some asked) is = refl
 
 -- all lines were played
-pub played_all : (contexts own : List Context) (lines : List ScenarioLine) (old new : BookState) → HasCome contexts own lines old new → HasPlayed contexts lines old new
-played_all contexts own lines old new come = record {
+pub played_all : (contexts own : List Context) (lines : List ScenarioLine) (old new : BookState) → HasCome contexts own lines old new → InTurn contexts lines old new → HasPlayed contexts lines old new
+played_all contexts own lines old new come turn = record {
   stays = come.stays;
   few = (
       let long = ap length come.plays.does.records ∙ length-append old.records come.plays.kept in
@@ -242,4 +255,5 @@ played_all contexts own lines old new come = record {
       let before = come.registers in
       omega (arith, many, before));
   all = λ same. come.plays;
+  in_turn = λ same. turn;
 }

@@ -8,8 +8,8 @@ ghost use Rattle.dl_desk.specs.State.{DeskState};
 ghost use Rattle.dl_writer.specs.State.{BookState, IsWhole, numbers};
 ghost use Rattle.dl_crew.specs.Plays.{ArePairs, HasPlayed};
 
-/// Books that were played are those of the same writers, in their order; they are whole where they were; their writers are
-/// still those of their desk; and each writer's application had as many contexts before it as it had.
+/// Books that were played are those of the same writers, in their order; they are whole where they were; their writers are of
+/// the desk that they were of; and where each writer's base is the one of its application, whatever that is, it still is.
 pub fn played_books_stay()
     ensures numbered { (contexts : List Context) (lines : List ScenarioLine) (old new : List BookState) →
         ArePairs (HasPlayed contexts lines) old new → numbers new ≡ numbers old }

@@ -3,8 +3,8 @@ use Rattle.std.proofs.Common.{◌≡◌, ◌⊎◌, inl, inr, Bool, List, refl, 
 use Rattle.dl_bytes.specs.declared.conf.Conf.{Conf}
 use Rattle.dl_core.specs.State.{Core}
 use Rattle.dl_events.specs.declared.event.Event.{Event}
-use Rattle.dl_outside.specs.Told.{FolderTold}
-use Rattle.dl_rounds.specs.declared.listener.Listener.{Listener}
+use Rattle.dl_outside.specs.Told.{FolderTold, LinkTold}
+use Rattle.dl_rounds.specs.Seats.{Seated}
 use Rattle.dl_server.specs.Server.{IsServer}
 use Rattle.dl_server.specs.State.{State}
 use Rattle.dl_server.specs.declared.server.Server.{Server}
@@ -17,49 +17,52 @@ use Rattle.dl_daemon.proofs.Renewals.{IsAnew, IsStill, with_new}
 
 -- ---- the daemon between two calls
 
-server_again : {L : Type 0} (s : Server Told L) → IsServer s → IsServer (opened_again s)
-server_again s is = record {
+server_again : {L : Type 0} (told : L → LinkTold) (s : Server Told L) → IsServer told s → IsServer told (opened_again s)
+server_again told s is = record {
   linked = is.linked;
   heard = is.heard;
   programs = is.programs;
   given = is.given;
   enough = is.enough;
   few = is.few;
+  shut = is.shut;
 }
 
-pub server_at : {L : Type 0} (old new : Server Told L) → new ≡ opened_again old → IsServer old → IsServer new
-server_at old new is holds = subst IsServer (sym is) (server_again old holds)
+pub server_at : {L : Type 0} (told : L → LinkTold) (old new : Server Told L) → new ≡ opened_again old → IsServer told old → IsServer told new
+server_at told old new is holds = subst (IsServer told) (sym is) (server_again told old holds)
 
-server_as : {L : Type 0} (s : Server Told L) → IsServer s → IsServer (record s { core = s.core })
-server_as s is = record {
+server_as : {L : Type 0} (told : L → LinkTold) (s : Server Told L) → IsServer told s → IsServer told (record s { core = s.core })
+server_as told s is = record {
   linked = is.linked;
   heard = is.heard;
   programs = is.programs;
   given = is.given;
   enough = is.enough;
   few = is.few;
+  shut = is.shut;
 }
 
-heard_with : (listeners : List Listener) (core : Core) (trace : Trace) → HaveListeners listeners core → HaveListeners listeners (with_new core trace)
-heard_with listeners core trace heard = λ desk of_it.
-    let h = heard desk of_it in record { enough = h.enough; limits = h.limits; counts = h.counts; unused = h.unused; desk_so = h.desk_so }
+heard_with : (seated : Seated) (core : Core) (trace : Trace) → HaveListeners seated core → HaveListeners seated (with_new core trace)
+heard_with seated core trace heard = λ desk of_it.
+    let h = heard desk of_it in record { enough = h.enough; limits = h.limits; counts = h.counts; unused = h.unused; waiting = h.waiting; desk_so = h.desk_so }
 
-server_with : {L : Type 0} (s : Server Told L) (trace : Trace) → IsServer s → IsServer (record s { core = with_new s.core trace })
-server_with s trace is = record {
+server_with : {L : Type 0} (told : L → LinkTold) (s : Server Told L) (trace : Trace) → IsServer told s → IsServer told (record s { core = with_new s.core trace })
+server_with told s trace is = record {
   linked = record { many = is.linked.many; few = is.linked.few; place = is.linked.place; settled = is.linked.settled };
-  heard = heard_with s.listeners.items s.core trace is.heard;
+  heard = heard_with s.seats s.core trace is.heard;
   programs = is.programs;
   given = is.given;
   enough = is.enough;
   few = is.few;
+  shut = is.shut;
 }
 
-pub server_renewed : {L : Type 0} (conf : Conf) (begun : Bool) (old new : Server Told L) (folder folder_now : FolderTold) → new ≡ record old { core = new.core }
-    → IsStill begun old.core new.core folder folder_now ⊎ IsAnew conf begun old.core new.core folder folder_now → IsServer old → IsServer new
-server_renewed conf begun old new folder folder_now rest (inl still) is =
-    subst IsServer (sym rest) (subst (λ (c : Core). IsServer (record old { core = c })) (sym still.same) (server_as old is))
-server_renewed conf begun old new folder folder_now rest (inr anew) is =
-    subst IsServer (sym rest) (subst (λ (c : Core). IsServer (record old { core = c })) (sym anew.is) (server_with old anew.trace is))
+pub server_renewed : {L : Type 0} (told : L → LinkTold) (conf : Conf) (begun : Bool) (old new : Server Told L) (folder folder_now : FolderTold) → new ≡ record old { core = new.core }
+    → IsStill begun old.core new.core folder folder_now ⊎ IsAnew conf begun old.core new.core folder folder_now → IsServer told old → IsServer told new
+server_renewed told conf begun old new folder folder_now rest (inl still) is =
+    subst (IsServer told) (sym rest) (subst (λ (c : Core). IsServer told (record old { core = c })) (sym still.same) (server_as told old is))
+server_renewed told conf begun old new folder folder_now rest (inr anew) is =
+    subst (IsServer told) (sym rest) (subst (λ (c : Core). IsServer told (record old { core = c })) (sym anew.is) (server_with told old anew.trace is))
 
 -- ---- what its programs sent
 

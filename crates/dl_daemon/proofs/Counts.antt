@@ -1,27 +1,13 @@
 -- What a daemon counts, one more at a time.
-use Rattle.std.proofs.Common.{◌≡◌, ◌+◌, ◌<◌, ◌≤◌, ℕ, zero, suc, Bool, true, false, List, [], ◌∷◌, ◌++◌, length, Option, Some, None, refl, sym, ap, subst, ◌∙◌, arith}
-use Rattle.std.specs.Prelude.{cond, slice_get, sum_by}
+use Rattle.std.proofs.Common.{◌≡◌, ◌+◌, ◌<◌, ◌≤◌, ℕ, zero, suc, List, [], ◌∷◌, ◌++◌, length, Option, Some, None, refl, sym, ap, ◌∙◌, arith}
+use Rattle.std.specs.Prelude.{slice_get, sum_by}
 use Rattle.std.specs.Map.{keys_of}
 use Rattle.std.proofs.lemmas.List.Sums.{sum_by-append, sum_by-cons}
 use Rattle.dl_bytes.specs.declared.outcome.TraceFile.{TraceFile}
-use Rattle.dl_hub.specs.State.{Hub}
 use Rattle.dl_trace.specs.Steps.{bytes_in}
-use Rattle.dl_daemon.specs.Figures.{open_among, open_at}
 
 pub sum_more : (files : List TraceFile) (file : TraceFile) → sum_by bytes_in (files ++ file ∷ []) ≡ sum_by bytes_in files + file.bytes
 sum_more files file = omega (arith, sum_by-append bytes_in files (file ∷ []), sum_by-cons bytes_in file [])
-
-pub open_more : (hub : Hub) (number : ℕ) → open_among hub (number + 1) ≡ open_among hub number + open_at hub (number + 1)
-open_more hub number =
-    let next : suc number ≡ number + 1 = omega arith in
-    subst (λ (n : ℕ). open_among hub n ≡ open_among hub number + open_at hub n) next refl
-
-one_at_most : (b : Bool) → cond b 1 0 ≤ 1
-one_at_most true = omega arith
-one_at_most false = omega arith
-
-pub at_most_one : (hub : Hub) (number : ℕ) → open_at hub number ≤ 1
-at_most_one hub number = one_at_most _
 
 -- ---- places of a list
 

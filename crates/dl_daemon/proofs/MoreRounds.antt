@@ -29,7 +29,7 @@ module _ {L : Type 0} (told : L → LinkTold) (conf : Conf) where
   -- one round of a server, whose trace was tried to be begun anew, or not, before its nets were asked again
   pub one_round_more : (tries tries_then tries_now : Tries) (net net_then net_now users users_then users_now : NetTold L) (old : State) (folder folder_then : FolderTold) (was next again : Server Told L) (new : State)
       (moment : Moment) (begun : Bool) → SomeRounds told conf tries tries_then net net_then users users_then old (seen told noted folder was) → HasRoom was.core
-      → Renews conf moment begun tries_then tries_now was.core next.core folder folder_then → next ≡ record was { core = next.core } → IsServer next → again ≡ opened_again next
+      → Renews conf moment begun tries_then tries_now was.core next.core folder folder_then → next ≡ record was { core = next.core } → IsServer told next → again ≡ opened_again next
       → IsRound told net_then net_now users_then users_now (seen told noted folder_then again) new → SomeRounds told conf tries tries_now net net_now users users_now old new
   one_round_more tries tries_then tries_now net net_then net_now users users_then users_now old folder folder_then was next again new moment begun some room renews rest is_server is round =
       let between : State = seen told noted folder was in

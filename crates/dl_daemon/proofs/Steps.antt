@@ -115,21 +115,21 @@ module _ {L : Type 0} (link_told : L → LinkTold) where
   unheard begun old new (status.StorageRefused line kind) listen same = absurd listen
 
   -- the same of the ports that were opened
-  pub unheard_on : (most : Limits) (begun : Begun) (opened : Opened L) (old new : Outside L) (s : Status) → IsOpenedFor most begun opened
+  pub unheard_on : (most : Limits) (begun : Begun) (opened : Opened L) (old new : Outside L) (s : Status) → IsOpenedFor link_told most begun opened
       → Listen opened.port opened.users old.net new.net old.users new.users (Err s) → new.folder ≡ old.folder → LeavesEarly begun old new s
   unheard_on most begun opened old new s is listen same =
       unheard begun old new s (subst (λ (n : ℕ). Listen begun.port n old.net new.net old.users new.users (Err s)) is.users
       (subst (λ (n : ℕ). Listen n opened.users old.net new.net old.users new.users (Err s)) is.port listen)) same
 
   -- the same of the trace that it was opened for
-  ran_for : (most : Limits) (begun : Begun) (opened : Opened L) (old new : Outside L) (why : Stop) (closed : Closed L) → IsOpenedFor most begun opened
+  ran_for : (most : Limits) (begun : Begun) (opened : Opened L) (old new : Outside L) (why : Stop) (closed : Closed L) → IsOpenedFor link_told most begun opened
       → HasRun link_told opened.renewal.conf opened.renewal.tries opened.server why old new closed → HasRun link_told begun.conf untried opened.server why old new closed
   ran_for most begun opened old new why closed is run =
       subst (λ (c : Conf). HasRun link_told c untried opened.server why old new closed) is.conf
       (subst (λ (t : Tries). HasRun link_told opened.renewal.conf t opened.server why old new closed) is.tries run)
 
   -- it was opened, both nets listen, and it ran
-  pub begun_ran : (most : Limits) (begun : Begun) (opened : Opened L) (old : Outside L) (net users : NetTold L) (new : Outside L) (s : Status) (left : Option (Left L)) → IsOpenedFor most begun opened
+  pub begun_ran : (most : Limits) (begun : Begun) (opened : Opened L) (old : Outside L) (net users : NetTold L) (new : Outside L) (s : Status) (left : Option (Left L)) → IsOpenedFor link_told most begun opened
       → IsHeard begun.port old.net net → IsHeard begun.users old.users users
       → EndsWith link_told opened.renewal.conf opened.renewal.tries opened.server (outside old.folder net users) new s left → EndsBegun link_told most begun old new s left
   begun_ran most begun opened old net users new s None is net_heard users_heard ends = subst (λ (t : Status). LeavesEarly begun old new t) (sym ends) tt

@@ -123,7 +123,7 @@ module _ {L : Type 0} (told : L → LinkTold) (stay_heard : (moved : Bool) (old 
         let standing = standing_of told noted renewed r.seen_so in
         let what = renewed_so conf r.begun between.core r.core between.folder r.folder r.moment kept.tries kept_now.tries r.renews in
         known_on (TellBytes told) (TellOver told) set renewed new (on_both _ _ renewed again new (on_aside _ _ renewed again refl refl refl refl)
-        (round_on told stay_heard stay_pumped show_heard show_pumped net net_now users users_now again new (record { heard = standing.heard; overs = standing.overs }) r.round))
+        (round_on told stay_heard stay_pumped show_heard show_pumped net net_now users users_now again new (record { clients = standing.clients; heard = standing.heard; overs = standing.overs }) r.round))
         (known_renewed (TellBytes told) (TellOver told) set conf sizes r.begun between r.core r.folder what known)
 
     rounds_go : (many : ℕ) (kept kept_now : Renewed) (net net_now users users_now : NetTold L) (old new : State) → AreRounds told conf many kept kept_now net net_now users users_now old new → Goes old → Goes new

@@ -1,22 +1,13 @@
 -- What a daemon counts.
-use Rattle.std.specs.Prelude.{ℕ, zero, suc, ◌+◌, ◌-◌, ◌^◌, Bool, false, min, List, [], length, sum_by, Option, Some, None, is_some, if◌then◌else◌}
+use Rattle.std.specs.Prelude.{ℕ, ◌-◌, ◌^◌, Bool, false, min, List, [], length, sum_by, Option, Some, None, is_some}
 use Rattle.dl_bytes.specs.declared.outcome.TraceFile.{TraceFile}
-use Rattle.dl_hub.specs.State.{Hub, outbox_of}
+use Rattle.dl_rounds.specs.Ready.{open_clients}
 use Rattle.dl_server.specs.declared.server.Server.{Server}
 use Rattle.dl_trace.specs.State.{Trace}
 use Rattle.dl_trace.specs.Steps.{bytes_in}
 use Rattle.dl_unkept.specs.Told.{Told}
 use Rattle.dl_daemon.specs.declared.figures.Figures.{Figures}
 use Rattle.dl_daemon.specs.declared.figures.Passed.{Passed}
-
--- one where the client of this number is open
-abbrev pub open_at : Hub → ℕ → ℕ
-open_at hub number = if is_some (outbox_of hub number) then 1 else 0
-
--- how many clients are open of those with the first numbers
-abbrev pub open_among : Hub → ℕ → ℕ
-open_among hub zero = 0
-open_among hub (suc number) = open_among hub number + open_at hub (suc number)
 
 -- the bytes of trace files; a sum of 64 bits stops at its top
 abbrev pub sum_of : List TraceFile → ℕ
@@ -36,7 +27,7 @@ has_ended (Some trace) = is_some trace.state.end
 abbrev pub figures_of : {L : Type 0} → Server Told L → Passed → Figures
 figures_of s passed = record {
   clients = length s.clients.links;
-  open_clients = open_among s.core.hub (length s.clients.links);
+  open_clients = open_clients s.core.hub;
   channels = length s.programs.links;
   open_channels = length s.channels.inboxes;
   frames = s.core.hub.admitted;

@@ -3,4 +3,4 @@ use Rattle.dl_daemon.specs.declared.limits.Limits.{Limits}
 
 -- So many clients may come in all; so many channels may be open at once, and so many come in all.
 unfoldable pub limits : Limits
-limits = record { clients = 4096; open_channels = 16; channels = 65535 }
+limits = record { clients = 65535; open_channels = 16; channels = 65535 }

@@ -49,7 +49,7 @@ pub record HasRun {L : Type 0} (link_told : L → LinkTold) (conf : Conf) (tries
 -- A server was made within these limits, to which nobody had come; both nets listen, each on its port; and it ran. They listen there at the end, too.
 pub record HasOpened {L : Type 0} (link_told : L → LinkTold) (most : Limits) (begun : Begun) (why : Stop) (old new : Outside L) (closed : Closed L) : Type 0 where
   pub opened : Opened L
-  pub is_opened : IsOpenedFor most begun opened
+  pub is_opened : IsOpenedFor link_told most begun opened
   pub net : NetTold L
   pub users : NetTold L
   pub net_heard : IsHeard begun.port old.net net

@@ -49,7 +49,7 @@ pub fn close<R: Wait, L: Link, F: Folder>(
 ) -> Result<Left<L>, OutOfMemory>
 where
     L: Drop,
-    requires server { IsServer server }
+    requires server { IsServer L.told server }
     ensures { IfOk result (ClosesTo L.told moment (seen L.told noted (F.told folder.old) server) (F.told folder.new)) }
 {
     let mut server = server;

@@ -1,34 +1,16 @@
 //! What a daemon counts, read off what it is.
 
 ghost use Rattle.std.specs.Prelude.{◌≡◌, length};
-ghost use Rattle.dl_daemon.specs.Figures.{figures_of, files_of, has_ended, open_among, open_at, sum_of};
+ghost use Rattle.dl_daemon.specs.Figures.{figures_of, files_of, has_ended, sum_of};
 
 use crate::figures::{Figures, Passed};
 use dl_bytes::{TraceFile, TraceState};
+use dl_channel_turns::open_clients;
 use dl_core::Core;
-use dl_hub::Hub;
 use dl_outside::Link;
 use dl_server::Server;
 use dl_socket::Channels;
 use dl_unkept::Unkept;
-
-/// One where a client is open.
-fn open_at(hub: &Hub, client: u32) -> u32
-    ensures { result ≡ open_at hub.now client }
-{
-    if hub.is_open(client) { 1 } else { 0 }
-}
-
-/// How many clients are open of so many that came.
-fn open_among(hub: &Hub, came: u32) -> u32
-    ensures { result ≡ open_among hub.now came }
-{
-    let mut count = 0;
-    for client in 0..came {
-        count += open_at(hub, client + 1);
-    }
-    count
-}
 
 /// How many channels are open.
 fn open_channels(channels: &Channels) -> usize
@@ -81,10 +63,9 @@ pub fn figures_of<L: Link>(server: &Server<Unkept, L>, passed: Passed) -> Figure
     let hub = server.core.hub();
     let backlog = hub.backlog();
     let files = files_of(&server.core);
-    let clients = server.clients.len();
     Figures {
-        clients,
-        open_clients: open_among(hub, clients),
+        clients: server.clients.len(),
+        open_clients: open_clients(hub),
         channels: server.programs.len(),
         open_channels: open_channels(&server.channels) as u64,
         frames: hub.admitted(),

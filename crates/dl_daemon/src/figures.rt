@@ -17,7 +17,7 @@ pub struct Figures {
     /// Clients that came.
     pub clients: u32,
     /// Clients that are open.
-    pub open_clients: u32,
+    pub open_clients: u64,
     /// Programs that came.
     pub channels: u32,
     /// Programs whose channel is open.

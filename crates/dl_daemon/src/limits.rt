@@ -15,14 +15,14 @@ pub struct Limits {
 }
 
 impl Limits {
-    /// Those of the daemon. For each client that may come what cuts its bytes is kept, 2,048 bytes and a count: so 4,096 clients are 8 megabytes,
-    /// which are taken at the begin, and touched as they come. A channel costs a few bytes, but while it is open.
+    /// Those of the daemon. For each client and each channel that may come a hundred bytes or two are taken at the begin, and touched as it comes.
+    /// What cuts their bytes, and what waits for them, is kept for as many as may be open at once.
     #[tactic(auto, unfolding(crate::specs::Limits::limits))]
     pub fn of_daemon() -> Limits
         ensures { result ≡ limits }
     {
         Limits {
-            clients: 4096,
+            clients: 65535,
             open_channels: 16,
             channels: 65535,
         }

@@ -22,7 +22,7 @@ pub fn open<L: Link>(alloc: Global, limits: Limits, begun: Begun) -> Result<Open
 where
     L: Drop,
     requires { IfSome begun.trace (IsMade begun.conf) }
-    ensures { IfOk result (IsOpenedFor limits begun) }
+    ensures { IfOk result (IsOpenedFor L.told limits begun) }
 {
     let Begun {
         conf,

@@ -61,7 +61,7 @@ fn keep_opened<R: Wait, F: Folder, N: Net, C: Clock, W: Watch>(
 ) -> Outcome<N::L>
 where
     N::L: Drop,
-    requires server { IsServer opened.server }
+    requires server { IsServer N.L.told opened.server }
     ensures { EndsWith N.L.told opened.renewal.conf opened.renewal.tries opened.server (outside (F.told folder.old) (N.told net.old) (N.told users.old))
         (outside (F.told folder.new) (N.told net.new) (N.told users.new)) result.status result.left }
 {

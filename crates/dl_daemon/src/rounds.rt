@@ -75,10 +75,10 @@ pub fn go_round<R: Wait, N: Net, C: Clock, F: Folder, W: Watch>(
 ) -> Stop
 where
     N::L: Drop,
-    requires server { IsServer server.old }
+    requires server { IsServer N.L.told server.old }
     ensures rounds { HasMadeRounds N.L.told renewal.old.conf renewal.old.tries result (N.told net.old) (N.told net.new) (N.told users.old) (N.told users.new)
         (F.told folder.old) (F.told folder.new) server.old server.new }
-    ensures server { IsServer server.new }
+    ensures server { IsServer N.L.told server.new }
 {
     for _round in rt.forever() {
         let moment = clock.now();

@@ -1,7 +1,7 @@
 //! The hub: all clients, and the backlog.
 
 ghost use Rattle.std.specs.Prelude.{◌≡◌, ◌≤◌, ◌<◌, ◌↔◌, ◌^◌, ◌+◌, ℕ, true, false, [], Err, IfOk, OnErr, OnOk, IfSome};
-ghost use Rattle.std.specs.Prelude.{IsTrue, IsSome, IsSomeAnd, find, length, nat_le, take, map, option_map, vec_capacity};
+ghost use Rattle.std.specs.Prelude.{IsTrue, IsSome, IsSomeAnd, count_by, find, length, nat_le, take, map, option_map, vec_capacity};
 ghost use Rattle.std.specs.List.{All, list_all};
 ghost use Rattle.dl_bytes.specs.Limits.{admitted_limit, client_limit, open_client_limit, request_limit};
 ghost use Rattle.dl_model.specs.Traffic.{Connected, Admitted, Reply, Closed};
@@ -137,6 +137,13 @@ impl Hub {
         ensures { result ≡ is_any_open self.now }
     {
         self.free.len() < OPEN_CLIENT_LIMIT
+    }
+
+    /// At most eight clients are open. It does nothing: its clause is what callers learn.
+    pub fn few_are_open(&self)
+        ensures { count_by is_open self.now.clients ≤ open_client_limit }
+    {
+        let _ = &self.limit;
     }
 
     /// The open client with the least number above this one, if there is one: with it the open clients are gone through in

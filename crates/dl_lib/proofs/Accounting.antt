@@ -24,7 +24,7 @@ use Rattle.dl_thread_rules.specs.Views.{times, total}
 use Rattle.dl_writer.specs.Records.{IsHeld, IsOf, TellAll}
 use Rattle.dl_writer.specs.State.{BookState, IsWhole, WriterState}
 use Rattle.dl_writer.proofs.Accounting.{account, losses}
-use Rattle.dl_lib.specs.Books.{books_of, claimed_of, lost_of, queued_of, records_of}
+use Rattle.dl_lib.specs.Books.{books_of, claimed_of, lost_of, items_pushed_of, records_of}
 use Rattle.dl_lib.specs.ClosingInside.{HaveBooks, HaveHandles}
 use Rattle.dl_lib.specs.Known.{IsAllOf, IsDrained, taken_of}
 use Rattle.dl_lib.specs.Settled.{IsAccountOf, IsJournalOf, IsSettled, TellsClaimed, TellsLosses, TellsQueued, account_of}
@@ -37,7 +37,7 @@ use Rattle.dl_lib.proofs.Takes.{calls_of_writer, claim_as, claims_are, claims_of
 -- ---- what is settled
 
 -- an empty ring holds nothing
-all_taken : (app : ℕ) (books : List BookState) (taken contents : List RingItem) → IsAllOf app books (taken ++ contents) → length taken ≡ queued_of app books → IsAllOf app books taken
+all_taken : (app : ℕ) (books : List BookState) (taken contents : List RingItem) → IsAllOf app books (taken ++ contents) → length taken ≡ items_pushed_of app books → IsAllOf app books taken
 all_taken app books taken contents all empty =
     let c = all.count in
     let none : contents ≡ [] = nil_from_length contents (omega (arith, empty, c, length-append taken contents)) in

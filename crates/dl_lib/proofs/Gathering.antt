@@ -25,7 +25,7 @@ use Rattle.dl_desk.specs.Made.{IsMadeWith}
 use Rattle.dl_desk.specs.State.{DeskState}
 use Rattle.dl_desk.proofs.Making.{is_there}
 use Rattle.dl_desk.proofs.Places.{mapped_at, mapped_within}
-use Rattle.dl_lib.specs.Books.{given_by, queued_of}
+use Rattle.dl_lib.specs.Books.{given_by, items_pushed_of}
 use Rattle.dl_lib.specs.ClosingInside.{IsClosing}
 use Rattle.dl_lib.specs.Entries.{EntriesState, entries_of}
 use Rattle.dl_lib.specs.Joining.{AreGiven, FitFirsts, FitsHandles, join_books, join_firsts}
@@ -67,7 +67,7 @@ module _ (desk : DeskState) (books : List BookState) (ready : AreReady desk book
       (λ b made. mapped_within (λ (spec : AppSpec). spec.capacity) desk.apps b.writer.app b.writer.push.capacity made.capacity) books ready.made
 
   module _ (items losses injected : List ℕ) (entries : EntriesState)
-      (waiting : (app : ℕ) → app < count → At desk.handles.apps app (λ e. length e.ring.taken ≤ queued_of app books → length e.ring.taken + slice_index items app ≡ queued_of app books))
+      (waiting : (app : ℕ) → app < count → At desk.handles.apps app (λ e. length e.ring.taken ≤ items_pushed_of app books → length e.ring.taken + slice_index items app ≡ items_pushed_of app books))
       (untold : (app : ℕ) → app < count → reported_of app handles.losses.reported + slice_index losses app ≡ counted_of app handles.losses.counted)
       (given : injected ≡ given_by count books) (kept : entries ≡ entries_of books)
       (told : All (λ b. IsWhole b → TellAll b.writer b.records b.claims) books) (bases : SameBases books) (tells : All (λ b. TellsClaims b.writer) books)
@@ -77,7 +77,7 @@ module _ (desk : DeskState) (books : List BookState) (ready : AreReady desk book
       (range : (app : ℕ) → app < count → At handles.apps app (λ e. length e.queue.pushed < 2 ^ 64))
       (numbers_given : (app : ℕ) → app < count → (so_many : ℕ) × AreGiven app so_many handles.levels) where
     -- so many waited as weren't taken
-    waits : (app : ℕ) → app < count → At handles.apps app (λ e. length e.ring.taken + slice_index items app ≡ queued_of app books)
+    waits : (app : ℕ) → app < count → At handles.apps app (λ e. length e.ring.taken + slice_index items app ≡ items_pushed_of app books)
     waits app below e is =
         let holds = rings app below in
         let all = (ring_known app books e (joined.back app e is) holds.0 (holds.1 e is)).count in
@@ -112,7 +112,7 @@ module _ (desk : DeskState) (books : List BookState) (ready : AreReady desk book
         counted = joined.counted;
       };
       counts = record {
-        waiting = at_each (λ app (e : AppHandles). length e.ring.taken + slice_index items app ≡ queued_of app books) handles.apps count long waits;
+        waiting = at_each (λ app (e : AppHandles). length e.ring.taken + slice_index items app ≡ items_pushed_of app books) handles.apps count long waits;
         untold = λ app below. (let u = untold app (omega (arith, below, counts)) in let c = joined.counted app in omega (arith, u, c));
         given = given ∙ ap (λ (n : ℕ). given_by n books) counts;
       };
@@ -187,7 +187,7 @@ module _ (desk : DeskState) (books : List BookState) (ready : AreReady desk book
             keeps = subst (KeepsDesk desk) whole (keeps_desk desk books ready e3 joined r count counts)
 
             pub closes : (items untold injected : List ℕ) (entries : EntriesState)
-                → ((app : ℕ) → app < count → At e0.apps app (λ e. length e.ring.taken ≤ queued_of app books → length e.ring.taken + slice_index items app ≡ queued_of app books))
+                → ((app : ℕ) → app < count → At e0.apps app (λ e. length e.ring.taken ≤ items_pushed_of app books → length e.ring.taken + slice_index items app ≡ items_pushed_of app books))
                 → ((app : ℕ) → app < count → reported_of app e6.losses.reported + slice_index untold app ≡ counted_of app e6.losses.counted)
                 → injected ≡ given_by count books → entries ≡ entries_of books
                 → All (λ b. IsWhole b → TellAll b.writer b.records b.claims) books → SameBases books → All (λ b. TellsClaims b.writer) books
@@ -201,7 +201,7 @@ module _ (desk : DeskState) (books : List BookState) (ready : AreReady desk book
                 let settled : e5 ≡ looked e3 r = is5 ∙ is4 in
                 subst (λ (s : ClosingState). IsClosing s items untold injected entries) whole
                 (is_closing desk books ready e3 joined r count counts items untold injected entries
-                (subst (λ (e : HandlesState). (app : ℕ) → app < count → At e.apps app (λ e. length e.ring.taken ≤ queued_of app books → length e.ring.taken + slice_index items app ≡ queued_of app books)) is0 waiting)
+                (subst (λ (e : HandlesState). (app : ℕ) → app < count → At e.apps app (λ e. length e.ring.taken ≤ items_pushed_of app books → length e.ring.taken + slice_index items app ≡ items_pushed_of app books)) is0 waiting)
                 (subst (λ (e : HandlesState). (app : ℕ) → app < count → reported_of app e.losses.reported + slice_index untold app ≡ counted_of app e.losses.counted) last each)
                 given kept told bases tells
                 (subst (λ (e : HandlesState). All (IsEntry e3.levels.first e3.levels.sets) e.levels.reads) is4 held)

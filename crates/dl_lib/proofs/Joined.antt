@@ -1,11 +1,11 @@
 -- What is there once the ends of all writers, and the first ones, are taken back.
-use Rattle.std.proofs.Common.{◌≡◌, ◌≢◌, ℕ, zero, suc, ◌+◌, ◌-◌, ◌<◌, ◌==◌, Bool, true, false, inl, inr, List, [], ◌∷◌, ◌++◌, filter, length, length-append, map, get_or, Option, Some, None, slice_get, append_assoc, append-nil, cond, refl, sym, ap, ◌∙◌, subst, arith, eq-eqb, ne_eqb}
+use Rattle.std.proofs.Common.{◌≡◌, ◌≢◌, ℕ, zero, suc, ◌+◌, ◌-◌, ◌<◌, ◌==◌, Bool, true, false, inl, inr, List, [], ◌∷◌, ◌++◌, length, length-append, map, get_or, Option, Some, None, slice_get, append_assoc, append-nil, cond, refl, sym, ap, ◌∙◌, subst, arith, eq-eqb, ne_eqb}
 use Rattle.std.specs.Prelude.{All, Contains, if◌then◌else◌}
 use Rattle.std.specs.List.{range_with_len}
 use Rattle.std.specs.Option.{option_map}
 use Rattle.std.proofs.lemmas.Bool.{cases_eq}
-use Rattle.std.proofs.lemmas.List.{length-map, map-append}
-use Rattle.std.proofs.lemmas.List.Elements.{All-nil, All-cons, All-head, All-tail, All-weaker, All-contains_itself, Contains-append_left, Contains-append_right, filter-append}
+use Rattle.std.proofs.lemmas.List.{length-map}
+use Rattle.std.proofs.lemmas.List.Elements.{All-nil, All-cons, All-head, All-tail, All-weaker, All-contains_itself, Contains-append_left, Contains-append_right}
 use Rattle.std.proofs.lemmas.Option.{slice_get-map}
 use Rattle.dl_bytes.specs.declared.conf.AppSpec.{AppSpec}
 use Rattle.dl_claims.specs.Claims as claims
@@ -36,6 +36,7 @@ use Rattle.dl_lib.specs.Joining.{AreBack, FitFirsts, FitsHandles, join_books, jo
 use Rattle.dl_lib.proofs.InOrder.{within}
 use Rattle.dl_losses.proofs.Sums.{counted-append}
 use Rattle.dl_lemmas.proofs.Lists.{head_is, tail_is}
+use Rattle.dl_claims.proofs.Sums.{given_of-append}
 
 -- ---- what is to be shown
 
@@ -186,9 +187,6 @@ claimers-join_books s (b ∷ books) none =
     let own = All-head (λ (c : BookState). c.writer.reader.splits_left ≡ 0) b books none in
     let rest = claimers-join_books (join_writer s b.writer) books (All-tail (λ (c : BookState). c.writer.reader.splits_left ≡ 0) b books none) in
     omega (arith, own, rest)
-
-given_of-append : (app : ℕ) (xs ys : List Given) → given_of app (xs ++ ys) ≡ given_of app xs ++ given_of app ys
-given_of-append app xs ys = ap (map (λ (g : Given). g.number)) (filter-append (λ (g : Given). g.app == app) xs ys) ∙ map-append (λ (g : Given). g.number) (filter (λ g. g.app == app) xs) (filter (λ g. g.app == app) ys)
 
 -- and so do the numbers that they were given, and the claims that found none left
 given-join_books : (app number : ℕ) (s : HandlesState) (books : List BookState) →

@@ -21,7 +21,7 @@ use Rattle.dl_desk.specs.declared.app_handles.AppHandles.{AppHandles}
 use Rattle.dl_desk.specs.Handles.{HandlesState, QueueHolds, RingHolds, with_empty_take, with_injected, with_item, with_level, with_refusal, with_report}
 use Rattle.dl_desk.specs.Lists.{At, changed_at}
 use Rattle.dl_desk.proofs.Places.{changed_else, changed_here, changed_keeps, length-changed_at}
-use Rattle.dl_lib.specs.Books.{books_of, lost_of, queued_of}
+use Rattle.dl_lib.specs.Books.{books_of, lost_of, items_pushed_of}
 use Rattle.dl_lib.specs.ClosingInside.{HaveHandles, IsClosing}
 use Rattle.dl_lib.specs.Entries.{EntriesState}
 use Rattle.dl_lib.specs.Joining.{AreBack}
@@ -135,7 +135,7 @@ module _ (s : ClosingState) (items losses injected : List ℕ) (entries : Entrie
         (changed_keeps (λ (e : AppHandles). (left : ℕ) × queue.Holds e.queue left) app app finding_none s.handles.apps (λ e h. h) (c.handles.queues app))
         (changed_keeps (λ (e : AppHandles). length e.queue.pushed < 2 ^ 64) app app finding_none s.handles.apps (λ e h. h) (c.handles.range app));
     counts = record {
-      waiting = λ n. changed_keeps (λ (e : AppHandles). length e.ring.taken + slice_index items n ≡ queued_of n s.books) app n finding_none s.handles.apps (λ e h. h) (c.counts.waiting n);
+      waiting = λ n. changed_keeps (λ (e : AppHandles). length e.ring.taken + slice_index items n ≡ items_pushed_of n s.books) app n finding_none s.handles.apps (λ e h. h) (c.counts.waiting n);
       untold = c.counts.untold;
       given = c.counts.given;
     };
@@ -186,8 +186,8 @@ module _ (s : ClosingState) (items losses injected : List ℕ) (entries : Entrie
             (changed_keeps (λ (e : AppHandles). (left : ℕ) × queue.Holds e.queue left) app app (taking item) s.handles.apps (λ e h. h) (c.handles.queues app))
             (changed_keeps (λ (e : AppHandles). length e.queue.pushed < 2 ^ 64) app app (taking item) s.handles.apps (λ e h. h) (c.handles.range app));
         counts = record {
-          waiting = at_all (λ n (e : AppHandles). length e.ring.taken + slice_index fewer n ≡ queued_of n s.books) app (taking item) s.handles.apps
-              (changed_here (λ (e : AppHandles). length e.ring.taken + slice_index fewer app ≡ queued_of app s.books) app (taking item) s.handles.apps
+          waiting = at_all (λ n (e : AppHandles). length e.ring.taken + slice_index fewer n ≡ items_pushed_of n s.books) app (taking item) s.handles.apps
+              (changed_here (λ (e : AppHandles). length e.ring.taken + slice_index fewer app ≡ items_pushed_of app s.books) app (taking item) s.handles.apps
               (λ e is.
               (let before = c.counts.waiting app e is in
               let one = some_waits in
@@ -269,8 +269,8 @@ module _ (s : ClosingState) (items losses injected : List ℕ) (entries : Entrie
         (changed_keeps (λ (e : AppHandles). (contents : List RingItem) × Holds e.ring contents) app app f s.handles.apps (λ e h. (h.0, subst (λ r. Holds r h.0) (sym (ring e)) h.1)) (c.handles.rings app))
         (λ e is. (holds.0, holds.1 e is)) range;
     counts = record {
-      waiting = λ n. changed_keeps (λ (e : AppHandles). length e.ring.taken + slice_index items n ≡ queued_of n s.books) app n f s.handles.apps
-          (λ e h. subst (λ r. length r.taken + slice_index items n ≡ queued_of n s.books) (sym (ring e)) h) (c.counts.waiting n);
+      waiting = λ n. changed_keeps (λ (e : AppHandles). length e.ring.taken + slice_index items n ≡ items_pushed_of n s.books) app n f s.handles.apps
+          (λ e h. subst (λ r. length r.taken + slice_index items n ≡ items_pushed_of n s.books) (sym (ring e)) h) (c.counts.waiting n);
       untold = c.counts.untold;
       given = c.counts.given;
     };

@@ -13,8 +13,8 @@ abbrev pub books_of : ℕ → List BookState → List BookState
 books_of app books = filter (λ b. b.writer.app == app) books
 
 -- how many calls and claims the application's ring took, of all its writers
-abbrev pub queued_of : ℕ → List BookState → ℕ
-queued_of app books = total (λ b. length b.writer.push.pushed) (books_of app books)
+abbrev pub items_pushed_of : ℕ → List BookState → ℕ
+items_pushed_of app books = total (λ b. length b.writer.push.pushed) (books_of app books)
 
 -- how many of its lost calls the writers counted
 abbrev pub lost_of : ℕ → List BookState → ℕ

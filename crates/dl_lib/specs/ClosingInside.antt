@@ -10,7 +10,7 @@ use Rattle.dl_desk.specs.Lists.{At}
 use Rattle.dl_writer.specs.Records.{TellAll}
 use Rattle.dl_writer.specs.State.{BookState, IsWhole, numbers}
 use Rattle.dl_lib.specs.declared.closing.Closing.TheInside as closing
-use Rattle.dl_lib.specs.Books.{books_of, given_by, queued_of, lost_of}
+use Rattle.dl_lib.specs.Books.{books_of, given_by, items_pushed_of, lost_of}
 use Rattle.dl_lib.specs.Entries.{EntriesState, entries_of}
 use Rattle.dl_lib.specs.Joining.{AreBack}
 use Rattle.dl_lib.specs.Known.{AreClaimed}
@@ -41,7 +41,7 @@ pub record HaveHandles (s : ClosingState) : Type 0 where
 
 -- the counters say how many calls and claims wait in each ring, how many losses in each word, and how many injections were given
 pub record AreCounted (s : ClosingState) (items losses injected : List ℕ) : Type 0 where
-  pub waiting : (app : ℕ) → At s.handles.apps app (λ e. length e.ring.taken + slice_index items app ≡ queued_of app s.books)
+  pub waiting : (app : ℕ) → At s.handles.apps app (λ e. length e.ring.taken + slice_index items app ≡ items_pushed_of app s.books)
   pub untold : (app : ℕ) → app < length s.apps → reported_of app s.handles.losses.reported + slice_index losses app ≡ lost_of app s.books
   pub given : injected ≡ given_by (length s.apps) s.books
 

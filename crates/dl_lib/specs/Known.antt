@@ -15,7 +15,7 @@ use Rattle.dl_desk.specs.Handles.{HandlesState}
 use Rattle.dl_desk.specs.Posting.{pushed_of}
 use Rattle.dl_writer.specs.Records.{TellAll}
 use Rattle.dl_writer.specs.State.{BookState, IsWhole, numbers}
-use Rattle.dl_lib.specs.Books.{books_of, claimed_of, queued_of, lost_of, injected_of, registers_of}
+use Rattle.dl_lib.specs.Books.{books_of, claimed_of, items_pushed_of, lost_of, injected_of, registers_of}
 use Rattle.dl_lib.specs.State.{ClosingState}
 
 -- what was taken of an application's ring, in order
@@ -32,7 +32,7 @@ told_as app (Register claim) = TookClaim (record claim { app = app })
 pub record IsAllOf (app : ℕ) (books : List BookState) (items : List RingItem) : Type 0 where
   pub each : All (λ b. of b.writer.push.number items ≡ b.writer.push.pushed) (books_of app books)
   pub no_others : (number : ℕ) → times number (numbers (books_of app books)) ≡ 0 → of number items ≡ []
-  pub count : length items ≡ queued_of app books
+  pub count : length items ≡ items_pushed_of app books
 
 -- Each of an application's writers was given a part of what was pushed into its queue, in order. Each injection was given
 -- to one of them, once, or is one of the last, which are left.
@@ -67,7 +67,7 @@ pub record AreGathered (s : ClosingState) : Type 0 where
 
 -- the ring of an application is empty: as many calls and claims were taken as its writers pushed
 abbrev pub IsEmpty : ClosingState → ℕ → Type 0
-IsEmpty s app = length (taken_of s.handles app) ≡ queued_of app s.books
+IsEmpty s app = length (taken_of s.handles app) ≡ items_pushed_of app s.books
 
 -- its loss word is 0: as many losses were reported as its writers counted
 abbrev pub IsTold : ClosingState → ℕ → Type 0

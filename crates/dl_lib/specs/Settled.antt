@@ -67,6 +67,6 @@ pub record IsAccountOf (events : List Event) (s : AccountState) : Type 0 where
   pub no_claims : (app writer : ℕ) → app < length s.apps → times writer (numbers (books_of app s.books)) ≡ 0 → filter (claimed_by writer) (claims app events) ≡ []
   pub told : (app : ℕ) → app < length s.apps → AreTold app events 0 (records_of app s.books)
 
--- the pushes of a writer that its ring refused, by the writer's number
+-- the pushes of a writer that its ring refused, by the writer's number from 1; none of a writer that isn't there
 abbrev pub refusals_of : List BookState → ℕ → ℕ
 refusals_of books writer = if writer == 0 then 0 else option_map_or (λ b. b.writer.push.refusals) (slice_get books (writer - 1)) 0

@@ -62,10 +62,8 @@ impl Account {
         self.entries.claims()
     }
 
-    /// How many pushes of a writer, of calls and of claims, its ring refused. Writers are numbered from 1.
+    /// How many pushes of a writer, of calls and of claims, its ring refused: none of a writer that isn't the account's. Writers are numbered from 1.
     pub fn refusals(&self, writer: u8) -> u64
-        requires first { 1 ≤ writer }
-        requires known { writer ≤ length self.now.books }
         ensures { result ≡ refusals_of self.now.books writer }
     {
         self.entries.refusals(writer)

@@ -1,7 +1,7 @@
 //! What stands in the books of all writers.
 
-ghost use Rattle.std.specs.Prelude.{◌≡◌, ◌-◌, ◌<◌, ◌≤◌, [], length, Some, slice_get};
-ghost use Rattle.dl_lib.specs.Entries.{entries_of, with_entry};
+ghost use Rattle.std.specs.Prelude.{◌≡◌, ◌<◌, [], length};
+ghost use Rattle.dl_lib.specs.Entries.{entries_of, refusals_in, with_entry};
 
 use arrayvec::ArrayVec;
 use dl_bytes::Claim;
@@ -65,12 +65,16 @@ impl Entries {
         &self.claims
     }
 
-    /// How many pushes of a writer its ring refused. Writers are numbered from 1.
+    /// How many pushes of a writer its ring refused: none of a writer that isn't there. Writers are numbered from 1.
     pub fn refusals(&self, writer: u8) -> u64
-        requires first { 1 ≤ writer }
-        requires known { writer ≤ length self.now.refusals }
-        ensures { slice_get self.now.refusals (writer - 1) ≡ Some result }
+        ensures { result ≡ refusals_in self.now writer }
     {
-        self.refusals[usize::from(writer) - 1]
+        if writer == 0 {
+            return 0;
+        }
+        match self.refusals.get(usize::from(writer) - 1) {
+            Some(refusals) => *refusals,
+            None => 0,
+        }
     }
 }

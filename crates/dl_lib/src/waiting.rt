@@ -6,7 +6,7 @@ ghost use Rattle.dl_losses.specs.Losses.{all_shares, counted_of, reported_of};
 ghost use Rattle.dl_ring.specs.declared.item.RingItem.{RingItem as ring_item};
 ghost use Rattle.dl_desk.specs.Handles.{QueueHolds, RingHolds};
 ghost use Rattle.dl_desk.specs.Lists.{At};
-ghost use Rattle.dl_lib.specs.Books.{queued_of};
+ghost use Rattle.dl_lib.specs.Books.{items_pushed_of};
 ghost use Rattle.dl_lib.specs.Joining.{AreGiven};
 
 use dl_desk::DaemonHandles;
@@ -16,29 +16,30 @@ use dl_writer::BookList;
 pub fn items_waiting(handles: &DaemonHandles, books: &BookList, apps: u8) -> [u64; 16]
     requires there { (apps ≤ 16) × (apps ≤ length handles.now.apps) }
     requires few { length books.now ≤ 32 }
-    ensures { (app : ℕ) → app < apps → At handles.now.apps app (λ e. length e.ring.taken ≤ queued_of app books.now → length e.ring.taken + slice_index result app ≡ queued_of app books.now) }
+    ensures { (app : ℕ) → app < apps → At handles.now.apps app (λ e. length e.ring.taken ≤ items_pushed_of app books.now
+        → length e.ring.taken + slice_index result app ≡ items_pushed_of app books.now) }
 {
     let mut items = [0; 16];
     for app in 0..apps {
-        items[usize::from(app)] = queued_by(books, app).wrapping_sub(handles.taken(app));
+        items[usize::from(app)] = items_pushed_by(books, app).wrapping_sub(handles.taken(app));
     }
     items
 }
 
 /// How many calls and claims the ring of an application took of its writers.
-fn queued_by(books: &BookList, app: u8) -> u64
+fn items_pushed_by(books: &BookList, app: u8) -> u64
     requires { length books.now ≤ 32 }
-    ensures value { result ≡ queued_of app books.now }
+    ensures value { result ≡ items_pushed_of app books.now }
     ensures range { result ≤ 2 ^ 46 }
 {
-    let mut queued = 0u64;
+    let mut pushed = 0u64;
     for place in 0..books.len() {
         let book = books.of(place);
         if book.app() == app {
-            queued += book.pushed();
+            pushed += book.pushed();
         }
     }
-    queued
+    pushed
 }
 
 /// How many losses wait in the word of each application.

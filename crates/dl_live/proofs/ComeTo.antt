@@ -108,7 +108,7 @@ module _ {L : Type 0} (told : L → LinkTold) (begun : Begun) (p : Players L) (w
 
   all_played : ArePairs (HasPlayedAll lines) (writers lines) account.books
   all_played = subst (ArePairs (HasPlayedAll lines) (writers lines)) (sym same_books)
-      (all_books lines opened are.opened.same_lines (writers lines) p.books been.books (all_asked lines opened runnable are.opened) are.opened.books.each (opened_whole lines opened are.opened) been.played found)
+      (all_books lines opened are.opened.same_lines are.opened.contexts (writers lines) p.books been.books (all_asked lines opened runnable are.opened) are.opened.books.each (opened_whole lines opened are.opened) been.played found)
 
   pub journal : IsJournalOf account.events account
   journal = told_journal account.events account been.stops.stopped.told_by

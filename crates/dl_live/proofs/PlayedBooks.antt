@@ -3,14 +3,16 @@ use Rattle.std.proofs.Common.{◌≡◌, ℕ, ◌+◌, ◌<◌, ◌≤◌, List,
 use Rattle.std.specs.Prelude.{All}
 use Rattle.std.proofs.lemmas.List.Elements.{All-head, All-tail}
 use Rattle.dl_bytes.specs.Claim.{Claimed}
+use Rattle.dl_bytes.specs.Context.{Context}
 use Rattle.dl_crew.specs.Calls.{CallContent, IsClaimOf, content_of, registers_of}
-use Rattle.dl_crew.specs.Plays.{ArePairs, HasPlayed, Plays}
+use Rattle.dl_crew.specs.Plays.{ArePairs, HasPlayed, InTurn, Plays}
 use Rattle.dl_crew.proofs.Pairs.{as_many}
 use Rattle.dl_events.specs.declared.record.Answer.TheVariants.{Lost}
 use Rattle.dl_events.specs.declared.record.Record.{Record}
 use Rattle.dl_model.specs.Accounts.{with_answer}
 use Rattle.dl_opening.specs.Asked.{IsAsked, asked_of, count_behind, without_slot}
 use Rattle.dl_opening.specs.Opening.{IsBookOf}
+use Rattle.dl_opening.specs.Scenario.{apps, handles_from}
 use Rattle.dl_opening.specs.declared.opened.Opened.{Opened}
 use Rattle.dl_script_lines.specs.declared.line.ClaimLine.{ClaimLine}
 use Rattle.dl_script_lines.specs.declared.scenario.ScenarioLine.{ScenarioLine}
@@ -51,7 +53,7 @@ same_claim old new app number asked claim is =
 
 -- ---- books
 
-module _ (lines : List ScenarioLine) (o : Opened) (same : o.plan.lines ≡ lines) where
+module _ (lines : List ScenarioLine) (o : Opened) (same : o.plan.lines ≡ lines) (declared : o.plan.contexts ≡ handles_from lines 0 (apps lines)) where
   -- a book that had nothing yet, in which all was done
   module _ (apid : List ℕ) (old new : BookState) (asks : IsAsked lines o apid old) (is_book : IsBookOf lines apid old) (whole : IsWhole old)
       (played : HasPlayed o.plan.contexts o.plan.lines old new) (found : new.writer.table_full ≡ 0) where
@@ -108,11 +110,15 @@ module _ (lines : List ScenarioLine) (o : Opened) (same : o.plan.lines ≡ lines
       late = late;
     }
 
+    in_turn : InTurn (handles_from lines 0 (apps lines)) lines old new
+    in_turn = subst (λ (contexts : List Context). InTurn contexts lines old new) declared
+        (subst (λ (l : List ScenarioLine). InTurn o.plan.contexts l old new) same (played.in_turn (found ∙ sym is_book.unused.table_full)))
+
     one_book : HasPlayedAll lines apid new
     one_book =
         let asked_so = played.stays.asked_each in
         let none = ap length is_book.records in
-        record { calls = calls; claims = claims; asks = omega (arith, asked_so, none); whole = played.stays.whole whole }
+        record { calls = calls; claims = claims; in_turn = (old, is_book, in_turn); asks = omega (arith, asked_so, none); whole = played.stays.whole whole }
 
   pub all_books : (apids : List (List ℕ)) (old new : List BookState) → ArePairs (IsAsked lines o) apids old → ArePairs (IsBookOf lines) apids old → All IsWhole old
       → ArePairs (HasPlayed o.plan.contexts o.plan.lines) old new → All (λ b. b.writer.table_full ≡ 0) new → ArePairs (HasPlayedAll lines) apids new

@@ -2,13 +2,14 @@
 use Rattle.std.specs.Prelude.{◌≡◌, ℕ, ◌+◌, ◌<◌, ◌≤◌, List, [], ◌++◌, length, map}
 use Rattle.std.specs.List.{AllByRecursion, filter_map, flat_map, range_with_len}
 use Rattle.dl_crew.specs.Calls.{IsClaimOf, content_of, registers_of}
-use Rattle.dl_crew.specs.Plays.{ArePairs}
+use Rattle.dl_crew.specs.Plays.{ArePairs, InTurn}
 use Rattle.dl_events.specs.declared.event.Event.{Event}
 use Rattle.dl_events.specs.declared.record.Answer.TheVariants.{Lost}
 use Rattle.dl_lib.specs.State.{AccountState}
 use Rattle.dl_model.specs.Accounts.{with_answer}
 use Rattle.dl_opening.specs.Asked.{asked_of, count_behind, without_slot}
-use Rattle.dl_opening.specs.Scenario.{apps, hello_of, specs_of, writers}
+use Rattle.dl_opening.specs.Opening.{IsBookOf}
+use Rattle.dl_opening.specs.Scenario.{apps, handles_from, hello_of, specs_of, writers}
 use Rattle.dl_rounds.specs.Greetings.{IsOfGreeting, told_in}
 use Rattle.dl_script_lines.specs.declared.line.ClaimLine.{ClaimLine}
 use Rattle.dl_script_lines.specs.declared.scenario.ScenarioLine.{ScenarioLine}
@@ -37,10 +38,13 @@ pub record HasClaimed (lines : List ScenarioLine) (b : BookState) : Type 0 where
       → length (with_answer Lost b.records) + count_behind b.writer.push.number n lines < b.writer.push.refusals
 
 -- The records of a writer of this application are those of the calls that the lines ask of it, each call of each line, in their order, with
--- the line's context, severity and arguments. After each the writer asked for an injection. Its claims are those of its lines.
+-- the line's context, severity and arguments. Its claims are those of its lines. The book is what a new one of the writer became as the lines were
+-- played one after the other: the claims that waited were announced as one joined them, before each call and at the end, once each, and after each
+-- call the writer asked for an injection.
 pub record HasPlayedAll (lines : List ScenarioLine) (apid : List ℕ) (b : BookState) : Type 0 where
   pub calls : map (λ r. without_slot (content_of r)) b.records ≡ asked_of apid b.writer.push.number lines
   pub claims : HasClaimed lines b
+  pub in_turn : (new : BookState) × IsBookOf lines apid new × InTurn (handles_from lines 0 (apps lines)) lines new b
   pub asks : length b.records ≤ asked b.writer
   pub whole : IsWhole b
 

@@ -51,14 +51,14 @@ folder_none = record { files = None; faults = 0; changes = 0; appends = 0 }
 module _ {L : Type 0} (told : L → LinkTold) (old : DaemonState L) (is : IsDaemon told old) where
   -- a run that held goes on with a client's Connect
   holds_connected : (number : ℕ) (core : Core) (events : List Event) (link : L) → Connects number old.core core (Some old.journal.events) (Some events) → IsFresh (told link)
-      → (run : Run) → HoldsIn (TellTaken told) (TellBytes told) (old.greeted ≡ true) run (map told old.links.links) old.listeners old.journal.events old.core (desk_told old.first_desk) (desk_told old.desk)
-      → HoldsIn (TellTaken told) (TellBytes told) (old.greeted ≡ true) run (map told (old.links.links ++ link ∷ [])) old.listeners (old.journal.events ++ event.Connect number ∷ []) core (desk_told old.first_desk) (desk_told old.desk)
+      → (run : Run) → HoldsIn (TellTaken told) (TellBytes told) (old.greeted ≡ true) run (map told old.links.links) old.seated.listeners old.journal.events old.core (desk_told old.first_desk) (desk_told old.desk)
+      → HoldsIn (TellTaken told) (TellBytes told) (old.greeted ≡ true) run (map told (old.links.links ++ link ∷ [])) old.seated.listeners (old.journal.events ++ event.Connect number ∷ []) core (desk_told old.first_desk) (desk_told old.desk)
   holds_connected number core events link connects fresh run holds = record {
     took = holds.took;
     taken = λ tells. subst (λ ls. AreTaken ls holds.took) one_more (taken_now tells);
     after = after_now;
-    noted = λ tells. subst (λ ls. AreNoted run (old.journal.events ++ event.Connect number ∷ []) holds.took ls old.listeners core) one_more
-        (noted_connected run old.journal.events holds.took old.core core number connects.comes.0 (map told old.links.links) old.listeners (told link) connects.next
+    noted = λ tells. subst (λ ls. AreNoted run (old.journal.events ++ event.Connect number ∷ []) holds.took ls old.seated.listeners core) one_more
+        (noted_connected run old.journal.events holds.took old.core core number connects.comes.0 (map told old.links.links) old.seated.listeners (told link) connects.next
         connects.comes.1 connects.comes.2 connects.comes.3 (is.linked.many ∙ sym (length-map old.links.links told))
         (nothing_taken (told link).given (tells link).0 fresh.nothing_given) is.heard.unused after_now (taken_now (λ l. (tells l).1)) (holds.noted tells));
     formed = goes_on run.setting (source_of run) old.journal.events (event.Connect number ∷ []) holds.formed (
@@ -91,7 +91,7 @@ module _ {L : Type 0} (told : L → LinkTold) (old : DaemonState L) (is : IsDaem
   -- a daemon is one with a client's Connect
   pub connected : (number : ℕ) (core : Core) (journal : Journaled) (links : Links L) (dropped : ℕ) (failed wanted : Bool) (link : L)
       → Connects number old.core core (Some old.journal.events) (Some journal.events) → links ≡ record { links = old.links.links ++ link ∷ []; room = old.links.room } → IsFresh (told link)
-      → AreLinked links core journal.spare → AreHeard old.listeners core (desk_told old.desk) → journal.spare + 1 ≡ old.journal.spare → core.hub.admitted ≡ old.core.hub.admitted
+      → AreLinked links core journal.spare → AreHeard old.seated core (desk_told old.desk) → journal.spare + 1 ≡ old.journal.spare → core.hub.admitted ≡ old.core.hub.admitted
       → IsDaemon told (record old { core = core; journal = journal; links = links; dropped = dropped; failed = failed; wanted = wanted })
   connected number core journal links dropped failed wanted link connects links_are fresh linked heard spare admitted =
       let events : journal.events ≡ old.journal.events ++ event.Connect number ∷ [] = cc connects.event in
@@ -116,8 +116,8 @@ module _ {L : Type 0} (told : L → LinkTold) (old : DaemonState L) (is : IsDaem
         apps = is.apps;
         desk = is.desk;
         running = subst IsRunning (sym events) (running_on old.journal.events (event.Connect number ∷ []) is.running refl);
-        runs = λ run gives. subst (λ (es : List Event). HoldsIn (TellTaken told) (TellBytes told) (old.greeted ≡ true) run (map told links.links) old.listeners es core (desk_told old.first_desk) (desk_told old.desk)) (sym events)
-            (subst (λ (ls : Links L). HoldsIn (TellTaken told) (TellBytes told) (old.greeted ≡ true) run (map told ls.links) old.listeners (old.journal.events ++ event.Connect number ∷ []) core (desk_told old.first_desk) (desk_told old.desk)) (sym links_are)
+        runs = λ run gives. subst (λ (es : List Event). HoldsIn (TellTaken told) (TellBytes told) (old.greeted ≡ true) run (map told links.links) old.seated.listeners es core (desk_told old.first_desk) (desk_told old.desk)) (sym events)
+            (subst (λ (ls : Links L). HoldsIn (TellTaken told) (TellBytes told) (old.greeted ≡ true) run (map told ls.links) old.seated.listeners (old.journal.events ++ event.Connect number ∷ []) core (desk_told old.first_desk) (desk_told old.desk)) (sym links_are)
             (holds_connected number core journal.events link connects fresh run (is.runs run gives)));
         shown = λ run gives. subst (λ (es : List Event). AllShowWhy (TellOver told) es core.hub (map told links.links)) (sym events)
             (subst (λ (ls : Links L). AllShowWhy (TellOver told) (old.journal.events ++ event.Connect number ∷ []) core.hub (map told ls.links)) (sym links_are)
@@ -151,7 +151,7 @@ module _ {L : Type 0} (told : L → LinkTold) (old : DaemonState L) (is : IsDaem
   -- a daemon is one after an accept, whatever came of it
   pub accepted : (came : Arrival) (net net_now : NetTold L) (core : Core) (journal : Journaled) (links : Links L) (dropped : ℕ) (failed wanted : Bool)
       → Arrives told came net net_now old.links links old.dropped dropped → ConnectsAs came old.core core (Some old.journal.events) (Some journal.events)
-      → AreLinked links core journal.spare → AreHeard old.listeners core (desk_told old.desk)
+      → AreLinked links core journal.spare → AreHeard old.seated core (desk_told old.desk)
       → ((number : ℕ) → came ≡ arrival.Client number → journal.spare + 1 ≡ old.journal.spare) → (((number : ℕ) → came ≢ arrival.Client number) → journal ≡ old.journal)
       → IsDaemon told (record old { core = core; journal = journal; links = links; dropped = dropped; failed = failed; wanted = wanted })
   accepted (arrival.Client number) net net_now core journal links dropped failed wanted arrives connects linked heard spare unused =

@@ -20,7 +20,8 @@ use Rattle.dl_loop.specs.Scene.{Scene}
 use Rattle.dl_loop.specs.State.{DaemonState, desk_told}
 use Rattle.dl_loop.specs.Steps.{Hears, Parts, Pumps, is_failure}
 use Rattle.dl_taking.specs.declared.taking.Got.{Got}
-use Rattle.dl_loop.specs.Takes.{TakesLossesIfMay, TakesOn, TakesTurn, TakesTurns, found_none, gave, most_of}
+use Rattle.dl_taking.specs.Takes.{found_none, gave}
+use Rattle.dl_loop.specs.Takes.{TakesLossesIfMay, TakesOn, TakesTurn, TakesTurns, most_of}
 use Rattle.dl_loop.specs.declared.round.Round.{Round}
 use Rattle.dl_admission.proofs.KeptTraces.{risen_later, risen_before}
 

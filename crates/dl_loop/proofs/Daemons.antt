@@ -1,5 +1,5 @@
 -- The laws of the daemon, each of its lemma.
-use Rattle.std.proofs.Common.{◌≡◌, ◌≤◌, ℕ, Bool, true, List, length, map, sym, ap, refl, subst, ◌∙◌, arith}
+use Rattle.std.proofs.Common.{◌≡◌, ◌≤◌, ℕ, Bool, true, length, map, sym, ap, refl, subst, ◌∙◌, arith}
 use Rattle.std.proofs.lemmas.List.{length-map}
 use Rattle.dl_outside.specs.Told.{FolderTold, LinkTold, NetTold}
 use Rattle.dl_desk.specs.Made.{IsLater}
@@ -11,7 +11,7 @@ use Rattle.dl_turns.specs.Gone.{TellOver}
 use Rattle.dl_rounds.specs.Ready.{AreHeard}
 use Rattle.dl_rounds.specs.Shown.{ShowWhy, TellOvers}
 use Rattle.dl_rounds.specs.Visits.{HearsAll, Pumped}
-use Rattle.dl_rounds.specs.declared.listener.Listener.{Listener}
+use Rattle.dl_rounds.specs.Seats.{Seated}
 use Rattle.dl_rounds.specs.declared.accepting.Arrival.{Arrival}
 use Rattle.dl_taking.specs.Took.{took_by}
 use Rattle.dl_settling.specs.Room.{HasFewClaims, IsFew}
@@ -31,7 +31,7 @@ use Rattle.dl_loop.proofs.Visited.{PumpsAreEvents, heard_admits_none, heard_runs
 pub made_is : {L : Type 0} (told : L → LinkTold) (d : DaemonState L) → IsMade d → IsDaemon told d
 unfolding fresh_listeners
 made_is told d made =
-    let m = made_daemon told d.core d.desk d.journal d.links d.listeners d.calls made.begins made.untouched made.events made.links made.listeners made.room in record {
+    let m = made_daemon told d.core d.desk d.journal d.links d.seated d.calls made.begins made.untouched made.events made.links made.listeners made.room in record {
       told_by = m.told_by;
       linked = m.linked;
       heard = m.heard;
@@ -49,9 +49,9 @@ made_is told d made =
       apps = m.apps;
       desk = subst (λ (first : DeskState). IsLater first d.desk) (sym made.first_desk) m.desk;
       running = m.running;
-      runs = λ run gives. subst (λ (first : DeskState). HoldsIn (TellTaken told) (TellBytes told) (d.greeted ≡ true) run (map told d.links.links) d.listeners d.journal.events d.core (desk_told first) (desk_told d.desk))
+      runs = λ run gives. subst (λ (first : DeskState). HoldsIn (TellTaken told) (TellBytes told) (d.greeted ≡ true) run (map told d.links.links) d.seated.listeners d.journal.events d.core (desk_told first) (desk_told d.desk))
           (sym made.first_desk)
-          (subst (λ (greeted : Bool). HoldsIn (TellTaken told) (TellBytes told) (greeted ≡ true) run (map told d.links.links) d.listeners d.journal.events d.core (desk_told d.desk) (desk_told d.desk)) (sym made.greeted)
+          (subst (λ (greeted : Bool). HoldsIn (TellTaken told) (TellBytes told) (greeted ≡ true) run (map told d.links.links) d.seated.listeners d.journal.events d.core (desk_told d.desk) (desk_told d.desk)) (sym made.greeted)
           (m.runs run (subst (λ (first : Core). Gives run first d.desk.apps d.desk.handles) made.first_core gives)));
       shown = λ run gives. m.shown run (subst (λ (first : Core). Gives run first d.desk.apps d.desk.handles) made.first_core gives);
     }
@@ -65,17 +65,17 @@ pub hear_is : ((moved : Bool) (old new : Clients) → HearsAll moved old new →
     → ((moved : Bool) (old new : Clients) → HearsAll moved old new → (TellOver told → TellOvers old.links) → ShowWhy (TellOver told) old → ShowWhy (TellOver told) new) → (moved : Bool) (folder folder_now : FolderTold) (old new : DaemonState L)
     → IsDaemon told old → Hears told moved folder folder_now old new → GoesOn old new → IsDaemon told new
 hear_is stays {L} told shows moved folder folder_now old new is hears goes = subst (λ (d : DaemonState L). IsDaemon told d) (sym hears.rest)
-    (later_daemon told old is new.core new.desk new.journal new.links new.listeners folder folder_now (stays moved _ _ hears.visits) (shows moved _ _ hears.visits (tell_overs told old.links.links)) (heard_runs moved _ _ hears.visits is.running)
+    (later_daemon told old is new.core new.desk new.journal new.links new.seated folder folder_now (stays moved _ _ hears.visits) (shows moved _ _ hears.visits (tell_overs told old.links.links)) (heard_runs moved _ _ hears.visits is.running)
     (heard_admits_none moved _ _ hears.visits) hears.desk goes.linked goes.heard goes.room goes.same)
 
 pub pump_is : ((moved : Bool) (old new : Clients) → VisitsAll Pumped moved old new → StayAsNoted old new) → PumpsAreEvents → {L : Type 0} (told : L → LinkTold)
     → ((moved : Bool) (old new : Clients) → VisitsAll Pumped moved old new → ShowWhy (TellOver told) old → ShowWhy (TellOver told) new) → (moved : Bool) (old new : DaemonState L)
     → IsDaemon told old → Pumps told moved old new → GoesOn old new → IsDaemon told new
 pump_is stays pump {L} told shows moved old new is pumps goes =
-    let enough : length (map told old.links.links) ≤ length old.listeners = omega (arith, length-map old.links.links told, is.linked.many, is.linked.few, is.heard.enough) in
-    let visits = pumps.visits (desk_told old.desk) folder_none old.listeners enough in
+    let enough : length (map told old.links.links) ≤ length old.seated.listeners = omega (arith, length-map old.links.links told, is.linked.many, is.linked.few, is.heard.enough) in
+    let visits = pumps.visits (desk_told old.desk) folder_none old.seated.listeners enough in
     let desk : new.desk ≡ old.desk = ap (λ (d : DaemonState L). d.desk) pumps.rest in
-    let listeners : new.listeners ≡ old.listeners = ap (λ (d : DaemonState L). d.listeners) pumps.rest in
+    let seated : new.seated ≡ old.seated = ap (λ (d : DaemonState L). d.seated) pumps.rest in
     subst (λ (d : DaemonState L). IsDaemon told d) (sym pumps.rest)
-    (later_daemon told old is new.core old.desk new.journal new.links old.listeners folder_none folder_none (stays moved _ _ visits) (shows moved _ _ visits) (pumped_runs pump moved _ _ visits is.running)
-    (pumped_admits_none moved _ _ visits) refl goes.linked (subst (λ (de : DeskState). AreHeard old.listeners new.core (desk_told de)) desk (subst (λ (ls : List Listener). AreHeard ls new.core (desk_told new.desk)) listeners goes.heard)) goes.room goes.same)
+    (later_daemon told old is new.core old.desk new.journal new.links old.seated folder_none folder_none (stays moved _ _ visits) (shows moved _ _ visits) (pumped_runs pump moved _ _ visits is.running)
+    (pumped_admits_none moved _ _ visits) refl goes.linked (subst (λ (de : DeskState). AreHeard old.seated new.core (desk_told de)) desk (subst (λ (s : Seated). AreHeard s new.core (desk_told new.desk)) seated goes.heard)) goes.room goes.same)

@@ -1,5 +1,5 @@
 -- Log and Lost events stay as few as the calls that were taken and the losses that were reported, and Claim events as the claims that were taken.
-use Rattle.std.proofs.Common.{◌≡◌, ◌≢◌, ℕ, zero, suc, ◌+◌, ◌<◌, ◌≤◌, Bool, cond, eqb, eq-eqb, ne_eqb, List, [], ◌∷◌, ◌++◌, map, length, length-append, inl, inr, refl, sym, ap, ◌∙◌, subst, arith}
+use Rattle.std.proofs.Common.{◌≡◌, ◌≢◌, ℕ, zero, suc, ◌+◌, ◌<◌, ◌≤◌, Bool, cond, eqb, eq-eqb, ne_eqb, List, ◌++◌, map, length, length-append, inl, inr, refl, sym, ap, ◌∙◌, subst, arith}
 use Rattle.std.proofs.lemmas.Bool.Decides.{eqb_tells}
 use Rattle.dl_bytes.specs.declared.item.Item.{Item}
 use Rattle.dl_losses.specs.Losses.{reported_of}
@@ -10,6 +10,7 @@ use Rattle.dl_ring.specs.Items.{calls_in, claims_in}
 use Rattle.dl_ring.proofs.Items.{calls_in-append, claims_in-append}
 use Rattle.dl_taking.specs.Took.{Took, with_items, with_losses}
 use Rattle.dl_settling.specs.Room.{HasFewClaims, IsFew, claims_told_from, told_from}
+use Rattle.dl_taking.proofs.Tooks.{calls_are, no_claims}
 
 -- ---- what adds up over applications
 
@@ -47,15 +48,6 @@ module _ (f g : ℕ → ℕ) (app more_of : ℕ) (here : g app ≡ f app + more_
   ]
 
 -- ---- calls and claims
-
--- calls alone are so many calls, and no claim
-calls_alone : (items : List Item) → calls_in (map Log items) ≡ items
-calls_alone [] = refl
-calls_alone (item ∷ items) = ap (λ (xs : List Item). item ∷ xs) (calls_alone items)
-
-claims_alone : (items : List Item) → claims_in (map Log items) ≡ []
-claims_alone [] = refl
-claims_alone (item ∷ items) = claims_alone items
 
 module _ (app apps : ℕ) (items : List RingItem) (took now : Took) (is : now ≡ with_items app items took) (below : app < apps) where
   taken_there : now.taken app ≡ took.taken app ++ items
@@ -97,7 +89,7 @@ few_taken noted claimed calls claims app apps items took now is calls_are claims
 pub few_calls : (noted claimed count app apps : ℕ) (items : List Item) (took now : Took) → now ≡ with_items app (map Log items) took → count ≡ length items → app < apps
     → IsFew noted took apps → HasFewClaims claimed took apps → StayFew noted claimed count 0 apps now
 few_calls noted claimed count app apps items took now is many below few fewer =
-    few_taken noted claimed count 0 app apps (map Log items) took now is (many ∙ ap length (sym (calls_alone items))) (ap length (sym (claims_alone items))) below few fewer
+    few_taken noted claimed count 0 app apps (map Log items) took now is (many ∙ ap length (sym (calls_are items))) (ap length (sym (no_claims items))) below few fewer
 
 -- ---- losses
 

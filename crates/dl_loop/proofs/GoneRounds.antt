@@ -32,7 +32,7 @@ use Rattle.dl_admission.specs.Kept.{end_of}
 use Rattle.dl_rounds.specs.Arrivals.{Arrives, ConnectsAs}
 use Rattle.dl_rounds.specs.declared.accepting.Arrival.{Arrival}
 use Rattle.dl_rounds.specs.declared.accepting.Arrival.TheVariants as arrival
-use Rattle.dl_rounds.specs.declared.listener.Listener.{Listener}
+use Rattle.dl_rounds.specs.Seats.{Seated}
 use Rattle.dl_rounds.specs.Visits.{HearsAll, Pumped}
 use Rattle.dl_rounds.specs.Clients.{Clients, VisitsAll}
 use Rattle.dl_rounds.specs.Passing.{AreLater, IsOfClients}
@@ -46,7 +46,8 @@ use Rattle.dl_loop.specs.Later.{GoesRound, IsLaterBy, IsNetLater, IsOfRound}
 use Rattle.dl_model.specs.Journal.{is_connect}
 use Rattle.dl_loop.specs.RoundSteps.{AcceptsIfMay}
 use Rattle.dl_loop.specs.Scene.{Scene, scene}
-use Rattle.dl_loop.specs.State.{DaemonState, SameDesk, claim_limit, clients_of, desk_told}
+use Rattle.dl_loop.specs.Limits.{claim_limit}
+use Rattle.dl_loop.specs.State.{DaemonState, SameDesk, clients_of, desk_told}
 use Rattle.dl_loop.specs.Steps.{Hears, Pumps}
 use Rattle.dl_loop.specs.Takes.{TakesLossesIfMay, TakesSomeOf}
 use Rattle.dl_loop.proofs.FolderEvents.{folder_kept, keeps_still, leaves_kept}
@@ -189,11 +190,11 @@ open_few (c ∷ clients) = omega (arith, sum_by-cons (λ (x : Client). cond (is_
 -- ---- a round over clients
 
 module _ {L : Type 0} (told : L → LinkTold) (net : NetTold L) (old : DaemonState L) (is : IsDaemon told old) where
-  pub goes_later : (core : Core) (desk : DeskState) (journal : Journaled) (links : Links L) (listeners : List Listener) (folder folder_now : FolderTold)
-      → AreLater (clients_of told old folder) (record { links = map told links.links; listeners = listeners; side = side core (desk_told desk) (Some journal.events) folder_now })
+  pub goes_later : (core : Core) (desk : DeskState) (journal : Journaled) (links : Links L) (seated : Seated) (folder folder_now : FolderTold)
+      → AreLater (clients_of told old folder) (record { links = map told links.links; listeners = seated.listeners; side = side core (desk_told desk) (Some journal.events) folder_now })
       → FolderGoesOn (side old.core (desk_told old.desk) (Some old.journal.events) folder) (side core (desk_told desk) (Some journal.events) folder_now)
-      → SameDesk old.desk desk → GoesRound net net (scene old folder) (scene (record old { core = core; desk = desk; journal = journal; links = links; listeners = listeners }) folder_now)
-  goes_later core desk journal links listeners folder folder_now later on same =
+      → SameDesk old.desk desk → GoesRound net net (scene old folder) (scene (record old { core = core; desk = desk; journal = journal; links = links; seated = seated }) folder_now)
+  goes_later core desk journal links seated folder folder_now later on same =
       let events : journal.events ≡ old.journal.events ++ later.more = cc later.events in
       let of_round = clients_of_round later.more later.of_clients in record {
         more = later.more;
@@ -224,15 +225,15 @@ module _ {L : Type 0} (told : L → LinkTold) (net : NetTold L) (old : DaemonSta
   pub goes_hears : ((moved : Bool) (old new : Clients) → HearsAll moved old new → AreLater old new) → (moved : Bool) (folder folder_now : FolderTold) (new : DaemonState L) → Hears told moved folder folder_now old new
       → GoesRound net net (scene old folder) (scene new folder_now)
   goes_hears events moved folder folder_now new hears = subst (λ (d : DaemonState L). GoesRound net net (scene old folder) (scene d folder_now)) (sym hears.rest)
-      (goes_later new.core new.desk new.journal new.links new.listeners folder folder_now (events moved _ _ hears.visits) (heard_on moved _ _ hears.visits) hears.desk)
+      (goes_later new.core new.desk new.journal new.links new.seated folder folder_now (events moved _ _ hears.visits) (heard_on moved _ _ hears.visits) hears.desk)
 
   pub goes_pumps : WhatLinksTake → ((moved : Bool) (old new : Clients) → VisitsAll Pumped moved old new → AreLater old new) → (moved : Bool) (folder : FolderTold) (new : DaemonState L) → Pumps told moved old new
       → GoesRound net net (scene old folder) (scene new folder)
   goes_pumps takes events moved folder new pumps =
-      let enough : length (map told old.links.links) ≤ length old.listeners = omega (arith, length-map old.links.links told, is.linked.many, is.linked.few, is.heard.enough) in
+      let enough : length (map told old.links.links) ≤ length old.seated.listeners = omega (arith, length-map old.links.links told, is.linked.many, is.linked.few, is.heard.enough) in
       subst (λ (d : DaemonState L). GoesRound net net (scene old folder) (scene d folder)) (sym pumps.rest)
-      (goes_later new.core old.desk new.journal new.links old.listeners folder folder (events moved _ _ (pumps.visits (desk_told old.desk) folder old.listeners enough))
-      (pumped_on takes moved _ _ (pumps.visits (desk_told old.desk) folder old.listeners enough)) refl)
+      (goes_later new.core old.desk new.journal new.links old.seated folder folder (events moved _ _ (pumps.visits (desk_told old.desk) folder old.seated.listeners enough))
+      (pumped_on takes moved _ _ (pumps.visits (desk_told old.desk) folder old.seated.listeners enough)) refl)
 
   -- ---- what is taken
 

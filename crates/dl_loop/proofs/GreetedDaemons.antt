@@ -293,15 +293,15 @@ module _ {L : Type 0} (told : L → LinkTold) (moment : Moment) (msgs : List Use
   There = new.daemon.greeted ≡ true → AreThere (length new.daemon.desk.apps) new.daemon.core.registry
 
   holds_greeted : There → (run : Run) → Gives run old.daemon.first_core new.daemon.desk.apps new.daemon.desk.handles
-      → HoldsIn (TellTaken told) (TellBytes told) (new.daemon.greeted ≡ true) run (map told old.daemon.links.links) old.daemon.listeners (old.daemon.journal.events ++ led.0) new.daemon.core (desk_told old.daemon.first_desk) (desk_told new.daemon.desk)
+      → HoldsIn (TellTaken told) (TellBytes told) (new.daemon.greeted ≡ true) run (map told old.daemon.links.links) old.daemon.seated.listeners (old.daemon.journal.events ++ led.0) new.daemon.core (desk_told old.daemon.first_desk) (desk_told new.daemon.desk)
   holds_greeted there_now run gives =
       let holds = is.runs run (gives_before run old.daemon.first_core old.daemon.desk new.daemon.desk greets.desk gives) in
       let after_now = (led.1.after run old.daemon.journal.events holds.took tt holds.after).0 in record {
         took = holds.took;
         taken = holds.taken;
         after = after_now;
-        noted = λ tells. subst (λ (ls : List L). AreNoted run (old.daemon.journal.events ++ led.0) holds.took (map told ls) old.daemon.listeners new.daemon.core) (sym nobody)
-            (noted_none run (old.daemon.journal.events ++ led.0) holds.took old.daemon.listeners new.daemon.core after_now);
+        noted = λ tells. subst (λ (ls : List L). AreNoted run (old.daemon.journal.events ++ led.0) holds.took (map told ls) old.daemon.seated.listeners new.daemon.core) (sym nobody)
+            (noted_none run (old.daemon.journal.events ++ led.0) holds.took old.daemon.seated.listeners new.daemon.core after_now);
         formed = led.1.formed run old.daemon.journal.events holds.took holds.after is.running holds.formed;
         posted = λ app. posted_both run.setting [] old.daemon.journal.events led.0 app (desk_told old.daemon.first_desk) (desk_told old.daemon.desk) (desk_told new.daemon.desk) (holds.posted app)
             (posted_none run.setting old.daemon.journal.events led.0 app (desk_told old.daemon.desk) (desk_told new.daemon.desk) (says_nothing led.0 led.1.kinds).asks (led.1.pushed app) (led.1.refusals app));
@@ -337,9 +337,10 @@ module _ {L : Type 0} (told : L → LinkTold) (moment : Moment) (msgs : List Use
         };
         heard = record {
           enough = omega (arith, is.heard.enough, led.1.limit);
-          limits = λ place listener there some. (let gone = nobody_open new.daemon.core.hub may.nobody (place + 1) in absurd cc);
+          limits = is.heard.limits;
           counts = λ place listener there below. absurd (omega (arith, below, came));
           unused = λ place listener there above. is.heard.unused place listener there (omega (arith, had));
+          waiting = λ number some. (let gone = nobody_open new.daemon.core.hub may.nobody number in absurd cc);
           desk_so = may.desk_so;
         };
         room = record {
@@ -359,7 +360,7 @@ module _ {L : Type 0} (told : L → LinkTold) (moment : Moment) (msgs : List Use
         apps = subst (λ (specs : List AppSpec). length specs ≤ 16) (sym apps) is.apps;
         desk = later_both old.daemon.first_desk old.daemon.desk new.daemon.desk is.desk (same_later old.daemon.desk new.daemon.desk same);
         running = subst IsRunning (sym events) (running_on old.daemon.journal.events led.0 is.running (none_stops led.0 led.1.kinds));
-        runs = λ run gives. subst (λ (es : List Event). HoldsIn (TellTaken told) (TellBytes told) (new.daemon.greeted ≡ true) run (map told old.daemon.links.links) old.daemon.listeners es new.daemon.core (desk_told old.daemon.first_desk) (desk_told new.daemon.desk)) (sym events)
+        runs = λ run gives. subst (λ (es : List Event). HoldsIn (TellTaken told) (TellBytes told) (new.daemon.greeted ≡ true) run (map told old.daemon.links.links) old.daemon.seated.listeners es new.daemon.core (desk_told old.daemon.first_desk) (desk_told new.daemon.desk)) (sym events)
             (holds_greeted there_now run gives);
         shown = λ run gives. subst (λ (ls : List L). AllShowWhy (TellOver told) new.daemon.journal.events new.daemon.core.hub (map told ls)) (sym nobody) (λ number link there gone at. absurd (cc at));
       })

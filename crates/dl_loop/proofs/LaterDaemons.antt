@@ -33,7 +33,7 @@ use Rattle.dl_rounds.specs.Passing.{AreLater, IsOfClients, StayAsNoted, took_all
 use Rattle.dl_turns.specs.Gone.{TellOver}
 use Rattle.dl_rounds.specs.Ready.{AreHeard, AreLinked, KeepsRoom}
 use Rattle.dl_rounds.specs.Shown.{AllShowWhy}
-use Rattle.dl_rounds.specs.declared.listener.Listener.{Listener}
+use Rattle.dl_rounds.specs.Seats.{Seated}
 use Rattle.dl_taking.specs.Drained.{is_claim, is_noted}
 use Rattle.dl_taking.specs.Takes.{AreThere}
 use Rattle.dl_taking.specs.Took.{Took, took_by}
@@ -121,13 +121,13 @@ module _ {L : Type 0} (told : L → LinkTold) (old : DaemonState L) (is : IsDaem
       }
 
   -- a daemon is one after it
-  pub later_daemon : (core : Core) (desk : DeskState) (journal : Journaled) (links : Links L) (listeners : List Listener) (folder folder_now : FolderTold)
-      → StayAsNoted (clients_of told old folder) (record { links = map told links.links; listeners = listeners; side = side core (desk_told desk) (Some journal.events) folder_now })
+  pub later_daemon : (core : Core) (desk : DeskState) (journal : Journaled) (links : Links L) (seated : Seated) (folder folder_now : FolderTold)
+      → StayAsNoted (clients_of told old folder) (record { links = map told links.links; listeners = seated.listeners; side = side core (desk_told desk) (Some journal.events) folder_now })
       → (AllShowWhy (TellOver told) old.journal.events old.core.hub (map told old.links.links) → AllShowWhy (TellOver told) journal.events core.hub (map told links.links))
       → IsRunning journal.events → core.hub.admitted ≡ old.core.hub.admitted → SameDesk old.desk desk
-      → AreLinked links core journal.spare → AreHeard listeners core (desk_told desk) → KeepsRoom old.core core old.journal.spare journal.spare → IsSameHub old.core.hub core.hub
-      → IsDaemon told (record old { core = core; desk = desk; journal = journal; links = links; listeners = listeners })
-  later_daemon core desk journal links listeners folder folder_now stays shows running admitted same linked heard room same_hub =
+      → AreLinked links core journal.spare → AreHeard seated core (desk_told desk) → KeepsRoom old.core core old.journal.spare journal.spare → IsSameHub old.core.hub core.hub
+      → IsDaemon told (record old { core = core; desk = desk; journal = journal; links = links; seated = seated })
+  later_daemon core desk journal links seated folder folder_now stays shows running admitted same linked heard room same_hub =
       let later = stays.later in
       let events : journal.events ≡ old.journal.events ++ later.more = cc later.events in
       let none = of_clients_take_nothing later.more later.of_clients in
@@ -157,7 +157,7 @@ module _ {L : Type 0} (told : L → LinkTold) (old : DaemonState L) (is : IsDaem
         apps = subst (λ (specs : List AppSpec). length specs ≤ 16) (sym (same_apps old.desk desk same)) is.apps;
         desk = later_both old.first_desk old.desk desk is.desk (same_later old.desk desk same);
         running = running;
-        runs = λ run gives. subst (λ (es : List Event). HoldsIn (TellTaken told) (TellBytes told) (old.greeted ≡ true) run (map told links.links) listeners es core (desk_told old.first_desk) (desk_told desk)) (sym events)
-            (holds_later desk folder (record { links = map told links.links; listeners = listeners; side = side core (desk_told desk) (Some journal.events) folder_now }) stays refl same run gives);
+        runs = λ run gives. subst (λ (es : List Event). HoldsIn (TellTaken told) (TellBytes told) (old.greeted ≡ true) run (map told links.links) seated.listeners es core (desk_told old.first_desk) (desk_told desk)) (sym events)
+            (holds_later desk folder (record { links = map told links.links; listeners = seated.listeners; side = side core (desk_told desk) (Some journal.events) folder_now }) stays refl same run gives);
         shown = λ run gives. shows (is.shown run (gives_before run old.first_core old.desk desk same gives));
       }

@@ -18,6 +18,7 @@ pub mod FolderSides
 pub mod ListedApps
 pub mod GreetedDaemons
 pub mod TakesTurned
+pub mod TurnsHad
 pub mod GoneRounds
 pub mod NewDesks
 pub mod DroppedLinks

@@ -35,6 +35,8 @@ use Rattle.dl_taking.specs.Takes.{AreThere}
 use Rattle.dl_taking.proofs.StayingApps.{Who, there, who}
 use Rattle.dl_rounds.specs.Greetings.{GreetsEach, IsRegistration, hello_of, registered}
 use Rattle.dl_loop.specs.Greeting.{AreListed, id_in}
+use Rattle.dl_lemmas.proofs.Options.{ifok_if}
+use Rattle.dl_lemmas.proofs.Bools.{neither}
 
 -- ---- who is there
 
@@ -49,10 +51,6 @@ AreFirst number (apid ∷ apids) [] = ⊥
 AreFirst number (apid ∷ apids) (one ∷ all) = (one ≡ own apid number) × AreFirst (number + 1) apids all
 
 -- ---- what leaves who is there
-
-ifok_if : {A E : Type 0} (P : A → Type 0) (b : Bool) (e : E) (r : Result A E) → IfOk r P → IfOk (cond b (Err e) r) P
-ifok_if P true e r ok = tt
-ifok_if P false e r ok = ok
 
 -- an application that is changed stays who it is
 set_there : (test : List ℕ → Bool) (es : List (List ℕ × App)) (old new : App) → lookup test es ≡ Some old → new.channel ≡ old.channel → new.number ≡ old.number →
@@ -110,10 +108,6 @@ first_one number (other ∷ apids) apid (one ∷ all) first alone =
 or_right : (b : Bool) → (b || true) ≡ true
 or_right true = refl
 or_right false = refl
-
-neither : (a b : Bool) → (a || b) ≡ false → (a ≡ false) × (b ≡ false)
-neither true b is = absurd (true≢false is)
-neither false b is = (refl, is)
 
 -- those that are there alone have the numbers from 0 on
 numbers_alone : (number : ℕ) (apids : List (List ℕ)) (es : List (List ℕ × App)) → AreFirst number apids (map who es) → length es ≡ length apids → (n : ℕ) → number ≤ n → n < number + length apids →

@@ -1,5 +1,5 @@
 -- What is true of a daemon is true of one that was just made.
-use Rattle.std.proofs.Common.{◌≡◌, ◌≤◌, ◌+◌, ◌*◌, ℕ, zero, suc, Bool, true, false, List, [], ◌∷◌, Some, None, length, map, replicate, slice_get, append-nil, refl, sym, ap, subst, ◌∙◌, ◌==◌, if◌then◌else◌, arith}
+use Rattle.std.proofs.Common.{◌≡◌, ◌≤◌, ◌+◌, ℕ, zero, suc, Bool, true, false, List, [], ◌∷◌, Some, None, length, map, replicate, slice_get, append-nil, refl, sym, ap, subst, ◌∙◌, ◌==◌, if◌then◌else◌, arith}
 use Rattle.std.specs.Prelude.{count_by, slice_index_or, unwrap_or}
 use Rattle.std.proofs.lemmas.List.{length-replicate}
 use Rattle.dl_bytes.specs.declared.conf.Stored.{Stored}
@@ -24,14 +24,16 @@ use Rattle.dl_core.specs.Settings.{begun}
 use Rattle.dl_core.specs.State.{Core}
 use Rattle.dl_turns.specs.Events.{IsDeskOf}
 use Rattle.dl_turns.specs.Gone.{TellOver}
-use Rattle.dl_rounds.specs.Ready.{AreHeard, AreLinked, fresh_listener}
+use Rattle.dl_rounds.specs.Ready.{AreLinked, fresh_listener}
 use Rattle.dl_rounds.specs.Shown.{AllShowWhy}
+use Rattle.dl_rounds.specs.Seats.{Seated}
 use Rattle.dl_rounds.specs.declared.listener.Listener.{Listener}
 use Rattle.dl_taking.specs.Drained.{is_claim, is_noted}
 use Rattle.dl_loop.specs.Daemon.{IsDaemon, TellTaken}
 use Rattle.dl_loop.specs.Holds.{HoldsIn}
 use Rattle.dl_loop.specs.Made.{IsBegun, IsUntouched}
-use Rattle.dl_loop.specs.State.{claim_limit, desk_told}
+use Rattle.dl_loop.specs.Limits.{more_events}
+use Rattle.dl_loop.specs.State.{desk_told}
 use Rattle.dl_loop.specs.Told.{IsToldBy}
 use Rattle.dl_loop.proofs.DeskRest.{later_none}
 use Rattle.dl_settling.specs.Went.{TellBytes}
@@ -57,6 +59,9 @@ each_fresh zero place listener is = absurd cc
 each_fresh (suc many) zero listener is = cc is
 each_fresh (suc many) (suc place) listener is = each_fresh many place listener is
 
+all_fresh : (listeners : List Listener) → listeners ≡ replicate 32 fresh_listener → (place : ℕ) (listener : Listener) → slice_get listeners place ≡ Some listener → listener ≡ fresh_listener
+all_fresh listeners all place listener is = each_fresh 32 place listener (ap (λ (ls : List Listener). slice_get ls place) (sym all) ∙ is)
+
 -- nobody is open in a hub to which nobody came
 pub nobody_open : (ecu : List ℕ) (buffer limit number : ℕ) → outbox_of (fresh ecu buffer limit) number ≡ None
 nobody_open ecu buffer limit number = by_test (number == 0) where
@@ -72,14 +77,14 @@ made_desk level stored desk untouched = record {
       ∙ sym (ap (λ first. current_version first slot desk.handles.levels.sets) untouched.first ∙ ap (λ sets. current_version 0 slot sets) untouched.sets);
 }
 
-pub made_daemon : {L : Type 0} (told : L → LinkTold) (core : Core) (desk : DeskState) (journal : Journaled) (links : Links L) (listeners : List Listener) (calls : ℕ)
-    → IsBegun core → IsUntouched desk → journal.events ≡ [] → links ≡ record { links = []; room = 32 } → listeners ≡ replicate 32 fresh_listener → calls + 2 * claim_limit + 64 ≤ journal.spare
+pub made_daemon : {L : Type 0} (told : L → LinkTold) (core : Core) (desk : DeskState) (journal : Journaled) (links : Links L) (seated : Seated) (calls : ℕ)
+    → IsBegun core → IsUntouched desk → journal.events ≡ [] → links ≡ record { links = []; room = 32 } → seated.listeners ≡ replicate 32 fresh_listener → calls + more_events ≤ journal.spare
     → IsDaemon told (record {
       core = core;
       desk = desk;
       journal = journal;
       links = links;
-      listeners = listeners;
+      seated = seated;
       calls = calls;
       noted = 0;
       claimed = 0;
@@ -91,7 +96,7 @@ pub made_daemon : {L : Type 0} (told : L → LinkTold) (core : Core) (desk : Des
       first_desk = desk;
     })
 unfolding IsBegun
-made_daemon told core desk journal links listeners calls begins untouched events no_links fresh_all room =
+made_daemon told core desk journal links seated calls begins untouched events no_links fresh_all room =
     let conf = begins.0 in
     let stored = begins.1 in
     let trace = begins.2 in
@@ -100,7 +105,7 @@ made_daemon told core desk journal links listeners calls begins untouched events
       desk = desk;
       journal = journal;
       links = links;
-      listeners = listeners;
+      seated = seated;
       calls = calls;
       noted = 0;
       claimed = 0;
@@ -121,13 +126,14 @@ made_daemon told core desk journal links listeners calls begins untouched events
       });
       linked = subst (λ ls. AreLinked ls (begun conf stored 0 trace) journal.spare) (sym no_links)
           (record { many = refl; few = omega arith; place = omega arith; settled = made_owes_none conf.level stored 0; room = omega arith });
-      heard = subst (λ ls. AreHeard ls (begun conf stored 0 trace) (desk_told desk)) (sym fresh_all) (record {
-        enough = omega (arith, length-replicate 32 fresh_listener);
-        limits = λ place listener there is. (let none = nobody_open conf.ecu conf.buffer client_limit (place + 1) in absurd cc);
+      heard = record {
+        enough = omega (arith, ap (λ (ls : List Listener). length ls) fresh_all, length-replicate 32 fresh_listener);
+        limits = λ place listener there. ap (λ (l : Listener). l.cutter.limit) (all_fresh seated.listeners fresh_all place listener there);
         counts = λ place listener there low. absurd (omega (arith, low));
-        unused = λ place listener there none. each_fresh 32 place listener there;
+        unused = λ place listener there none. all_fresh seated.listeners fresh_all place listener there;
+        waiting = λ number is. (let none = nobody_open conf.ecu conf.buffer client_limit number in absurd cc);
         desk_so = made_desk conf.level stored desk untouched;
-      });
+      };
       room = record { noted = sym (ap (count_by is_noted) events); claimed = sym (ap (count_by is_claim) events); few = omega arith; few_claims = omega arith; limit = refl; spare = omega (arith, room) };
       bounds = record { few = omega arith; small = λ app. omega (arith, ap (reported_of app) untouched.reported) };
       few = omega arith;
@@ -135,12 +141,12 @@ made_daemon told core desk journal links listeners calls begins untouched events
       apps = untouched.few;
       desk = later_none desk;
       running = subst IsRunning (sym events) refl;
-      runs = λ run gives. subst (λ (es : List Event). HoldsIn (TellTaken told) (TellBytes told) (false ≡ true) run (map told links.links) listeners es (begun conf stored 0 trace) (desk_told desk) (desk_told desk)) (sym events)
-          (subst (λ (ls : Links _). HoldsIn (TellTaken told) (TellBytes told) (false ≡ true) run (map told ls.links) listeners [] (begun conf stored 0 trace) (desk_told desk) (desk_told desk)) (sym no_links) (record {
+      runs = λ run gives. subst (λ (es : List Event). HoldsIn (TellTaken told) (TellBytes told) (false ≡ true) run (map told links.links) seated.listeners es (begun conf stored 0 trace) (desk_told desk) (desk_told desk)) (sym events)
+          (subst (λ (ls : Links _). HoldsIn (TellTaken told) (TellBytes told) (false ≡ true) run (map told ls.links) seated.listeners [] (begun conf stored 0 trace) (desk_told desk) (desk_told desk)) (sym no_links) (record {
             took = λ number. [];
             taken = λ tells place link there. absurd cc;
             after = gives.begins;
-            noted = λ tells. noted_none run [] (λ number. []) listeners (begun conf stored 0 trace) gives.begins;
+            noted = λ tells. noted_none run [] (λ number. []) seated.listeners (begun conf stored 0 trace) gives.begins;
             formed = tt;
             posted = λ app. record { took = sym (append-nil _); refused = still _; full = tt };
             there = λ greeted. absurd (cc greeted);

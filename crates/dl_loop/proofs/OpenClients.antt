@@ -23,7 +23,8 @@ use Rattle.dl_rounds.proofs.OneClient.{but_pump}
 use Rattle.dl_loop.specs.RoundSteps.{Serves}
 use Rattle.dl_loop.specs.Scene.{Scene, taking_of}
 use Rattle.dl_loop.specs.State.{DaemonState, clients_of, desk_told}
-use Rattle.dl_loop.specs.Takes.{TakesLossesIfMay, TakesOn, TakesTurns, found_none, gave, most_of}
+use Rattle.dl_taking.specs.Takes.{found_none, gave}
+use Rattle.dl_loop.specs.Takes.{TakesLossesIfMay, TakesOn, TakesTurns, most_of}
 use Rattle.dl_loop.specs.declared.round.Round.{Round}
 use Rattle.dl_loop.proofs.TakenDaemons.{taken_apps}
 use Rattle.dl_loop.proofs.TakenEvents.{open_before}

@@ -71,7 +71,7 @@ part_is {L} told old new is parts =
             took = holds.took;
             taken = λ tells. taken_parted old.core.hub (map told old.links.links) (map told new.links.links) holds.took parts.shuts (holds.taken tells);
             after = holds.after;
-            noted = λ tells. noted_parted run old.journal.events holds.took old.core old.listeners (map told old.links.links) (map told new.links.links) parts.shuts
+            noted = λ tells. noted_parted run old.journal.events holds.took old.core old.seated.listeners (map told old.links.links) (map told new.links.links) parts.shuts
                 (each_tells told old.links.links tells)
                 (taken_parted old.core.hub (map told old.links.links) (map told new.links.links) holds.took parts.shuts (holds.taken (λ l. (tells l).1))) (holds.noted tells);
             formed = holds.formed;

@@ -2,7 +2,6 @@
 use denote.RattleType.{RattleType}
 use denote.Param.Send.{IsSend, view_send, recorded_send, struct_send, sendable}
 use denote.Struct.Declared.{shape}
-use Rattle.std.proofs.Crossing as heap
 use Rattle.std.proofs.alloc.Global.TheSendSync as global
 use Rattle.std.proofs.Crossing.{crosses}
 use Rattle.std.specs.contracts.snapshot.Snapshot as Snapshot
@@ -13,8 +12,7 @@ use Rattle.dl_desk.proofs.desk.Desk.TheSendSync as desk
 use Rattle.dl_events.proofs.journal.Kept.TheSendSync as journal
 use Rattle.dl_outside.specs.declared.link.Link.{Ghosts}
 use Rattle.dl_outside.proofs.links.LinkList.TheSendSync as links
-use Rattle.dl_rounds.specs.contracts.listener.Listener as Listener
-use Rattle.dl_rounds.proofs.listener.Listener.TheSendSync as listener
+use Rattle.dl_rounds.proofs.seats.Seats.TheSendSync as seats
 use Rattle.dl_settling.proofs.ends.EndRoom.TheSendSync as ends
 use Rattle.dl_taking.proofs.batch.Batch.TheSendSync as batch
 use Rattle.dl_loop.specs.contracts.daemon.Daemon as Daemon
@@ -35,7 +33,7 @@ module _ (L : RattleType) (g : Ghosts L.Denot) where
             (
               links.the_send L s,
               (
-                heap.Vec-send Listener.the_row listener.the_send,
+                seats.the_send,
                 (
                   batch.the_send,
                   (

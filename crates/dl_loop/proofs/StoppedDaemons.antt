@@ -51,6 +51,7 @@ use Rattle.dl_settling.proofs.Rooms.{claims_left_fit, left_fits}
 use Rattle.dl_settling.proofs.WentClients.{streams_told}
 use Rattle.dl_loop.specs.Daemon.{IsDaemon}
 use Rattle.dl_loop.specs.Holds.{Gives}
+use Rattle.dl_loop.specs.Limits.{place_limit}
 use Rattle.dl_loop.specs.State.{DaemonState, desk_told}
 use Rattle.dl_loop.specs.Stops.{IsStopped, MayStop, StopsIn, stopping_of}
 use Rattle.dl_loop.specs.Told.{IsToldBy}
@@ -88,14 +89,14 @@ module _ (desk : DeskState) (closing : ClosingState) (keeps : KeepsDesk desk clo
 
 -- all claims have places
 pub claims_fit : {L : Type 0} (told : L → LinkTold) (d : DaemonState L) (books : List BookState) (closing : ClosingState) → IsDaemon told d → IsMadeOf d.desk books closing → AreGathered closing
-    → d.claimed + all_claims_left closing ≤ 1024
+    → d.claimed + all_claims_left closing ≤ place_limit
 claims_fit told d books closing is made gathered =
     let apps : length closing.apps ≡ length d.desk.apps = ap (λ (specs : List AppSpec). length specs) made.kept.apps in
     claims_left_fit closing d.claimed gathered (omega (arith, apps, is.apps))
     (subst (λ (n : ℕ). HasFewClaims d.claimed (closing_took closing) n) (sym apps) (subst (λ (t : Took). HasFewClaims d.claimed t (length d.desk.apps)) (sym (took_kept d.desk closing made.kept)) is.few_claims))
 
 pub may_stop : {L : Type 0} (told : L → LinkTold) (d : DaemonState L) (books : List BookState) (closing : ClosingState) → IsDaemon told d → IsFew d.noted (took_by d.desk.handles) (length d.desk.apps)
-    → d.calls < 2 ^ 32 → IsMadeOf d.desk books closing → AreGathered closing → All IsWhole closing.books → together closing.books ≤ d.calls → MayStop d closing (d.calls - d.noted) (1024 - d.claimed)
+    → d.calls < 2 ^ 32 → IsMadeOf d.desk books closing → AreGathered closing → All IsWhole closing.books → together closing.books ≤ d.calls → MayStop d closing (d.calls - d.noted) (place_limit - d.claimed)
 may_stop told d books closing is few calls made gathered whole fits =
     let apps : length closing.apps ≡ length d.desk.apps = ap (λ (specs : List AppSpec). length specs) made.kept.apps in
     let took = took_kept d.desk closing made.kept in
@@ -111,7 +112,7 @@ may_stop told d books closing is few calls made gathered whole fits =
       enough_claims = omega (arith, claims);
       may = record { spare_so = omega (arith, is.room.spare, claims); few = omega (arith, admitted, calls, apps, is.apps) };
       linked = is.linked;
-      heard = subst (AreHeard d.listeners d.core) (sym (told_kept d.desk closing made.kept)) is.heard;
+      heard = subst (AreHeard d.seated d.core) (sym (told_kept d.desk closing made.kept)) is.heard;
     }
 
 -- ---- what it leaves

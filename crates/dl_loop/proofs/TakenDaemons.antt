@@ -42,7 +42,8 @@ use Rattle.dl_loop.specs.Bounds.{HasBounds}
 use Rattle.dl_loop.specs.Daemon.{IsDaemon, TellTaken}
 use Rattle.dl_loop.specs.Holds.{Gives, HoldsIn}
 use Rattle.dl_loop.specs.Scene.{Scene, taking_of}
-use Rattle.dl_loop.specs.State.{DaemonState, claim_limit, desk_told}
+use Rattle.dl_loop.specs.Limits.{claim_limit}
+use Rattle.dl_loop.specs.State.{DaemonState, desk_told}
 use Rattle.dl_loop.specs.Takes.{SameButTaken}
 use Rattle.dl_loop.specs.Told.{IsToldBy}
 use Rattle.dl_loop.proofs.DeskRest.{later_both}
@@ -127,7 +128,7 @@ module _ {L : Type 0} (told : L → LinkTold) (logs claims frames : ℕ) (old ne
 
   -- a run that held goes on
   holds_taken : (run : Run) → Gives run old.daemon.first_core new.daemon.desk.apps new.daemon.desk.handles
-      → HoldsIn (TellTaken told) (TellBytes told) (old.daemon.greeted ≡ true) run (map told old.daemon.links.links) old.daemon.listeners (old.daemon.journal.events ++ drain.more) new.daemon.core
+      → HoldsIn (TellTaken told) (TellBytes told) (old.daemon.greeted ≡ true) run (map told old.daemon.links.links) old.daemon.seated.listeners (old.daemon.journal.events ++ drain.more) new.daemon.core
       (desk_told old.daemon.first_desk) (desk_told new.daemon.desk)
   holds_taken run gives =
       let holds = is.runs run (gives_before run gives) in
@@ -136,7 +137,7 @@ module _ {L : Type 0} (told : L → LinkTold) (logs claims frames : ℕ) (old ne
         took = holds.took;
         taken = holds.taken;
         after = (drain.after run old.daemon.journal.events holds.took it holds.after).0;
-        noted = λ tells. noted_taken run old.daemon.journal.events holds.took old.daemon.desk.apps (taking_of old) (taking_of new) drain it (map told old.daemon.links.links) old.daemon.listeners (holds.noted tells);
+        noted = λ tells. noted_taken run old.daemon.journal.events holds.took old.daemon.desk.apps (taking_of old) (taking_of new) drain it (map told old.daemon.links.links) old.daemon.seated.listeners (holds.noted tells);
         formed = drain.formed run old.daemon.journal.events holds.took it holds.after (holds.there took.greeted) is.running holds.formed;
         posted = λ app. posted_both run.setting [] old.daemon.journal.events drain.more app (desk_told old.daemon.first_desk) (desk_told old.daemon.desk) (desk_told new.daemon.desk) (holds.posted app)
             (posted_none run.setting old.daemon.journal.events drain.more app (desk_told old.daemon.desk) (desk_told new.daemon.desk) (drain_asks drain.more drain.kinds)
@@ -189,9 +190,10 @@ module _ {L : Type 0} (told : L → LinkTold) (logs claims frames : ℕ) (old ne
         };
         heard = record {
           enough = omega (arith, is.heard.enough, limit);
-          limits = λ place listener there some. is.heard.limits place listener there (open_before more old.daemon.core.hub new.daemon.core.hub clients (place + 1) some);
+          limits = is.heard.limits;
           counts = λ place listener there below. served_before place listener.served old.daemon.core new.daemon.core clients.replies (is.heard.counts place listener there (omega (arith, below, many)));
           unused = λ place listener there above. is.heard.unused place listener there (omega (arith, above, many));
+          waiting = λ number some. is.heard.waiting number (open_before more old.daemon.core.hub new.daemon.core.hub clients number some);
           desk_so = took.desk_so;
         };
         room = record {
@@ -210,7 +212,7 @@ module _ {L : Type 0} (told : L → LinkTold) (logs claims frames : ℕ) (old ne
         apps = subst (λ (specs : List AppSpec). length specs ≤ 16) (sym apps) is.apps;
         desk = later_both old.daemon.first_desk old.daemon.desk new.daemon.desk is.desk (taken_later old.daemon.desk new.daemon.desk took.desk);
         running = subst IsRunning (sym events) (running_on old.daemon.journal.events more is.running drain.running);
-        runs = λ run gives. subst (λ (es : List Event). HoldsIn (TellTaken told) (TellBytes told) (old.daemon.greeted ≡ true) run (map told old.daemon.links.links) old.daemon.listeners es new.daemon.core
+        runs = λ run gives. subst (λ (es : List Event). HoldsIn (TellTaken told) (TellBytes told) (old.daemon.greeted ≡ true) run (map told old.daemon.links.links) old.daemon.seated.listeners es new.daemon.core
             (desk_told old.daemon.first_desk) (desk_told new.daemon.desk)) (sym events) (holds_taken run gives);
         shown = λ run gives.
             let before = gives_before run gives in

@@ -20,7 +20,8 @@ use Rattle.dl_settling.specs.Room.{HasFewClaims, IsFew}
 use Rattle.dl_loop.specs.Bounds.{HasBounds}
 use Rattle.dl_loop.specs.Daemon.{IsDaemon}
 use Rattle.dl_loop.specs.Scene.{Scene, taking_of}
-use Rattle.dl_loop.specs.State.{DaemonState, claim_limit, desk_told}
+use Rattle.dl_loop.specs.Limits.{claim_limit}
+use Rattle.dl_loop.specs.State.{DaemonState, desk_told}
 use Rattle.dl_loop.specs.Takes.{TakesLosses, TakesSomeOf}
 use Rattle.dl_loop.proofs.AdmittedBounds.{bounds_logs, bounds_report}
 use Rattle.dl_loop.proofs.FewEvents.{StayFew, claims_still, few_calls, few_losses, few_taken, one_at_most}

@@ -4,8 +4,10 @@ use Rattle.std.specs.Prelude.{◌||◌}
 use Rattle.std.proofs.lemmas.Bool.{eqb-false}
 use Rattle.dl_taking.specs.declared.taking.Got.{Got}
 use Rattle.dl_loop.specs.Scene.{Scene}
-use Rattle.dl_loop.specs.State.{DaemonState, claim_limit}
-use Rattle.dl_loop.specs.Takes.{TakesCalls, TakesLossesIfMay, TakesOn, TakesSomeOf, TakesTurns, found_none, gave, is_over, most_of}
+use Rattle.dl_loop.specs.Limits.{claim_limit}
+use Rattle.dl_loop.specs.State.{DaemonState}
+use Rattle.dl_taking.specs.Takes.{found_none, gave}
+use Rattle.dl_loop.specs.Takes.{TakesCalls, TakesLossesIfMay, TakesOn, TakesSomeOf, TakesTurns, is_over, most_of}
 use Rattle.dl_loop.proofs.TakenDaemons.{taken_apps}
 use Rattle.dl_lemmas.proofs.Bools.{neither}
 
@@ -62,7 +64,7 @@ module _ {L : Type 0} (app : ℕ) (was mid now : Scene L) (calls : TakesCalls ap
       let one = calls_same app was mid calls in
       let two = losses_same app mid now losses in record { apps = two.apps ∙ one.apps; greeted = two.greeted ∙ one.greeted }
 
-  -- a turn, with those behind it
+  -- a turn, with those after it
   pub turns_next : (many : ℕ) (end : Scene L) → app < many → TakesTurns (app + 1) (many - (app + 1)) now end → TakesTurns app (many - app) was end
   turns_next many end within rest =
       let one : suc (many - (app + 1)) ≡ many - app = omega (arith, within) in

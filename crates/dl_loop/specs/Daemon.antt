@@ -14,7 +14,8 @@ use Rattle.dl_settling.specs.Room.{HasFewClaims, IsFew}
 use Rattle.dl_settling.specs.Went.{TellBytes}
 use Rattle.dl_loop.specs.Bounds.{HasBounds}
 use Rattle.dl_loop.specs.Holds.{Gives, HoldsIn}
-use Rattle.dl_loop.specs.State.{DaemonState, claim_limit, desk_told}
+use Rattle.dl_loop.specs.Limits.{claim_limit}
+use Rattle.dl_loop.specs.State.{DaemonState, desk_told}
 use Rattle.dl_loop.specs.Told.{IsToldBy}
 
 -- There is room for what rounds may note: the Log and Lost events that may still come, the Claim events with a Level event of each, and of each
@@ -38,7 +39,7 @@ TellTaken {L} told = (link : L) → IsSome (told link).taken
 pub record IsDaemon {L : Type 0} (told : L → LinkTold) (d : DaemonState L) : Type 0 where
   pub told_by : IsToldBy d.journal.events (length d.desk.apps) d.desk.handles
   pub linked : AreLinked d.links d.core d.journal.spare
-  pub heard : AreHeard d.listeners d.core (desk_told d.desk)
+  pub heard : AreHeard d.seated d.core (desk_told d.desk)
   pub room : HasRoom d
   pub bounds : HasBounds d.noted d.core.hub.admitted d.desk.handles.losses.reported
   pub few : IsFew d.noted (took_by d.desk.handles) (length d.desk.apps)
@@ -47,5 +48,5 @@ pub record IsDaemon {L : Type 0} (told : L → LinkTold) (d : DaemonState L) : T
   pub desk : IsLater d.first_desk d.desk
   pub running : IsRunning d.journal.events
   pub runs : (run : Run) → Gives run d.first_core d.desk.apps d.desk.handles
-      → HoldsIn (TellTaken told) (TellBytes told) (d.greeted ≡ true) run (map told d.links.links) d.listeners d.journal.events d.core (desk_told d.first_desk) (desk_told d.desk)
+      → HoldsIn (TellTaken told) (TellBytes told) (d.greeted ≡ true) run (map told d.links.links) d.seated.listeners d.journal.events d.core (desk_told d.first_desk) (desk_told d.desk)
   pub shown : (run : Run) → Gives run d.first_core d.desk.apps d.desk.handles → AllShowWhy (TellOver told) d.journal.events d.core.hub (map told d.links.links)

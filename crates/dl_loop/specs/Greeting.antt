@@ -23,7 +23,7 @@ pub record AreListed (specs : List AppSpec) (apps : List AppState) : Type 0 wher
   pub apart : IsDistinct bytes_eq (map (λ spec. spec.apid) specs)
   pub named : AllByRecursion (λ spec. spec.apid ≢ zero_id) specs
 
--- These messages were noted in order, as User events of this process, and behind each the Level events that it owes. Of the desk nothing
+-- These messages were noted in order, as User events of this process, and after each the Level events that it owes. Of the desk nothing
 -- has changed but levels.
 pub record Greets {L : Type 0} (moment : Moment) (msgs : List UserMsg) (old new : Scene L) : Type 0 where
   pub greets : GreetsEach moment msgs (side_of old) (side_of new)

@@ -1,12 +1,14 @@
 pub mod Told
 pub mod Bounds
 pub mod Holds
+pub mod Limits
 pub mod State
 pub mod Daemon
 pub mod Steps
 pub mod Made
 pub mod Scene
 pub mod Takes
+pub mod InRound
 pub mod Greeting
 pub mod Later
 pub mod RoundSteps

@@ -1,5 +1,5 @@
 -- A daemon that was just made.
-use Rattle.std.specs.Prelude.{◌≡◌, ℕ, ◌+◌, ◌*◌, ◌≤◌, false, List, [], length, replicate, Option}
+use Rattle.std.specs.Prelude.{◌≡◌, ℕ, ◌+◌, ◌≤◌, false, List, [], length, replicate, Option}
 use Rattle.dl_bytes.specs.declared.conf.Conf.{Conf}
 use Rattle.dl_bytes.specs.declared.conf.Stored.{Stored}
 use Rattle.dl_trace.specs.State.{Trace}
@@ -10,7 +10,8 @@ use Rattle.dl_core.specs.Settings.{begun}
 use Rattle.dl_core.specs.State.{Core}
 use Rattle.dl_rounds.specs.Ready.{fresh_listener}
 use Rattle.dl_rounds.specs.declared.listener.Listener.{Listener}
-use Rattle.dl_loop.specs.State.{DaemonState, claim_limit}
+use Rattle.dl_loop.specs.Limits.{more_events}
+use Rattle.dl_loop.specs.State.{DaemonState}
 
 -- the core has noted nothing, and each slot begins at version 0
 unfoldable pub IsBegun : Core → Type 0
@@ -26,19 +27,19 @@ pub record IsUntouched (desk : DeskState) : Type 0 where
   pub pushed : (app : ℕ) → pushed_of desk.handles app ≡ []
   pub refusals : (app : ℕ) → refusals_of desk.handles app ≡ 0
 
--- the listeners of 32 clients that sent nothing yet
+-- the listeners of all clients that may come, which sent nothing yet
 unfoldable pub fresh_listeners : List Listener
 fresh_listeners = replicate 32 fresh_listener
 
--- Core and desk are as they were handed in, nobody came, there is room for 32 clients, and the journal has room for so many Log and Lost events,
--- for 1025 Claim events with a Level event of each, and for a Connect and a Close of each client.
+-- Core and desk are as they were handed in, nobody came, there is room for all clients that may come, and the journal has room for so many Log and
+-- Lost events, for as many Claim events as may be with a Level event of each, and for a Connect and a Close of each client.
 pub record IsMade {L : Type 0} (d : DaemonState L) : Type 0 where
   pub begins : IsBegun d.core
   pub untouched : IsUntouched d.desk
   pub events : d.journal.events ≡ []
   pub links : d.links ≡ record { links = []; room = 32 }
-  pub listeners : d.listeners ≡ fresh_listeners
-  pub room : d.calls + 2 * claim_limit + 64 ≤ d.journal.spare
+  pub listeners : d.seated.listeners ≡ fresh_listeners
+  pub room : d.calls + more_events ≤ d.journal.spare
   pub noted : d.noted ≡ 0
   pub claimed : d.claimed ≡ 0
   pub dropped : d.dropped ≡ 0

@@ -1,5 +1,5 @@
 -- What contracts see of the daemon.
-use Rattle.std.specs.Prelude.{◌≡◌, ℕ, Bool, List, Some, length, map}
+use Rattle.std.specs.Prelude.{◌≡◌, ℕ, Bool, Some, length, map}
 use Rattle.dl_events.specs.Journal.{Journaled}
 use Rattle.dl_outside.specs.Links.{Links}
 use Rattle.dl_outside.specs.Told.{FolderTold, LinkTold}
@@ -9,13 +9,9 @@ use Rattle.dl_desk.specs.Told.{PostTold, told_by}
 use Rattle.dl_core.specs.State.{Core}
 use Rattle.dl_turns.specs.State.{side}
 use Rattle.dl_rounds.specs.Clients.{Clients}
-use Rattle.dl_rounds.specs.declared.listener.Listener.{Listener}
+use Rattle.dl_rounds.specs.Seats.{Seated}
 
--- how many Claim events there may be: one more than all applications together have places
-abbrev pub claim_limit : ℕ
-claim_limit = 1025
-
--- The daemon: its core, its desk and its journal; the link and the listener of each client, by the clients' numbers from 1; how many Log
+-- The daemon: its core, its desk and its journal; the link of each client, by the clients' numbers from 1, and the listeners in their seats; how many Log
 -- and Lost events there may be, and how many there are; how many Claim events there are; how many links were dropped, and whether an accept has
 -- failed or wanted memory; whether its own applications have told of themselves; and the core and the desk as they were handed in.
 pub record DaemonState (L : Type 0) : Type 0 where
@@ -23,7 +19,7 @@ pub record DaemonState (L : Type 0) : Type 0 where
   pub desk : DeskState
   pub journal : Journaled
   pub links : Links L
-  pub listeners : List Listener
+  pub seated : Seated
   pub calls : ℕ
   pub noted : ℕ
   pub claimed : ℕ
@@ -46,19 +42,19 @@ SameDesk old new = (record new { handles = rest_of new.handles }) ≡ (record ol
 abbrev pub clients_of : {L : Type 0} → (L → LinkTold) → DaemonState L → FolderTold → Clients
 clients_of told d folder = record {
   links = map told d.links.links;
-  listeners = d.listeners;
+  listeners = d.seated.listeners;
   side = side d.core (desk_told d.desk) (Some d.journal.events) folder;
 }
 
 -- the daemon of these parts
-abbrev pub daemon_of : {L : Type 0} → Core → DeskState → Journaled → Links L → List Listener → ℕ → ℕ → ℕ → ℕ → Bool → Bool → Bool → Core → DeskState
+abbrev pub daemon_of : {L : Type 0} → Core → DeskState → Journaled → Links L → Seated → ℕ → ℕ → ℕ → ℕ → Bool → Bool → Bool → Core → DeskState
     → DaemonState L
-daemon_of core desk journal links listeners calls noted claimed dropped failed wanted greeted first_core first_desk = record {
+daemon_of core desk journal links seated calls noted claimed dropped failed wanted greeted first_core first_desk = record {
   core = core;
   desk = desk;
   journal = journal;
   links = links;
-  listeners = listeners;
+  seated = seated;
   calls = calls;
   noted = noted;
   claimed = claimed;

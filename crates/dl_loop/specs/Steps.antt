@@ -30,7 +30,7 @@ pub record Accepts {L : Type 0} (told : L → LinkTold) (came : Arrival) (net ne
   pub failed : new.failed ≡ is_failure came
   pub wanted : new.wanted ≡ is_want came
   pub linked : AreLinked new.links new.core new.journal.spare
-  pub heard : AreHeard old.listeners new.core (desk_told old.desk)
+  pub heard : AreHeard old.seated new.core (desk_told old.desk)
   pub spare : (number : ℕ) → came ≡ arrival.Client number → new.journal.spare + 1 ≡ old.journal.spare
   pub unused : ((number : ℕ) → came ≢ arrival.Client number) → new.journal ≡ old.journal
   pub rest : new ≡ record old { core = new.core; journal = new.journal; links = new.links; dropped = new.dropped; failed = new.failed; wanted = new.wanted }
@@ -38,7 +38,7 @@ pub record Accepts {L : Type 0} (told : L → LinkTold) (came : Arrival) (net ne
 -- What the next part asks of core, desk, links and listeners; the journal kept the room that it had for all but the Closes of clients.
 pub record GoesOn {L : Type 0} (old new : DaemonState L) : Type 0 where
   pub linked : AreLinked new.links new.core new.journal.spare
-  pub heard : AreHeard new.listeners new.core (desk_told new.desk)
+  pub heard : AreHeard new.seated new.core (desk_told new.desk)
   pub room : KeepsRoom old.core new.core old.journal.spare new.journal.spare
   pub same : IsSameHub old.core.hub new.core.hub
 
@@ -46,7 +46,7 @@ pub record GoesOn {L : Type 0} (old new : DaemonState L) : Type 0 where
 pub record Hears {L : Type 0} (told : L → LinkTold) (moved : Bool) (folder folder_now : FolderTold) (old new : DaemonState L) : Type 0 where
   pub visits : HearsAll moved (clients_of told old folder) (clients_of told new folder_now)
   pub desk : SameDesk old.desk new.desk
-  pub rest : new ≡ record old { core = new.core; desk = new.desk; journal = new.journal; links = new.links; listeners = new.listeners }
+  pub rest : new ≡ record old { core = new.core; desk = new.desk; journal = new.journal; links = new.links; seated = new.seated }
 
 -- Each open client was sent once what waits for it.
 pub record Pumps {L : Type 0} (told : L → LinkTold) (moved : Bool) (old new : DaemonState L) : Type 0 where

@@ -32,7 +32,7 @@ use Rattle.dl_loop.specs.Told.{IsToldBy}
 
 -- what a daemon hands on to its stop, once this stands for its desk
 abbrev pub stopping_of : {L : Type 0} → DaemonState L → ClosingState → Stopping L
-stopping_of d closing = record { core = d.core; closing = closing; journal = d.journal; links = d.links; listeners = d.listeners }
+stopping_of d closing = record { core = d.core; closing = closing; journal = d.journal; links = d.links; seated = d.seated }
 
 -- What a stop leaves in a run: this core, as it is in the end, is what the account's events make of it, for what the links took, where links tell
 -- that; the journal is well-formed, and no client is open in it; the queues of injections took and refused just those of its requests; the ends
@@ -51,10 +51,10 @@ pub record StopsIn {L : Type 0} (told : L → LinkTold) (run : Run) (d : DaemonS
   pub gone : TellBytes told → HaveGone run account.events (map told links.links) account.outcome.links
   pub ended : HaveEnded (TellOver told) run.setting account.events (map told links.links) account.outcome.links
 
--- What a stop leaves: the journal is longer by calls, claims, losses, requests, levels and Closes alone; more was taken, and the journal tells just what
--- was taken, reported and set; as many links come back as there were, and so many are told as dropped; and in each run that the account may be of, it
--- is as said above. No file of others changed in the folder, and the trace that is told of stayed in its directory, where one was kept; the folder's faults and its stored
--- configuration are later by these events.
+-- What a stop leaves: the journal is longer by calls, claims, losses, requests, levels and Closes alone; more was taken, and the journal tells just
+-- what was taken, reported and set; as many links come back as there were, and so many are told as dropped; and in each run that the account may be
+-- of, it is as said above. No file of others changed in the folder, and the trace that is told of stayed in its directory, where one was kept; the
+-- folder's faults and its stored configuration are later by these events.
 pub record IsStopped {L : Type 0} (told : L → LinkTold) (d : DaemonState L) (account : AccountState) (links : Links L) (folder folder_now : FolderTold) : Type 0 where
   pub more : List Event
   pub events : account.events ≡ d.journal.events ++ more
@@ -79,7 +79,7 @@ pub record MayStop {L : Type 0} (d : DaemonState L) (closing : ClosingState) (ev
   pub enough_claims : all_claims_left closing ≤ claims
   pub may : MayNote events claims (length closing.apps) d.core.hub d.journal.spare
   pub linked : AreLinked d.links d.core d.journal.spare
-  pub heard : AreHeard d.listeners d.core (closing_told closing)
+  pub heard : AreHeard d.seated d.core (closing_told closing)
 
 -- A daemon stopped: its account is settled, with these books by their writers' numbers, and all is as said above.
 pub record Stops {L : Type 0} (told : L → LinkTold) (d : DaemonState L) (books : List BookState) (account : AccountState) (links : Links L) (folder folder_now : FolderTold) : Type 0 where

@@ -1,14 +1,15 @@
 -- What a round takes of the programs that log.
-use Rattle.std.specs.Prelude.{◌≡◌, ℕ, zero, suc, ◌+◌, ◌-◌, ◌<◌, ◌==◌, nat_lt, min, ◌⊎◌, Bool, true, false, not, ◌&&◌, ◌||◌, List, [], ◌∷◌, length, None, if◌then◌else◌}
+use Rattle.std.specs.Prelude.{◌≡◌, ℕ, zero, suc, ◌+◌, ◌-◌, ◌<◌, ◌==◌, min, ◌⊎◌, Bool, true, false, ◌||◌, List, [], ◌∷◌, length, None, if◌then◌else◌}
 use Rattle.dl_thread_rules.specs.Views.{bit}
 use Rattle.dl_desk.specs.State.{DeskState}
 use Rattle.dl_registry.specs.Kept.{owed_change}
-use Rattle.dl_taking.specs.Takes.{Reports, TakesSome}
-use Rattle.dl_taking.specs.Took.{empties_of, untaken}
+use Rattle.dl_taking.specs.Takes.{Reports, TakesSome, found_none, gave}
+use Rattle.dl_taking.specs.Took.{empties_now, empties_of, untaken}
 use Rattle.dl_taking.specs.declared.taking.Got.{Got}
 use Rattle.dl_turns.specs.Events.{IsDeskOf}
+use Rattle.dl_loop.specs.Limits.{claim_limit, take_limit}
 use Rattle.dl_loop.specs.Scene.{Scene, taking_of}
-use Rattle.dl_loop.specs.State.{DaemonState, claim_limit, desk_told}
+use Rattle.dl_loop.specs.State.{DaemonState, desk_told}
 
 -- nothing has changed of a desk but what was taken of rings and loss words, and what it tells of levels and injections
 abbrev pub SameButTaken : DeskState → DeskState → Type 0
@@ -16,27 +17,21 @@ SameButTaken old new = (record new { handles = untaken new.handles }) ≡ (recor
 
 -- ---- calls and claims
 
--- how many takes gave
-abbrev pub gave : Got → ℕ
-gave got = got.calls + bit got.claimed
-
--- of at most so many takes the last one found the ring empty
-abbrev pub found_none : ℕ → Got → Bool
-found_none most got = nat_lt (gave got) most && not got.claimed
-
--- how many takes may give now, where so many of a round gave: 64 in all, and no more than Log and Lost events may still come
+-- how many takes may give now, where so many of a round gave: no more in all than may of a round, and no more than Log and Lost events may still come
 abbrev pub most_of : {L : Type 0} → ℕ → DaemonState L → ℕ
-most_of done d = min (64 - done) (d.calls - d.noted)
+most_of done d = min (take_limit - done) (d.calls - d.noted)
 
--- An application's takes of a round are over: its ring was found empty, or 64 gave, or as many Log and Lost events or Claim events are noted as may be.
+-- An application's takes of a round are over: its ring was found empty, or as many gave as may, or as many Log and Lost events or Claim events are
+-- noted as may be.
 abbrev pub is_over : {L : Type 0} → ℕ → Bool → DaemonState L → Bool
-is_over done empty d = empty || done == 64 || d.noted == d.calls || d.claimed == claim_limit
+is_over done empty d = empty || done == take_limit || d.noted == d.calls || d.claimed == claim_limit
 
 -- Calls of an application were taken and admitted, and then a claim of it, where one came: so many takes gave at most. There were fewer only where
--- a claim came, or where the ring was then found empty, once. No Level event is owed, and the level words follow the registry.
+-- a claim came, or where the ring was then found empty, once; no take else found one empty. No Level event is owed, and the level words follow the
+-- registry.
 pub record TakesSomeOf {L : Type 0} (app most : ℕ) (got : Got) (old new : Scene L) : Type 0 where
   pub takes : TakesSome app most got (taking_of old) (taking_of new)
-  pub empty : found_none most got ≡ true → empties_of new.daemon.desk.handles app ≡ empties_of old.daemon.desk.handles app + 1
+  pub empties : empties_of new.daemon.desk.handles ≡ empties_now app (found_none most got) (empties_of old.daemon.desk.handles)
   pub settled : owed_change new.daemon.core.registry ≡ None
   pub desk_so : IsDeskOf new.daemon.core.registry (desk_told new.daemon.desk)
   pub desk : SameButTaken old.daemon.desk new.daemon.desk
@@ -58,9 +53,10 @@ TakesCalls app old new = (gots : List Got) × TakesOn app 0 false gots old new
 
 -- ---- losses
 
--- The losses of an application were taken once, and told where there were any.
+-- The losses of an application were taken once, and told where there were any; no ring was found empty.
 pub record TakesLosses {L : Type 0} (app count : ℕ) (old new : Scene L) : Type 0 where
   pub reports : Reports old.daemon.desk.apps app count (taking_of old) (taking_of new)
+  pub empties : empties_of new.daemon.desk.handles ≡ empties_of old.daemon.desk.handles
   pub desk : SameButTaken old.daemon.desk new.daemon.desk
   pub noted : new.daemon.noted ≡ old.daemon.noted + (if count == 0 then 0 else 1)
   pub rest : new.daemon ≡ record old.daemon { core = new.daemon.core; desk = new.daemon.desk; journal = new.daemon.journal; noted = new.daemon.noted }

@@ -1,39 +1,35 @@
 //! The daemon, and its calls.
 
-ghost use Rattle.std.specs.Prelude.{◌≡◌, ◌+◌, ◌*◌, ◌<◌, ◌≤◌, ℕ, true, false, [], length, IfOk, OnOk, OnErr};
+ghost use Rattle.std.specs.Prelude.{◌≡◌, ◌+◌, ◌<◌, ◌≤◌, ℕ, true, false, [], length, IfOk, OnOk, OnErr};
 ghost use Rattle.std.specs.List.{AllByRecursion};
 ghost use Rattle.std.specs.Result.{is_ok};
 ghost use Rattle.dl_rounds.specs.Greetings.{IsIntroduced, hello_of, registered};
 ghost use Rattle.dl_outside.specs.Told.{NetTold};
 ghost use Rattle.dl_loop.specs.Daemon.{IsDaemon};
 ghost use Rattle.dl_loop.specs.Greeting.{AreListed, Greets, GreetsFirst};
+ghost use Rattle.dl_loop.specs.InRound.{HasHadTurn};
 ghost use Rattle.dl_loop.specs.Later.{GoesRound, IsLaterGreeted};
 ghost use Rattle.dl_loop.specs.Made.{IsBegun, IsMade, IsUntouched, fresh_listeners};
 ghost use Rattle.dl_loop.specs.RoundSteps.{AcceptsIfMay, IsRound, Serves, answer_of};
 ghost use Rattle.dl_loop.specs.Scene.{scene};
-ghost use Rattle.dl_loop.specs.State.{claim_limit};
+ghost use Rattle.dl_loop.specs.Limits.{more_events};
 ghost use Rattle.dl_loop.specs.Steps.{Hears, Parts, Pumps, is_failure, is_want};
 
 use crate::laws::a_daemon_goes_on;
+use crate::limits::{CLIENT_LIMIT, MORE_EVENTS};
 use crate::round::Round;
 use dl_bytes::{Moment, OutOfMemory};
 use dl_core::Core;
 use dl_desk::{AppList, Desk};
 use dl_events::{Journal, Kept};
 use dl_outside::{Clock, Folder, Link, LinkList, Net};
-use dl_rounds::{Arrival, Listener, accept_one, greet, listen_all, listeners, pump_all, shut_gone};
+use dl_rounds::{Arrival, Seats, accept_one, greet, listen_all, pump_all, shut_gone};
 use dl_settling::EndRoom;
 use dl_taking::Batch;
 use std::alloc::Global;
 use std::marker::Model;
 use std::snapshot::Snapshot;
 use std::sync::Wait;
-
-/// How many clients may come.
-const CLIENT_LIMIT: u32 = 32;
-
-/// A Connect and a Close of each client, and each claim with its Level event.
-const MORE_EVENTS: u64 = 2114;
 
 /// The live daemon over links of one kind.
 #[derive(Drop)]
@@ -44,7 +40,7 @@ pub struct Daemon<L: Link> {
     // of each client that came its link, by the clients' numbers from 1
     pub(crate) links: LinkList<L>,
     // of each client that may come what cuts its bytes
-    pub(crate) listeners: Vec<Listener>,
+    pub(crate) seats: Seats,
     pub(crate) batch: Batch,
     // room for what becomes of each client's link
     pub(crate) ends: EndRoom,
@@ -73,17 +69,17 @@ impl<L: Link> Model for Daemon<L> {
 
     ghost Value = { DaemonState L };
 
-    ghost view = { λ d. daemon_of d.core d.desk d.journal d.links d.listeners.items d.calls d.noted d.claimed d.dropped d.failed d.wanted
+    ghost view = { λ d. daemon_of d.core d.desk d.journal d.links d.seats d.calls d.noted d.claimed d.dropped d.failed d.wanted
         d.greeted d.first_core.value d.first_desk.value };
 
-    ghost invariant = { λ d. IsDaemon L.told (daemon_of d.core d.desk d.journal d.links d.listeners.items d.calls d.noted d.claimed d.dropped
+    ghost invariant = { λ d. IsDaemon L.told (daemon_of d.core d.desk d.journal d.links d.seats d.calls d.noted d.claimed d.dropped
         d.failed d.wanted d.greeted d.first_core.value d.first_desk.value) };
 }
 
 impl<L: Link> Daemon<L> {
     /// A daemon of this core and this desk, which notes in this journal: so many Log and Lost events at most. It takes all memory that its rounds
     /// and its stop need of their own: for what cuts the bytes of 32 clients, for their links, and for these events, for a Connect and a Close of
-    /// each client, and for 1025 claims with their Level events.
+    /// each client, and for as many claims as may come with their Level events.
     pub fn make(
         alloc: Global,
         core: Core,
@@ -118,9 +114,9 @@ impl<L: Link> Daemon<L> {
         requires begun { IsBegun core }
         requires untouched { IsUntouched desk }
         requires empty { journal.events ≡ [] }
-        requires room { calls + 2 * claim_limit + 64 ≤ journal.spare }
+        requires room { calls + more_events ≤ journal.spare }
         requires links { rooms.links ≡ record { links = []; room = 32 } }
-        requires listeners { rooms.listeners.items ≡ fresh_listeners }
+        requires listeners { rooms.seats.listeners ≡ fresh_listeners }
         ensures made { IsMade result }
         ensures parts { (result.core ≡ core) × (result.desk ≡ desk) × (result.calls ≡ calls) }
     {
@@ -128,7 +124,7 @@ impl<L: Link> Daemon<L> {
         let first_desk = Snapshot::of(&desk);
         let Rooms {
             links,
-            listeners,
+            seats,
             batch,
             ends,
         } = rooms;
@@ -137,7 +133,7 @@ impl<L: Link> Daemon<L> {
             desk,
             journal,
             links,
-            listeners,
+            seats,
             batch,
             ends,
             calls,
@@ -213,6 +209,8 @@ impl<L: Link> Daemon<L> {
         requires greeted { self.old.greeted ≡ true }
         ensures round { IsRound L.told result (N.told net.old) (N.told net.new)
             (scene self.old (F.told folder.old)) (scene self.new (F.told folder.new)) }
+        ensures turns { (app : ℕ) → app < length self.old.desk.apps
+            → HasHadTurn app (scene self.old (F.told folder.old)) (scene self.new (F.told folder.new)) }
         ensures goes { GoesRound (N.told net.old) (N.told net.new) (scene self.old (F.told folder.old)) (scene self.new (F.told folder.new)) }
     {
         let answer = self.serve_all(rt, net, clock, folder);
@@ -225,7 +223,7 @@ impl<L: Link> Daemon<L> {
 #[derive(Drop)]
 struct Rooms<L> {
     links: LinkList<L>,
-    listeners: Vec<Listener>,
+    seats: Seats,
     batch: Batch,
     ends: EndRoom,
 }
@@ -237,18 +235,18 @@ fn make_rooms<L: Drop>(
     calls: u32,
 ) -> Result<Rooms<L>, OutOfMemory>
     ensures events { journal.new.events ≡ journal.old.events }
-    ensures room { OnOk result (calls + 2 * claim_limit + 64 ≤ journal.new.spare) }
+    ensures room { OnOk result (calls + more_events ≤ journal.new.spare) }
     ensures links { IfOk result (λ rooms. rooms.links ≡ record { links = []; room = 32 }) }
-    ensures listeners { IfOk result (λ rooms. rooms.listeners.items ≡ fresh_listeners) }
+    ensures listeners { IfOk result (λ rooms. rooms.seats.listeners ≡ fresh_listeners) }
 {
     journal.reserve(u64::from(calls) + MORE_EVENTS)?;
     let links = LinkList::make(alloc, CLIENT_LIMIT)?;
-    let listeners = all_listeners(alloc)?;
+    let seats = all_seats(alloc)?;
     let batch = Batch::make(alloc)?;
     let ends = EndRoom::make(alloc)?;
     Ok(Rooms {
         links,
-        listeners,
+        seats,
         batch,
         ends,
     })
@@ -256,10 +254,10 @@ fn make_rooms<L: Drop>(
 
 /// The listeners of all clients that may come.
 #[tactic(auto, unfolding(crate::specs::Made::fresh_listeners))]
-fn all_listeners(alloc: Global) -> Result<Vec<Listener>, OutOfMemory>
-    ensures { IfOk result (λ listeners. listeners.items ≡ fresh_listeners) }
+fn all_seats(alloc: Global) -> Result<Seats, OutOfMemory>
+    ensures { IfOk result (λ seats. seats.listeners ≡ fresh_listeners) }
 {
-    listeners(alloc, CLIENT_LIMIT)
+    Seats::make(alloc, CLIENT_LIMIT)
 }
 
 /// Rests where nothing moved.
@@ -372,7 +370,7 @@ impl<L: Link> Daemon<L> {
             &mut self.desk,
             &mut self.journal,
             &mut self.links,
-            &mut self.listeners,
+            &mut self.seats,
             folder,
         )
     }

@@ -23,14 +23,16 @@ ghost use Rattle.dl_rounds.specs.declared.accepting.Arrival.{Arrival};
 ghost use Rattle.dl_loop.specs.Bounds.{HasBounds};
 ghost use Rattle.dl_loop.specs.Daemon.{IsDaemon};
 ghost use Rattle.dl_loop.specs.Greeting.{AreListed, Greets};
+ghost use Rattle.dl_loop.specs.InRound.{HasHadTurn};
 ghost use Rattle.dl_loop.specs.Later.{GoesRound, IsLaterBy};
 ghost use Rattle.dl_loop.specs.Made.{IsMade, IsUntouched};
 ghost use Rattle.dl_loop.specs.RoundSteps.{IsRound};
 ghost use Rattle.dl_loop.specs.Scene.{Scene, scene};
-ghost use Rattle.dl_loop.specs.State.{DaemonState, claim_limit, clients_of, desk_told};
+ghost use Rattle.dl_loop.specs.Limits.{claim_limit};
+ghost use Rattle.dl_loop.specs.State.{DaemonState, clients_of, desk_told};
 ghost use Rattle.dl_loop.specs.Steps.{Accepts, GoesOn, Hears, Parts, Pumps};
 ghost use Rattle.dl_loop.specs.Stops.{IsStopped};
-ghost use Rattle.dl_loop.specs.Takes.{TakesLosses, TakesSomeOf};
+ghost use Rattle.dl_loop.specs.Takes.{TakesLosses, TakesSomeOf, TakesTurn};
 ghost use Rattle.dl_loop.specs.Told.{IsToldBy};
 ghost use Rattle.dl_loop.specs.declared.round.Round.{Round};
 
@@ -122,6 +124,14 @@ pub fn a_round_serves_each_client<L: Link>()
     dl_rounds::laws::a_round_visits_each_client();
     dl_rounds::laws::why_clients_stay();
 }
+
+/// In a round each application has its turn: 64 takes of its ring give, or one finds the ring empty, and then its losses are taken once; but no more
+/// are taken where the Log and Lost events are as many as calls are allowed, and no more of its ring where there are 1025 Claim events.
+pub fn a_round_takes_of_each_application<L: Link>()
+    ensures turn { (app : ℕ) (old new : Scene L) → TakesTurn app old new → HasHadTurn app old new }
+    ensures round { (answer : Round) (net net_now : NetTold L) (old new : Scene L) → IsRound L.told answer net net_now old new
+        → (app : ℕ) → app < length old.daemon.desk.apps → HasHadTurn app old new }
+{}
 
 /// A daemon admits far fewer frames than may be: the bound goes on with Log events and with Lost events, and fewer than 2^32 of these admit
 /// fewer than 2^33 frames.

@@ -9,6 +9,7 @@
 pub mod accept_laws;
 mod daemon;
 pub mod laws;
+mod limits;
 mod round;
 mod stop;
 pub mod stop_laws;

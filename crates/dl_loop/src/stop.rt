@@ -7,14 +7,12 @@ ghost use Rattle.dl_settling.specs.Room.{together};
 ghost use Rattle.dl_loop.specs.Stops.{Stops};
 
 use crate::daemon::Daemon;
+use crate::limits::PLACE_LIMIT;
 use crate::stop_laws::what_a_stop_leaves;
 use dl_lib::{Account, BookList, Closing};
 use dl_outside::{Clock, Folder, Link, LinkList, Net};
 use dl_settling::{Parts, settle};
 use std::sync::Wait;
-
-/// How many places all applications together have.
-const PLACES: u32 = 1024;
 
 /// A number of this type is in its range. It does nothing: its clause is what the stop learns.
 fn in_range(calls: u32)
@@ -49,7 +47,7 @@ impl<L: Link> Daemon<L> {
             desk,
             journal,
             links,
-            listeners,
+            seats,
             batch,
             ends,
             calls,
@@ -71,11 +69,11 @@ impl<L: Link> Daemon<L> {
             closing,
             journal,
             links,
-            listeners,
+            seats,
             batch,
             ends,
             events: calls - noted,
-            claims: PLACES - claimed,
+            claims: PLACE_LIMIT - claimed,
             dropped,
         };
         Ok(settle(rt, alloc, parts, clock, folder))

@@ -12,17 +12,18 @@ ghost use Rattle.dl_taking.specs.Took.{took_by};
 ghost use Rattle.dl_settling.specs.Room.{IsFew, together};
 ghost use Rattle.dl_settling.specs.Settling.{Settles};
 ghost use Rattle.dl_loop.specs.Daemon.{IsDaemon};
+ghost use Rattle.dl_loop.specs.Limits.{place_limit};
 ghost use Rattle.dl_loop.specs.State.{DaemonState};
 ghost use Rattle.dl_loop.specs.Stops.{IsStopped, MayStop, stopping_of};
 
 use dl_outside::Link;
 
 /// A daemon may stop where its books are whole and have together at most as many records as it may note: all that is left fits. Of claims there
-/// are at most 1024 then.
+/// are no more than places.
 pub fn a_daemon_may_stop<L: Link>()
     ensures { (d : DaemonState L) (books : List BookState) (closing : ClosingState) → IsDaemon L.told d → IsFew d.noted (took_by d.desk.handles) (length d.desk.apps)
         → d.calls < 2 ^ 32 → IsMadeOf d.desk books closing → AreGathered closing → All IsWhole closing.books → together closing.books ≤ d.calls
-        → MayStop d closing (d.calls - d.noted) (1024 - d.claimed) }
+        → MayStop d closing (d.calls - d.noted) (place_limit - d.claimed) }
 {}
 
 /// What the stop of a daemon leaves.

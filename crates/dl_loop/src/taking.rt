@@ -2,23 +2,22 @@
 
 ghost use Rattle.std.specs.Prelude.{◌≡◌, ◌+◌, ◌<◌, ◌≤◌, ℕ, Bool, true, false, length};
 ghost use Rattle.dl_outside.specs.Told.{NetTold};
+ghost use Rattle.dl_taking.specs.Takes.{found_none, gave};
 ghost use Rattle.dl_loop.specs.Later.{GoesRound};
 ghost use Rattle.dl_loop.specs.Scene.{scene};
-ghost use Rattle.dl_loop.specs.State.{claim_limit};
-ghost use Rattle.dl_loop.specs.Takes.{TakesAll, TakesCalls, TakesLossesIfMay, TakesSomeOf, found_none, gave, is_over, most_of};
+ghost use Rattle.dl_loop.specs.Limits.{claim_limit, take_limit};
+ghost use Rattle.dl_loop.specs.Takes.{TakesAll, TakesCalls, TakesLossesIfMay, TakesSomeOf, is_over, most_of};
 
 use crate::daemon::Daemon;
 use crate::laws::a_daemon_goes_on_taking;
+use crate::limits::{CLAIM_LIMIT, TAKE_LIMIT};
 use dl_outside::{Clock, Folder, Link};
-use dl_taking::{BATCH_LIMIT, Got, report_losses, take_some};
+use dl_taking::{Got, report_losses, take_some};
 use std::sync::Wait;
-
-/// How many Claim events there may be: one more than all applications together have places.
-const CLAIM_LIMIT: u32 = 1025;
 
 /// How many takes gave.
 fn gave(got: &Got) -> usize
-    requires few { gave got.now ≤ 64 }
+    requires few { gave got.now ≤ take_limit }
     ensures { result ≡ gave got.now }
 {
     got.calls + usize::from(got.claimed)
@@ -26,7 +25,7 @@ fn gave(got: &Got) -> usize
 
 /// Of at most so many takes the last one found the ring empty.
 fn found_none(most: usize, got: &Got) -> bool
-    requires few { gave got.now ≤ 64 }
+    requires few { gave got.now ≤ take_limit }
     ensures { result ≡ found_none most got.now }
 {
     gave(got) < most && !got.claimed
@@ -55,7 +54,8 @@ impl<L: Link> Daemon<L> {
         moved
     }
 
-    // The calls and claims of an application are taken, until 64 takes gave or one found its ring empty, or no more may come. Answers how many gave.
+    // The calls and claims of an application are taken, until as many takes gave as may or one found its ring empty, or no more may come. Answers how
+    // many gave.
     fn take_calls<R: Wait, C: Clock, F: Folder>(
         &mut self,
         rt: &R,
@@ -84,15 +84,15 @@ impl<L: Link> Daemon<L> {
     fn is_over(&self, done: usize, empty: bool) -> bool
         ensures { result ≡ is_over done empty self.now }
     {
-        empty || done == BATCH_LIMIT || self.noted == self.calls || self.claimed == CLAIM_LIMIT
+        empty || done == TAKE_LIMIT || self.noted == self.calls || self.claimed == CLAIM_LIMIT
     }
 
     // How many takes may give now, where so many of this round gave.
     fn most(&self, done: usize) -> usize
-        requires few { done ≤ 64 }
+        requires few { done ≤ take_limit }
         ensures { result ≡ most_of done self.now }
     {
-        (BATCH_LIMIT - done).min((self.calls - self.noted) as usize)
+        (TAKE_LIMIT - done).min((self.calls - self.noted) as usize)
     }
 
     // Calls of an application are taken and admitted, and then a claim of it, where one comes: so many takes give at most.
@@ -106,7 +106,7 @@ impl<L: Link> Daemon<L> {
     ) -> Got
         requires app { app < length self.old.desk.apps }
         requires greeted { self.old.greeted ≡ true }
-        requires few { most ≤ 64 }
+        requires few { most ≤ take_limit }
         requires calls { self.old.noted + most ≤ self.old.calls }
         requires claims { self.old.claimed < claim_limit }
         ensures { TakesSomeOf app most result (scene self.old (F.told folder.old)) (scene self.new (F.told folder.new)) }

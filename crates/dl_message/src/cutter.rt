@@ -107,6 +107,17 @@ impl Cutter {
         }
     }
 
+    /// Forgets all that was fed, a bad header too: it is as `make` left it, and takes no memory.
+    pub fn clear(&mut self)
+        ensures { self.new ≡ unfed self.old.limit }
+    {
+        let held = self.buffer.bytes().len();
+        self.buffer.consume(held);
+        self.buffer.compact();
+        self.message_len = 0;
+        self.closed = false;
+    }
+
     /// The message last given, without a serial header. The next `feed` or `next` lets it go: then it is empty, or the
     /// next message.
     pub fn message(&self) -> &[u8]

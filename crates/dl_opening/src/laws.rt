@@ -25,7 +25,7 @@ pub fn opened_books_ask_for_all()
 {}
 
 /// The books of an opened scenario can be played by a crew: each has room for all calls and for all claims that the lines ask
-/// of its writer, and is whole. The writers of one application were made when it had as many contexts.
+/// of its writer, and is whole. The base of each writer is the number of contexts that the lines declare of its application.
 pub fn opened_books_can_be_played()
     ensures few { (lines : List ScenarioLine) (o : Opened) → IsOpened lines o → length o.books ≤ 32 }
     ensures room { (lines : List ScenarioLine) (o : Opened) → IsRunnable lines → IsOpened lines o → All (CanPlay o.plan.lines) o.books }

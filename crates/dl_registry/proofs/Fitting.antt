@@ -50,7 +50,7 @@ module _ (r : Registry) (apid : List ℕ) (old new : App) (is : IsInOrder r) (fo
       ap (λ o. level_of r.level o slot)
       (ap (λ n. valued (λ (a : App). a.number) n r.apps) (sym number) ∙ valued-found (λ (a : App). a.number) (bytes_eq apid) r.apps old found is.numbered.apart)
 
-  level_at-replaced : (slot : ℕ) → level_at (with_app r apid new) slot ≡ cond (old.number == slot / 64) (level_of r.level (Some new) slot) (level_at r slot)
+  pub level_at-replaced : (slot : ℕ) → level_at (with_app r apid new) slot ≡ cond (old.number == slot / 64) (level_of r.level (Some new) slot) (level_at r slot)
   level_at-replaced slot =
       ap (λ o. level_of r.level o slot) (valued-set_value (λ (a : App). a.number) (slot / 64) (bytes_eq apid) r.apps old new found same is.numbered.apart)
       ∙ by (old.number == slot / 64)

@@ -9,3 +9,4 @@ pub mod Messages
 pub mod Releveling
 pub mod Informing
 pub mod Following
+pub mod Naming

@@ -93,7 +93,7 @@ fits-remove_app r t u apid app fit found once first held wanted =
 -- ---- a context that comes, and one that goes
 
 -- the places of a context that is there are below 64
-places_below : (ctid : List ℕ) (contexts : List (List ℕ × Context)) (context : Context) → lookup (bytes_eq ctid) contexts ≡ Some context → AllByRecursion (λ n. n < 64) (places contexts)
+pub places_below : (ctid : List ℕ) (contexts : List (List ℕ × Context)) (context : Context) → lookup (bytes_eq ctid) contexts ≡ Some context → AllByRecursion (λ n. n < 64) (places contexts)
     → AllByRecursion (λ n. n < 64) (places_of context)
 places_below ctid [] context found below = absurd (cc found)
 places_below ctid (e ∷ es) context found below = by (bytes_eq ctid e.0) found (λ is. places_below ctid es context is (all-right (λ n. n < 64) (places_of e.1) (places es) below)) where

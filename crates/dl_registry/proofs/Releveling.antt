@@ -58,7 +58,7 @@ tests_there number slot there (e ∷ es) below = (
 )
 
 -- what is written of an application is its level at each of its slots
-level_in_app-is : (level : ℕ) (app : App) (slot : ℕ) → IsNumbered 64 (places app.contexts) → level_in_app level app slot ≡ cond (app.number == slot / 64) (level_of level (Some app) slot) None
+pub level_in_app-is : (level : ℕ) (app : App) (slot : ℕ) → IsNumbered 64 (places app.contexts) → level_in_app level app slot ≡ cond (app.number == slot / 64) (level_of level (Some app) slot) None
 level_in_app-is level app slot is = elim (eqb_tells app.number (slot / 64)) [
   | inl here ↦
       ap (option_map (effective level)) (alike_reverse (has_slot app.number slot) (has_place (slot % 64)) app.contexts (tests_here app.number slot here.1 app.contexts is.below)
@@ -108,7 +108,7 @@ level_in_apps-is level (e ∷ es) slot apart placed =
 
 -- ---- the same slots have contexts, before and after
 
-context_stays : (old new : ℕ) (relevel : Relevel) (apid : List ℕ) (place : ℕ) (es : List (List ℕ × Context))
+pub context_stays : (old new : ℕ) (relevel : Relevel) (apid : List ℕ) (place : ℕ) (es : List (List ℕ × Context))
     → is_some (option_map (effective new) (placed places_of place (map (releveled_context relevel apid) es))) ≡ is_some (option_map (effective old) (placed places_of place es))
 context_stays old new relevel apid place [] = refl
 context_stays old new relevel apid place (e ∷ es) = by (has_place place e.1) (context_stays old new relevel apid place es) where
@@ -198,23 +198,30 @@ app_keeps slots old new relevel slot last (e ∷ es) none = elim (eqb_tells e.1.
 
 -- ---- no slot is beyond the last
 
-beyond : (r : Registry) (slot : ℕ) → IsInOrder r → 1024 ≤ slot → level_at r slot ≡ None
+pub beyond : (r : Registry) (slot : ℕ) → IsInOrder r → 1024 ≤ slot → level_at r slot ≡ None
 beyond r slot is out = ap (λ o. level_of r.level o slot) (valued-absent (λ (a : App). a.number) (slot / 64) r.apps (each (λ n. n < 16) (λ n. nat_eq (slot / 64) n ≡ false) apart (numbers r.apps) is.numbered.below)) where
   apart : (n : ℕ) → n < 16 → nat_eq (slot / 64) n ≡ false
   apart n below = elim (eqb_tells (slot / 64) n) [ inl same ↦ absurd (omega (arith, same.1)) | inr other ↦ other.0 ]
 
 -- where there was no level there is none
-or_old : (new old : Option ℕ) → is_some new ≡ is_some old → option_or new old ≡ new
+pub or_old : (new old : Option ℕ) → is_some new ≡ is_some old → option_or new old ≡ new
 or_old (Some x) old same = refl
 or_old None None same = refl
 or_old None (Some x) same = absurd (true≢false (sym same))
+
+-- a table that has the new levels fits
+pub fits-levels : (r : Registry) (t u : Table) (level : ℕ) (relevel : Relevel) → Fits r t → wears (held_at t.first t.held) r level relevel ≡ false → u.first ≡ t.first → u.held ≡ t.held
+    → ((slot : ℕ) → wanted_at u slot ≡ level_at (releveled level relevel r) slot) → Fits (releveled level relevel r) u
+fits-levels r t u level relevel fit none first held wanted =
+    fits r (releveled level relevel r) t u fit (in_order-releveled level relevel r fit.order) first held wanted
+    (λ slot last. inl (app_keeps (held_at t.first t.held) r.level level relevel slot last r.apps none))
 
 pub fits-releveled : (r : Registry) (t u : Table) (level : ℕ) (relevel : Relevel) → Fits r t → wears (held_at t.first t.held) r level relevel ≡ false → u.first ≡ t.first → u.held ≡ t.held
     → ((slot : ℕ) → 1024 ≤ slot → wanted_at u slot ≡ wanted_at t slot)
     → ((slot : ℕ) → slot < 1024 → wanted_at u slot ≡ option_or (level_in_apps level (reverse (values_of (map (releveled_app relevel) r.apps))) slot) (wanted_at t slot))
     → Fits (releveled level relevel r) u
 fits-releveled r t u level relevel fit none first held outside inside =
-    fits r (releveled level relevel r) t u fit order first held
+    fits-levels r t u level relevel fit none first held
     (λ slot. elim (cases_lt slot 1024) [
       | inl within ↦
           inside slot within
@@ -223,7 +230,6 @@ fits-releveled r t u level relevel fit none first held outside inside =
           ∙ or_old (level_at (releveled level relevel r) slot) (level_at r slot) (app_stays r.level level relevel slot r.apps)))
       | inr out ↦ outside slot out ∙ (fit.levels slot ∙ (beyond r slot fit.order out ∙ sym (beyond (releveled level relevel r) slot order out)))
     ])
-    (λ slot last. inl (app_keeps (held_at t.first t.held) r.level level relevel slot last r.apps none))
   where
     order : IsInOrder (releveled level relevel r)
     order = in_order-releveled level relevel r fit.order

@@ -1,10 +1,10 @@
 -- What a change leaves of an application and its contexts.
-use Rattle.std.specs.Prelude.{ℕ, zero, suc, List, [], ◌∷◌, ◌++◌, slice_set, slice_get}
+use Rattle.std.specs.Prelude.{ℕ, zero, suc, List, [], ◌∷◌, ◌++◌, Option, slice_set, slice_get}
 use Rattle.std.specs.Option.{option_map_or}
 use Rattle.dl_model.specs.declared.context.Context.{Context}
 use Rattle.std.specs.Map.{lookup, set_value}
 use Rattle.std.specs.Str.{bytes_eq}
-use Rattle.dl_model.specs.Registry.{App, Relevel, context_of, with_context, without, keep_own, set_matching}
+use Rattle.dl_model.specs.Registry.{App, Relevel, context_of, with_context, without, keep_own, releveled_app, set_matching}
 use Rattle.dl_registry.specs.declared.relevel.Relevel.{Relevel as Levels}
 use Rattle.dl_registry.specs.declared.relevel.Relevel.TheVariants.{Keep, Set}
 
@@ -19,6 +19,10 @@ context_told_again position text context = record context { position = position;
 abbrev pub placed_again : ℕ → Context → Context
 placed_again place context = record context { further = context.further ++ place ∷ [] }
 
+-- with this own level
+abbrev pub leveled : Option ℕ → Context → Context
+leveled own context = record context { own = own }
+
 -- without its context of this id
 abbrev pub without_context : List ℕ → App → App
 without_context ctid app = record app { contexts = without ctid app.contexts }
@@ -27,6 +31,10 @@ without_context ctid app = record app { contexts = without ctid app.contexts }
 abbrev pub relevel_of : Levels → Relevel
 relevel_of Keep = keep_own
 relevel_of (Set apid ctid own) = set_matching apid ctid own
+
+-- an application of this id with the own levels that its contexts get
+abbrev pub releveled_in : Relevel → List ℕ → App → App
+releveled_in relevel apid app = (releveled_app relevel (apid, app)).1
 
 -- the entry at one place of the order changed
 abbrev pub changed_entry : {X : Type 0} → (X → X) → List X → ℕ → List X

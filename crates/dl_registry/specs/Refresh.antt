@@ -1,8 +1,9 @@
 -- The effective levels of contexts, slot by slot, as they are written into the table: of several for one slot the last.
 use Rattle.std.specs.Prelude.{ℕ, ◌==◌, Bool, List, [], ◌∷◌, reverse, Option, None}
 use Rattle.std.specs.List.{find, list_any}
-use Rattle.std.specs.Map.{values_of}
-use Rattle.std.specs.Option.{option_map, option_or}
+use Rattle.std.specs.Map.{lookup, values_of}
+use Rattle.std.specs.Option.{option_and_then, option_map, option_or}
+use Rattle.std.specs.Str.{bytes_eq}
 use Rattle.dl_model.specs.declared.context.Context.{Context}
 use Rattle.dl_model.specs.Registry.{App, effective, places_of, slot_of}
 
@@ -22,3 +23,7 @@ level_in_app level app slot = level_among level app.number (reverse (values_of a
 abbrev pub level_in_apps : ℕ → List App → ℕ → Option ℕ
 level_in_apps level [] slot = None
 level_in_apps level (app ∷ apps) slot = option_or (level_in_app level app slot) (level_in_apps level apps slot)
+
+-- of the application that an id names
+abbrev pub level_named : ℕ → List (List ℕ × App) → List ℕ → ℕ → Option ℕ
+level_named level apps apid slot = option_and_then (λ app. level_in_app level app slot) (lookup (bytes_eq apid) apps)

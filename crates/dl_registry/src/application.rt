@@ -1,16 +1,16 @@
 //! One application, with its contexts.
 
 ghost use Rattle.std.specs.Prelude.{◌≡◌, ◌==◌, ◌+◌, ◌<◌, ◌≤◌, ◌++◌, ◌∷◌, [], length, IfOk, IfSome, OnOk, OnErr, None};
-ghost use Rattle.std.specs.List.{filter, find, list_any};
-ghost use Rattle.std.specs.Map.{lookup, remove_entry, values_of};
+ghost use Rattle.std.specs.List.{IsDistinct, filter, find, list_any};
+ghost use Rattle.std.specs.Map.{keys_of, lookup, remove_entry, values_of};
 ghost use Rattle.std.specs.Option.{option_map};
 ghost use Rattle.std.specs.Str.{bytes_eq};
 ghost use Rattle.indexmap.specs.IndexMap.{spare};
-ghost use Rattle.dl_model.specs.Registry.{context_of, has_place, matches, with_new_context, without, releveled_app, releveled_context};
-ghost use Rattle.dl_registry.specs.Change.{told_again, context_told_again, placed_again, changed_context, without_context, relevel_of, changed_entry};
+ghost use Rattle.dl_model.specs.Registry.{context_of, has_place, matches, with_new_context, without, releveled_context};
+ghost use Rattle.dl_registry.specs.Change.{told_again, context_told_again, placed_again, changed_context, leveled, without_context, relevel_of, releveled_in, changed_entry};
 
-use crate::relevel::{Relevel, is_match};
-use dl_bytes::{Bytes, CONTEXT_LIMIT, Id, OutOfMemory};
+use crate::relevel::Relevel;
+use dl_bytes::{Bytes, CONTEXT_LIMIT, Id, OutOfMemory, OwnLevel};
 use dl_model::{Context, Description};
 use indexmap::IndexMap;
 use std::alloc::Global;
@@ -41,6 +41,17 @@ impl Model for Application {
 
 /// For how many contexts an application takes room: for all, and for one more, which one that goes leaves free.
 const ROOM: usize = CONTEXT_LIMIT + 1;
+
+/// What an id names.
+pub fn named<V>(entries: &IndexMap<Id, V>, id: Id) -> Option<&V>
+    ensures value { option_map (λ r. r.now) result ≡ lookup (bytes_eq id) entries.now.entries }
+    // It names nothing else.
+    ensures apart { IsDistinct bytes_eq (keys_of entries.now.entries) }
+{
+    // `len` is called for its clause that no two keys are the same.
+    let _len = entries.len();
+    entries.get(&id)
+}
 
 /// Whether a place is among these.
 fn is_among(place: u16, places: &[u8]) -> bool
@@ -153,10 +164,13 @@ impl Application {
     pub fn matching(&self, ctid: Id) -> usize
         ensures { result ≡ length (filter (λ entry. matches ctid entry.0) self.now.contexts) }
     {
-        self.contexts
-            .iter()
-            .filter(|(id, _)| is_match(ctid, **id))
-            .count()
+        if ctid.is_zero() {
+            return self.contexts.len();
+        }
+        match named(&self.contexts, ctid) {
+            Some(_) => 1,
+            None => 0,
+        }
     }
 
     /// It tells itself anew.
@@ -174,6 +188,15 @@ impl Application {
         if let Some(context) = self.contexts.get_mut(&ctid) {
             context.position = position;
             context.text = text;
+        }
+    }
+
+    /// A context of it gets this own level.
+    pub fn set_own(&mut self, ctid: Id, own: OwnLevel)
+        ensures { self.new ≡ changed_context ctid (leveled own) self.old }
+    {
+        if let Some(context) = self.contexts.get_mut(&ctid) {
+            context.own = own;
         }
     }
 
@@ -209,7 +232,7 @@ impl Application {
 
     /// Its contexts get these own levels. `apid` is its own id.
     pub fn relevel(&mut self, apid: Id, levels: &Relevel)
-        ensures { (apid, self.new) ≡ releveled_app (relevel_of levels.now) (apid, self.old) }
+        ensures { self.new ≡ releveled_in (relevel_of levels.now) apid self.old }
     {
         for place in 0..self.contexts.len() {
             relevel_at(&mut self.contexts, place, apid, levels);

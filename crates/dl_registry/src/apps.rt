@@ -6,11 +6,11 @@ ghost use Rattle.std.specs.Map.{lookup, remove_entry, values_of};
 ghost use Rattle.std.specs.Option.{option_and_then, option_map};
 ghost use Rattle.std.specs.Str.{bytes_eq};
 ghost use Rattle.dl_model.specs.Registry.{IsNumbered, numbers, least_free, context_of, of_channel, with_new_context, without, releveled_app};
-ghost use Rattle.dl_registry.specs.Change.{changed_app, told_again, changed_context, context_told_again, placed_again, without_context, relevel_of, changed_entry};
+ghost use Rattle.dl_registry.specs.Change.{changed_app, told_again, changed_context, context_told_again, placed_again, leveled, without_context, relevel_of, releveled_in, changed_entry};
 
 use crate::application::Application;
 use crate::relevel::Relevel;
-use dl_bytes::{Bytes, Id, OutOfMemory};
+use dl_bytes::{Bytes, Id, OutOfMemory, OwnLevel};
 use dl_model::{Context, Description};
 use indexmap::IndexMap;
 
@@ -103,6 +103,15 @@ pub fn tell_context(apps: &mut Apps, apid: Id, ctid: Id, position: u32, text: De
     }
 }
 
+/// A context of the application of this id gets this own level.
+pub fn set_own(apps: &mut Apps, apid: Id, ctid: Id, own: OwnLevel)
+    ensures { apps.new.entries ≡ changed_app apid (changed_context ctid (leveled own)) apps.old.entries }
+{
+    if let Some(app) = apps.get_mut(&apid) {
+        app.set_own(ctid, own);
+    }
+}
+
 /// An application that was not there comes, as the last.
 pub fn add_app(apps: &mut Apps, apid: Id, app: Application) -> Result<(), OutOfMemory>
     requires { lookup (bytes_eq apid) apps.old.entries ≡ None }
@@ -172,6 +181,15 @@ fn relevel_at(apps: &mut Apps, place: usize, levels: &Relevel)
     };
     let apid = *apid;
     if let Some(app) = apps.get_index_mut(place) {
+        app.relevel(apid, levels);
+    }
+}
+
+/// The contexts of the application of this id get these own levels.
+pub fn relevel_in(apps: &mut Apps, apid: Id, levels: &Relevel)
+    ensures { apps.new.entries ≡ changed_app apid (releveled_in (relevel_of levels.now) apid) apps.old.entries }
+{
+    if let Some(app) = apps.get_mut(&apid) {
         app.relevel(apid, levels);
     }
 }

@@ -1,17 +1,19 @@
 //! Levels that clients set: own levels, the default level, and both again as at the beginning.
 
-ghost use Rattle.std.specs.Prelude.{◌≡◌, ◌==◌, ◌<◌, ◌≤◌, ℕ, is_ok, if◌then◌else◌, [], length, reverse, IfOk, Some};
-ghost use Rattle.std.specs.List.{list_any};
-ghost use Rattle.std.specs.Map.{values_of};
-ghost use Rattle.std.specs.Option.{option_or};
+ghost use Rattle.std.specs.Prelude.{◌≡◌, ◌≢◌, ◌==◌, ◌&&◌, not, ◌<◌, ◌≤◌, ℕ, is_ok, false, if◌then◌else◌, [], length, reverse, IfOk, Some};
+ghost use Rattle.std.specs.List.{IsDistinct, list_any};
+ghost use Rattle.std.specs.Map.{keys_of, lookup, values_of};
+ghost use Rattle.std.specs.Option.{option_map_or, option_or};
+ghost use Rattle.std.specs.Str.{bytes_eq};
+ghost use Rattle.dl_bytes.specs.Id.{zero_id};
 ghost use Rattle.dl_bytes.specs.Limits.{last_version};
-ghost use Rattle.dl_model.specs.Registry.{slot_of as slot_number, is_worn, wears, wears_app, wears_context, unless_worn, matching, own_set, default_set, reset, no_own};
+ghost use Rattle.dl_model.specs.Registry.{slot_of as slot_number, is_worn, wears, wears_app, wears_context, unless_worn, matching, own_set, default_set, reset, no_own, set_matching};
 ghost use Rattle.dl_registry.specs.Change.{relevel_of};
 ghost use Rattle.dl_registry.specs.Kept.{Sets, slots};
-ghost use Rattle.dl_registry.specs.Refresh.{has_slot, level_in_app, level_in_apps};
-ghost use Rattle.dl_slots.specs.Table.{wanted_at};
+ghost use Rattle.dl_registry.specs.Refresh.{has_slot, level_in_app, level_in_apps, level_named};
+ghost use Rattle.dl_slots.specs.Table.{held_at, wanted_at};
 
-use crate::application::Application;
+use crate::application::{Application, named};
 use crate::apps::{self, Apps};
 use crate::info::matching_of;
 use crate::registry::{LAST_VERSION, Registry};
@@ -38,20 +40,41 @@ impl Registry {
         ensures set { Sets (own_set (slots self.old) self.old.registry apid ctid level) self.old result self.new }
         ensures count { IfOk result (λ count. count ≡ length (matching self.old.registry apid ctid)) }
     {
+        if !apid.is_zero() && !ctid.is_zero() {
+            return self.set_one(apid, ctid, level);
+        }
         let count = self.matching(apid, ctid);
         if count == 0 {
             return Err(SetFault::Nobody);
         }
-        let own = Relevel::Set {
-            apid,
-            ctid,
-            own: level,
-        };
-        let level = self.level;
-        match self.relevel(&NewLevels { level, own }) {
+        match self.relevel_own(apid, ctid, level) {
             Ok(()) => Ok(count),
             Err(fault) => Err(fault),
         }
+    }
+
+    /// The same where the ids name one context: no other one is looked at.
+    fn set_one(&mut self, apid: Id, ctid: Id, own: OwnLevel) -> Result<u32, SetFault>
+        requires app { apid ≢ zero_id }
+        requires context { ctid ≢ zero_id }
+        ensures set { Sets (own_set (slots self.old) self.old.registry apid ctid own) self.old result self.new }
+        ensures count { IfOk result (λ count. count ≡ length (matching self.old.registry apid ctid)) }
+    {
+        let Some(app) = named(&self.apps, apid) else {
+            return Err(SetFault::Nobody);
+        };
+        let Some(context) = named(app.contexts(), ctid) else {
+            return Err(SetFault::Nobody);
+        };
+        let number = app.number();
+        let old = context.own.effective(self.level);
+        let new = own.effective(self.level);
+        if would_wear(&self.table, number, context, old, new) {
+            return Err(SetFault::Worn);
+        }
+        give_places(&mut self.table, number, context, new);
+        apps::set_own(&mut self.apps, apid, ctid, own);
+        Ok(1)
     }
 
     /// Sets the default level, which all contexts follow that have none of their own.
@@ -84,8 +107,41 @@ impl Registry {
         !self.wears(&NewLevels { level, own })
     }
 
-    /// How many contexts both ids match, at most the 1024 that there can be.
+    /// Sets the own level of all contexts that both ids match, unless a slot at its last version would change. Where one
+    /// application is named, no other one is looked at.
+    fn relevel_own(&mut self, apid: Id, ctid: Id, own: OwnLevel) -> Result<(), SetFault>
+        ensures { Sets (unless_worn (slots self.old) self.old.registry self.old.registry.level (set_matching apid ctid own)) self.old result self.new }
+    {
+        let level = self.level;
+        let own = Relevel::Set { apid, ctid, own };
+        let new = NewLevels { level, own };
+        if apid.is_zero() {
+            return self.relevel(&new);
+        }
+        if self.wears_in(&new, apid) {
+            return Err(SetFault::Worn);
+        }
+        apps::relevel_in(&mut self.apps, apid, &new.own);
+        refresh_in(&mut self.table, self.level, &self.apps, apid);
+        Ok(())
+    }
+
+    /// How many contexts both ids match, at most the 1024 that there can be. Where one application is named, no other one
+    /// is looked at.
     pub(crate) fn matching(&self, apid: Id, ctid: Id) -> u32
+        ensures { result ≡ length (matching self.now.registry apid ctid) }
+    {
+        if apid.is_zero() {
+            return self.matching_anywhere(apid, ctid);
+        }
+        match named(&self.apps, apid) {
+            Some(app) => app.matching(ctid) as u32,
+            None => 0,
+        }
+    }
+
+    /// The same, application by application.
+    fn matching_anywhere(&self, apid: Id, ctid: Id) -> u32
         ensures { result ≡ length (matching self.now.registry apid ctid) }
     {
         let mut count: usize = 0;
@@ -93,30 +149,6 @@ impl Registry {
             count = count.saturating_add(matching_of(apid, ctid, *id, app));
         }
         count as u32
-    }
-
-    /// Whether a slot is at its last version.
-    fn is_last(&self, slot: u16) -> bool
-        ensures { result ≡ ((slots self.now slot).version == last_version) }
-    {
-        self.table.held(slot).version == LAST_VERSION
-    }
-
-    /// Whether a slot of a context is, by the number of its application.
-    fn is_worn(&self, number: u8, context: &Context) -> bool
-        ensures { result ≡ is_worn (slots self.now) number context.now }
-    {
-        self.is_last(slot_of(number, context.place))
-            || self.is_any_last(number, context.further.all())
-    }
-
-    /// Whether a slot of these places of an application is.
-    fn is_any_last(&self, number: u8, places: &[u8]) -> bool
-        ensures { result ≡ list_any (λ place. (slots self.now (slot_number number place)).version == last_version) places.now }
-    {
-        places
-            .iter()
-            .any(|place| self.is_last(slot_of(number, *place)))
     }
 
     /// Whether a slot of a context is at its last version, and these levels would change its effective level.
@@ -131,8 +163,13 @@ impl Registry {
         ensures { result ≡ wears_context (slots self.now) self.now.registry.level new.now.level (relevel_of new.now.own) (apid, app.now) (ctid, context.now) }
     {
         let own = new.own.own(apid, ctid, context.own);
-        self.is_worn(app.number(), context)
-            && context.own.effective(self.level) != own.effective(new.level)
+        would_wear(
+            &self.table,
+            app.number(),
+            context,
+            context.own.effective(self.level),
+            own.effective(new.level),
+        )
     }
 
     /// The same of any context of an application.
@@ -153,6 +190,18 @@ impl Registry {
             .any(|(apid, app)| self.wears_app(new, *apid, app))
     }
 
+    /// The same of any context of the application that an id names.
+    fn wears_in(&self, new: &NewLevels, apid: Id) -> bool
+        ensures wears { result ≡ option_map_or (λ app. wears_app (slots self.now) self.now.registry.level new.now.level (relevel_of new.now.own) (apid, app)) (lookup (bytes_eq apid) self.now.registry.apps) false }
+        // It names no other one.
+        ensures apart { IsDistinct bytes_eq (keys_of self.now.registry.apps) }
+    {
+        match named(&self.apps, apid) {
+            Some(app) => self.wears_app(new, apid, app),
+            None => false,
+        }
+    }
+
     /// Sets these levels, unless a slot at its last version would change.
     fn relevel(&mut self, new: &NewLevels) -> Result<(), SetFault>
         ensures { Sets (unless_worn (slots self.old) self.old.registry new.now.level (relevel_of new.now.own)) self.old result self.new }
@@ -165,6 +214,37 @@ impl Registry {
         refresh(&mut self.table, self.level, &self.apps);
         Ok(())
     }
+}
+
+/// Whether a slot is at its last version.
+fn is_last(table: &SlotTable, slot: u16) -> bool
+    ensures { result ≡ ((held_at table.now.first table.now.held slot).version == last_version) }
+{
+    table.held(slot).version == LAST_VERSION
+}
+
+/// Whether a slot of these places of an application is.
+fn is_any_last(table: &SlotTable, number: u8, places: &[u8]) -> bool
+    ensures { result ≡ list_any (λ place. (held_at table.now.first table.now.held (slot_number number place)).version == last_version) places.now }
+{
+    places
+        .iter()
+        .any(|place| is_last(table, slot_of(number, *place)))
+}
+
+/// Whether a slot of a context is, by the number of its application.
+fn is_worn(table: &SlotTable, number: u8, context: &Context) -> bool
+    ensures { result ≡ is_worn (held_at table.now.first table.now.held) number context.now }
+{
+    is_last(table, slot_of(number, context.place))
+        || is_any_last(table, number, context.further.all())
+}
+
+/// Whether a slot of a context is, and would go from one level to another.
+fn would_wear(table: &SlotTable, number: u8, context: &Context, old: Level, new: Level) -> bool
+    ensures { result ≡ (is_worn (held_at table.now.first table.now.held) number context.now && not (old == new)) }
+{
+    is_worn(table, number, context) && old != new
 }
 
 /// No context has a level of its own.
@@ -194,6 +274,18 @@ fn refresh(table: &mut SlotTable, level: Level, apps: &Apps)
     ensures levels { (slot : ℕ) → slot < 1024 → wanted_at table.new slot ≡ option_or (level_in_apps level (reverse (values_of apps.now.entries)) slot) (wanted_at table.old slot) }
 {
     for app in apps.values() {
+        refresh_app(table, level, app);
+    }
+}
+
+/// The same of the application that an id names.
+fn refresh_in(table: &mut SlotTable, level: Level, apps: &Apps, apid: Id)
+    ensures first { table.new.first ≡ table.old.first }
+    ensures held { table.new.held ≡ table.old.held }
+    ensures outside { (slot : ℕ) → 1024 ≤ slot → wanted_at table.new slot ≡ wanted_at table.old slot }
+    ensures levels { (slot : ℕ) → slot < 1024 → wanted_at table.new slot ≡ option_or (level_named level apps.now.entries apid slot) (wanted_at table.old slot) }
+{
+    if let Some(app) = named(apps, apid) {
         refresh_app(table, level, app);
     }
 }

@@ -11,7 +11,7 @@ use Rattle.dl_events.specs.declared.event.Event.{Event}
 use Rattle.dl_events.specs.declared.event.Event.TheVariants as event
 use Rattle.dl_desk.specs.Told.{PostTold}
 use Rattle.dl_registry.specs.Kept.{Kept}
-use Rattle.dl_hub.specs.State.{Client, Comes, HasPlace, Hub, IsSameHub, client_of}
+use Rattle.dl_hub.specs.State.{Client, Comes, HasPlace, Hub, IsSameHub, client_of, outbox_of}
 use Rattle.dl_hub.specs.declared.hub.HubFault.{HubFault}
 use Rattle.dl_core.specs.Follows.{AddsAlone}
 use Rattle.dl_core.specs.State.{Core}
@@ -19,8 +19,10 @@ use Rattle.dl_turns.specs.Events.{HasServed, IsDeskOf}
 use Rattle.dl_rounds.specs.declared.listener.Listener.{Listener}
 use Rattle.dl_rounds.specs.Arrivals.{Connects}
 use Rattle.dl_rounds.specs.Ready.{AreHeard}
+use Rattle.dl_rounds.specs.Seats.{Seated}
 use Rattle.dl_rounds.proofs.ByPlace.{get_before}
-use Rattle.dl_lemmas.proofs.Lists.{get_end}
+use Rattle.dl_rounds.proofs.Turned.{open_within}
+use Rattle.dl_lemmas.proofs.Lists.{get_end, there}
 
 pub connected : (r : Result ℕ HubFault) (o : Option ℕ) (old new : Core) (events events_now : Option (List Event)) → o ≡ result_ok r → HasPlace old.hub
     → IfOk r (λ number. number ≡ length old.hub.clients + 1) → IfOk r (λ number. AddsAlone (event.Connect number ∷ []) old new)
@@ -56,18 +58,13 @@ one_longer old new comes = ap length comes.1 ∙ length-append old.clients (come
 is_served : (o : Option Client) (c : Client) → o ≡ Some c → c.replies ≡ 0 → IsSomeAnd o (λ x. (x.replies ≡ 0) × (0 ≤ request_limit))
 is_served o c is none = subst (λ (x : Option Client). IsSomeAnd x (λ y. (y.replies ≡ 0) × (0 ≤ request_limit))) (sym is) (none, omega arith)
 
-pub heard_comes : (number : ℕ) (old new : Core) (events events_now : Option (List Event)) → Connects number old new events events_now → (listeners : List Listener) (desk : PostTold)
-    → AreHeard listeners old desk → AreHeard listeners new desk
-heard_comes number old new events events_now connects listeners desk heard =
+pub heard_comes : (number : ℕ) (old new : Core) (events events_now : Option (List Event)) → Connects number old new events events_now → (seated : Seated) (desk : PostTold)
+    → AreHeard seated old desk → AreHeard seated new desk
+heard_comes number old new events events_now connects seated desk heard =
     let comes = connects.comes in
     let longer = one_longer old.hub new.hub comes in record {
       enough = omega (arith, heard.enough, connects.same.limit);
-      limits = λ place listener is open_so. elim (cases_lt place (length old.hub.clients)) [
-        | inl before ↦
-            heard.limits place listener is
-            (subst (λ (o : Option Client). IsSome (option_and_then (λ (c : Client). c.outbox) o)) (same_before old.hub new.hub comes place before) open_so)
-        | inr after ↦ ap (λ (l : Listener). l.cutter.limit) (heard.unused place listener is after)
-      ];
+      limits = heard.limits;
       counts = λ place listener is below. elim (cases_lt place (length old.hub.clients)) [
         | inl before ↦
             subst (λ (o : Option Client). IsSomeAnd o (λ c. (c.replies ≡ listener.served) × (listener.served ≤ request_limit))) (sym (same_before old.hub new.hub comes place before))
@@ -78,5 +75,16 @@ heard_comes number old new events events_now connects listeners desk heard =
             subst (λ (n : ℕ). HasServed (place + 1) n new) (sym none) (is_served (client_of new.hub (place + 1)) comes.0 last comes.3)
       ];
       unused = λ place listener is above. heard.unused place listener is (omega (arith, above, longer));
+      waiting = λ client open_so none.
+          let within = open_within new.hub client open_so in
+          let back : client ≡ client - 1 + 1 = omega (arith, within.0) in elim (cases_lt (client - 1) (length old.hub.clients)) [
+            | inl before ↦
+                let here = subst (λ (n : ℕ). IsSome (outbox_of new.hub n)) back open_so in
+                let was = subst (λ (o : Option Client). IsSome (option_and_then (λ (c : Client). c.outbox) o)) (same_before old.hub new.hub comes (client - 1) before) here in
+                heard.waiting client (subst (λ (n : ℕ). IsSome (outbox_of old.hub n)) (sym back) was) none
+            | inr after ↦
+                let at = there seated.listeners (client - 1) (omega (arith, within.0, within.1, longer, heard.enough, connects.place.0)) in
+                at.1 ∙ ap (λ (l : Listener). Some l) (heard.unused (client - 1) at.0 at.1 after)
+          ];
       desk_so = subst (λ (k : Kept). IsDeskOf k desk) (sym (ap (λ (c : Core). c.registry) connects.rest)) heard.desk_so;
     }

@@ -1,6 +1,9 @@
+mod Walks
 pub mod ByPlace
 pub mod OneClient
 pub mod Turned
+pub mod SeatedListeners
+pub mod GoneSeats
 pub mod ReadyAgain
 pub mod PumpMoves
 pub mod Visiting

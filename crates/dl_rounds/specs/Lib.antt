@@ -1,6 +1,8 @@
 pub mod Clients
 pub mod Rounds
 pub mod Visits
+pub mod Seats
+pub mod Lends
 pub mod Ready
 pub mod Arrivals
 pub mod Greetings

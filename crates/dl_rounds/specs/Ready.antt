@@ -1,5 +1,5 @@
 -- What holds of the clients between two calls, so that the next one may be made.
-use Rattle.std.specs.Prelude.{◌≡◌, ℕ, ◌+◌, ◌<◌, ◌≤◌, List, length, count_by, slice_get, Some, None, IsSome}
+use Rattle.std.specs.Prelude.{◌≡◌, ℕ, ◌+◌, ◌<◌, ◌≤◌, length, count_by, slice_get, Some, None, IsSome, ◌-◌}
 use Rattle.dl_bytes.specs.Limits.{message_limit}
 use Rattle.dl_message.specs.Cutting.{unfed}
 use Rattle.dl_outside.specs.Links.{Links}
@@ -9,6 +9,7 @@ use Rattle.dl_hub.specs.State.{Hub, is_open, outbox_of}
 use Rattle.dl_core.specs.State.{Core}
 use Rattle.dl_turns.specs.Events.{HasServed, IsDeskOf}
 use Rattle.dl_rounds.specs.declared.listener.Listener.{Listener}
+use Rattle.dl_rounds.specs.Seats.{HasSeat, Seated}
 
 -- how many clients are open
 abbrev pub open_clients : Hub → ℕ
@@ -27,15 +28,16 @@ pub record AreLinked {L : Type 0} (links : Links L) (core : Core) (spare : ℕ) 
 abbrev pub fresh_listener : Listener
 fresh_listener = record { cutter = unfed message_limit; served = 0 }
 
--- Each client that may come has a listener. That of an open client has a cutter for clients, that of one that came the count of its requests
--- that were served, and the others are of clients that sent nothing yet. The desk is that of the registry.
-pub record AreHeard (listeners : List Listener) (core : Core) (desk : PostTold) : Type 0 where
-  pub enough : core.hub.limit ≤ length listeners
-  pub limits : (place : ℕ) (listener : Listener) → slice_get listeners place ≡ Some listener → IsSome (outbox_of core.hub (place + 1))
-      → listener.cutter.limit ≡ message_limit
-  pub counts : (place : ℕ) (listener : Listener) → slice_get listeners place ≡ Some listener → place < length core.hub.clients
+-- Each client that may come has a listener, with a cutter for clients. That of one that came has the count of its requests that were served, and
+-- the others are of clients that sent nothing yet; so is that of an open client without a seat. The desk is that of the registry.
+pub record AreHeard (seated : Seated) (core : Core) (desk : PostTold) : Type 0 where
+  pub enough : core.hub.limit ≤ length seated.listeners
+  pub limits : (place : ℕ) (listener : Listener) → slice_get seated.listeners place ≡ Some listener → listener.cutter.limit ≡ message_limit
+  pub counts : (place : ℕ) (listener : Listener) → slice_get seated.listeners place ≡ Some listener → place < length core.hub.clients
       → HasServed (place + 1) listener.served core
-  pub unused : (place : ℕ) (listener : Listener) → slice_get listeners place ≡ Some listener → length core.hub.clients ≤ place → listener ≡ fresh_listener
+  pub unused : (place : ℕ) (listener : Listener) → slice_get seated.listeners place ≡ Some listener → length core.hub.clients ≤ place → listener ≡ fresh_listener
+  pub waiting : (number : ℕ) → IsSome (outbox_of core.hub number) → (HasSeat number seated → ⊥)
+      → slice_get seated.listeners (number - 1) ≡ Some fresh_listener
   pub desk_so : IsDeskOf core.registry desk
 
 -- The journal keeps the room that it had for all but the Closes of open clients.

@@ -9,12 +9,15 @@ mod greeting;
 pub mod laws;
 mod listener;
 mod partings;
+mod past;
 mod rounds;
+mod seats;
 mod visits;
 
 pub use accepting::{Arrival, accept_one, connect_one};
 pub use greeting::{greet, greet_one};
-pub use listener::{Listener, listeners};
+pub use listener::Listener;
 pub use partings::shut_gone;
 pub use rounds::{close_all, listen_all, pump_all};
+pub use seats::Seats;
 pub use visits::{close_one, listen_to, pump_to};

@@ -30,11 +30,19 @@ impl Listener {
             served: 0,
         })
     }
+
+    /// Makes it that of a client that sent nothing yet. It takes no memory.
+    pub(crate) fn clear(&mut self)
+        ensures { self.new ≡ record { cutter = unfed self.old.cutter.limit; served = 0 } }
+    {
+        self.cutter.clear();
+        self.served = 0;
+    }
 }
 
 /// So many listeners, each of a client that sent nothing yet.
 #[tactic(auto, using(std::proofs::lemmas::List::replicate_more))]
-pub fn listeners(alloc: Global, count: u32) -> Result<Vec<Listener>, OutOfMemory>
+pub(crate) fn listeners(alloc: Global, count: u32) -> Result<Vec<Listener>, OutOfMemory>
     ensures { IfOk result (λ listeners. listeners.items ≡ replicate count (record { cutter = unfed message_limit; served = 0 })) }
 {
     let mut listeners = Vec::with_capacity(alloc, count as usize)?;

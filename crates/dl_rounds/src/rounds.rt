@@ -1,15 +1,15 @@
 //! All open clients, in the order of their numbers.
 
-ghost use Rattle.std.specs.Prelude.{◌≡◌, ℕ, List, None, map};
+ghost use Rattle.std.specs.Prelude.{◌≡◌, ℕ, None, map};
 ghost use Rattle.dl_desk.specs.Told.{PostTold};
 ghost use Rattle.dl_hub.specs.State.{IsSameHub, outbox_of};
 ghost use Rattle.dl_turns.specs.Gone.{TellOver};
-ghost use Rattle.dl_rounds.specs.declared.listener.Listener.{Listener as listener_type};
 ghost use Rattle.dl_rounds.specs.Rounds.{seen};
+ghost use Rattle.dl_rounds.specs.Seats.{Seated};
 ghost use Rattle.dl_rounds.specs.Ready.{AreHeard, AreLinked, KeepsRoom};
 ghost use Rattle.dl_rounds.specs.Visits.{ClosesAll, HearsAll, PumpsAll};
 
-use crate::listener::Listener;
+use crate::seats::Seats;
 use crate::visits::{close_one, listen_to, pump_to};
 use dl_core::Core;
 use dl_desk::Post;
@@ -26,15 +26,15 @@ pub fn listen_all<R: Wait, D: Post, J: Journal, L: Link, F: Folder>(
     desk: &mut D,
     journal: &mut J,
     links: &mut LinkList<L>,
-    listeners: &mut [Listener],
+    seats: &mut Seats,
     folder: &mut F,
 ) -> bool
     requires linked { AreLinked links.old core.old (J.spare journal.old) }
-    requires heard { AreHeard listeners.old core.old (D.told desk.old) }
+    requires heard { AreHeard seats.old core.old (D.told desk.old) }
     ensures visits { let c = seen L.told D.told J.events F.told in HearsAll result
-        (c links.old listeners.old core.old desk.old journal.old folder.old) (c links.new listeners.new core.new desk.new journal.new folder.new) }
+        (c links.old seats.old.listeners core.old desk.old journal.old folder.old) (c links.new seats.new.listeners core.new desk.new journal.new folder.new) }
     ensures linked { AreLinked links.new core.new (J.spare journal.new) }
-    ensures heard { AreHeard listeners.new core.new (D.told desk.new) }
+    ensures heard { AreHeard seats.new core.new (D.told desk.new) }
     ensures room { KeepsRoom core.old core.new (J.spare journal.old) (J.spare journal.new) }
     ensures same { IsSameHub core.old.hub core.new.hub }
     ensures rest { D.same_rest desk.old desk.new }
@@ -42,8 +42,9 @@ pub fn listen_all<R: Wait, D: Post, J: Journal, L: Link, F: Folder>(
     let mut moved = false;
     let mut last = 0;
     while let Some(client) = core.hub().next_open(last) {
+        seats.seat(core.hub(), client);
         let link = links.of_mut(client);
-        let listener = &mut listeners[client as usize - 1];
+        let listener = seats.of_mut(client);
         moved |= listen_to(
             rt, alloc, core, desk, journal, listener, client, link, folder,
         );
@@ -61,7 +62,7 @@ pub fn pump_all<J: Journal, L: Link>(
     requires linked { AreLinked links.old core.old (J.spare journal.old) }
     ensures visits { PumpsAll result (map L.told links.old.links) (map L.told links.new.links) core.old core.new (J.events journal.old) (J.events journal.new) }
     ensures linked { AreLinked links.new core.new (J.spare journal.new) }
-    ensures heard { (listeners : List listener_type) (desk : PostTold) → AreHeard listeners core.old desk → AreHeard listeners core.new desk }
+    ensures heard { (seated : Seated) (desk : PostTold) → AreHeard seated core.old desk → AreHeard seated core.new desk }
     ensures room { KeepsRoom core.old core.new (J.spare journal.old) (J.spare journal.new) }
     ensures same { IsSameHub core.old.hub core.new.hub }
 {
@@ -82,24 +83,25 @@ pub fn close_all<R: Wait, D: Post, J: Journal, L: Link, F: Folder>(
     desk: &mut D,
     journal: &mut J,
     links: &mut LinkList<L>,
-    listeners: &mut [Listener],
+    seats: &mut Seats,
     folder: &mut F,
 )
     requires linked { AreLinked links.old core.old (J.spare journal.old) }
-    requires heard { AreHeard listeners.old core.old (D.told desk.old) }
+    requires heard { AreHeard seats.old core.old (D.told desk.old) }
     ensures visits { let c = seen L.told D.told J.events F.told in ClosesAll (TellOver L.told)
-        (c links.old listeners.old core.old desk.old journal.old folder.old) (c links.new listeners.new core.new desk.new journal.new folder.new) }
+        (c links.old seats.old.listeners core.old desk.old journal.old folder.old) (c links.new seats.new.listeners core.new desk.new journal.new folder.new) }
     ensures none { (number : ℕ) → outbox_of core.new.hub number ≡ None }
     ensures linked { AreLinked links.new core.new (J.spare journal.new) }
-    ensures heard { AreHeard listeners.new core.new (D.told desk.new) }
+    ensures heard { AreHeard seats.new core.new (D.told desk.new) }
     ensures room { KeepsRoom core.old core.new (J.spare journal.old) (J.spare journal.new) }
     ensures same { IsSameHub core.old.hub core.new.hub }
     ensures rest { D.same_rest desk.old desk.new }
 {
     let mut last = 0;
     while let Some(client) = core.hub().next_open(last) {
+        seats.seat(core.hub(), client);
         let link = links.of_mut(client);
-        let listener = &mut listeners[client as usize - 1];
+        let listener = seats.of_mut(client);
         close_one(
             rt, alloc, core, desk, journal, listener, client, link, folder,
         );

@@ -108,6 +108,7 @@ pub fn close_one<R: Wait, D: Post, J: Journal, L: Link, F: Folder>(
     requires spare { 1 ≤ J.spare journal.old }
     ensures closed { let c = seen L.told D.told J.events F.told in Closed (TellOver L.told) client true
         (c link.old listener.old core.old desk.old journal.old folder.old) (c link.new listener.new core.new desk.new journal.new folder.new) }
+    ensures limit { listener.new.cutter.limit ≡ message_limit }
     ensures settled { owed_change core.new.registry ≡ None }
     ensures desk { IsDeskOf core.new.registry (D.told desk.new) }
     ensures spare { KeepsRoom core.old core.new (J.spare journal.old) (J.spare journal.new) }

@@ -33,6 +33,7 @@ use Rattle.dl_model.specs.Setting.{Setting}
 use Rattle.dl_model.proofs.Numbered.{least_free-is_free, least_free-le-length}
 use Rattle.dl_model.proofs.Order.{app_of_found}
 use Rattle.dl_model.proofs.Presence.{bytes_same, bytes_differ}
+use Rattle.dl_model.proofs.AppPresence.{ifsome_if}
 
 -- a message of an application
 abbrev pub is_message : Event → Bool
@@ -69,10 +70,6 @@ AreFirst number (apid ∷ apids) (one ∷ all) = (one ≡ own apid number) × Ar
 pub ifok_if : {A E : Type 0} (P : A → Type 0) (b : Bool) (e : E) (r : Result A E) → IfOk r P → IfOk (cond b (Err e) r) P
 ifok_if P true e r ok = tt
 ifok_if P false e r ok = ok
-
-ifsome_if : {A : Type 0} (P : A → Type 0) (b : Bool) (o : Option A) → IfSome o P → IfSome (cond b None o) P
-ifsome_if P true o is = tt
-ifsome_if P false o is = is
 
 some_ok : {A E : Type 0} (P : A → Type 0) (r : Result A E) → IfOk r P → IfSome (result_ok r) P
 some_ok P (Ok x) is = is

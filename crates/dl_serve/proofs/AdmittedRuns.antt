@@ -1,6 +1,6 @@
 -- What became of all that programs outside sent, through the rounds of a server and its closing.
 use Rattle.std.proofs.Common.{◌≡◌, ◌≢◌, ◌⊎◌, ◌<◌, ◌≤◌, ◌+◌, ℕ, zero, suc, Bool, inl, inr, List, [], ◌∷◌, ◌++◌, length, map, replicate, take, Option, Some, None, refl, sym, ap, subst, ◌∙◌, arith, append-nil, append_assoc, length-append}
-use Rattle.std.specs.Prelude.{IfSome, IsSome, slice_get}
+use Rattle.std.specs.Prelude.{slice_get}
 use Rattle.std.specs.List.{AllByRecursion}
 use Rattle.std.specs.Map.{keys_of}
 use Rattle.std.proofs.lemmas.List.{length-replicate, map-append}
@@ -41,6 +41,7 @@ use Rattle.dl_serve.proofs.KnownChannels as channels_known
 use Rattle.dl_serve.proofs.KnownChannels.{Knows, hears_known, knows_aside, knows_closing, pumps_known, stops_known}
 use Rattle.dl_serve.proofs.NotedMessages.{clients_silent}
 use Rattle.dl_serve.proofs.OtherEntries.{added_apart, added_here, last_at, taken_at, within}
+use Rattle.dl_lemmas.proofs.Options.{nothing_taken}
 
 -- The state keeps some events more, and all is known of its channels.
 abbrev pub Known : Type 0 → List Event → State → Type 0
@@ -94,10 +95,6 @@ connected arrival.Dropped old new past connects kept = ([], connects.2 ∙ kept 
 connected arrival.Nobody old new past connects kept = ([], connects.1 ∙ kept ∙ ap Some (sym (append-nil past)), λ channel. refl)
 connected arrival.Failed old new past connects kept = ([], connects.1 ∙ kept ∙ ap Some (sym (append-nil past)), λ channel. refl)
 connected arrival.OutOfMemory old new past connects kept = ([], connects.1 ∙ kept ∙ ap Some (sym (append-nil past)), λ channel. refl)
-
-fresh_given : (o : Option (List ℕ)) → IsSome o → IfSome o (λ bytes. bytes ≡ []) → o ≡ Some []
-fresh_given None some none = absurd (cc some)
-fresh_given (Some bytes) some none = ap Some none
 
 pub low_added : (xs : List ℕ) (channel : ℕ) → 1 ≤ channel → AllByRecursion (λ number. 1 ≤ number) xs → AllByRecursion (λ number. 1 ≤ number) (xs ++ channel ∷ [])
 low_added [] channel one all = (one, tt)
@@ -167,7 +164,7 @@ module _ {L : Type 0} (told : L → LinkTold) (tells : TellGiven told) where
   entered (entry.Channel number) net net_now old new past links links_now were are enters events ends known =
       let link = enters.0 in
       let added : new.programs ≡ old.programs ++ told link ∷ [] = are ∙ ap (λ (ls : Links L). map told ls.links) enters.2 ∙ map-append told links.links (link ∷ []) ∙ ap (λ (ls : List LinkTold). ls ++ told link ∷ []) (sym were) in
-      let given : (told link).given ≡ Some [] = fresh_given (told link).given (tells link) enters.1.1.nothing_given in
+      let given : (told link).given ≡ Some [] = nothing_taken (told link).given (tells link) enters.1.1.nothing_given in
       let knows = opened_known past old.programs old.ends old.channels new.channels number (told link) given enters.4 known.1 in (
         [],
         (

@@ -1,5 +1,5 @@
 -- What serving comes to, by the laws of rounds and of a closing.
-use Rattle.std.proofs.Common.{◌≡◌, ◌≢◌, ◌+◌, ◌<◌, ◌==◌, ℕ, Bool, true, false, List, [], ◌++◌, length, map, slice_get, Option, Some, None, is_some, refl, sym, ap, subst, ◌∙◌, arith}
+use Rattle.std.proofs.Common.{◌≡◌, ◌≢◌, ◌+◌, ◌<◌, ◌==◌, ℕ, Bool, true, List, [], ◌++◌, length, map, slice_get, Option, Some, None, is_some, refl, sym, ap, subst, ◌∙◌, arith}
 use Rattle.std.specs.Prelude.{◌↔◌, IfSome, IsSome}
 use Rattle.std.specs.List.{concat}
 use Rattle.std.specs.Option.{option_and_then, option_map_or}
@@ -37,7 +37,7 @@ use Rattle.dl_serve.specs.declared.closed.Closed.{Closed}
 use Rattle.dl_serve.specs.Closed.{IsLeft}
 use Rattle.dl_serve.specs.Comes.{HasCome, IsComeTo, TookStream, TookStreams, run_in}
 use Rattle.dl_lemmas.proofs.Lists.{within_of}
-use Rattle.dl_lemmas.proofs.Options.{one_is}
+use Rattle.dl_lemmas.proofs.Options.{one_is, if_some_is, not_some}
 
 -- ---- the trace files that stood before
 
@@ -54,9 +54,6 @@ pub stood_there : (conf : Conf) (files : Option Files) (kept : Option Trace) (st
     → IfSome files (λ all. HasFiles conf.directory all stood)
 stood_there conf files None stood told some = absurd (some refl)
 stood_there conf files (Some kept) stood told some = told
-
-some_of : {A : Type 0} (o : Option A) (P : A → Type 0) (x : A) → o ≡ Some x → IfSome o P → P x
-some_of o P x is holds = subst (λ (found : Option _). IfSome found P) is holds
 
 -- ---- what links took
 
@@ -90,9 +87,6 @@ module _ (run : Run) (events : List Event) (took : ℕ → List ℕ) (core : Cor
       took_one place link end client.0 client.1 at same
 
 -- ---- the whole
-
-not_some : {A : Type 0} (o : Option A) → o ≡ None → IsSome o → ⊥
-not_some o none some = (let same : false ≡ true = sym (ap is_some none) ∙ some in cc same)
 
 if_some : {A : Type 0} (o : Option A) (P : Type 0) → (IsSome o → P) → IfSome o (λ _. P)
 if_some None P holds = tt
@@ -148,9 +142,9 @@ module _ (Tell : Type 0) (set : Setting) (begun : Begun) (first : FolderTold) (b
 
   stood_holds : (files : Files) → first.files ≡ Some files → begun.trace ≢ None → HoldsFiles run (stored_by run []) start.folder.files
   stood_holds files is some =
-      let told : start.folder.files ≡ Some files = some_of first.files (λ (all : Files). start.folder.files ≡ Some all) files is quiet.unchanged.files in
+      let told : start.folder.files ≡ Some files = if_some_is first.files (λ (all : Files). start.folder.files ≡ Some all) files is quiet.unchanged.files in
       let stood : HasFiles begun.conf.directory files before_run.stood =
-      some_of first.files (λ (all : Files). HasFiles begun.conf.directory all before_run.stood) files is (stood_there begun.conf first.files begun.trace before_run.stood before_run.told some) in
+      if_some_is first.files (λ (all : Files). HasFiles begun.conf.directory all before_run.stood) files is (stood_there begun.conf first.files begun.trace before_run.stood before_run.told some) in
       let here : HasFiles set.directory files before_run.stood = subst (λ (d : List ℕ). HasFiles d files before_run.stood) (sym fresh.directory) stood in
       subst (λ (o : Option Files). HoldsFiles run (stored_by run []) o) (sym told) here
 

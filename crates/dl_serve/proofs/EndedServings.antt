@@ -1,6 +1,6 @@
 -- How serving ends once the closing was made, by what the report's writing left.
-use Rattle.std.proofs.Common.{◌≡◌, ◌⊎◌, inl, inr, ℕ, ◌<◌, Bool, true, false, refl, sym, subst, arith}
-use Rattle.std.specs.Prelude.{nat_lt, ◌||◌}
+use Rattle.std.proofs.Common.{◌≡◌, inl, inr, ℕ, ◌<◌, Bool, true, false, refl, sym, subst, arith}
+use Rattle.std.specs.Prelude.{nat_lt}
 use Rattle.std.proofs.lemmas.Bool.{ltb-false, ltb-true}
 use Rattle.dl_ending.specs.Ending.{Finishes}
 use Rattle.dl_outside.specs.Outside.{HasRisen}
@@ -14,24 +14,17 @@ use Rattle.dl_serve.specs.declared.faults.Faults.{Faults}
 use Rattle.dl_serve.specs.Closed.{failures_of, has_wanted, is_spent, text_of}
 use Rattle.dl_serve.specs.Ends.{Ends, NetsFailed, NetsWell}
 use Rattle.dl_serve.specs.Faults.{folder_failed, nets_failed}
+use Rattle.dl_lemmas.proofs.Bools.{neither, either}
 
 risen : (before now : ℕ) → nat_lt before now ≡ true → HasRisen before now
 risen before now is = let up : before < now = ltb-true before now is in (omega (arith, up), omega (arith, up))
 
-one_of : (a b : Bool) → (a || b) ≡ true → (a ≡ true) ⊎ (b ≡ true)
-one_of true b is = inl refl
-one_of false b is = inr is
-
-none_of : (a b : Bool) → (a || b) ≡ false → (a ≡ false) × (b ≡ false)
-none_of true b is = absurd (cc is)
-none_of false b is = (refl, is)
-
 nets_risen : (before now : Faults) → nets_failed before now ≡ true → NetsFailed before now
-nets_risen before now is = elim (one_of (nat_lt before.net now.net) (nat_lt before.users now.users) is) [ inl net ↦ inl (risen before.net now.net net) | inr users ↦ inr (risen before.users now.users users) ]
+nets_risen before now is = elim (either (nat_lt before.net now.net) (nat_lt before.users now.users) is) [ inl net ↦ inl (risen before.net now.net net) | inr users ↦ inr (risen before.users now.users users) ]
 
 nets_still : (before now : Faults) → nets_failed before now ≡ false → NetsWell before now
 nets_still before now is =
-    let both = none_of (nat_lt before.net now.net) (nat_lt before.users now.users) is in
+    let both = neither (nat_lt before.net now.net) (nat_lt before.users now.users) is in
     record { net = ltb-false before.net now.net both.0; users = ltb-false before.users now.users both.1 }
 
 module _ {L : Type 0} (closed : Closed L) (before now : Faults) (out out_now : SinkTold) where

@@ -14,7 +14,6 @@ use Rattle.dl_events.specs.declared.event.Event.TheVariants as event
 use Rattle.dl_hub.specs.State.{Hub, Waiting, outbox_of}
 use Rattle.dl_loop.specs.Holds.{AreNoted, AreTaken}
 use Rattle.dl_loop.proofs.NotedDaemons.{noted_connected, noted_later, noted_none, noted_parted}
-use Rattle.dl_loop.proofs.SeenDaemons.{heard_length}
 use Rattle.dl_loop.proofs.ShownDaemons.{shown_connected, shown_parted, tell_overs}
 use Rattle.dl_loop.proofs.Visited.{visits_keep}
 use Rattle.dl_model.proofs.Order.{in_order-registry_of}
@@ -29,7 +28,7 @@ use Rattle.dl_events.specs.declared.event.Why.{Why}
 use Rattle.dl_rounds.specs.Arrivals.{Arrives, Connects, ConnectsAs}
 use Rattle.dl_rounds.specs.Clients.{Client, Clients, Visits, VisitsAll, with_client}
 use Rattle.dl_rounds.specs.Partings.{ShutsGone}
-use Rattle.dl_rounds.specs.Passing.{AreLater, StayAsNoted, TellFrom, took_all}
+use Rattle.dl_rounds.specs.Passing.{StayAsNoted, TellFrom, took_all}
 use Rattle.dl_rounds.specs.Ready.{fresh_listener}
 use Rattle.dl_rounds.specs.Shown.{AllShowWhy, ShowWhy, TellOvers}
 use Rattle.dl_rounds.specs.Visits.{Closed, ClosesAll, Heard, HearsAll, IsShut, Pumped, ShutsFor}
@@ -53,6 +52,8 @@ use Rattle.dl_serve.specs.Rounds.{AreRounds, IsSeen, kept}
 use Rattle.dl_serve.proofs.OtherEntries.{last_at}
 use Rattle.dl_serve.proofs.PassedEvents.{Passes, all_heard, all_sent, all_stopped}
 use Rattle.dl_serve.proofs.StandingClients.{noted_passed, shown_passed}
+use Rattle.dl_loop.proofs.LaterDaemons.{taken_later}
+use Rattle.dl_lemmas.proofs.Options.{nothing_taken}
 
 -- ---- what is known
 
@@ -144,6 +145,10 @@ pumped_give moved old new pumps = visits_give Pumped
     (λ number here was now pumped some. shuts_given pumped.why pumped.link now.link pumped.shut (some_stays was.link.given pumped.link.given pumped.pump.only_sent.given some)) 0 pumps.0 moved old new pumps.1
 
 -- as many have listeners
+heard_length : (moved : Bool) (old new : Clients) → HearsAll moved old new → length new.listeners ≡ length old.listeners
+heard_length moved old new hears = visits_keep Heard (λ (c : Clients). length c.listeners ≡ length old.listeners)
+    (λ number here clients was now is heard so. set_length clients.listeners (number - 1) now.listener ∙ so) 0 hears.0 moved old new hears.1 refl
+
 closed_length : {Tells : Type 0} (old new : Clients) → ClosesAll Tells old new → length new.listeners ≡ length old.listeners
 closed_length {Tells} old new closes = visits_keep (Closed Tells) (λ (c : Clients). length c.listeners ≡ length old.listeners)
     (λ number here clients was now is closed so. set_length clients.listeners (number - 1) now.listener ∙ so) 0 closes.1.0 closes.0 old new closes.1.1 refl
@@ -169,19 +174,6 @@ module _ (P : ℕ → LinkTold → Type 0) (shut_so : (place : ℕ) (link link_n
         (subst (λ (p : ℕ). slice_get old p ≡ Some before) back was) (subst (λ (p : ℕ). slice_get new p ≡ Some link) back there)) (all place before was)
 
 -- ---- small facts
-
-nothing_told : (o : Option (List ℕ)) → IsSome o → IfSome o (λ bytes. bytes ≡ []) → o ≡ Some []
-nothing_told None there nothing = absurd (cc there)
-nothing_told (Some bytes) there nothing = ap Some nothing
-
-grown : (before now : Option (List ℕ)) (had more : List ℕ) → before ≡ Some had → Grows before now more → now ≡ Some (had ++ more)
-grown before now had more is grows = subst (λ (o : Option (List ℕ)). Grows o now more) is grows
-
-taken_later : (old new : Clients) (took : ℕ → List ℕ) (later : AreLater old new) → AreTaken old.links took → AreTaken new.links (took_all took later.sent)
-taken_later old new took later taken = λ place link there.
-    let before = get_or old.links place link in
-    let was : slice_get old.links place ≡ Some before = slice_get-get_or old.links place link (omega (arith, slice_get_within new.links place link there, later.many)) in
-    grown before.taken link.taken (took (place + 1)) (later.sent (place + 1)) (taken place before was) (later.links_took place before link was there)
 
 module _ (Bytes Over : Type 0) where
   -- ---- nothing of it has changed
@@ -382,12 +374,14 @@ module _ {L : Type 0} (told : L → LinkTold) where
 
   -- what is true of a server between two calls: each client that may come has a listener, and its link tells what those of its kind tell
   pub record IsStanding (s : State) : Type 0 where
-    pub heard : HaveListeners s.listeners s.core
+    pub clients : List ℕ
+    pub heard : HaveListeners (record { listeners = s.listeners; clients = clients }) s.core
     pub overs : TellOver told → TellOvers s.clients
 
   pub standing_of : {J : Type 0} (events : J → Option (List Event)) (s : State) → IsSeen told events s → IsStanding s
   standing_of events s seen = record {
-    heard = subst (λ (t : State). HaveListeners t.listeners t.core) (sym seen.is) seen.is_server.heard;
+    clients = seen.server.seats.clients;
+    heard = subst (λ (t : State). HaveListeners (record { listeners = t.listeners; clients = seen.server.seats.clients }) t.core) (sym seen.is) seen.is_server.heard;
     overs = λ over. subst (λ (t : State). TellOvers t.clients) (sym seen.is) (λ place link at. tell_overs told seen.server.clients.links over place link at);
   }
 
@@ -420,7 +414,7 @@ module _ {L : Type 0} (told : L → LinkTold) where
       let more_clients : length new.core.hub.clients ≡ length old.core.hub.clients + 1 = ap length connects.comes.1 ∙ length-append old.core.hub.clients (connects.comes.0 ∷ []) in
       let taken : TellBytes told → AreTaken links stands.took =
       (λ bytes. taken_one_more old.clients (told link) stands.took (stands.after.hub.untaken (length old.clients + 1) (omega (arith, stands.many)))
-      (nothing_told (told link).taken (bytes link).1 fresh.nothing_taken) (stands.taken bytes)) in (
+      (nothing_taken (told link).taken (bytes link).1 fresh.nothing_taken) (stands.taken bytes)) in (
         event.Connect number ∷ [],
         record {
           last = record {
@@ -434,7 +428,7 @@ module _ {L : Type 0} (told : L → LinkTold) where
                   shown = shown_connected all (event.Connect number ∷ []) old.core.hub new.core.hub connects.comes.0 old.clients (told link) connects.comes.1 connects.comes.2 connects.same.buffer stands.many stands.shown;
                   taken = taken;
                   noted = λ bytes. noted_connected run all stands.took old.core new.core number connects.comes.0 old.clients old.listeners (told link) connects.next connects.comes.1 connects.comes.2 connects.comes.3
-                      stands.many (nothing_told (told link).given (bytes link).0 fresh.nothing_given) ready.unused after (taken bytes) (stands.noted bytes);
+                      stands.many (nothing_taken (told link).given (bytes link).0 fresh.nothing_given) ready.unused after (taken bytes) (stands.noted bytes);
                 }));
           };
           tells = λ bytes. subst (TellFrom 0) (sym clients) (λ place other above at. elim (last_at old.clients (told link) other place at) [

@@ -15,7 +15,7 @@ use Rattle.dl_channel_turns.proofs.HeardMore.{hears_more}
 use Rattle.dl_core.specs.Admission.{AddsEach}
 use Rattle.dl_events.specs.declared.event.Event.{Event}
 use Rattle.dl_loop.proofs.FolderSides.{same_more}
-use Rattle.dl_outside.specs.Outside.{Grows, Stays}
+use Rattle.dl_outside.specs.Outside.{Stays}
 use Rattle.dl_outside.specs.Told.{LinkTold}
 use Rattle.dl_outside.specs.declared.link.Gave.{Gave}
 use Rattle.dl_outside.specs.declared.link.Gave.TheVariants as gave
@@ -29,6 +29,7 @@ use Rattle.dl_user.specs.declared.fault.Stop.TheVariants as stops
 use Rattle.dl_serve.specs.Admitted.{AreAdmitted, IsFarewell, StopsFor}
 use Rattle.dl_serve.proofs.NotedMessages.{IsOwn, all_both, farewells, turn_own}
 use Rattle.dl_serve.proofs.OtherEntries.{gone_apart, value_apart, value_here}
+use Rattle.dl_loop.proofs.LaterDaemons.{grown}
 
 -- ---- what is known of one channel
 
@@ -75,9 +76,6 @@ module _ (Closing : Type 0) where
 
 stays_some : {A : Type 0} (before now : Option A) (x : A) → before ≡ Some x → Stays before now → now ≡ Some x
 stays_some before now x is stays = subst (λ (o : Option _). Stays o now) is stays
-
-grown_some : (before now : Option (List ℕ)) (had more : List ℕ) → before ≡ Some had → Grows before now more → now ≡ Some (had ++ more)
-grown_some before now had more is grows = subst (λ (o : Option (List ℕ)). Grows o now more) is grows
 
 pub adds_so : (before now : Option (List Event)) (past more : List Event) → before ≡ Some past → AddsEach before now more → now ≡ Some (past ++ more)
 adds_so before now past more is adds = subst (λ (o : Option (List Event)). AddsEach o now more) is adds
@@ -243,7 +241,7 @@ module _ (channel : ℕ) (moment : Moment) where
       kept_then = adds_so before.events between.events past noted kept (turn_own channel moment end (stage_before before inbox old) (stage_after between inbox_now turned) turn).1
 
       given_then : between.link.given ≡ Some (stream ++ hears.given)
-      given_then = grown_some before.link.given between.link.given stream hears.given given hears.link_gave
+      given_then = grown before.link.given between.link.given stream hears.given given hears.link_gave
 
       same_noted : noted ≡ hears.events
       same_noted = same_more past between.events noted hears.events kept_then (adds_so before.events between.events past hears.events kept hears.noted)

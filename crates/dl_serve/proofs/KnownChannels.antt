@@ -138,10 +138,6 @@ module _ (Closing : Type 0) (past : List Event) (channel : ℕ) (links links_now
 abbrev pub GoesOn : Type 0 → List Event → List (Option ChannelEnd) → Scene → Type 0
 GoesOn Closing past ends new = (more : List Event) × (new.part.events ≡ Some (past ++ more)) × Knows Closing (past ++ more) new.links ends new.channels
 
-some_is : {A : Type 0} (x y : A) (o : Option A) → o ≡ Some x → o ≡ Some y → x ≡ y
-some_is x y None a b = absurd cc
-some_is x y (Some z) a b = cc
-
 -- where a slot was set
 slot_now : (ends ends_now : List (Option ChannelEnd)) (place : ℕ) (end end_now : Option ChannelEnd) → slice_get ends place ≡ Some end → ends_now ≡ slice_set ends place end_now → slice_get ends_now place ≡ Some end_now
 slot_now ends ends_now place end end_now was is = ap (λ (es : List (Option ChannelEnd)). slice_get es place) is ∙ set_here ends place end_now end was

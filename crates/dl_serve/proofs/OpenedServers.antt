@@ -9,6 +9,7 @@ use Rattle.dl_core.specs.Settings as settings
 use Rattle.dl_core.specs.State.{Core}
 use Rattle.dl_events.specs.Journal.{Journaled}
 use Rattle.dl_outside.specs.Folder.{Files}
+use Rattle.dl_outside.specs.Told.{LinkTold}
 use Rattle.dl_server.specs.Server as server
 use Rattle.dl_server.specs.declared.server.Server.{Server}
 use Rattle.dl_socket.specs.Channels.{Channels, channel_limit, none_opened, open_channel_limit}
@@ -34,6 +35,7 @@ made_so core core_known journal journal_known channels channels_known clients pr
   clients_come = made.clients_come;
   programs_come = made.programs_come;
   unwanted = made.unwanted;
+  all_shut = made.all_shut;
 }
 
 -- a trace that a configuration began is one of it
@@ -41,12 +43,12 @@ pub made_trace : (conf : Conf) (files : Option Files) (kept : Option Trace) → 
 made_trace conf files None begun = tt
 made_trace conf files (Some kept) begun = begun.1
 
-module _ {L : Type 0} (is_one : (conf : Conf) (stored : Stored) (first : ℕ) (trace : Option Trace) (journal : Journaled) (clients programs at_once in_all : ℕ) (s : Server Journaled L)
-    → server.IsMade (settings.begun_for conf stored first trace clients) journal (none_opened at_once in_all) clients programs s → in_all ≤ programs → server.IsServer s) where
+module _ {L : Type 0} (told : L → LinkTold) (is_one : (conf : Conf) (stored : Stored) (first : ℕ) (trace : Option Trace) (journal : Journaled) (clients programs at_once in_all : ℕ) (s : Server Journaled L)
+    → server.IsMade (settings.begun_for conf stored first trace clients) journal (none_opened at_once in_all) clients programs s → in_all ≤ programs → server.IsServer told s) where
   -- a server of what was begun is opened for it
   pub opened_so : (begun : Begun) (opened : Opened L) (core : Core) (journal : Journaled) (channels : Channels) → core ≡ settings.begun begun.conf begun.stored 0 begun.trace → Begins (setting begun) begun.trace core
       → journal ≡ record { events = []; spare = 0 } → channels ≡ none_opened open_channel_limit channel_limit → server.IsMade core journal channels client_limit channel_limit opened.server
-      → opened.conf ≡ begun.conf → opened.port ≡ begun.port → opened.users ≡ begun.users → opened.rounds ≡ begun.rounds → IsOpenedFor begun opened
+      → opened.conf ≡ begun.conf → opened.port ≡ begun.port → opened.users ≡ begun.users → opened.rounds ≡ begun.rounds → IsOpenedFor told begun opened
   opened_so begun opened core journal channels core_is begins journal_is channels_are made conf port users rounds =
       let first : Journaled = record { events = []; spare = 0 } in
       let made_of = made_so core (settings.begun begun.conf begun.stored 0 begun.trace) journal first channels (none_opened open_channel_limit channel_limit) client_limit channel_limit opened.server core_is journal_is

@@ -1,25 +1,22 @@
 -- Clients are as a run's events have them, and those that are gone show why, whatever programs say meanwhile.
-use Rattle.std.proofs.Common.{◌≡◌, ℕ, ◌+◌, ◌-◌, Bool, true, false, cond, eqb, List, [], ◌∷◌, ◌++◌, length, map, append_assoc, append-nil, length-append, Option, Some, None, is_some, inl, inr, refl, sym, ap, ◌∙◌, subst, arith}
-use Rattle.std.specs.Prelude.{IsSome, IsSomeAnd, slice_get, unwrap_or}
+use Rattle.std.proofs.Common.{◌≡◌, ℕ, ◌+◌, ◌-◌, Bool, true, false, cond, eqb, List, [], ◌∷◌, ◌++◌, length, map, append_assoc, append-nil, length-append, Option, Some, None, is_some, inl, refl, sym, ap, ◌∙◌, subst, arith}
+use Rattle.std.specs.Prelude.{IsSome, slice_get}
 use Rattle.std.specs.List.{AllByRecursion, concat}
-use Rattle.std.specs.Option.{option_map}
-use Rattle.std.proofs.lemmas.Bool.Decides.{eqb_tells}
 use Rattle.std.proofs.lemmas.List.Elements.{filter_map-append}
 use Rattle.dl_admission.specs.Part.{Part}
-use Rattle.dl_admission.specs.Slow.{TellRooms, TellsRoom}
-use Rattle.dl_bytes.specs.Limits.{message_limit, request_limit}
+use Rattle.dl_admission.specs.Slow.{TellRooms}
+use Rattle.dl_bytes.specs.Limits.{message_limit}
 use Rattle.dl_core.specs.Follows.{IsAfter, Run, source_of}
 use Rattle.dl_core.specs.State.{Core}
 use Rattle.dl_events.specs.declared.event.Event.{Event}
 use Rattle.dl_events.specs.declared.event.Event.TheVariants as event
 use Rattle.dl_events.specs.declared.event.Why.{Why}
 use Rattle.dl_events.specs.declared.event.Why.TheVariants as why
-use Rattle.dl_hub.specs.State.{Client as HubClient, Hub, client_of, outbox_of}
+use Rattle.dl_hub.specs.State.{Client as HubClient, client_of, outbox_of}
 use Rattle.dl_laws.proofs.ClientStreams.{is_open-one}
 use Rattle.dl_laws.proofs.Lists.{along-one}
 use Rattle.dl_loop.specs.Holds.{AreNoted}
 use Rattle.dl_message.specs.Cut.{rest_fault, rest_of}
-use Rattle.dl_message.specs.Cutting.{Cutting}
 use Rattle.dl_message.specs.Requests.{requests}
 use Rattle.dl_model.specs.Backlog.{outbox_limit}
 use Rattle.dl_model.specs.ClientEnds.{HasGone, LinkDid, asked_by, asked_in}
@@ -30,13 +27,13 @@ use Rattle.dl_model.specs.Traffic.{Admitted, Closed, Traffic, is_open}
 use Rattle.dl_outside.specs.Told.{LinkTold}
 use Rattle.dl_rounds.specs.Clients.{Client}
 use Rattle.dl_rounds.specs.Passing.{Did, IsAsNoted, IsOverIfLeft}
-use Rattle.dl_rounds.specs.Shown.{AllShowWhy, ShowsWhy, WasServedAll}
+use Rattle.dl_rounds.specs.Shown.{AllShowWhy, ShowsWhy}
 use Rattle.dl_rounds.specs.declared.listener.Listener.{Listener}
-use Rattle.dl_rounds.proofs.NotedClients.{gone_longer, left_of}
+use Rattle.dl_rounds.proofs.NotedClients.{gone_longer, left_of, not_bad, over_longer}
 use Rattle.dl_rounds.proofs.Turned.{placed}
-use Rattle.dl_settling.proofs.NotedDrains.{Parts}
+use Rattle.dl_settling.proofs.NotedDrains.{Parts, close_parts, rooms_at, later_parts}
 use Rattle.dl_settling.proofs.Ready.{replies, same_replies}
-use Rattle.dl_settling.proofs.ShownDrains.{has_left, left_at, outbox_at}
+use Rattle.dl_settling.proofs.ShownDrains.{has_left, left_at, outbox_at, served_on}
 use Rattle.dl_settling.proofs.StandingStreams.{Stands, StandsAfter, stands_closing}
 use Rattle.dl_turns.specs.Later.{LeavesSo}
 use Rattle.dl_turns.specs.Sent.{HasCut}
@@ -87,18 +84,6 @@ module _ (source : FrameSource) (buffer client : ℕ) (frames : List (List ℕ))
 
 -- ---- where a client was closed
 
-later_parts : (client : ℕ) (e : Event) (events : List Event) → Parts client events → Parts client (e ∷ events)
-later_parts client e events p = record { before = e ∷ p.before; room = p.room; need = p.need; after = p.after; parted = ap (λ (es : List Event). e ∷ es) p.parted }
-
-close_parts : (client other room need : ℕ) (events : List Event) → (IsSome (why_of client events) → Parts client events) → IsSome (why_of client (event.Close other (why.Slow room need) ∷ events))
-    → Parts client (event.Close other (why.Slow room need) ∷ events)
-close_parts client other room need events rest some = elim (eqb_tells other client) [
-  | inl same ↦ record { before = []; room = room; need = need; after = events; parted = ap (λ (n : ℕ). event.Close n (why.Slow room need) ∷ events) same.1 }
-  | inr apart ↦ later_parts client (event.Close other (why.Slow room need)) events (rest (sym (ap is_some (passed apart.0)) ∙ some))
-] where
-  passed : eqb other client ≡ false → why_of client (event.Close other (why.Slow room need) ∷ events) ≡ why_of client events
-  passed no_so = rw no_so refl
-
 parts_of : (client : ℕ) (events : List Event) → AllByRecursion IsOfPrograms events → IsSome (why_of client events) → Parts client events
 parts_of client [] all some = absurd cc
 parts_of client (event.User channel msg moment ∷ events) all some = later_parts client (event.User channel msg moment) events (parts_of client events all.1 some)
@@ -142,30 +127,10 @@ back_all : (xs ys : List Event) → AllByRecursion IsOfPrograms (xs ++ ys) → A
 back_all [] ys all = all
 back_all (x ∷ xs) ys all = back_all xs ys all.1
 
-rooms_at : (run : Run) (taken : ℕ → List ℕ) (past xs : List Event) (e : Event) (ys : List Event) → TellRooms run taken past (xs ++ e ∷ ys) → TellsRoom run taken (past ++ xs) e
-rooms_at run taken past [] e ys rooms = subst (λ (es : List Event). TellsRoom run taken es e) (sym (append-nil past)) rooms.0
-rooms_at run taken past (x ∷ xs) e ys rooms = subst (λ (es : List Event). TellsRoom run taken es e) (append_assoc past (x ∷ []) xs) (rooms_at run taken (past ++ x ∷ []) xs e ys rooms.1)
-
 -- ---- small facts
-
-not_bad : (bytes : List ℕ) (cutter : Cutting) → HasCut bytes cutter → is_some (rest_fault message_limit (rest_of message_limit bytes)) ≡ false
-not_bad bytes cutter cut = ap (λ (rest : List ℕ). is_some (rest_fault message_limit rest)) (sym cut.rest) ∙ ap (λ (o : Option _). is_some o) cut.good.good
 
 both_so : {A : Type 0} (b : Bool) → b ≡ false → b ≡ true → A
 both_so b no_so yes_so = absurd (let bad : true ≡ false = sym yes_so ∙ no_so in cc bad)
-
-over_longer : (past more : List Event) (number : ℕ) (did : LinkDid) → IsOverIfLeft (past ++ more) number did → IsOverIfLeft past number did
-over_longer past more number did over before after is =
-    over before (after ++ more) (ap (λ (es : List Event). es ++ more) is ∙ append_assoc before (event.Close number why.Left ∷ after) more)
-
-served_by : (o n : Option HubClient) → option_map replies n ≡ option_map replies o → IsSomeAnd o (λ c. c.replies ≡ request_limit) → IsSomeAnd n (λ c. c.replies ≡ request_limit)
-served_by None n same has = absurd has
-served_by (Some c) None same has = absurd cc
-served_by (Some c) (Some d) same has = ap (λ (o : Option ℕ). unwrap_or o 0) same ∙ has
-
-served_on : (number : ℕ) (cause : Why) (old new : Hub) → option_map replies (client_of new number) ≡ option_map replies (client_of old number) → WasServedAll number cause old → WasServedAll number cause new
-served_on number why.TooMany old new same served = served_by (client_of old number) (client_of new number) same served
-served_on number _ old new same served = tt
 
 -- ---- one client
 

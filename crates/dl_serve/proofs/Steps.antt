@@ -82,14 +82,14 @@ module _ {L : Type 0} (link_told : L → LinkTold) where
   unheard begun old new (status.StorageRefused line kind) listen same = absurd listen
 
   -- the same of the ports that were opened
-  pub unheard_on : (begun : Begun) (opened : Opened L) (old new : Told L) (s : Status) → IsOpenedFor begun opened → Listen opened.port opened.users old.net new.net old.users new.users (Err s)
+  pub unheard_on : (begun : Begun) (opened : Opened L) (old new : Told L) (s : Status) → IsOpenedFor link_told begun opened → Listen opened.port opened.users old.net new.net old.users new.users (Err s)
       → new.folder ≡ old.folder → LeavesEarly begun old new s
   unheard_on begun opened old new s is listen same =
       unheard begun old new s (subst (λ (n : ℕ). Listen begun.port n old.net new.net old.users new.users (Err s)) is.users
       (subst (λ (n : ℕ). Listen n opened.users old.net new.net old.users new.users (Err s)) is.port listen)) same
 
   -- it was opened, both nets listen, and it ran
-  pub begun_ran : (begun : Begun) (opened : Opened L) (old : Told L) (net users : NetTold L) (new : Told L) (s : Status) (closed : Option (Closed L)) → IsOpenedFor begun opened
+  pub begun_ran : (begun : Begun) (opened : Opened L) (old : Told L) (net users : NetTold L) (new : Told L) (s : Status) (closed : Option (Closed L)) → IsOpenedFor link_told begun opened
       → IsHeard begun.port old.net net → IsHeard begun.users old.users users → EndsWith link_told opened.server opened.rounds (told old.folder net users old.out) new s closed
       → EndsBegun link_told begun old new s closed
   begun_ran begun opened old net users new s None is net_heard users_heard ends = (subst (λ (t : Status). LeavesEarly begun old new t) (sym ends.0) tt, ends.1)

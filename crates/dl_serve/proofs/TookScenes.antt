@@ -7,7 +7,6 @@ use Rattle.std.proofs.lemmas.Bool.Decides.{eqb_tells}
 use Rattle.dl_bytes.specs.declared.moment.Moment.{Moment}
 use Rattle.dl_channel.specs.declared.outcome.ChannelEnd.{ChannelEnd}
 use Rattle.dl_channel_turns.specs.State.{outbox_of}
-use Rattle.dl_core.specs.Admission.{AddsEach}
 use Rattle.dl_core.specs.Follows.{IsAfter, Run}
 use Rattle.dl_core.specs.State.{Core}
 use Rattle.dl_events.specs.declared.event.Event.{Event}
@@ -28,6 +27,7 @@ use Rattle.dl_serve.proofs.PutEvents.{put_on}
 use Rattle.dl_serve.proofs.PutMessages.{put_all}
 use Rattle.dl_serve.proofs.PutVisits.{Takes, concat_both, put_takes}
 use Rattle.dl_serve.proofs.TookVisits.{ends_move, hears_move, pumps_move}
+use Rattle.dl_serve.proofs.HeardChannels.{adds_so}
 
 -- the bytes of the messages of more events
 pub levels_more : (setting : Setting) (channel : ℕ) (past more : List Event) → levels_put setting channel past ++ concat (put_on setting channel past more) ≡ levels_put setting channel (past ++ more)
@@ -44,9 +44,6 @@ own_not channel other (event.Level slot level ∷ events) apart own = (tt, own_n
 own_not channel other (event.Connect client ∷ events) apart own = (tt, own_not channel other events apart own.1)
 own_not channel other (event.Request client frame done ∷ events) apart own = (tt, own_not channel other events apart own.1)
 own_not channel other (event.Close client why ∷ events) apart own = (tt, own_not channel other events apart own.1)
-
-adds_so : (before now : Option (List Event)) (past more : List Event) → before ≡ Some past → AddsEach before now more → now ≡ Some (past ++ more)
-adds_so before now past more is adds = subst (λ (o : Option (List Event)). AddsEach o now more) is adds
 
 module _ (Tells : Type 0) (run : Run) where
   -- The core is what these events make of it. Of each channel that came the link took the front of its messages; and nothing is noted, and nothing waits, of

@@ -1,6 +1,6 @@
 -- What the links of all channels took, through the rounds of a server and its closing.
 use Rattle.std.proofs.Common.{◌≡◌, ◌≢◌, ◌<◌, ◌≤◌, ◌+◌, ℕ, Bool, inl, inr, List, [], ◌∷◌, ◌++◌, length, map, replicate, Option, Some, None, refl, sym, ap, subst, ◌∙◌, arith, append-nil, append_assoc, length-append}
-use Rattle.std.specs.Prelude.{IfSome, IsSome, slice_get}
+use Rattle.std.specs.Prelude.{IsSome, slice_get}
 use Rattle.std.specs.List.{AllByRecursion, filter_map}
 use Rattle.std.specs.Map.{keys_of}
 use Rattle.std.specs.Option.{option_map}
@@ -52,6 +52,7 @@ use Rattle.dl_serve.proofs.PutVisits.{Takes, put_takes}
 use Rattle.dl_serve.proofs.TookScenes.{AllTake, all_heard, all_sent, all_stopped, levels_more}
 use Rattle.dl_serve.proofs.ShownEnds.{none_at}
 use Rattle.dl_serve.proofs.TookScenes as scenes
+use Rattle.dl_lemmas.proofs.Options.{nothing_taken as fresh_taken}
 
 pub clients_not : (channel : ℕ) (events : List Event) → AllByRecursion IsOfClients events → AllByRecursion (IsNotOf channel) events
 clients_not channel [] all = tt
@@ -63,10 +64,6 @@ clients_not channel (event.Level slot level ∷ events) all = (tt, clients_not c
 clients_not channel (event.Connect client ∷ events) all = absurd all.0
 clients_not channel (event.Request client frame done ∷ events) all = (tt, clients_not channel events all.1)
 clients_not channel (event.Close client why ∷ events) all = (tt, clients_not channel events all.1)
-
-fresh_taken : (o : Option (List ℕ)) → IsSome o → IfSome o (λ bytes. bytes ≡ []) → o ≡ Some []
-fresh_taken None some none = absurd (cc some)
-fresh_taken (Some bytes) some none = ap Some none
 
 module _ (Tells : Type 0) (run : Run) where
   -- The state keeps these events, and it is so of all its channels.

@@ -1,9 +1,7 @@
 -- How the clients of a server that closed went, by the events of a run.
-use Rattle.std.proofs.Common.{◌≡◌, ℕ, ◌+◌, ◌-◌, ◌<◌, ◌≤◌, ◌==◌, Bool, List, [], ◌++◌, length, map, slice_get, length-append, Option, Some, None, is_some, inl, inr, refl, sym, ap, ◌∙◌, subst, arith}
+use Rattle.std.proofs.Common.{◌≡◌, ℕ, ◌+◌, ◌-◌, ◌<◌, ◌≤◌, ◌==◌, Bool, List, [], ◌++◌, length, map, slice_get, length-append, Option, Some, None, is_some, refl, sym, ap, ◌∙◌, subst, arith}
 use Rattle.std.specs.Prelude.{IsSomeAnd}
 use Rattle.std.specs.Option.{option_map_or}
-use Rattle.std.proofs.lemmas.Bool.{eq-eqb, ne_eqb}
-use Rattle.std.proofs.lemmas.Bool.Decides.{eqb_tells}
 use Rattle.dl_bytes.specs.Limits.{request_limit}
 use Rattle.dl_bytes.specs.declared.outcome.Ends.{Ends}
 use Rattle.dl_bytes.specs.declared.outcome.LinkEnd.{LinkEnd}
@@ -50,14 +48,9 @@ use Rattle.dl_serve.proofs.GoneServers.{Last, all_close, known_first, rounds_on}
 use Rattle.dl_rounds.proofs.NotedClients.{left_of}
 use Rattle.dl_lemmas.proofs.Lists.{within_of, there as get_of}
 use Rattle.dl_lemmas.proofs.Options.{one_is}
+use Rattle.dl_lemmas.proofs.Numbers.{all_or_some}
 
 -- ---- at the end
-
-all_or_some : (left took size : ℕ) → size ≡ took + left → (left == 0) ≡ (size == took)
-all_or_some left took size is = elim (eqb_tells left 0) [
-  | inl none ↦ none.0 ∙ sym (eq-eqb size took (omega (arith, is, none.1)))
-  | inr some ↦ some.0 ∙ sym (ne_eqb size took (λ same. some.1 (omega (arith, is, same))))
-]
 
 module _ (Bytes Over : Type 0) (run : Run) (events : List Event) (s : State) (last : Last Bytes Over run events s) (none_open : (number : ℕ) → outbox_of s.core.hub number ≡ None) where
   abbrev hub : Hub

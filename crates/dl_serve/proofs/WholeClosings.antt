@@ -1,11 +1,10 @@
 -- What the links of channels that go on took is all that was put for them, through the closing of a server.
 use Rattle.std.proofs.Common.{◌≡◌, ◌≢◌, ◌⊎◌, ◌≤◌, ◌+◌, ◌-◌, ℕ, Bool, true, false, inl, inr, List, [], ◌∷◌, ◌++◌, Option, Some, None, is_some, refl, sym, ap, subst, ◌∙◌, arith, append-nil, append_assoc}
-use Rattle.std.specs.Prelude.{IsSome, slice_get}
+use Rattle.std.specs.Prelude.{slice_get}
 use Rattle.std.specs.List.{AllByRecursion, concat}
 use Rattle.std.proofs.lemmas.Bool.Decides.{eqb_tells}
 use Rattle.dl_bytes.specs.declared.moment.Moment.{Moment}
 use Rattle.dl_channel.specs.declared.outcome.ChannelEnd.{ChannelEnd}
-use Rattle.dl_core.specs.Admission.{AddsEach}
 use Rattle.dl_core.specs.Follows.{IsAfter, Run}
 use Rattle.dl_events.specs.declared.event.Event.{Event}
 use Rattle.dl_model.specs.Journal.{registry_of}
@@ -23,7 +22,7 @@ use Rattle.dl_socket.specs.Channels.{IsOpen, inbox_of, open_in}
 use Rattle.dl_socket.specs.Turns.{Sight}
 use Rattle.dl_serve.specs.Levels.{levels_put}
 use Rattle.dl_serve.proofs.EmptiedChannels.{EachOpen}
-use Rattle.dl_serve.proofs.HeardChannels.{ends_held}
+use Rattle.dl_serve.proofs.HeardChannels.{ends_held, adds_so}
 use Rattle.dl_serve.proofs.NamedSlots.{AreApart}
 use Rattle.dl_serve.proofs.NobodyPuts.{apart_on, none_put}
 use Rattle.dl_serve.proofs.OtherEntries.{none_found, set_apart, set_here}
@@ -31,16 +30,10 @@ use Rattle.dl_serve.proofs.PutEvents.{put_on, quiet_own, quiet_puts}
 use Rattle.dl_serve.proofs.QuietEnds.{ends_quietly, none_first}
 use Rattle.dl_serve.proofs.TookScenes.{levels_more, own_not}
 use Rattle.dl_serve.proofs.TookServers.{clients_not}
+use Rattle.dl_lemmas.proofs.Options.{not_some}
 
 stays_so : (old new : Option (List ℕ)) (bytes : List ℕ) → Stays old new → old ≡ Some bytes → new ≡ Some bytes
 stays_so old new bytes stays is = subst (λ (o : Option (List ℕ)). Stays o new) is stays
-
-adds_so : (before now : Option (List Event)) (past more : List Event) → before ≡ Some past → AddsEach before now more → now ≡ Some (past ++ more)
-adds_so before now past more is adds = subst (λ (o : Option (List Event)). AddsEach o now more) is adds
-
-not_some : {A : Type 0} (o : Option A) → o ≡ None → IsSome o → ⊥
-not_some None none some = cc some
-not_some (Some x) none some = cc none
 
 module _ (Tells : Type 0) (run : Run) where
   -- a link that never had to wait took all that was put for its channel

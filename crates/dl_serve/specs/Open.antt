@@ -5,7 +5,7 @@ use Rattle.dl_core.specs.Follows.{Begins}
 use Rattle.dl_core.specs.Settings as settings
 use Rattle.dl_model.specs.Setting.{Setting}
 use Rattle.dl_outside.specs.Outside.{HasRisen, Stays}
-use Rattle.dl_outside.specs.Told.{NetTold}
+use Rattle.dl_outside.specs.Told.{LinkTold, NetTold}
 use Rattle.dl_outside.specs.declared.net.NetFault.{NetFault as net_fault}
 use Rattle.dl_outside.specs.declared.net.NetFault.TheVariants as fault
 use Rattle.dl_server.specs.Server.{IsMade, IsServer}
@@ -20,15 +20,15 @@ abbrev pub setting : Begun → Setting
 setting begun = settings.setting_of begun.conf begun.stored 0
 
 -- The server of what was begun: nobody came to it, and in each run of this setting, over the trace files that its trace found, its core stands for no
--- event.
-pub record IsOpenedFor {L : Type 0} (begun : Begun) (opened : Opened L) : Type 0 where
+-- event. This is the word for what links tell.
+pub record IsOpenedFor {L : Type 0} (link_told : L → LinkTold) (begun : Begun) (opened : Opened L) : Type 0 where
   pub conf : opened.conf ≡ begun.conf
   pub port : opened.port ≡ begun.port
   pub users : opened.users ≡ begun.users
   pub rounds : opened.rounds ≡ begun.rounds
   pub made : IsMade (settings.begun begun.conf begun.stored 0 begun.trace) (record { events = []; spare = 0 }) (none_opened open_channel_limit channel_limit)
       client_limit channel_limit opened.server
-  pub is_server : IsServer opened.server
+  pub is_server : IsServer link_told opened.server
   pub begins : Begins (setting begun) begun.trace opened.server.core
 
 -- a net listens on this port now, and nothing else has changed of it

@@ -47,7 +47,7 @@ pub record HasRun {L : Type 0} (link_told : L → LinkTold) (server : Server Jou
 -- A server was made, to which nobody had come; both nets listen, each on its port; and it ran. They listen there at the end, too.
 pub record HasOpened {L : Type 0} (link_told : L → LinkTold) (begun : Begun) (full : Bool) (old new : Told L) (closed : Closed L) : Type 0 where
   pub opened : Opened L
-  pub is_opened : IsOpenedFor begun opened
+  pub is_opened : IsOpenedFor link_told begun opened
   pub net : NetTold L
   pub users : NetTold L
   pub net_heard : IsHeard begun.port old.net net

@@ -27,7 +27,7 @@ IsFull events = IsSomeAnd events (λ all. event_limit ≤ length all)
 pub record IsSeen {J L : Type 0} (told : L → LinkTold) (events : J → Option (List Event)) (s : State) : Type 0 where
   pub server : Server J L
   pub folder : FolderTold
-  pub is_server : IsServer server
+  pub is_server : IsServer told server
   pub is : s ≡ seen told events folder server
 
 -- so many rounds of a server, none of which began with a full journal

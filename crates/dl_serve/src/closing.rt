@@ -79,7 +79,7 @@ pub fn close<R: Wait, L: Link, F: Folder>(
 ) -> Result<Closed<L>, OutOfMemory>
 where
     L: Drop,
-    requires server { IsServer server }
+    requires server { IsServer L.told server }
     requires few { server.core.hub.limit ≤ client_limit }
     ensures { IfOk result (HasClosedTo L.told moment (seen L.told kept (F.told folder.old) server) (F.told folder.new)) }
 {

@@ -28,7 +28,7 @@ pub fn open<L: Link>(alloc: Global, begun: Begun) -> Result<Opened<L>, OutOfMemo
 where
     L: Drop,
     requires { IfSome begun.trace (IsMade begun.conf) }
-    ensures { IfOk result (IsOpenedFor begun) }
+    ensures { IfOk result (IsOpenedFor L.told begun) }
 {
     let Begun {
         conf,

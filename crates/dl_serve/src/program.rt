@@ -55,7 +55,7 @@ fn serve_opened<R: Wait, F: Folder, N: Net, C: Clock, O: Sink>(
 ) -> Outcome<N::L>
 where
     N::L: Drop,
-    requires server { IsServer opened.server }
+    requires server { IsServer N.L.told opened.server }
     requires few { opened.server.core.hub.limit ≤ client_limit }
     ensures { EndsWith N.L.told opened.server opened.rounds (told (F.told folder.old) (N.told net.old) (N.told users.old) (O.told out.old))
         (told (F.told folder.new) (N.told net.new) (N.told users.new) (O.told out.new)) result.status result.closed }

@@ -33,10 +33,10 @@ pub fn serve_rounds<R: Wait, N: Net, C: Clock, F: Folder>(
 ) -> bool
 where
     N::L: Drop,
-    requires server { IsServer server.old }
+    requires server { IsServer N.L.told server.old }
     ensures served { let s = seen N.L.told kept in HasMadeRounds N.L.told rounds result (N.told net.old) (N.told net.new) (N.told users.old) (N.told users.new)
         (s (F.told folder.old) server.old) (s (F.told folder.new) server.new) }
-    ensures server { IsServer server.new }
+    ensures server { IsServer N.L.told server.new }
     ensures limits { SameLimits server.old server.new }
 {
     for _round in 0..rounds {

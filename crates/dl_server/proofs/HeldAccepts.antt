@@ -1,24 +1,20 @@
 -- A server goes on for its journal with a client that comes, and where links of clients that are gone are shut.
-use Rattle.std.proofs.Common.{◌≡◌, ◌+◌, ◌-◌, ℕ, zero, suc, Bool, inl, inr, List, [], ◌∷◌, ◌++◌, Option, Some, None, length, map, slice_get, refl, sym, ap, subst, ◌∙◌, arith, append-nil, length-append}
-use Rattle.std.specs.Prelude.{IfSome, IsSome, get_or}
+use Rattle.std.proofs.Common.{◌≡◌, ◌+◌, ◌-◌, ℕ, Bool, inl, inr, List, [], ◌∷◌, ◌++◌, Option, length, map, refl, sym, ap, subst, ◌∙◌, arith, append-nil, length-append}
+use Rattle.std.specs.Prelude.{IfSome}
 use Rattle.std.proofs.lemmas.List.{map-append}
-use Rattle.std.proofs.lemmas.Option.{slice_get-get_or, slice_get_within}
 use Rattle.dl_core.specs.Follows.{HoldsTrace, IsAfter, source_of}
 use Rattle.dl_core.specs.State.{Core}
 use Rattle.dl_events.specs.Journal as notes
 use Rattle.dl_events.specs.declared.event.Event.{Event}
 use Rattle.dl_events.specs.declared.event.Event.TheVariants as event
-use Rattle.dl_hub.specs.State.{Hub, Waiting, outbox_of}
 use Rattle.dl_loop.specs.Daemon.{TellTaken}
 use Rattle.dl_loop.specs.Holds.{AreTaken}
 use Rattle.dl_model.specs.Journal.{IsInTurn}
 use Rattle.dl_outside.specs.Links.{Links}
-use Rattle.dl_outside.specs.Outside.{Stays}
 use Rattle.dl_outside.specs.Told.{FolderTold, LinkTold, NetTold}
 use Rattle.dl_promises.proofs.LongerJournals.{goes_on}
 use Rattle.dl_registry.specs.Kept.{owed_change}
 use Rattle.dl_rounds.specs.Arrivals.{Arrives, Connects, ConnectsAs}
-use Rattle.dl_rounds.specs.Partings.{ShutsGone}
 use Rattle.dl_rounds.specs.declared.accepting.Arrival.{Arrival}
 use Rattle.dl_rounds.specs.declared.accepting.Arrival.TheVariants as arrival
 use Rattle.dl_well_formed.proofs.Connecting.{connect_in_turn}
@@ -28,25 +24,11 @@ use Rattle.dl_server.specs.Holds.{GoesOn, Holds}
 use Rattle.dl_server.specs.State.{State, with_want}
 use Rattle.dl_server.specs.Steps.{PartsClients}
 use Rattle.dl_server.proofs.HeldStates.{goes_aside, goes_same}
+use Rattle.dl_loop.proofs.Accepted.{taken_one_more}
+use Rattle.dl_loop.proofs.Parted.{taken_parted}
+use Rattle.dl_lemmas.proofs.Options.{nothing_taken}
 
 -- ---- a client comes
-
--- the last of a longer list
-last_or_before : {A : Type 0} (xs : List A) (x y : A) (place : ℕ) → slice_get (xs ++ x ∷ []) place ≡ Some y → (P : Type 0)
-    → (slice_get xs place ≡ Some y → P) → (place ≡ length xs → x ≡ y → P) → P
-last_or_before [] x y zero is P before last = last refl (cc is)
-last_or_before [] x y (suc place) is P before last = absurd cc
-last_or_before (z ∷ zs) x y zero is P before last = before is
-last_or_before (z ∷ zs) x y (suc place) is P before last = last_or_before zs x y place is P before (λ e same. last (ap suc e) same)
-
-nothing_taken : (o : Option (List ℕ)) → IsSome o → IfSome o (λ bytes. bytes ≡ []) → o ≡ Some []
-nothing_taken None there nothing = absurd cc
-nothing_taken (Some bytes) there nothing = ap Some nothing
-
-taken_one_more : (links : List LinkTold) (link : LinkTold) (took : ℕ → List ℕ) → took (length links + 1) ≡ [] → link.taken ≡ Some [] → AreTaken links took → AreTaken (links ++ link ∷ []) took
-taken_one_more links link took none nothing taken = λ place other there.
-    last_or_before links link other place there (other.taken ≡ Some (took (place + 1))) (λ before. taken place other before)
-    (λ e same. ap (λ (l : LinkTold). l.taken) (sym same) ∙ nothing ∙ ap Some (sym none ∙ ap (λ n. took (n + 1)) (sym e)))
 
 module _ {L : Type 0} (told : L → LinkTold) (Held : Type 0) where
   connected : (number : ℕ) (old new : State) (link : L) → Connects number old.core new.core old.events new.events → IfSome (told link).taken (λ bytes. bytes ≡ []) → new.folder ≡ old.folder
@@ -108,26 +90,6 @@ module _ {L : Type 0} (told : L → LinkTold) (Held : Type 0) where
       goes_aside (TellTaken told) Held old new (ap (λ (s : State). s.core) rest) (ap (λ (s : State). s.events) rest) (ap (λ (s : State). s.folder) rest) (ap (λ (s : State). s.clients) rest)
 
 -- ---- links that are shut
-
-taken_parted : (hub : Hub) (old new : List LinkTold) (took : ℕ → List ℕ) → ShutsGone hub old new → AreTaken old took → AreTaken new took
-taken_parted hub old new took shuts taken = λ place link there. by place link there (outbox_of hub (place + 1)) refl where
-  same : (place : ℕ) → place + 1 - 1 ≡ place
-  same place = omega arith
-
-  was : (place : ℕ) (link : LinkTold) → slice_get new place ≡ Some link → slice_get old place ≡ Some (get_or old place link)
-  was place link there = slice_get-get_or old place link (omega (arith, slice_get_within new place link there, shuts.many))
-
-  by : (place : ℕ) (link : LinkTold) → slice_get new place ≡ Some link → (o : Option Waiting) → outbox_of hub (place + 1) ≡ o → link.taken ≡ Some (took (place + 1))
-  by place link there (Some outbox) some =
-      let stands = shuts.others (place + 1) (omega arith) (inr (subst (λ (o : Option Waiting). IsSome o) (sym some) refl)) in
-      let stands_here : slice_get new place ≡ slice_get old place = subst (λ (p : ℕ). slice_get new p ≡ slice_get old p) (same place) stands in
-      taken place link (sym stands_here ∙ there)
-  by place link there None none =
-      let before = get_or old place link in
-      let shut = shuts.gone (place + 1) before link (omega arith) (omega (arith, slice_get_within new place link there, shuts.many)) none
-      (subst (λ (p : ℕ). slice_get old p ≡ Some before) (sym (same place)) (was place link there))
-      (subst (λ (p : ℕ). slice_get new p ≡ Some link) (sym (same place)) there) in
-      subst (λ (o : Option (List ℕ)). Stays o link.taken) (taken place before (was place link there)) shut.taken
 
 pub parts_on : (Tell Held : Type 0) (old new : State) → PartsClients old new → GoesOn Tell Held old new
 parts_on Tell Held old new parts = λ run events holds.

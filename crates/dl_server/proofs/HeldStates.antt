@@ -1,5 +1,5 @@
 -- A server goes on for its journal in each step of a round.
-use Rattle.std.proofs.Common.{◌≡◌, ◌+◌, ℕ, zero, suc, pred, Bool, true, false, List, [], ◌∷◌, ◌++◌, Option, Some, None, length, slice_get, refl, sym, ap, subst, ◌∙◌, append_assoc, append-nil}
+use Rattle.std.proofs.Common.{◌≡◌, ◌+◌, ℕ, Bool, true, false, List, [], ◌∷◌, ◌++◌, Option, Some, None, length, sym, ap, subst, ◌∙◌, append_assoc, append-nil}
 use Rattle.std.specs.Prelude.{IfSome}
 use Rattle.dl_admission.proofs.Admitted.{running_both}
 use Rattle.dl_bytes.specs.declared.moment.Moment.{Moment}
@@ -11,7 +11,6 @@ use Rattle.dl_core.specs.State.{Core}
 use Rattle.dl_events.specs.declared.event.Event.{Event}
 use Rattle.dl_loop.specs.Holds.{AreTaken}
 use Rattle.dl_model.specs.Journal.{IsRunning}
-use Rattle.dl_outside.specs.Outside.{Grows}
 use Rattle.dl_outside.specs.Told.{FolderTold, LinkTold}
 use Rattle.dl_promises.proofs.LongerJournals.{goes_on}
 use Rattle.dl_registry.specs.Kept.{owed_change}
@@ -23,6 +22,7 @@ use Rattle.dl_socket.specs.Turns.{Sight}
 use Rattle.dl_server.specs.Holds.{GoesOn, GoesOut, Holds}
 use Rattle.dl_server.specs.State.{State}
 use Rattle.dl_server.proofs.LaterChannels.{IsOn, ends_on, hears_on, on_both, on_same, pumps_on}
+use Rattle.dl_loop.proofs.LaterDaemons.{taken_later}
 
 module _ (Tell Held : Type 0) where
   pub goes_none : (s : State) → GoesOn Tell Held s s
@@ -112,21 +112,6 @@ pub all_stopped_on : (moment : Moment) (old new : Scene) → StopsAll moment old
 all_stopped_on moment old new stops settled = each_on (Stopped moment true) (stopped_on moment true) (open_in old.channels) false old new stops.0 settled
 
 -- ---- clients
-
-grown : (before now : Option (List ℕ)) (had more : List ℕ) → before ≡ Some had → Grows before now more → now ≡ Some (had ++ more)
-grown before now had more is grows = subst (λ (o : Option (List ℕ)). Grows o now more) is grows
-
-there_too : {A : Type 0} (xs ys : List A) (place : ℕ) (y : A) → length ys ≡ length xs → slice_get ys place ≡ Some y → (x : A) × (slice_get xs place ≡ Some x)
-there_too [] [] place y long is = absurd cc
-there_too [] (b ∷ ys) place y long is = absurd cc
-there_too (a ∷ xs) [] place y long is = absurd cc
-there_too (a ∷ xs) (b ∷ ys) zero y long is = (a, refl)
-there_too (a ∷ xs) (b ∷ ys) (suc place) y long is = there_too xs ys place y (ap pred long) is
-
-taken_later : (old new : Clients) (took : ℕ → List ℕ) (later : AreLater old new) → AreTaken old.links took → AreTaken new.links (took_all took later.sent)
-taken_later old new took later taken = λ place link there.
-    let before = there_too old.links new.links place link later.many there in
-    grown before.0.taken link.taken (took (place + 1)) (later.sent (place + 1)) (taken place before.0 before.1) (later.links_took place before.0 link before.1 there)
 
 running_so : (o : Option (List Event)) (events : List Event) → o ≡ Some events → IfSome o IsRunning → IsRunning events
 running_so None events is running = absurd cc

@@ -1,26 +1,24 @@
 -- What visits to channels are to the journal.
-use Rattle.std.proofs.Common.{◌≡◌, ℕ, Bool, true, false, inl, inr, List, [], ◌∷◌, ◌++◌, Option, Some, None, refl, sym, ap, subst, ◌∙◌, append_assoc}
+use Rattle.std.proofs.Common.{◌≡◌, ℕ, Bool, true, false, inl, inr, List, [], ◌∷◌, Option, Some, None, refl, sym, ap, subst, ◌∙◌}
 use Rattle.std.proofs.lemmas.List.{append-nil}
 use Rattle.dl_bytes.specs.declared.moment.Moment.{Moment}
 use Rattle.dl_bytes.specs.declared.user.UserMsg.{UserMsg}
 use Rattle.dl_bytes.specs.declared.user.UserMsg.TheVariants.{UnregisterApp}
-use Rattle.dl_admission.proofs.Added.{adds_both, adds_each_both, adds_each_none, adds_none}
-use Rattle.dl_admission.proofs.Admitted.{running_both}
+use Rattle.dl_admission.proofs.Added.{adds_each_none, adds_none}
 use Rattle.dl_channel.specs.State.{Outbox}
 use Rattle.dl_channel.specs.declared.outcome.ChannelEnd.{ChannelEnd}
 use Rattle.dl_channel_turns.specs.Later.{IsLater}
-use Rattle.dl_channel_turns.specs.Levels.{TellsLevel, TellsLevels}
+use Rattle.dl_channel_turns.specs.Levels.{TellsLevels}
 use Rattle.dl_channel_turns.specs.Messages.{Alone, Group, Notes, Serves, ServesGroup, Together}
 use Rattle.dl_channel_turns.specs.State.{Side, Stage}
 use Rattle.dl_channel_turns.specs.Turns.{Heeds, IsTurn, ServesEach}
 use Rattle.dl_core.specs.Admission.{has_frames}
-use Rattle.dl_core.specs.Follows.{Adds, source_of}
+use Rattle.dl_core.specs.Follows.{source_of}
 use Rattle.dl_core.specs.State.{Core}
 use Rattle.dl_events.specs.declared.event.Event.{Event}
 use Rattle.dl_events.specs.declared.event.Event.TheVariants as event
 use Rattle.dl_model.specs.Journal.{IsWellFormed}
 use Rattle.dl_model.specs.declared.registry.LevelChange.{LevelChange}
-use Rattle.dl_outside.specs.Told.{FolderTold}
 use Rattle.dl_outside.specs.declared.link.Gave.{Gave}
 use Rattle.dl_outside.specs.declared.link.Gave.TheVariants as gave
 use Rattle.dl_promises.proofs.LongerJournals.{goes_on}
@@ -30,7 +28,8 @@ use Rattle.dl_socket.specs.Channels.{Channels}
 use Rattle.dl_socket.specs.Closing.{UnregistersEach}
 use Rattle.dl_socket.specs.Turns.{Sight}
 use Rattle.dl_user.specs.Channel as cutter
-use Rattle.dl_well_formed.proofs.InTurn.{level_in_turn, user_in_turn}
+use Rattle.dl_well_formed.proofs.InTurn.{user_in_turn}
+use Rattle.dl_channel_turns.proofs.LaterSides.{later_both, level_later}
 
 later_none : (side : Side) → IsLater side side
 later_none side = record {
@@ -39,18 +38,6 @@ later_none side = record {
   running = refl;
   after = adds_none side.core side.folder;
   formed = λ run past taken is running well. subst (IsWellFormed run.setting (source_of run)) (sym (append-nil past)) well;
-}
-
-later_both : (old between new : Side) → IsLater old between → IsLater between new → IsLater old new
-later_both old between new first second = record {
-  more = first.more ++ second.more;
-  events = adds_each_both old.events between.events new.events first.more second.more first.events second.events;
-  running = running_both first.more second.more first.running second.running;
-  after = λ run past taken gives is.
-      adds_both first.more second.more (λ run. Unit {0}) (λ run. Unit {0}) old.core between.core new.core old.folder between.folder new.folder first.after second.after run past taken (tt, tt) is;
-  formed = λ run past taken is running well.
-      subst (IsWellFormed run.setting (source_of run)) (append_assoc past first.more second.more)
-      (second.formed run (past ++ first.more) taken (first.after run past taken tt is).0 (running_both past first.more running first.running) (first.formed run past taken is running well));
 }
 
 -- A side is later, and owes no level.
@@ -64,17 +51,6 @@ pub on_both : (old between new : Side) → IsOn old between → IsOn between new
 on_both old between new first second = (later_both old between new first.0 second.0, second.1)
 
 -- ---- messages
-
-level_later : (next : LevelChange) (old new : Side) → TellsLevel next old new → IsLater old new
-level_later next old new one =
-    let level : Event = event.Level next.slot next.level in
-    record {
-      more = level ∷ [];
-      events = one.events;
-      running = refl;
-      after = subst (λ (f : FolderTold). Adds (level ∷ []) (λ run. Unit {0}) old.core new.core old.folder f) (sym one.folder) (one.after old.folder);
-      formed = λ run past taken is running well. goes_on run.setting (source_of run) past (level ∷ []) well (level_in_turn old.core next [] one.owed run past taken is, tt);
-    }
 
 levels_on : (changes : List LevelChange) (old new : Side) → TellsLevels changes old new → IsOn old new
 levels_on [] old new levels = on_same old new levels.0 levels.1

@@ -13,3 +13,4 @@ pub mod VisitedServers
 pub mod PumpedServers
 pub mod ClosedServers
 pub mod RoomyServers
+pub mod ShutServers

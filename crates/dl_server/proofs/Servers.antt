@@ -1,10 +1,8 @@
 -- What is true of a server goes on with each step of a round.
-use Rattle.std.proofs.Common.{◌≡◌, ◌+◌, ◌-◌, ◌≤◌, ℕ, Bool, true, false, cond, List, [], ◌∷◌, length, Option, refl, ap, ◌∙◌, arith}
-use Rattle.std.specs.Prelude.{count_by}
-use Rattle.std.proofs.lemmas.List.Sums.{sum_by-cons}
+use Rattle.std.proofs.Common.{◌≡◌, ◌+◌, ◌-◌, ◌≤◌, ℕ, Bool, true, false, cond, List, length, Option, refl, ap, ◌∙◌, arith}
 use Rattle.dl_core.specs.State.{Core}
 use Rattle.dl_events.specs.declared.event.Event.{Event}
-use Rattle.dl_hub.specs.State.{Client, is_open}
+use Rattle.dl_hub.specs.State.{Client}
 use Rattle.dl_outside.specs.Links.{Links}
 use Rattle.dl_outside.specs.Told.{LinkTold, NetTold}
 use Rattle.dl_registry.specs.Kept.{Kept, owed_change}
@@ -14,7 +12,6 @@ use Rattle.dl_rounds.specs.Ready.{AreLinked, open_clients}
 use Rattle.dl_rounds.specs.Visits.{Closed, ClosesAll, Heard, HearsAll}
 use Rattle.dl_rounds.specs.declared.accepting.Arrival.{Arrival}
 use Rattle.dl_rounds.specs.declared.accepting.Arrival.TheVariants as arrival
-use Rattle.dl_rounds.proofs.ByPlace.{set_length}
 use Rattle.dl_rounds.proofs.OneClient.{but_stop, but_turn}
 use Rattle.dl_loop.proofs.Visited.{visits_keep}
 use Rattle.dl_serving.specs.Accepting.{Enters}
@@ -23,6 +20,7 @@ use Rattle.dl_serving.specs.declared.accepting.Entry.TheVariants as entry
 use Rattle.dl_socket.specs.Channels.{Channels}
 use Rattle.dl_turns.specs.State.{Side}
 use Rattle.dl_server.specs.Server.{HaveLinks}
+use Rattle.dl_loop.proofs.GoneRounds.{open_few}
 
 -- ---- links
 
@@ -32,10 +30,6 @@ links_of links core spare linked = record { many = linked.many; few = linked.few
 at_most_one : (b : Bool) → ◌≤◌ (cond b 1 0) 1
 at_most_one true = omega arith
 at_most_one false = omega arith
-
-open_few : (clients : List Client) → count_by is_open clients ≤ length clients
-open_few [] = omega arith
-open_few (c ∷ clients) = omega (arith, sum_by-cons (λ (x : Client). cond (is_open x) 1 0) c clients, at_most_one (is_open c), open_few clients)
 
 pub linked_so : {L : Type 0} (links : Links L) (core : Core) (spare : ℕ) → HaveLinks links core → length links.links + 2 ≤ spare → AreLinked links core spare
 linked_so links core spare have room = record {
@@ -113,8 +107,3 @@ pub closed_limit : {Tells : Type 0} (old new : Clients) → ClosesAll Tells old 
 closed_limit {Tells} old new closes = visits_keep (Closed Tells) (λ (c : Clients). c.side.core.hub.limit ≡ old.side.core.hub.limit)
     (λ number here clients was now is closed so. (but_stop number closed.why (stage_of was) (record (stage_of now) { link = closed.link }) closed.wound_up).same.limit ∙ ap (λ (s : Side). s.core.hub.limit) is ∙ so)
     0 closes.1.0 closes.0 old new closes.1.1 refl
-
--- as many listeners are there as before
-pub closed_length : {Tells : Type 0} (old new : Clients) → ClosesAll Tells old new → length new.listeners ≡ length old.listeners
-closed_length {Tells} old new closes = visits_keep (Closed Tells) (λ (c : Clients). length c.listeners ≡ length old.listeners)
-    (λ number here clients was now is closed so. set_length clients.listeners (number - 1) now.listener ∙ so) 0 closes.1.0 closes.0 old new closes.1.1 refl

@@ -1,9 +1,11 @@
 -- What is true of a server between any two calls.
-use Rattle.std.specs.Prelude.{◌≡◌, ℕ, ◌≤◌, false, None, [], length, replicate}
+use Rattle.std.specs.Prelude.{◌≡◌, ℕ, ◌≤◌, false, None, [], length, map, replicate}
 use Rattle.dl_bytes.specs.Limits.{admitted_limit}
 use Rattle.dl_core.specs.State.{Core}
 use Rattle.dl_outside.specs.Links.{Links}
+use Rattle.dl_outside.specs.Told.{LinkTold}
 use Rattle.dl_registry.specs.Kept.{owed_change}
+use Rattle.dl_rounds.specs.Partings.{AreShut}
 use Rattle.dl_rounds.specs.Ready.{fresh_listener}
 use Rattle.dl_serving.specs.Accepting.{AreLinked}
 use Rattle.dl_socket.specs.Channels.{Channels}
@@ -18,14 +20,15 @@ pub record HaveLinks {L : Type 0} (links : Links L) (core : Core) : Type 0 where
   pub settled : owed_change core.registry ≡ None
 
 -- Clients have their links and listeners, channels their links; there is room for why each channel that may come ends; and no more frames were
--- admitted than may be.
-pub record IsServer {J L : Type 0} (s : Server J L) : Type 0 where
+-- admitted than may be. The links of clients that are gone are shut, unless it is noted that one may not be. This is the word for what links tell.
+pub record IsServer {J L : Type 0} (told : L → LinkTold) (s : Server J L) : Type 0 where
   pub linked : HaveLinks s.clients s.core
-  pub heard : HaveListeners s.listeners.items s.core
+  pub heard : HaveListeners s.seats s.core
   pub programs : AreLinked s.programs s.channels
   pub given : s.channels.opened ≤ s.channels.in_all
   pub enough : s.channels.in_all ≤ length s.ends.items
   pub few : s.core.hub.admitted ≤ admitted_limit
+  pub shut : s.unshut ≡ false → AreShut s.core.hub (map told s.clients.links)
 
 -- as many clients and channels may come as before
 pub record SameLimits {J L : Type 0} (old new : Server J L) : Type 0 where
@@ -38,10 +41,11 @@ pub record IsMade {J L : Type 0} (core : Core) (journal : J) (channels : Channel
   pub journal_is : s.journal ≡ journal
   pub channels_are : s.channels ≡ channels
   pub no_client : s.clients ≡ record { links = []; room = clients }
-  pub listeners_are : s.listeners.items ≡ replicate clients fresh_listener
+  pub listeners_are : s.seats.listeners ≡ replicate clients fresh_listener
   pub no_program : s.programs ≡ record { links = []; room = programs }
   pub no_end : s.ends.items ≡ replicate programs None
   pub none_dropped : s.dropped ≡ 0
   pub clients_come : s.no_clients ≡ false
   pub programs_come : s.no_programs ≡ false
   pub unwanted : s.wanted ≡ false
+  pub all_shut : s.unshut ≡ false

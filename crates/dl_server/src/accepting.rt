@@ -79,11 +79,11 @@ impl<J: Journal, L: Link> Server<J, L> {
     fn accept_connection<N: Net<L = L>>(&mut self, net: &mut N) -> bool
     where
         L: Drop,
-        requires server { IsServer self.old }
+        requires server { IsServer L.told self.old }
         requires room { length self.old.clients.links + 2 ≤ J.spare self.old.journal }
         ensures accepts { (folder : FolderTold) → AcceptsOne L.told result (N.told net.old) (N.told net.new)
             (seen L.told J.events folder self.old) (seen L.told J.events folder self.new) }
-        ensures server { IsServer self.new }
+        ensures server { IsServer L.told self.new }
         ensures limits { SameLimits self.old self.new }
     {
         let came = accept_one(
@@ -102,10 +102,10 @@ impl<J: Journal, L: Link> Server<J, L> {
     pub(crate) fn accept_client<N: Net<L = L>>(&mut self, net: &mut N) -> bool
     where
         L: Drop,
-        requires server { IsServer self.old }
+        requires server { IsServer L.told self.old }
         ensures accepts { (folder : FolderTold) → AcceptsClientIfMay L.told result (N.told net.old) (N.told net.new)
             (seen L.told J.events folder self.old) (seen L.told J.events folder self.new) }
-        ensures server { IsServer self.new }
+        ensures server { IsServer L.told self.new }
         ensures limits { SameLimits self.old self.new }
     {
         if self.no_clients {
@@ -121,10 +121,10 @@ impl<J: Journal, L: Link> Server<J, L> {
     pub(crate) fn accept_program<N: Net<L = L>>(&mut self, net: &mut N) -> bool
     where
         L: Drop,
-        requires server { IsServer self.old }
+        requires server { IsServer L.told self.old }
         ensures accepts { (folder : FolderTold) → AcceptsProgramIfMay L.told result (N.told net.old) (N.told net.new)
             (seen L.told J.events folder self.old) (seen L.told J.events folder self.new) }
-        ensures server { IsServer self.new }
+        ensures server { IsServer L.told self.new }
         ensures limits { SameLimits self.old self.new }
     {
         if self.no_programs {

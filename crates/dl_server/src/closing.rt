@@ -20,13 +20,15 @@ impl<J: Journal, L: Link> Server<J, L> {
         moment: Moment,
         folder: &mut F,
     ) -> Result<(), OutOfMemory>
-        requires server { IsServer self.old }
+        requires server { IsServer L.told self.old }
         ensures closed { OnOk result (let s = seen L.told J.events in ClosesPrograms moment (s (F.told folder.old) self.old) (s (F.told folder.new) self.new)) }
         ensures some { OnErr result (let s = seen L.told J.events in ClosesSomePrograms moment
             (s (F.told folder.old) self.old) (s (F.told folder.new) self.new)) }
-        ensures server { IsServer self.new }
+        ensures server { IsServer L.told self.new }
         ensures limits { SameLimits self.old self.new }
     {
+        // A client that is too slow for what their ends admit is closed.
+        self.unshut = true;
         let registry = self.core.registry();
         registry.slots_are_apart();
         close_channels(
@@ -41,7 +43,7 @@ impl<J: Journal, L: Link> Server<J, L> {
 
     /// Closes each client, as the daemon stops: each has its closing turns before that.
     fn close_clients<R: Wait, F: Folder>(&mut self, rt: &R, folder: &mut F)
-        requires server { IsServer self.old }
+        requires server { IsServer L.told self.old }
         requires room { length self.old.clients.links + 2 ≤ J.spare self.old.journal }
         ensures closes { let s = seen L.told J.events in ClosesClients (TellOver L.told) (s (F.told folder.old) self.old) (s (F.told folder.new) self.new) }
         ensures linked { HaveLinks self.new.clients self.new.core }
@@ -52,7 +54,7 @@ impl<J: Journal, L: Link> Server<J, L> {
             &mut self.core,
             &mut self.journal,
             &mut self.clients,
-            &mut self.listeners,
+            &mut self.seats,
             folder,
         );
     }
@@ -65,7 +67,7 @@ impl<J: Journal, L: Link> Server<J, L> {
         moment: Moment,
         folder: &mut F,
     ) -> Result<(), OutOfMemory>
-        requires server { IsServer self.old }
+        requires server { IsServer L.told self.old }
         ensures closed { OnOk result (let s = seen L.told J.events in IsClosed (TellOver L.told) moment
             (s (F.told folder.old) self.old) (s (F.told folder.new) self.new)) }
         ensures half { OnErr result (let s = seen L.told J.events in IsHalfClosed moment (s (F.told folder.old) self.old) (s (F.told folder.new) self.new)) }

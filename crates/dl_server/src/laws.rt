@@ -23,7 +23,7 @@ use dl_outside::Link;
 /// A server that was just made, of a core before its first event and of channels of which none was opened, is one.
 pub fn a_made_server_is_one<J: Journal, L: Link>()
     ensures { (conf : Conf) (stored : Stored) (first : ℕ) (trace : Option Trace) (journal : J) (clients programs at_once in_all : ℕ) (s : Server J L)
-        → IsMade (begun_for conf stored first trace clients) journal (none_opened at_once in_all) clients programs s → in_all ≤ programs → IsServer s }
+        → IsMade (begun_for conf stored first trace clients) journal (none_opened at_once in_all) clients programs s → in_all ≤ programs → IsServer L.told s }
 {}
 
 /// A round is its events: core, folder and what the links took are those of the longer journal, which stays well-formed. It is so where the folder held

@@ -10,7 +10,7 @@ use dl_channel::ChannelEnd;
 use dl_core::Core;
 use dl_events::Journal;
 use dl_outside::{Link, LinkList};
-use dl_rounds::{Listener, listeners};
+use dl_rounds::Seats;
 use dl_socket::Channels;
 use std::alloc::Global;
 
@@ -30,7 +30,7 @@ fn no_ends(alloc: Global, count: usize) -> Result<Vec<Option<ChannelEnd>>, OutOf
 #[derive(Drop)]
 struct Rooms<L> {
     clients: LinkList<L>,
-    listeners: Vec<Listener>,
+    seats: Seats,
     programs: LinkList<L>,
     ends: Vec<Option<ChannelEnd>>,
 }
@@ -42,17 +42,17 @@ fn make_rooms<L: Drop>(
     most_channels: u16,
 ) -> Result<Rooms<L>, OutOfMemory>
     ensures clients { IfOk result (λ rooms. rooms.clients ≡ record { links = []; room = most_clients }) }
-    ensures listeners { IfOk result (λ rooms. rooms.listeners.items ≡ replicate most_clients fresh_listener) }
+    ensures listeners { IfOk result (λ rooms. rooms.seats.listeners ≡ replicate most_clients fresh_listener) }
     ensures programs { IfOk result (λ rooms. rooms.programs ≡ record { links = []; room = most_channels }) }
     ensures ends { IfOk result (λ rooms. rooms.ends.items ≡ replicate most_channels None) }
 {
     let clients = LinkList::make(alloc, most_clients)?;
-    let listeners = listeners(alloc, most_clients)?;
+    let seats = Seats::make(alloc, most_clients)?;
     let programs = LinkList::make(alloc, u32::from(most_channels))?;
     let ends = no_ends(alloc, usize::from(most_channels))?;
     Ok(Rooms {
         clients,
-        listeners,
+        seats,
         programs,
         ends,
     })
@@ -84,12 +84,12 @@ impl<J: Journal, L: Link> Server<J, L> {
     fn begin(core: Core, journal: J, channels: Channels, rooms: Rooms<L>) -> Server<J, L>
         ensures parts { (result.core ≡ core) × (result.journal ≡ journal) × (result.channels ≡ channels) }
         ensures links { (result.clients ≡ rooms.clients) × (result.programs ≡ rooms.programs) }
-        ensures lists { (result.listeners.items ≡ rooms.listeners.items) × (result.ends.items ≡ rooms.ends.items) }
-        ensures fresh { (result.dropped ≡ 0) × (result.no_clients ≡ false) × (result.no_programs ≡ false) × (result.wanted ≡ false) }
+        ensures lists { (result.seats ≡ rooms.seats) × (result.ends.items ≡ rooms.ends.items) }
+        ensures fresh { (result.dropped ≡ 0) × (result.no_clients ≡ false) × (result.no_programs ≡ false) × (result.wanted ≡ false) × (result.unshut ≡ false) }
     {
         let Rooms {
             clients,
-            listeners,
+            seats,
             programs,
             ends,
         } = rooms;
@@ -98,13 +98,14 @@ impl<J: Journal, L: Link> Server<J, L> {
             journal,
             channels,
             clients,
-            listeners,
+            seats,
             programs,
             ends,
             dropped: 0,
             no_clients: false,
             no_programs: false,
             wanted: false,
+            unshut: false,
         }
     }
 }

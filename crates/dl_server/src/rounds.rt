@@ -25,10 +25,10 @@ impl<J: Journal, L: Link> Server<J, L> {
     fn accept_all<N: Net<L = L>>(&mut self, net: &mut N, users: &mut N) -> bool
     where
         L: Drop,
-        requires server { IsServer self.old }
+        requires server { IsServer L.told self.old }
         ensures accepts { (folder : FolderTold) → AcceptsAll L.told (N.told net.old) (N.told net.new) (N.told users.old) (N.told users.new)
             (seen L.told J.events folder self.old) (seen L.told J.events folder self.new) }
-        ensures server { IsServer self.new }
+        ensures server { IsServer L.told self.new }
         ensures limits { SameLimits self.old self.new }
     {
         let client = self.accept_client(net);
@@ -38,9 +38,9 @@ impl<J: Journal, L: Link> Server<J, L> {
 
     /// Each open client is listened to, and each channel. Answers whether anything moved.
     fn hear<R: Wait, C: Clock, F: Folder>(&mut self, rt: &R, clock: &C, folder: &mut F) -> bool
-        requires server { IsServer self.old }
+        requires server { IsServer L.told self.old }
         ensures hears { let s = seen L.told J.events in Hears (s (F.told folder.old) self.old) (s (F.told folder.new) self.new) }
-        ensures server { IsServer self.new }
+        ensures server { IsServer L.told self.new }
         ensures limits { SameLimits self.old self.new }
     {
         let asked = self.hear_clients(rt, folder);
@@ -50,9 +50,9 @@ impl<J: Journal, L: Link> Server<J, L> {
 
     /// Each open client is sent what waits for it, and each channel; the links of clients that are gone are shut. Answers whether anything moved.
     fn pump<C: Clock, F: Folder>(&mut self, clock: &C, folder: &mut F) -> bool
-        requires server { IsServer self.old }
+        requires server { IsServer L.told self.old }
         ensures pumps { let s = seen L.told J.events in Pumps (s (F.told folder.old) self.old) (s (F.told folder.new) self.new) }
-        ensures server { IsServer self.new }
+        ensures server { IsServer L.told self.new }
         ensures limits { SameLimits self.old self.new }
     {
         let sent = self.pump_clients();
@@ -74,10 +74,10 @@ impl<J: Journal, L: Link> Server<J, L> {
     )
     where
         L: Drop,
-        requires server { IsServer self.old }
+        requires server { IsServer L.told self.old }
         ensures round { let s = seen L.told J.events in IsRound L.told (N.told net.old) (N.told net.new) (N.told users.old) (N.told users.new)
             (s (F.told folder.old) self.old) (s (F.told folder.new) self.new) }
-        ensures server { IsServer self.new }
+        ensures server { IsServer L.told self.new }
         ensures limits { SameLimits self.old self.new }
     {
         let came = self.accept_all(net, users);

@@ -3,7 +3,7 @@
 use dl_channel::ChannelEnd;
 use dl_core::Core;
 use dl_outside::LinkList;
-use dl_rounds::Listener;
+use dl_rounds::Seats;
 use dl_socket::Channels;
 
 /// A daemon that serves, over a journal and links of one kind.
@@ -18,7 +18,7 @@ pub struct Server<J, L> {
     /// The link of each client that came, by the clients' numbers from 1.
     pub clients: LinkList<L>,
     /// What cuts the bytes of each client that may come.
-    pub listeners: Vec<Listener>,
+    pub seats: Seats,
     /// The link of each channel that came, by the channels' numbers from 1.
     pub programs: LinkList<L>,
     /// Why each channel that may come has ended, where it has.
@@ -31,4 +31,6 @@ pub struct Server<J, L> {
     pub no_programs: bool,
     /// Whether memory was wanted for a link, for a channel, or in the journal.
     pub wanted: bool,
+    /// Whether the link of a client that is gone may not be shut yet.
+    pub unshut: bool,
 }

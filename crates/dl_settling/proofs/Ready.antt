@@ -15,7 +15,7 @@ use Rattle.dl_core.specs.State.{Core}
 use Rattle.dl_admission.specs.Admission.{KeepsClients}
 use Rattle.dl_turns.specs.Events.{HasServed, IsDeskOf}
 use Rattle.dl_rounds.specs.Ready.{AreHeard, AreLinked, open_clients}
-use Rattle.dl_rounds.specs.declared.listener.Listener.{Listener}
+use Rattle.dl_rounds.specs.Seats.{Seated}
 
 -- as many clients came
 pub as_many : (noted : List Event) (old new : Hub) → KeepsClients noted old new → length new.clients ≡ length old.clients
@@ -61,12 +61,13 @@ served_by served (Some c) (Some d) same has = (ap (λ (o : Option ℕ). unwrap_o
 served_still : (noted : List Event) (number served : ℕ) (old new : Core) → KeepsClients noted old.hub new.hub → HasServed number served old → HasServed number served new
 served_still noted number served old new keeps has = served_by served (client_of old.hub number) (client_of new.hub number) (same_replies old.hub new.hub number keeps.replies) has
 
-pub heard_still : (noted : List Event) (listeners : List Listener) (old new : Core) (desk desk_now : PostTold) → AreHeard listeners old desk → KeepsClients noted old.hub new.hub → IsDeskOf new.registry desk_now
-    → AreHeard listeners new desk_now
-heard_still noted listeners old new desk desk_now heard keeps desk_so = record {
+pub heard_still : (noted : List Event) (seated : Seated) (old new : Core) (desk desk_now : PostTold) → AreHeard seated old desk → KeepsClients noted old.hub new.hub → IsDeskOf new.registry desk_now
+    → AreHeard seated new desk_now
+heard_still noted seated old new desk desk_now heard keeps desk_so = record {
   enough = omega (arith, heard.enough, keeps.same.limit);
-  limits = λ place listener is open_so. heard.limits place listener is (was_open noted old.hub new.hub (place + 1) keeps open_so);
+  limits = heard.limits;
   counts = λ place listener is below. served_still noted (place + 1) listener.served old new keeps (heard.counts place listener is (omega (arith, below, as_many noted old.hub new.hub keeps)));
   unused = λ place listener is above. heard.unused place listener is (omega (arith, above, as_many noted old.hub new.hub keeps));
+  waiting = λ number open_so. heard.waiting number (was_open noted old.hub new.hub number keeps open_so);
   desk_so = desk_so;
 }

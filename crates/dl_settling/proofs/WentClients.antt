@@ -144,9 +144,9 @@ module _ {L : Type 0} (told : L → LinkTold) (dropped : ℕ) (old : Stopping L)
 
   final : AreAsNoted run settles.closed.journal.events (took_all taken stays.later.sent) (clients_of told settles.closed folder_now)
   final =
-      let one = noted_drain run old.journal.events taken old.closing.apps (taking_of old folder) (taking_of settles.drained settles.between) (map told old.links.links) old.listeners first gives_so noted in
-      let between_is : clients_at (map told old.links.links) old.listeners (taking_of settles.drained settles.between) ≡ clients_of told settles.drained settles.between =
-      λ i. clients_at (map told (sym settles.drains.links i).links) (sym settles.drains.listeners i) (taking_of settles.drained settles.between) in
+      let one = noted_drain run old.journal.events taken old.closing.apps (taking_of old folder) (taking_of settles.drained settles.between) (map told old.links.links) old.seated.listeners first gives_so noted in
+      let between_is : clients_at (map told old.links.links) old.seated.listeners (taking_of settles.drained settles.between) ≡ clients_of told settles.drained settles.between =
+      λ i. clients_at (map told (sym settles.drains.links i).links) (sym settles.drains.seated i).listeners (taking_of settles.drained settles.between) in
       let drained_events : old.journal.events ++ first.more ≡ settles.drained.journal.events = sym cc_first in
       let two : AreAsNoted run settles.drained.journal.events taken (clients_of told settles.drained settles.between) =
       subst (λ (es : List Event). AreAsNoted run es taken (clients_of told settles.drained settles.between)) drained_events (subst (AreAsNoted run (old.journal.events ++ first.more) taken) between_is one) in
@@ -182,7 +182,7 @@ module _ {L : Type 0} (told : L → LinkTold) (dropped : ℕ) (old : Stopping L)
       let within = within_of (map told settles.closed.links.links) place between.0 between.1 in
       let long : length (map told settles.closed.links.links) ≡ length settles.closed.links.links = length-map settles.closed.links.links told in
       let below : place < length settles.closed.core.hub.clients = omega (arith, within, long, settles.closes.linked.many) in
-      let listener = get_of settles.closed.listeners place (omega (arith, below, settles.closes.linked.few, settles.closes.heard.enough)) in
+      let listener = get_of settles.closed.seated.listeners place (omega (arith, below, settles.closes.linked.few, settles.closes.heard.enough)) in
       let c = client_at settles.closed.core.hub place below in
       let back : place ≡ place + 1 - 1 = omega arith in
       let client : Client = record { link = between.0; listener = listener.0; side = (clients_of told settles.closed folder_now).side } in
@@ -193,7 +193,7 @@ module _ {L : Type 0} (told : L → LinkTold) (dropped : ℕ) (old : Stopping L)
         took = final.took place between.0 did.taken between.1 did_so.taken;
         gone = λ over. (final.each (place + 1) client (record {
           link = ap (λ (n : ℕ). slice_get (map told settles.closed.links.links) n) (sym back) ∙ between.1;
-          listener = ap (λ (n : ℕ). slice_get settles.closed.listeners n) (sym back) ∙ listener.1;
+          listener = ap (λ (n : ℕ). slice_get settles.closed.seated.listeners n) (sym back) ∙ listener.1;
           side = refl;
         }) (ap is_some c.1)).gone_so none did did_so over;
       }

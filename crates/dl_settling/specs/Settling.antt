@@ -26,7 +26,7 @@ pub record Drains {L : Type 0} (old new : Stopping L) (folder folder_now : Folde
   pub drained : IsDrained new.closing
   pub same : SameButTaken old.closing new.closing
   pub links : new.links ≡ old.links
-  pub listeners : new.listeners ≡ old.listeners
+  pub seated : new.seated ≡ old.seated
 
 -- Each open client had its closing turns and its Close, in the order of their numbers; then none is open. Each has a link and a listener.
 pub record Closes {L : Type 0} (told : L → LinkTold) (old new : Stopping L) (folder folder_now : FolderTold) : Type 0 where
@@ -34,7 +34,7 @@ pub record Closes {L : Type 0} (told : L → LinkTold) (old new : Stopping L) (f
   pub none_open : (number : ℕ) → outbox_of new.core.hub number ≡ None
   pub same : SameButSet old.closing new.closing
   pub linked : AreLinked new.links new.core new.journal.spare
-  pub heard : AreHeard new.listeners new.core (closing_told new.closing)
+  pub heard : AreHeard new.seated new.core (closing_told new.closing)
 
 -- A stop: all that was left is taken, then each client is closed, and the account is made of what stands then. The links come back, shut.
 pub record Settles {L : Type 0} (told : L → LinkTold) (dropped : ℕ) (old : Stopping L) (account : AccountState) (links : Links L) (folder folder_now : FolderTold) : Type 0 where

@@ -10,20 +10,21 @@ use Rattle.dl_taking.specs.Draining.{closing_told, closing_took}
 use Rattle.dl_taking.specs.Side as taking
 use Rattle.dl_turns.specs.State.{side}
 use Rattle.dl_rounds.specs.Clients.{Clients}
+use Rattle.dl_rounds.specs.Seats.{Seated}
 use Rattle.dl_rounds.specs.declared.listener.Listener.{Listener}
 use Rattle.dl_settling.specs.declared.parts.Parts.{Parts}
 
--- the core, what stands for the desk, the journal, and the link and the listener of each client
+-- the core, what stands for the desk, the journal, the link of each client, and the listeners of clients in their seats
 pub record Stopping (L : Type 0) : Type 0 where
   pub core : Core
   pub closing : ClosingState
   pub journal : Journaled
   pub links : Links L
-  pub listeners : List Listener
+  pub seated : Seated
 
 -- those that a stop is handed
 abbrev pub stopping_of : {L : Type 0} → Parts L → Stopping L
-stopping_of parts = record { core = parts.core; closing = parts.closing; journal = parts.journal; links = parts.links; listeners = parts.listeners.items }
+stopping_of parts = record { core = parts.core; closing = parts.closing; journal = parts.journal; links = parts.links; seated = parts.seats }
 
 -- what is seen of it where calls, claims and losses are taken, beside this folder
 abbrev pub taking_of : {L : Type 0} → Stopping L → FolderTold → taking.Side
@@ -39,7 +40,7 @@ taking_of s folder = record {
 abbrev pub clients_of : {L : Type 0} → (L → LinkTold) → Stopping L → FolderTold → Clients
 clients_of told s folder = record {
   links = map told s.links.links;
-  listeners = s.listeners;
+  listeners = s.seated.listeners;
   side = side s.core (closing_told s.closing) (Some s.journal.events) folder;
 }
 

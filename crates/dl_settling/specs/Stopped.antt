@@ -38,16 +38,17 @@ abbrev pub account_told : AccountState → PostTold
 account_told account = told_by (length account.apps) account.handles
 
 -- A run goes on with these events, and these bytes more that the links took: it makes of one core the other, and of one folder the other; a
--- well-formed journal stays so where the desk's applications are there and no client was stopped before; and the queues of injections took and refused those of the requests.
+-- well-formed journal stays so where the desk's applications are there and no client was stopped before; and the queues of injections took and
+-- refused those of the requests.
 pub record RunsOn (run : Run) (past more : List Event) (taken sent : ℕ → List ℕ) (old new : Core) (folder folder_now : FolderTold) (told told_now : PostTold) : Type 0 where
   pub after : IsAfter run (past ++ more) (took_all taken sent) new
   pub holds : HoldsTrace run past old folder → HoldsTrace run (past ++ more) new folder_now
   pub formed : AreThere told.apps old.registry → IsRunning past → IsWellFormed run.setting (source_of run) past → IsWellFormed run.setting (source_of run) (past ++ more)
   pub posted : (app : ℕ) → HasPosted run.setting past more app told told_now
 
--- A stop after which the core is this one is its events: the journal is longer by them, and each run that gives what was taken goes on with them. A journal that told just what
--- was taken does so with them, and the levels that were set are those of its Level events. No client is open in the end, each has its link, which is shut, and what stands
--- at the end is that of the core as it is then.
+-- A stop after which the core is this one is its events: the journal is longer by them, and each run that gives what was taken goes on with them. A
+-- journal that told just what was taken does so with them, and the levels that were set are those of its Level events. No client is open in the end,
+-- each has its link, which is shut, and what stands at the end is that of the core as it is then.
 pub record IsStop {L : Type 0} (told : L → LinkTold) (dropped : ℕ) (core : Core) (old : Stopping L) (account : AccountState) (links : Links L) (folder folder_now : FolderTold) : Type 0 where
   pub more : List Event
   pub events : account.events ≡ old.journal.events ++ more

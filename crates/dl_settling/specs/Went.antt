@@ -41,9 +41,9 @@ pub record HaveGone (run : Run) (events : List Event) (links : List LinkTold) (e
       → slice_get ends place ≡ Some (end_of_link run.setting (source_of run) events (place + 1) did)
 
 -- How a client ended, whatever its link tells: its Close is among the events, and its link left so many bytes of its stream, none exactly where
--- the end of the link is complete. So many are left as the cause tells: none of one that was stopped, some of one that was stuck, and of a slow one as
--- many as fill an outbox beside its room. One that asked too much has as many Request events as one may have. The counts of the link show the cause;
--- and where the client left, its link is over, if links of this kind tell that.
+-- the end of the link is complete. So many are left as the cause tells: none of one that was stopped, some of one that was stuck, and of a slow
+-- one as many as fill an outbox beside its room. One that asked too much has as many Request events as one may have. The counts of the link show
+-- the cause; and where the client left, its link is over, if links of this kind tell that.
 pub record HasEnded (Tells : Type 0) (setting : Setting) (events : List Event) (number : ℕ) (link : LinkTold) (end : LinkEnd) : Type 0 where
   pub before : List Event
   pub cause : Why

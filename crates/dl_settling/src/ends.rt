@@ -47,7 +47,7 @@ impl EndRoom {
     }
 }
 
-/// Puts the ends of links behind each other.
+/// Puts the ends of links one after the other.
 fn push_ends(hub: &Hub, clients: u32, room: Vec<LinkEnd>) -> Vec<LinkEnd>
     requires all { clients ≡ length hub.now.clients }
     requires few { clients ≤ 32 }

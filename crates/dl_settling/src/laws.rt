@@ -74,7 +74,8 @@ pub fn how_clients_ended<L: Link>()
     dl_rounds::laws::a_round_is_its_events::<L>();
 }
 
-/// A stopped client's link took all of its stream, and a stuck one's did not. A slow one's did exactly where its outbox had the room that an empty one has.
+/// A stopped client's link took all of its stream, and a stuck one's did not. A slow one's did exactly where its outbox had the room that an empty
+/// one has.
 pub fn which_ends_are_complete<L: Link>()
     ensures stopped { (setting : Setting) (events : List Event) (number : ℕ) (link : LinkTold) (end : LinkEnd) (ended : HasEnded (TellOver L.told) setting events number link end)
         → ended.cause ≡ Stopped → end.complete ≡ true }

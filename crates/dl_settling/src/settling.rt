@@ -2,7 +2,7 @@
 
 ghost use Rattle.std.specs.Prelude.{◌≡◌, ◌≤◌, ◌<◌, ℕ, All, length};
 ghost use Rattle.dl_writer.specs.State.{IsWhole};
-ghost use Rattle.dl_lib.specs.Settled.{IsSettled, TellsLosses, TellsQueued};
+ghost use Rattle.dl_lib.specs.Settled.{IsSettled, TellsClaimed, TellsLosses, TellsQueued};
 ghost use Rattle.dl_bytes.specs.Limits.{client_limit};
 ghost use Rattle.dl_rounds.specs.Ready.{AreHeard, AreLinked};
 ghost use Rattle.dl_taking.specs.Draining.{MayNote, all_claims_left, all_to_note, closing_told};
@@ -34,18 +34,19 @@ pub fn settle<R: Wait, L: Link, C: Clock, F: Folder>(
     requires claims { all_claims_left parts.closing ≤ parts.claims }
     requires may { MayNote parts.events parts.claims (length parts.closing.apps) parts.core.hub parts.journal.spare }
     requires linked { AreLinked parts.links parts.core parts.journal.spare }
-    requires heard { AreHeard parts.listeners.items parts.core (closing_told parts.closing) }
+    requires heard { AreHeard parts.seats parts.core (closing_told parts.closing) }
     ensures settles { Settles L.told parts.dropped (stopping_of parts) result.0 result.1 (F.told folder.old) (F.told folder.new) }
     ensures settled { IsSettled result.0 }
     ensures losses { All IsWhole result.0.books → (app : ℕ) → app < length result.0.apps → TellsLosses result.0 app }
     ensures queued { All IsWhole result.0.books → All (TellsQueued result.0) result.0.books }
+    ensures claimed { All IsWhole result.0.books → All (TellsClaimed result.0) result.0.books }
 {
     let Parts {
         mut core,
         mut closing,
         mut journal,
         mut links,
-        mut listeners,
+        mut seats,
         mut batch,
         ends,
         events,
@@ -69,7 +70,7 @@ pub fn settle<R: Wait, L: Link, C: Clock, F: Folder>(
         &mut closing,
         &mut journal,
         &mut links,
-        &mut listeners,
+        &mut seats,
         folder,
     );
     shut_gone(core.hub(), &mut links);
@@ -79,7 +80,8 @@ pub fn settle<R: Wait, L: Link, C: Clock, F: Folder>(
         trace: trace_told(alloc, core),
     };
     let account = closing.finish(journal, ends);
-    // of an account it is known what its records tell
+    // of an account it is known what its records and its claims tell
     account.records();
+    account.claims();
     (account, links)
 }

@@ -6,15 +6,15 @@ use Rattle.dl_levels.specs.declared.history.Change.{Change}
 use Rattle.dl_registry.specs.Kept.{Kept}
 use Rattle.dl_rounds.specs.Clients.{Clients}
 use Rattle.dl_rounds.specs.Ready.{AreHeard}
-use Rattle.dl_rounds.specs.declared.listener.Listener.{Listener}
+use Rattle.dl_rounds.specs.Seats.{Seated}
 use Rattle.dl_turns.specs.Events.{IsDeskOf}
 use Rattle.dl_socket.specs.Channels.{Channels}
 use Rattle.dl_socket.specs.Messenger.{full_queue}
 use Rattle.dl_socket.specs.Turns.{told_each}
 
 -- Each client that may come has a listener, whatever sets levels for the registry.
-abbrev pub HaveListeners : List Listener → Core → Type 0
-HaveListeners listeners core = (desk : PostTold) → IsDeskOf core.registry desk → AreHeard listeners core desk
+abbrev pub HaveListeners : Seated → Core → Type 0
+HaveListeners seated core = (desk : PostTold) → IsDeskOf core.registry desk → AreHeard seated core desk
 
 -- Clients were visited so: the levels that their requests set are told the programs that have their contexts, in order. What sets the levels has the
 -- versions of the registry before it, and no queue took an injection.

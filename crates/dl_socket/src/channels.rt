@@ -26,7 +26,7 @@ use dl_core::Core;
 use dl_events::{Journal, Why};
 use dl_message::Cutter;
 use dl_outside::{Folder, Link, LinkList};
-use dl_rounds::{Listener, close_all, listen_all};
+use dl_rounds::{Seats, close_all, listen_all};
 use dl_turns::client_turn;
 use indexmap::IndexMap;
 use std::alloc::Global;
@@ -268,16 +268,16 @@ impl Channels {
         core: &mut Core,
         journal: &mut J,
         links: &mut LinkList<L>,
-        listeners: &mut [Listener],
+        seats: &mut Seats,
         folder: &mut F,
     ) -> bool
         requires linked { AreLinked links.old core.old (J.spare journal.old) }
-        requires heard { HaveListeners listeners.old core.old }
+        requires heard { HaveListeners seats.old core.old }
         ensures serves { HaveServed (HearsAll result) core.old.registry
-            (λ desk. seen L.told (λ d. d) J.events F.told links.old listeners.old core.old desk journal.old folder.old)
-            (λ desk. seen L.told (λ d. d) J.events F.told links.new listeners.new core.new desk journal.new folder.new) self.old self.new }
+            (λ desk. seen L.told (λ d. d) J.events F.told links.old seats.old.listeners core.old desk journal.old folder.old)
+            (λ desk. seen L.told (λ d. d) J.events F.told links.new seats.new.listeners core.new desk journal.new folder.new) self.old self.new }
         ensures linked { AreLinked links.new core.new (J.spare journal.new) }
-        ensures heard { HaveListeners listeners.new core.new }
+        ensures heard { HaveListeners seats.new core.new }
         ensures room { KeepsRoom core.old core.new (J.spare journal.old) (J.spare journal.new) }
     {
         let registry = core.registry();
@@ -290,7 +290,7 @@ impl Channels {
             &mut self.messenger,
             journal,
             links,
-            listeners,
+            seats,
             folder,
         )
     }
@@ -302,17 +302,17 @@ impl Channels {
         core: &mut Core,
         journal: &mut J,
         links: &mut LinkList<L>,
-        listeners: &mut [Listener],
+        seats: &mut Seats,
         folder: &mut F,
     )
         requires linked { AreLinked links.old core.old (J.spare journal.old) }
-        requires heard { HaveListeners listeners.old core.old }
+        requires heard { HaveListeners seats.old core.old }
         ensures serves { HaveServed (ClosesAll (TellOver L.told)) core.old.registry
-            (λ desk. seen L.told (λ d. d) J.events F.told links.old listeners.old core.old desk journal.old folder.old)
-            (λ desk. seen L.told (λ d. d) J.events F.told links.new listeners.new core.new desk journal.new folder.new) self.old self.new }
+            (λ desk. seen L.told (λ d. d) J.events F.told links.old seats.old.listeners core.old desk journal.old folder.old)
+            (λ desk. seen L.told (λ d. d) J.events F.told links.new seats.new.listeners core.new desk journal.new folder.new) self.old self.new }
         ensures none { (number : ℕ) → outbox_of core.new.hub number ≡ None }
         ensures linked { AreLinked links.new core.new (J.spare journal.new) }
-        ensures heard { HaveListeners listeners.new core.new }
+        ensures heard { HaveListeners seats.new core.new }
     {
         let registry = core.registry();
         registry.slots_are_apart();
@@ -324,7 +324,7 @@ impl Channels {
             &mut self.messenger,
             journal,
             links,
-            listeners,
+            seats,
             folder,
         );
     }

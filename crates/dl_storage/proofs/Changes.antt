@@ -7,7 +7,3 @@ use Rattle.dl_trace.specs.Stands.{ChangesTraceFiles}
 pub stayed : (directory : List ℕ) (told now : Option Files) → Stays told now → ChangesTraceFiles directory told now
 stayed directory None now stays = tt
 stayed directory (Some folder) now stays = (folder, stays, λ other not. refl)
-
-pub unchanged : (directory : List ℕ) (told : Option Files) → ChangesTraceFiles directory told told
-unchanged directory None = tt
-unchanged directory (Some folder) = (folder, refl, λ other not. refl)

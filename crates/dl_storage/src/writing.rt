@@ -108,7 +108,7 @@ impl Writing {
 }
 
 /// Stores the frame of an event, where its call passes the filter.
-#[tactic(auto, using(crate::proofs::Changes::unchanged))]
+#[tactic(auto, using(dl_trace::proofs::Joined::unchanged))]
 fn take_in<F: Folder>(
     writing: &mut Writing,
     folder: &mut F,

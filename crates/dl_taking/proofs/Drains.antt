@@ -15,7 +15,7 @@ use Rattle.dl_ring.proofs.Items.{calls_in-append, claims_in-append, length-calls
 use Rattle.dl_thread_rules.specs.Views.{bit}
 use Rattle.dl_desk.specs.Told.{PostTold}
 use Rattle.dl_writer.specs.State.{BookState}
-use Rattle.dl_lib.specs.Books.{lost_of, queued_of}
+use Rattle.dl_lib.specs.Books.{lost_of, items_pushed_of}
 use Rattle.dl_lib.specs.Known.{AreGathered, IsEmpty, IsTold, taken_of}
 use Rattle.dl_lib.specs.State.{ClosingState}
 use Rattle.dl_registry.specs.Kept.{Kept, owed_change}
@@ -31,7 +31,7 @@ use Rattle.dl_taking.specs.Takes.{TakesClaimIf, TakesSome}
 use Rattle.dl_taking.specs.Took.{Took, with_items, with_losses}
 use Rattle.dl_taking.specs.declared.taking.Got.{Got}
 use Rattle.dl_taking.proofs.DrainedEvents.{step_drain}
-use Rattle.dl_taking.proofs.PushedItems.{AreFewer, fewer_taken, queued_parts}
+use Rattle.dl_taking.proofs.PushedItems.{AreFewer, fewer_taken, pushed_parts}
 use Rattle.dl_taking.proofs.Tooks.{calls_are, items_both, no_claims, taken_else, taken_here}
 
 -- ---- one batch
@@ -104,13 +104,13 @@ taken_within new gathered old app same below =
 
 -- where none is left the ring is empty, and only there
 pub none_left : (new : ClosingState) (app : ℕ) → AreFewer new.books (taken_of new.handles app) app → calls_left new.books (closing_took new) app ≡ 0 → claims_left new.books (closing_took new) app ≡ 0 → IsEmpty new app
-none_left new app fewer calls claims = omega (arith, fewer.calls, fewer.claims, calls, claims, length-calls_in (taken_of new.handles app), queued_parts app new.books)
+none_left new app fewer calls claims = omega (arith, fewer.calls, fewer.claims, calls, claims, length-calls_in (taken_of new.handles app), pushed_parts app new.books)
 
 pub none_of : (new : ClosingState) (app : ℕ) → AreFewer new.books (taken_of new.handles app) app → IsEmpty new app
     → (calls_left new.books (closing_took new) app ≡ 0) × (claims_left new.books (closing_took new) app ≡ 0)
 none_of new app fewer empty = (
-  omega (arith, fewer.calls, fewer.claims, empty, length-calls_in (taken_of new.handles app), queued_parts app new.books),
-  omega (arith, fewer.calls, fewer.claims, empty, length-calls_in (taken_of new.handles app), queued_parts app new.books),
+  omega (arith, fewer.calls, fewer.claims, empty, length-calls_in (taken_of new.handles app), pushed_parts app new.books),
+  omega (arith, fewer.calls, fewer.claims, empty, length-calls_in (taken_of new.handles app), pushed_parts app new.books),
 )
 
 pub apart_of : (a b : ℕ) → eqb a b ≡ false → a ≢ b
@@ -168,7 +168,7 @@ losses_still books books_now app reports reports_now same told = ap (λ (bs : Li
 -- what is empty stays so while losses are told
 pub empty_behind : (old new : ClosingState) (app count : ℕ) → closing_took new ≡ with_losses app count (closing_took old) → SameButTaken old new → IsEmpty old app → IsEmpty new app
 empty_behind old new app count took same empty =
-    ap (λ (t : Took). length (t.taken app)) took ∙ empty ∙ ap (λ (s : ClosingState). queued_of app s.books) (sym same)
+    ap (λ (t : Took). length (t.taken app)) took ∙ empty ∙ ap (λ (s : ClosingState). items_pushed_of app s.books) (sym same)
 
 -- ---- batches
 
@@ -256,7 +256,7 @@ drained_more specs app old new was now drains from to same empty told before n b
       let left = app_else specs app n old new other.1 drains in
       let so = before n (omega (arith, below, other.1)) in
       let books = ap (λ (s : ClosingState). s.books) same in (
-        ap (λ (t : Took). length (t.taken n)) (sym to) ∙ ap (λ (xs : List RingItem). length xs) left.calls ∙ ap (λ (t : Took). length (t.taken n)) from ∙ so.0 ∙ ap (queued_of n) (sym books),
+        ap (λ (t : Took). length (t.taken n)) (sym to) ∙ ap (λ (xs : List RingItem). length xs) left.calls ∙ ap (λ (t : Took). length (t.taken n)) from ∙ so.0 ∙ ap (items_pushed_of n) (sym books),
         ap (λ (t : Took). reported_of n t.reported) (sym to) ∙ left.losses ∙ ap (λ (t : Took). reported_of n t.reported) from ∙ so.1 ∙ ap (lost_of n) (sym books),
       )
 ]

@@ -11,7 +11,7 @@ use Rattle.dl_ring.specs.Order.{of, writer_of}
 use Rattle.dl_ring.proofs.Items.{length-calls_in}
 use Rattle.dl_thread_rules.specs.Views.{bit, times, total}
 use Rattle.dl_writer.specs.State.{BookState, numbers}
-use Rattle.dl_lib.specs.Books.{books_of, queued_of}
+use Rattle.dl_lib.specs.Books.{books_of, items_pushed_of}
 use Rattle.dl_lib.specs.Known.{IsAllOf}
 use Rattle.dl_taking.specs.Draining.{calls_pushed, claims_pushed}
 
@@ -136,5 +136,5 @@ all_parts : (books : List BookState) → total (λ (b : BookState). length b.wri
 all_parts [] = refl
 all_parts (b ∷ books) = omega (arith, length-calls_in b.writer.push.pushed, all_parts books)
 
-pub queued_parts : (app : ℕ) (books : List BookState) → queued_of app books ≡ calls_pushed app books + claims_pushed app books
-queued_parts app books = all_parts (books_of app books)
+pub pushed_parts : (app : ℕ) (books : List BookState) → items_pushed_of app books ≡ calls_pushed app books + claims_pushed app books
+pushed_parts app books = all_parts (books_of app books)

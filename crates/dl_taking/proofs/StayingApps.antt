@@ -30,6 +30,8 @@ use Rattle.dl_registry.specs.Kept.{Claims, Kept, slots}
 use Rattle.dl_core.specs.Follows.{IsAfter, Run}
 use Rattle.dl_core.specs.State.{Core}
 use Rattle.dl_taking.specs.Takes.{AreThere}
+use Rattle.dl_lemmas.proofs.Options.{ifok_if}
+use Rattle.dl_model.proofs.AppPresence.{ifsome_if}
 
 -- no message of an application
 abbrev pub NoMessage : Event → Type 0
@@ -52,14 +54,6 @@ abbrev pub there : Registry → List Who
 there r = map who r.apps
 
 -- ---- what leaves who is there
-
-ifok_if : {A E : Type 0} (P : A → Type 0) (b : Bool) (e : E) (r : Result A E) → IfOk r P → IfOk (cond b (Err e) r) P
-ifok_if P true e r ok = tt
-ifok_if P false e r ok = ok
-
-ifsome_if : {A : Type 0} (P : A → Type 0) (b : Bool) (o : Option A) → IfSome o P → IfSome (cond b None o) P
-ifsome_if P true o is = tt
-ifsome_if P false o is = is
 
 some_ok : {A E : Type 0} (P : A → Type 0) (r : Result A E) → IfOk r P → IfSome (result_ok r) P
 some_ok P (Ok x) is = is

@@ -1,5 +1,5 @@
 -- Calls that are taken and noted at one moment, and a claim behind them.
-use Rattle.std.proofs.Common.{◌≡◌, ℕ, ◌+◌, ◌<◌, Bool, true, false, cond, List, [], ◌∷◌, ◌++◌, length, length-append, map, append-nil, eqb, Some, None, refl, sym, ap, ◌∙◌, subst, arith}
+use Rattle.std.proofs.Common.{◌≡◌, ℕ, ◌+◌, ◌<◌, ◌&&◌, nat_lt, Bool, true, false, cond, List, [], ◌∷◌, ◌++◌, length, length-append, map, append-nil, eqb, Some, None, refl, sym, ap, ◌∙◌, subst, arith}
 use Rattle.std.proofs.lemmas.List.{length-map, map-append}
 use Rattle.dl_bytes.specs.Claim.{Claimed}
 use Rattle.dl_bytes.specs.declared.item.Item.{Item}
@@ -12,10 +12,11 @@ use Rattle.dl_core.specs.Admission.{lost_frames}
 use Rattle.dl_admission.specs.Admission.{Entry, Logs, Uses, loss_entries}
 use Rattle.dl_taking.specs.Filling.{Fills}
 use Rattle.dl_taking.specs.Side.{Side}
-use Rattle.dl_taking.specs.Takes.{TakesClaim, TakesSome, owned}
+use Rattle.dl_taking.specs.Takes.{TakesClaim, TakesSome, found_none, owned}
 use Rattle.dl_taking.specs.Took.{Took, with_items}
 use Rattle.dl_taking.specs.declared.taking.Got.{Got}
 use Rattle.dl_taking.proofs.Tooks.{items_both, items_none}
+use Rattle.dl_lemmas.proofs.Bools.{and_false}
 
 -- ---- a batch
 
@@ -55,6 +56,17 @@ fills_still app most took took_now took_new batch batch_new so same_took same = 
   few = so.few;
   batch_is = same ∙ so.batch_is;
 }
+
+-- ---- whether the last take found the ring empty
+
+pub none_claimed : (most calls : ℕ) → found_none most (record { calls = calls; claimed = true }) ≡ false
+none_claimed most calls = and_false (nat_lt (calls + 1) most) false refl
+
+pub none_unclaimed : (most calls : ℕ) → found_none most (record { calls = calls; claimed = false }) ≡ nat_lt calls most
+none_unclaimed most calls = ap (λ (n : ℕ). nat_lt n most && true) (omega arith) ∙ and_true (nat_lt calls most) where
+  and_true : (b : Bool) → (b && true) ≡ b
+  and_true true = refl
+  and_true false = refl
 
 -- ---- what was taken, and noted
 

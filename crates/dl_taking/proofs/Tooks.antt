@@ -21,7 +21,7 @@ use Rattle.dl_desk.proofs.Places.{map-changed_at}
 use Rattle.dl_lib.specs.Books.{lost_of}
 use Rattle.dl_lib.specs.Known.{IsEmpty, IsTold, taken_of}
 use Rattle.dl_lib.specs.State.{ClosingState}
-use Rattle.dl_taking.specs.Took.{Took, empties_of, took_by, untaken, with_items, without_takes}
+use Rattle.dl_taking.specs.Took.{Took, empties_of, took_by, untaken, with_empty, with_items, without_takes}
 
 -- ---- calls and claims behind others
 
@@ -95,11 +95,17 @@ module _ (s : HandlesState) (app : ℕ) where
   pub took_empty : took_by (with_empty_take s app) ≡ took_by s
   took_empty = λ i. record { taken = λ n. ap (λ (o : Option (List RingItem)). unwrap_or o []) (kept (λ (e : AppHandles). e.ring.taken) app finds_none s.apps n (λ e. refl)) i; reported = s.losses.reported }
 
-  pub empties_item : (item : RingItem) → empties_of (with_item s app item) app ≡ empties_of s app
-  empties_item item = ap (λ (o : Option ℕ). unwrap_or o 0) (kept (λ (e : AppHandles). e.ring.empties) app (takes_item item) s.apps app (λ e. refl))
+  pub empties_item : (item : RingItem) → empties_of (with_item s app item) ≡ empties_of s
+  empties_item item = λ i n. ap (λ (o : Option ℕ). unwrap_or o 0) (kept (λ (e : AppHandles). e.ring.empties) app (takes_item item) s.apps n (λ e. refl)) i
 
-  pub empties_more : app < length s.apps → empties_of (with_empty_take s app) app ≡ empties_of s app + 1
-  empties_more within = there (λ (e : AppHandles). e.ring.empties) app finds_none (λ (n : ℕ). n + 1) s.apps 0 within (λ e. refl)
+  pub empties_more : app < length s.apps → empties_of (with_empty_take s app) ≡ with_empty app (empties_of s)
+  empties_more within = λ i n. by_place n i where
+    by_place : (n : ℕ) → empties_of (with_empty_take s app) n ≡ cond (n == app) (empties_of s n + 1) (empties_of s n)
+    by_place n = elim (eqb_tells n app) [
+      | inl same ↦ rw same.0 (subst (λ (k : ℕ). empties_of (with_empty_take s app) k ≡ empties_of s k + 1) (sym same.1)
+          (there (λ (e : AppHandles). e.ring.empties) app finds_none (λ (n : ℕ). n + 1) s.apps 0 within (λ e. refl)))
+      | inr apart ↦ rw apart.0 (ap (λ (o : Option ℕ). unwrap_or o 0) (elsewhere (λ (e : AppHandles). e.ring.empties) app finds_none s.apps n apart.1))
+    ]
 
   pub told_item : (apps : ℕ) (item : RingItem) → told_by apps (with_item s app item) ≡ told_by apps s
   told_item apps item = λ i. record {
@@ -159,19 +165,14 @@ module _ (old new : DeskState) (app : ℕ) where
 
   -- a take that found none, and one that gave a call or a claim
   pub desk_empty : app < length old.handles.apps → (x : Option RingItem) → IfNone x (new ≡ record old { handles = with_empty_take old.handles app })
-      → IfNone x (empties_of new.handles app ≡ empties_of old.handles app + 1)
+      → IfNone x (empties_of new.handles ≡ with_empty app (empties_of old.handles))
   desk_empty within (Some item) none = tt
-  desk_empty within None none = ap (λ (d : DeskState). empties_of d.handles app) none ∙ empties_more old.handles app within
+  desk_empty within None none = ap (λ (d : DeskState). empties_of d.handles) none ∙ empties_more old.handles app within
 
-  pub desk_later : (x : Option RingItem) → IfSome x (λ item. new ≡ record old { handles = with_item old.handles app item })
-      → OnSome x ((later : DeskState) → empties_of later.handles app ≡ empties_of new.handles app + 1 → empties_of later.handles app ≡ empties_of old.handles app + 1)
-  desk_later (Some item) some = λ later found. found ∙ ap (λ (d : DeskState). empties_of d.handles app + 1) some ∙ ap (λ (n : ℕ). n + 1) (empties_item old.handles app item)
-  desk_later None some = tt
-
--- what always is, is so of one that gave something
-pub on_some : {A : Type 0} (P : Type 0) → P → (x : Option A) → OnSome x P
-on_some P is (Some x) = is
-on_some P is None = tt
+  pub desk_full : (x : Option RingItem) → IfSome x (λ item. new ≡ record old { handles = with_item old.handles app item })
+      → OnSome x (empties_of new.handles ≡ empties_of old.handles)
+  desk_full (Some item) some = ap (λ (d : DeskState). empties_of d.handles) some ∙ empties_item old.handles app item
+  desk_full None some = tt
 
 -- ---- what stands for it once the writers are back
 
@@ -194,6 +195,16 @@ module _ (old new : ClosingState) (app : ℕ) where
   pub closing_took_none : (x : Option RingItem) → IfNone x (new ≡ record old { handles = with_empty_take old.handles app }) → IfNone x (took_by new.handles ≡ took_by old.handles)
   closing_took_none (Some item) none = tt
   closing_took_none None none = ap (λ (c : ClosingState). took_by c.handles) none ∙ took_empty old.handles app
+
+  pub closing_empty : app < length old.handles.apps → (x : Option RingItem) → IfNone x (new ≡ record old { handles = with_empty_take old.handles app })
+      → IfNone x (empties_of new.handles ≡ with_empty app (empties_of old.handles))
+  closing_empty within (Some item) none = tt
+  closing_empty within None none = ap (λ (c : ClosingState). empties_of c.handles) none ∙ empties_more old.handles app within
+
+  pub closing_full : (x : Option RingItem) → IfSome x (λ item. new ≡ record old { handles = with_item old.handles app item })
+      → OnSome x (empties_of new.handles ≡ empties_of old.handles)
+  closing_full (Some item) some = ap (λ (c : ClosingState). empties_of c.handles) some ∙ empties_item old.handles app item
+  closing_full None some = tt
 
   pub empty_now : (x : Option RingItem) → IfNone x (new ≡ record old { handles = with_empty_take old.handles app }) → IsNone x ↔ IsEmpty old app → IfNone x (IsEmpty new app)
   empty_now (Some item) none empty = tt

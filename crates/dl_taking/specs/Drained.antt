@@ -50,7 +50,7 @@ is_claim other = false
 
 -- ---- what is taken, told by its events
 
--- Calls, claims and losses were taken, in runs that give what was taken in the end: these entries are noted, each behind the Closes of the
+-- Calls, claims and losses were taken, in runs that give what was taken in the end: these entries are noted, each after the Closes of the
 -- clients that are too slow for it, and nothing else is. Core, trace, folder and level words are what the longer journal makes of them; no
 -- injection is put or refused. A well-formed journal stays so where the applications are there, which they stay. A journal that told just what
 -- was taken does so with these events. Of other applications nothing was taken.

@@ -69,7 +69,7 @@ claims_left_from books took app (suc more) = claims_left books took app + claims
 abbrev pub all_claims_left : ClosingState → ℕ
 all_claims_left closing = claims_left_from closing.books (closing_took closing) 0 (length closing.apps)
 
--- So many Log and Lost events may still be noted, and so many Claim events, each with a Level event behind it, beside a Close of each open
+-- So many Log and Lost events may still be noted, and so many Claim events, each with a Level event after it, beside a Close of each open
 -- client; and two more events, which a ring's last take may want. Among the Lost events are the reports of so many applications: a report has at
 -- most 32,769 frames.
 pub record MayNote (events claims reports : ℕ) (hub : Hub) (spare : ℕ) : Type 0 where
@@ -78,7 +78,7 @@ pub record MayNote (events claims reports : ℕ) (hub : Hub) (spare : ℕ) : Typ
 
 -- ---- how it is taken
 
--- some calls of an application were taken together, and a claim behind them, where it is told: at most 64
+-- some calls of an application were taken together, and a claim after them, where it is told: at most 64
 abbrev pub TakesBatch : ℕ → Side → Side → Type 0
 TakesBatch app old new = (got : Got) × TakesSome app 64 got old new
 

@@ -16,12 +16,12 @@ FillsOne app answer.Call took took_now batch batch_now = (item : Item) × (took_
 FillsOne app (answer.Claim claim) took took_now batch batch_now = (took_now ≡ with_items app (Register claim ∷ []) took) × (batch_now ≡ batch)
 FillsOne app answer.Nothing took took_now batch batch_now = (took_now ≡ took) × (batch_now ≡ batch)
 
--- a claim behind calls, where one came
+-- a claim after calls, where one came
 abbrev pub claim_item : Option Claimed → List RingItem
 claim_item None = []
 claim_item (Some claim) = Register claim ∷ []
 
--- At most so many were taken of an application's ring, calls and behind them a claim, where one came; the calls make the batch, in their
+-- At most so many were taken of an application's ring, calls and after them a claim, where one came; the calls make the batch, in their
 -- order, as the application's own.
 pub record Fills (app most : ℕ) (claim : Option Claimed) (took took_now : Took) (batch : List Item) : Type 0 where
   pub items : List Item

@@ -1,5 +1,5 @@
 -- What is taken, and admitted.
-use Rattle.std.specs.Prelude.{◌≡◌, ◌<◌, ◌≤◌, ◌+◌, ◌==◌, ◌^◌, ℕ, Bool, true, false, List, [], ◌∷◌, length, map, unwrap_or, None, IsSome, if◌then◌else◌}
+use Rattle.std.specs.Prelude.{◌≡◌, ◌<◌, ◌≤◌, ◌+◌, ◌==◌, ◌^◌, ◌&&◌, not, nat_lt, ℕ, Bool, true, false, List, [], ◌∷◌, length, map, unwrap_or, None, IsSome, if◌then◌else◌}
 use Rattle.std.specs.Option.{option_and_then}
 use Rattle.dl_bytes.specs.Claim.{Claimed}
 use Rattle.dl_bytes.specs.declared.conf.AppSpec.{AppSpec}
@@ -36,8 +36,8 @@ owned_claim app claim = record claim { app = app }
 abbrev pub owed_by : Claimed → Kept → ℕ
 owed_by claim kept = waiting (with_registry kept (unwrap_or (claimed (slots kept) kept.registry claim) kept.registry))
 
--- A claim was noted at this moment, while no Level event was owed, and went to the registry; and behind it the Level events that it owes, whose level words were set. No frame
--- was admitted, and the folder was not asked.
+-- A claim was noted at this moment, while no Level event was owed, and went to the registry; and after it the Level events that it owes, whose
+-- level words were set. No frame was admitted, and the folder was not asked.
 pub record NotesWithLevels (moment : Moment) (claim : Claimed) (old new : turns.Side) : Type 0 where
   pub settled : owed_change old.core.registry ≡ None
   pub between : turns.Side
@@ -62,14 +62,22 @@ abbrev pub TakesClaimIf : Bool → ℕ → Moment → Side → Side → Type 0
 TakesClaimIf true app moment old new = TakesClaim app moment old new
 TakesClaimIf false app moment old new = new ≡ old
 
--- So many calls were taken of an application's ring, and admitted at one moment, in this order, as its own; and behind them a claim, where it
+-- how many takes gave
+abbrev pub gave : Got → ℕ
+gave got = got.calls + bit got.claimed
+
+-- of at most so many takes the last one found the ring empty
+abbrev pub found_none : ℕ → Got → Bool
+found_none most got = nat_lt (gave got) most && not got.claimed
+
+-- So many calls were taken of an application's ring, and admitted at one moment, in this order, as its own; and after them a claim, where it
 -- is told. Together they are at most as many as this, and nothing else was taken.
 pub record TakesSome (app most : ℕ) (got : Got) (old new : Side) : Type 0 where
   pub items : List Item
   pub moment : Moment
   pub between : Side
   pub count_is : got.calls ≡ length items
-  pub few : got.calls + bit got.claimed ≤ most
+  pub few : gave got ≤ most
   pub took : between.took ≡ with_items app (map Log items) old.took
   pub logs : Logs moment (map (owned app) items) old.part between.part
   pub uses : Uses got.calls old.part.core.hub between.part.core.hub old.noted between.noted old.spare between.spare

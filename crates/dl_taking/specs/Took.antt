@@ -1,5 +1,5 @@
 -- What was taken of the rings and loss words of applications.
-use Rattle.std.specs.Prelude.{ℕ, ◌<◌, ◌==◌, List, [], ◌∷◌, ◌++◌, map, slice_get, unwrap_or, if◌then◌else◌}
+use Rattle.std.specs.Prelude.{ℕ, ◌+◌, ◌<◌, ◌==◌, Bool, List, [], ◌∷◌, ◌++◌, map, slice_get, unwrap_or, if◌then◌else◌}
 use Rattle.std.specs.Option.{option_map}
 use Rattle.dl_losses.specs.Losses.{report, reported_of}
 use Rattle.dl_losses.specs.declared.keeper.Report.{Report}
@@ -23,6 +23,14 @@ took_by handles = record { taken = taken_of handles; reported = handles.losses.r
 -- how often a take found the ring of an application empty
 abbrev pub empties_of : HandlesState → ℕ → ℕ
 empties_of handles app = unwrap_or (option_map (λ e. e.ring.empties) (slice_get handles.apps app)) 0
+
+-- of these counts that of an application is one more
+abbrev pub with_empty : ℕ → (ℕ → ℕ) → ℕ → ℕ
+with_empty app empties = λ other. if other == app then empties other + 1 else empties other
+
+-- so it is where the last take found its ring empty
+abbrev pub empties_now : ℕ → Bool → (ℕ → ℕ) → ℕ → ℕ
+empties_now app none empties = if none then with_empty app empties else empties
 
 -- these calls and claims more were taken of an application's ring
 abbrev pub with_items : ℕ → List RingItem → Took → Took

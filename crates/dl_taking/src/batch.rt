@@ -3,6 +3,7 @@
 ghost use Rattle.std.specs.Prelude.{◌≡◌, ◌≢◌, ◌<◌, [], length, IfOk};
 ghost use Rattle.dl_ring.specs.declared.item.Taken.TheVariants.{Nothing};
 ghost use Rattle.dl_taking.specs.Filling.{FillsOne};
+ghost use Rattle.dl_taking.specs.Took.{with_empty};
 
 use crate::taker::Taker;
 use dl_bytes::{Id, Item, OutOfMemory, Payload, Severity};
@@ -72,8 +73,9 @@ impl Batch {
         requires app { app < length (D.specs desk.old) }
         requires room { length self.old < 64 }
         ensures takes { FillsOne app result (D.took desk.old) (D.took desk.new) self.old self.new }
-        ensures empty { result ≡ Nothing → D.found_empty desk.old desk.new app }
-        ensures later { result ≢ Nothing → (later : D) → D.found_empty desk.new later app → D.found_empty desk.old later app }
+        ensures full { result ≢ Nothing → D.empties desk.new ≡ D.empties desk.old }
+        ensures empty { result ≡ Nothing → D.empties desk.new ≡ with_empty app (D.empties desk.old) }
+        ensures given { result ≡ Nothing → D.has_given desk.new app }
         ensures told { D.told desk.new ≡ D.told desk.old }
         ensures rest { D.same_but_taken desk.old desk.new }
     {

@@ -14,7 +14,7 @@ use dl_desk::Post;
 use dl_events::Journal;
 use dl_turns::note_levels;
 
-/// Notes a claim as one of this application, in whose ring it lay; and behind it the Level event that it owes, whose level word is set.
+/// Notes a claim as one of this application, in whose ring it lay; and after it the Level event that it owes, whose level word is set.
 pub fn note_claim<D: Post, J: Journal>(
     core: &mut Core,
     desk: &mut D,

@@ -11,14 +11,16 @@ impl Taker for Closing {
     ghost use Rattle.std.proofs.Common.{ap, sym, ◌∙◌};
     ghost use Rattle.dl_lib.specs.Known.{IsEmpty, IsTold};
     ghost use Rattle.dl_lib.specs.State.{ClosingState};
-    ghost use Rattle.dl_taking.specs.Resting.{took_still};
-    ghost use Rattle.dl_taking.specs.Took.{HasLosses, took_by, untaken, without_taken};
+    ghost use Rattle.dl_taking.specs.Resting.{empties_still, took_still};
+    ghost use Rattle.dl_taking.specs.Took.{HasLosses, empties_of, took_by, untaken, without_taken};
 
     ghost took = { λ c. took_by c.handles };
 
     ghost specs = { λ c. c.apps };
 
-    ghost found_empty = { λ old new app. IsEmpty new app };
+    ghost empties = { λ c. empties_of c.handles };
+
+    ghost has_given = { IsEmpty };
 
     ghost has_losses = { HasLosses };
 
@@ -44,6 +46,8 @@ impl Taker for Closing {
     ghost taken_trans = { λ p q r first second. second ∙ first };
 
     ghost rest_took = { λ p q same. sym (took_still q.handles) ∙ ap (λ (c : ClosingState). took_by c.handles) same ∙ took_still p.handles };
+
+    ghost rest_empties = { λ p q same. sym (empties_still q.handles) ∙ ap (λ (c : ClosingState). empties_of c.handles) same ∙ empties_still p.handles };
 
     ghost rest_taken = { λ p q same. ap (λ (c : ClosingState). record c { handles = without_taken c.handles }) same };
 

@@ -6,19 +6,21 @@ use dl_desk::{Desk, Taken};
 use std::sync::Wait;
 
 impl Taker for Desk {
-    ghost use Rattle.std.specs.Prelude.{◌≡◌, ◌+◌, refl};
+    ghost use Rattle.std.specs.Prelude.{◌≡◌, refl};
     ghost use Rattle.std.proofs.Common.{ap, sym, ◌∙◌};
     ghost use Rattle.dl_desk.specs.State.{DeskState};
-    ghost use Rattle.dl_taking.specs.Resting.{took_still};
+    ghost use Rattle.dl_taking.specs.Resting.{empties_still, took_still};
     ghost use Rattle.dl_taking.specs.Took.{empties_of, took_by, untaken, without_taken};
 
     ghost took = { λ d. took_by d.handles };
 
     ghost specs = { λ d. d.apps };
 
-    ghost found_empty = { λ old new app. empties_of new.handles app ≡ empties_of old.handles app + 1 };
+    ghost empties = { λ d. empties_of d.handles };
 
-    // writers may count one at any time
+    // writers may push and count at any time
+    ghost has_given = { λ d app. Unit {0} };
+
     ghost has_losses = { λ d app. Unit {0} };
 
     // so that it is never known that none will come
@@ -44,6 +46,8 @@ impl Taker for Desk {
     ghost taken_trans = { λ p q r first second. second ∙ first };
 
     ghost rest_took = { λ p q same. sym (took_still q.handles) ∙ ap (λ (d : DeskState). took_by d.handles) same ∙ took_still p.handles };
+
+    ghost rest_empties = { λ p q same. sym (empties_still q.handles) ∙ ap (λ (d : DeskState). empties_of d.handles) same ∙ empties_still p.handles };
 
     ghost rest_taken = { λ p q same. ap (λ (d : DeskState). record d { handles = without_taken d.handles }) same };
 

@@ -22,7 +22,7 @@ use std::sync::Wait;
 pub struct Budget {
     /// Log and Lost events.
     pub events: u32,
-    /// Claim events; behind each there may be a Level event.
+    /// Claim events; after each there may be a Level event.
     pub claims: u32,
 }
 
@@ -110,7 +110,7 @@ fn drain_app<R: Wait, J: Journal, C: Clock, F: Folder>(
     tell_losses(core, closing, journal, app, left, clock, folder);
 }
 
-/// Takes what comes next in the ring of an application, at most 64 and no more than may be noted: calls, and behind them a claim, where one
+/// Takes what comes next in the ring of an application, at most 64 and no more than may be noted: calls, and after them a claim, where one
 /// comes. Answers whether the ring may hold more.
 fn take_batch<R: Wait, J: Journal, C: Clock, F: Folder>(
     rt: &R,

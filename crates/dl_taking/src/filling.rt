@@ -1,8 +1,9 @@
 //! A batch filled from a ring.
 
-ghost use Rattle.std.specs.Prelude.{◌≡◌, ◌<◌, ◌≤◌, length};
+ghost use Rattle.std.specs.Prelude.{◌≡◌, ◌<◌, ◌≤◌, ◌&&◌, nat_lt, is_none, length};
 ghost use Rattle.std.specs.Option.{IsNone};
 ghost use Rattle.dl_taking.specs.Filling.{Fills};
+ghost use Rattle.dl_taking.specs.Took.{empties_now};
 
 use crate::batch::Batch;
 use crate::taker::Taker;
@@ -22,7 +23,8 @@ pub fn fill<R: Wait, D: Taker>(
     requires app { app < length (D.specs desk.old) }
     requires most { most ≤ 64 }
     ensures fills { Fills app most result (D.took desk.old) (D.took desk.new) batch.new }
-    ensures empty { IsNone result → length batch.new < most → D.found_empty desk.old desk.new app }
+    ensures empties { D.empties desk.new ≡ empties_now app (is_none result && nat_lt (length batch.new) most) (D.empties desk.old) }
+    ensures given { IsNone result → length batch.new < most → D.has_given desk.new app }
     ensures told { D.told desk.new ≡ D.told desk.old }
     ensures rest { D.same_but_taken desk.old desk.new }
 {

@@ -10,7 +10,7 @@ ghost use Rattle.dl_taking.specs.Side.{Side};
 ghost use Rattle.dl_taking.specs.Takes.{Reports, TakesSome};
 ghost use Rattle.dl_taking.specs.declared.taking.Got.{Got};
 
-/// Calls of an application, with a claim behind them, are their events when they are taken; so are its losses. Where a journal told just what was
+/// Calls of an application, with a claim after them, are their events when they are taken; so are its losses. Where a journal told just what was
 /// taken, it does so with these events.
 pub fn what_is_taken_is_told()
     ensures calls { (specs : List AppSpec) (app most : ℕ) (got : Got) (old new : Side) → app < length specs → TakesSome app most got old new

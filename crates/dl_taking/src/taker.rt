@@ -5,7 +5,7 @@ ghost use Rattle.dl_bytes.specs.declared.conf.AppSpec.{AppSpec as spec_type};
 ghost use Rattle.dl_losses.specs.Losses.{reported_of};
 ghost use Rattle.dl_ring.specs.Items as ring;
 ghost use Rattle.dl_desk.specs.Lists.{At};
-ghost use Rattle.dl_taking.specs.Took.{Took, with_items, with_losses};
+ghost use Rattle.dl_taking.specs.Took.{Took, with_empty, with_items, with_losses};
 
 use dl_bytes::{Id, Item};
 use dl_desk::{Post, Taken};
@@ -19,8 +19,11 @@ pub trait Taker: Post {
     /// The applications, by their numbers.
     ghost specs: { Self → List spec_type };
 
-    /// Since the first of the two the ring of an application was found empty, once.
-    ghost found_empty: { Self → Self → ℕ → Type 0 };
+    /// How often a take found the ring of an application empty.
+    ghost empties: { Self → ℕ → ℕ };
+
+    /// All that will ever be pushed into the ring of an application is known to be taken.
+    ghost has_given: { Self → ℕ → Type 0 };
 
     /// Losses of an application may be found that were not reported.
     ghost has_losses: { Self → ℕ → Type 0 };
@@ -37,8 +40,9 @@ pub trait Taker: Post {
         requires { app < length (specs self.old) }
         ensures taken { IfSome (ring.took result item.new) (λ x. took self.new ≡ with_items app (x ∷ []) (took self.old)) }
         ensures none { IfNone (ring.took result item.new) (took self.new ≡ took self.old) }
-        ensures empty { IfNone (ring.took result item.new) (found_empty self.old self.new app) }
-        ensures later { OnSome (ring.took result item.new) ((later : Self) → found_empty self.new later app → found_empty self.old later app) }
+        ensures full { OnSome (ring.took result item.new) (empties self.new ≡ empties self.old) }
+        ensures empty { IfNone (ring.took result item.new) (empties self.new ≡ with_empty app (empties self.old)) }
+        ensures given { IfNone (ring.took result item.new) (has_given self.new app) }
         ensures kept { ring.is_call result ≡ false → item.new ≡ item.old }
         ensures told { Self.told self.new ≡ Self.told self.old }
         ensures rest { same_but_taken self.old self.new };
@@ -50,6 +54,7 @@ pub trait Taker: Post {
         ensures small { reported_of app (took self.new).reported < 2 ^ 47 }
         ensures some { 0 < result → has_losses self.old app }
         ensures all { has_told self.new app }
+        ensures empties { empties self.new ≡ empties self.old }
         ensures told { Self.told self.new ≡ Self.told self.old }
         ensures rest { same_but_taken self.old self.new };
 
@@ -66,6 +71,9 @@ pub trait Taker: Post {
 
     /// What sets levels and injects leaves what was taken, and what stays while that is taken.
     ghost rest_took: { (p q : Self) → Self.same_rest p q → took q ≡ took p };
+
+    /// The same.
+    ghost rest_empties: { (p q : Self) → Self.same_rest p q → empties q ≡ empties p };
 
     /// The same.
     ghost rest_taken: { (p q : Self) → Self.same_rest p q → same_but_taken p q };

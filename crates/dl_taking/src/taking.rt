@@ -1,4 +1,4 @@
-//! Some calls of an application with a claim behind them, and its losses.
+//! Some calls of an application with a claim after them, and its losses.
 
 ghost use Rattle.std.specs.Prelude.{◌≡◌, ◌<◌, ◌≤◌, ◌+◌, false, None, count_by, length};
 ghost use Rattle.dl_bytes.specs.Limits.{admitted_limit};
@@ -6,7 +6,8 @@ ghost use Rattle.dl_registry.specs.Kept.{owed_change};
 ghost use Rattle.dl_hub.specs.State.{is_open};
 ghost use Rattle.dl_turns.specs.Events.{IsDeskOf};
 ghost use Rattle.dl_taking.specs.Side.{seen};
-ghost use Rattle.dl_taking.specs.Takes.{Reports, TakesSome};
+ghost use Rattle.dl_taking.specs.Takes.{Reports, TakesSome, found_none};
+ghost use Rattle.dl_taking.specs.Took.{empties_now};
 
 use crate::batch::Batch;
 use crate::claiming::note_claim;
@@ -50,7 +51,8 @@ pub fn take_some<R: Wait, D: Taker, J: Journal, C: Clock, F: Folder>(
     requires few { core.old.hub.admitted + most ≤ admitted_limit }
     ensures takes { let s = seen J.events J.noted J.spare F.told D.took D.told in TakesSome app most result
         (s core.old journal.old folder.old desk.old) (s core.new journal.new folder.new desk.new) }
-    ensures empty { result.claimed ≡ false → result.calls < most → D.found_empty desk.old desk.new app }
+    ensures empties { D.empties desk.new ≡ empties_now app (found_none most result) (D.empties desk.old) }
+    ensures given { result.claimed ≡ false → result.calls < most → D.has_given desk.new app }
     ensures settled { owed_change core.new.registry ≡ None }
     ensures desk { IsDeskOf core.new.registry (D.told desk.new) }
     ensures apps { (D.told desk.new).apps ≡ (D.told desk.old).apps }
@@ -93,6 +95,7 @@ pub fn report_losses<D: Taker, J: Journal, C: Clock, F: Folder>(
         (s core.old journal.old folder.old desk.old) (s core.new journal.new folder.new desk.new) }
     ensures some { 0 < result → D.has_losses desk.old app }
     ensures all { D.has_told desk.new app }
+    ensures empties { D.empties desk.new ≡ D.empties desk.old }
     ensures told { D.told desk.new ≡ D.told desk.old }
     ensures rest { D.same_but_taken desk.old desk.new }
 {

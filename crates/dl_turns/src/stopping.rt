@@ -152,6 +152,7 @@ pub fn close_turn<R: Wait, D: Post, J: Journal, L: Link, F: Folder>(
     ensures wound_up { let s = seen L.told D.told J.events F.told in IsWoundUp client result
         (s link.old cutter.old core.old desk.old journal.old folder.old)
         (s link.new cutter.new core.new desk.new journal.new folder.new) }
+    ensures limit { cutter.new.limit ≡ message_limit }
     ensures served { HasServed client served.new core.new }
     ensures settled { owed_change core.new.registry ≡ None }
     ensures desk { IsDeskOf core.new.registry (D.told desk.new) }

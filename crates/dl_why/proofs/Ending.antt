@@ -19,22 +19,14 @@ use Rattle.dl_why.specs.Program.{AreStanding, Begins, Ends, LooksAt, Prints, Rea
 use Rattle.dl_why.specs.declared.program.Start.{Start}
 use Rattle.dl_why.specs.declared.steps_status.StepsStatus.{StepsStatus}
 use Rattle.dl_why.specs.declared.steps_status.StepsStatus.TheVariants.{Plain, PictureFault}
+use Rattle.dl_startup.proofs.Told.{unchanged_on}
+use Rattle.dl_trace_files.proofs.Looking.{stays_on}
 
 -- ---- a folder that is left as it was, twice
-
-stays_on : (old mid new : Option Files) → Stays old mid → Stays mid new → Stays old new
-stays_on None mid new was is = tt
-stays_on (Some files) mid new was is = subst (λ (told : Option Files). Stays told new) was is
 
 pub told_before : (P : Files → Type 0) (old mid : Option Files) → Stays old mid → IfSome mid P → IfSome old P
 told_before P None mid was holds = tt
 told_before P (Some files) mid was holds = subst (λ (told : Option Files). IfSome told P) was holds
-
-pub unchanged_on : (old mid new : FolderTold) → IsUnchanged old mid → IsUnchanged mid new → IsUnchanged old new
-unchanged_on old mid new was is = record { files = stays_on old.files mid.files new.files was.files is.files; changes = is.changes ∙ was.changes }
-
-pub quiet_on : (old mid new : FolderTold) → IsQuiet old mid → IsQuiet mid new → IsQuiet old new
-quiet_on old mid new was is = record { unchanged = unchanged_on old mid new was.unchanged is.unchanged; well = is.well ∙ was.well }
 
 -- ---- what is drawn
 

@@ -1,14 +1,13 @@
 -- What is found of the calls of a journal, one event after the other.
-use Rattle.std.proofs.Common.{◌≡◌, ℕ, ◌+◌, ◌<◌, Bool, true, false, cond, eqb, List, [], ◌∷◌, ◌++◌, length, take, drop, get_or, Option, Some, None, suc, refl, sym, ap, subst, ◌∙◌, drop-cons, add-one}
+use Rattle.std.proofs.Common.{◌≡◌, ℕ, ◌+◌, Bool, true, false, cond, eqb, List, [], ◌∷◌, ◌++◌, Option, Some, None, refl, sym, ap, subst, ◌∙◌}
 use Rattle.std.specs.Prelude.{◌&&◌, is_some}
 use Rattle.std.specs.HashMap as hash
 use Rattle.std.proofs.lemmas.Bool.{eqb-true}
-use Rattle.std.proofs.lemmas.List.{take_more}
 use Rattle.dl_bytes.specs.declared.moment.Moment.{Moment}
 use Rattle.dl_events.specs.declared.event.Event.{Event}
 use Rattle.dl_events.specs.declared.event.Event.TheVariants as event
 use Rattle.dl_model.specs.Frames.{FrameSource}
-use Rattle.dl_promises.specs.Fates.{logs, next_client, of_frame, of_queued}
+use Rattle.dl_promises.specs.Fates.{logs, of_frame, of_queued}
 use Rattle.dl_promises.specs.Fates as law
 use Rattle.dl_why.specs.Found.{TellsAll, or_later, said, same_call}
 use Rattle.dl_why.specs.declared.fate.CallName.{CallName}
@@ -105,11 +104,3 @@ module _ (source : FrameSource) (buffer client : ℕ) (target : CallName → law
         ∙ ap (λ (b : Bool). cond b here later) same
         ∙ sym (is ∙ ap (λ (x : CallName). of_frame source buffer client before (source.frame x.writer x.call) after) it)
         ∙ ap (λ (o : Option Fate). or_later o later) (sym (noted name ∙ ap (λ (b : Bool). cond b (Some fate) (hash.get same_call found name)) same))
-
--- ---- in a loop
-
-pub one_further : {A : Type 0} (xs : List A) (i : ℕ) (x : A) → i < length xs → x ≡ get_or xs i x → (take (i + 1) xs ≡ take i xs ++ x ∷ []) × (drop i xs ≡ x ∷ drop (i + 1) xs)
-one_further {A} xs i x within is = (
-  take_more xs i x within ∙ ap (λ (y : A). take i xs ++ y ∷ []) (sym is),
-  rw add-one (drop-cons xs i x within ∙ ap (λ (y : A). y ∷ drop (suc i) xs) (sym is)),
-)

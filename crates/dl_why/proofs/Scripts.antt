@@ -1,6 +1,6 @@
 -- A script that is too long.
-use Rattle.std.proofs.Common.{◌≡◌, ℕ, ◌<◌, List, length, Option, Some, None, ap}
-use Rattle.std.specs.Prelude.{IfSome, Err, if◌then◌else◌}
+use Rattle.std.proofs.Common.{◌≡◌, ℕ, ◌<◌, List, length, ap}
+use Rattle.std.specs.Prelude.{Err, if◌then◌else◌}
 use Rattle.std.proofs.lemmas.Bool.{lt-ltb}
 use Rattle.dl_script_fields.specs.declared.kind.ScriptKind.TheVariants.{Size}
 use Rattle.dl_script.specs.Earlier.{nothing}
@@ -14,7 +14,3 @@ use Rattle.dl_text.specs.Lines.{lines_of}
 refused : (text : List ℕ) → size_limit < length text → steps_of text ≡ Err (bad.Fault 0 Size)
 unfolding script_of
 refused text long = ap (λ b. if b then Err (bad.Fault 0 Size) else entries step_of nothing 1 (lines_of text)) (lt-ltb size_limit (length text) long)
-
-pub too_long : (left : Option (List ℕ)) → IfSome left (λ bytes. size_limit < length bytes) → IfSome left (λ script. steps_of script ≡ Err (bad.Fault 0 Size))
-too_long None long = tt
-too_long (Some bytes) long = refused bytes long

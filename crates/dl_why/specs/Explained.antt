@@ -14,7 +14,7 @@ use Rattle.dl_model.specs.TraceFiles.{StoredFile}
 use Rattle.dl_model.specs.WholeAccounts.{source_of_records}
 use Rattle.dl_picture.specs.Picture.{picture}
 use Rattle.dl_why.specs.Cases.{cases_of}
-use Rattle.dl_why.specs.Rows.{more_words, rows_of}
+use Rattle.dl_why.specs.Rows.{rows_of_run}
 
 -- the run stores nothing itself, so its report tells nothing of a trace
 abbrev pub no_trace : TraceState
@@ -23,8 +23,7 @@ no_trace = record { files = []; end = None }
 -- the rows of the calls of a run, where its script is this text and these trace files stood before, and the report of the run
 abbrev pub explained_of : Setting → List StoredFile → List ℕ → List Step → List Mark → List ℕ
 explained_of setting stood text steps done =
-    let source = source_of_records setting (records done) (specs_of done) in
-    rows_of source setting.buffer (records done) (journal done) (specs_of done) (more_words setting stood source (journal done) (claims_in text steps)) (calls_in text steps)
+    rows_of_run setting stood setting.buffer (records done) (journal done) (specs_of done) (claims_in text steps) (calls_in text steps)
     ++ report_of setting done no_trace false
 
 -- the same of the run of these steps, in which each Store and each Reset is served

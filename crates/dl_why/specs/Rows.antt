@@ -13,7 +13,7 @@ use Rattle.dl_model.specs.Frames.{FrameSource}
 use Rattle.dl_model.specs.Journal.{is_connect}
 use Rattle.dl_model.specs.Setting.{Setting}
 use Rattle.dl_model.specs.TraceFiles.{StoredFile, trace_name}
-use Rattle.dl_model.specs.WholeAccounts.{record_named}
+use Rattle.dl_model.specs.WholeAccounts.{record_named, source_of_records}
 use Rattle.dl_promises.specs.Fates.{Fate, Filtered, RingFull, InRing, InStream, InBacklog, BufferFull, ForOthers, what_became_of}
 use Rattle.dl_call_lines.specs.declared.call.CallAt.{CallAt}
 use Rattle.dl_call_lines.specs.declared.claims.ClaimAt.{ClaimAt}
@@ -153,3 +153,9 @@ record_at records before at = record_named records at.writer (1 + count_by (is_b
 abbrev pub rows_of : FrameSource → (buffer : ℕ) → List (List Record) → List Event → List AppSpec → (CallAt → Record → List ℕ) → List CallAt → List ℕ
 rows_of source buffer records events specs more calls =
     along (λ before at. option_map_or (row_of source buffer events specs more at) (record_at records before at) []) calls
+
+-- the rows of the calls of a run, by what it left: its records, its journal and its applications; where these trace files stood before
+abbrev pub rows_of_run : Setting → List StoredFile → (buffer : ℕ) → List (List Record) → List Event → List AppSpec → List ClaimAt → List CallAt → List ℕ
+rows_of_run setting stood buffer records events specs claims calls =
+    let source = source_of_records setting records specs in
+    rows_of source buffer records events specs (more_words setting stood source events claims) calls

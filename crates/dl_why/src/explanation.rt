@@ -16,7 +16,7 @@ ghost use Rattle.dl_picture.specs.Picture.{picture};
 ghost use Rattle.dl_why.specs.Cases.{cases_of};
 ghost use Rattle.dl_why.specs.Program.{drawing_of, text_of};
 ghost use Rattle.dl_core.specs.Settings.{setting_of};
-ghost use Rattle.dl_why.specs.Rows.{more_words, rows_of};
+ghost use Rattle.dl_why.specs.Rows.{rows_of_run};
 ghost use Rattle.dl_why.specs.Written.{IsRotating};
 
 use crate::cases::find_cases;
@@ -53,11 +53,10 @@ fn text_of_played(
     requires numbered { (number : ℕ) → AreNumbered (records_by number played.now.records) }
     requires clients { ComeAndGo played.now.events.events }
     ensures { (setting : Setting) (stood : List StoredFile) → setting.ecu ≡ ecu → IsRotating setting stood directory.now rotation
-        → let source = source_of_records setting played.now.records played.now.specs in IfOk result (λ text. text.items ≡
-        rows_of source buffer played.now.records played.now.events.events played.now.specs
-        (more_words setting stood source played.now.events.events (claims_in script.now.text.items script.now.steps))
+        → let p = played.now in IfOk result (λ text. text.items ≡
+        rows_of_run setting stood buffer p.records p.events.events p.specs (claims_in script.now.text.items script.now.steps)
         (calls_in script.now.text.items script.now.steps)
-        ++ report played.now.records played.now.events.events played.now.specs played.now.ends played.now.backlog None) }
+        ++ report p.records p.events.events p.specs p.ends p.backlog None) }
 {
     let calls = calls_in(alloc, &script.text, script.steps.all())?;
     let claims = claims_in(alloc, &script.text, script.steps.all())?;

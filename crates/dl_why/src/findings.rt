@@ -10,7 +10,7 @@ ghost use Rattle.dl_model.specs.TraceFiles.{StoredFile};
 ghost use Rattle.dl_model.specs.WholeAccounts.{records_by, source_of_records};
 ghost use Rattle.dl_left.specs.Clients.{ComeAndGo};
 ghost use Rattle.dl_left.specs.Losses.{told};
-ghost use Rattle.dl_why.specs.Rows.{more_words, rows_of, storage_words};
+ghost use Rattle.dl_why.specs.Rows.{rows_of_run, storage_words};
 ghost use Rattle.dl_why.specs.Written.{IsRotating, TellWhole, storage_by};
 
 use crate::claims::slots_claimed;
@@ -117,9 +117,8 @@ pub fn push_findings(
     requires numbered { (number : ℕ) → AreNumbered (records_by number sources.now.records.now) }
     requires clients { ComeAndGo events.now }
     ensures { (setting : Setting) (stood : List StoredFile) → setting.ecu ≡ sources.now.ecu → IsRotating setting stood directory.now rotation
-        → let source = source_of_records setting sources.now.records.now sources.now.specs.now in
-        OnOk result (text.new.items ≡ text.old.items
-        ++ rows_of source buffer sources.now.records.now events.now sources.now.specs.now (more_words setting stood source events.now claims.now) calls.now) }
+        → OnOk result (text.new.items ≡ text.old.items
+        ++ (let s = sources.now in rows_of_run setting stood buffer s.records.now events.now s.specs.now claims.now calls.now)) }
 {
     if told_losses(events)? >= 1 << 63 {
         return Err(OutOfMemory);

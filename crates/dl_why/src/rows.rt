@@ -365,8 +365,8 @@ pub fn push_rows(
     calls: &[CallAt],
 ) -> Result<(), OutOfMemory>
     requires { (number : ℕ) → AreNumbered (records_by number records.now) }
-    ensures { OnOk result (text.new.items ≡ text.old.items ++ rows_by records.now findings.now.specs.now findings.now.nobody findings.now.clients.items
-        (more_by findings.now.claims.now findings.now.taken.items findings.now.directory.now findings.now.stored) calls.now) }
+    ensures { OnOk result (text.new.items ≡ text.old.items ++ (let f = findings.now in rows_by records.now f.specs.now f.nobody f.clients.items
+        (more_by f.claims.now f.taken.items f.directory.now f.stored) calls.now)) }
 {
     let mut counts = HashMap::new(alloc);
     for at in calls {

@@ -4,10 +4,16 @@ use Rattle.std.specs.List.{position_or_len, All, AllByRecursion}
 use Rattle.std.specs.Str.{bytes_eq}
 use Rattle.dl_events.specs.declared.event.Event.TheVariants as event
 use Rattle.dl_bytes.specs.Claim.{Claimed}
+use Rattle.dl_bytes.specs.Context.{Context}
 use Rattle.dl_script_lines.specs.declared.line.AppLine.{AppLine}
+use Rattle.dl_script_lines.specs.declared.line.CallLine.{CallLine}
 use Rattle.dl_script_lines.specs.declared.line.ContextLine.{ContextLine}
-use Rattle.dl_model.specs.Marks.{Call, Mark, Noted, Clocked, LevelsWait, Fed, Heard, Answered, Pushed, apps, writers, contexts_of, number_of, calls_of, passed_of, to_push, to_count, records_of, claims_of, claims_on, announced_by, pushes, taken, pending, Injected, Handed}
-use Rattle.dl_model.specs.Steps.{Act}
+use Rattle.dl_model.specs.Marks.{Call, Mark, Noted, Clocked, LevelsWait, Fed, Heard, Answered, Pushed, apps, journal, writers, contexts_of, number_of, calls_of, passed_of, to_push, to_count, records_of, claims_of, claims_on, announced_by, pushes, taken, pending, Injected, Handed}
+use Rattle.dl_model.specs.Steps.{Act, load}
+use Rattle.dl_model.specs.declared.registry.Slot.{Slot}
+use Rattle.dl_model.specs.Journal.{slots_of}
+use Rattle.dl_model.specs.Registry.{slot_of}
+use Rattle.dl_model.specs.Setting.{Setting}
 use Rattle.dl_world_calls.specs.Queue.{waiting}
 use Rattle.dl_world_calls.specs.State.{App, Writer, Calls, Held, new_app, new_writer, held_at, as_held}
 
@@ -89,6 +95,12 @@ pub record IsAfter (done : List Mark) (calls : Calls) : Type 0 where
 -- The call is this act: whatever marks came before, it comes to the marks of the act after them.
 abbrev pub Does : Act → Calls → Calls → Type 0
 Does act old new = (done : List Mark) → IsAfter done old → IsAfter (done ++ act done) new
+
+-- The call of this line is loaded: where its slot holds what was seen, and its writer has no open call, the marks of its load come after those before.
+abbrev pub Loads : CallLine → Context → Slot → Calls → Calls → Type 0
+Loads line context seen old new =
+    (setting : Setting) (done : List Mark) → IsAfter done old → slots_of setting (journal done) (slot_of context.app context.place) ≡ seen
+    → to_push line.writer done ≡ None → to_count line.writer done ≡ None → IsAfter (done ++ load setting line done) new
 
 -- a mark that is no declaration, no step of a call, and nothing that the daemon takes of an application
 abbrev pub is_no_call : Mark → Bool

@@ -8,15 +8,12 @@ ghost use Rattle.dl_bytes.specs.Id.{zero_id};
 ghost use Rattle.dl_bytes.specs.declared.moment.Moment.{Moment};
 ghost use Rattle.dl_events.specs.declared.event.Event.TheVariants as event;
 ghost use Rattle.dl_events.specs.declared.record.Answer.TheVariants as answers;
-ghost use Rattle.dl_model.specs.Setting.{Setting};
-ghost use Rattle.dl_model.specs.Registry.{slot_of};
-ghost use Rattle.dl_model.specs.Journal.{slots_of};
-ghost use Rattle.dl_model.specs.Marks.{Mark, HasApp, HasContext, HasWriter, Noted, journal, to_push, to_count};
+ghost use Rattle.dl_model.specs.Marks.{Mark, HasApp, HasContext, HasWriter, Noted};
 ghost use Rattle.dl_model.specs.Marks as marks;
-ghost use Rattle.dl_model.specs.Steps.{just, load, push, count, finish, claim, announce, announce_all, is_held_back};
+ghost use Rattle.dl_model.specs.Steps.{just, push, count, finish, claim, announce, announce_all, is_held_back};
 ghost use Rattle.dl_world_calls.specs.Stages.{call_of, no_arguments, filled};
 ghost use Rattle.dl_world_calls.specs.State.{numbered, app_named, writer_of, owner_of, record_at, claim_at, named, next_held, next_item, next_claim, made_call, context_in, place_named, pusher, counter, announcer, unannounced_of};
-ghost use Rattle.dl_world_calls.specs.Follows.{no_app, IsAfter, Does};
+ghost use Rattle.dl_world_calls.specs.Follows.{no_app, IsAfter, Does, Loads};
 
 use crate::app::App;
 use crate::queue::{Entry, OwnPlace};
@@ -321,10 +318,7 @@ impl Calls {
     /// A writer that has no open call begins one: its load gives what its context's slot holds.
     pub fn load(&mut self, call: &CallLine, context: Ctx, seen: Slot) -> Result<(), OutOfMemory>
         requires { named self.old call.now ≡ Some context }
-        ensures { OnOk result ((setting : Setting) (done : List Mark) → IsAfter done self.old
-            → slots_of setting (journal done) (slot_of context.app context.place) ≡ seen
-            → to_push call.now.writer done ≡ None → to_count call.now.writer done ≡ None
-            → IsAfter (done ++ load setting call.now done) self.new) }
+        ensures { OnOk result (Loads call.now context seen self.old self.new) }
     {
         let writer = &mut self.writers[call.writer as usize - 1];
         let number = writer.recorded() as u64 + 1;

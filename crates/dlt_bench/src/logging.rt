@@ -8,8 +8,8 @@ use dl_events::{Answer, Record};
 use dl_injections::make_injections;
 use dl_levels::make_levels;
 use dl_losses::make_losses;
-use dl_ring::{RingTake, make_ring};
-use dl_writer::{Writer, WriterHandles};
+use dl_ring::{RingItem, RingTake, Taken, make_ring};
+use dl_writer::{ClaimRoom, Owner, Writer, WriterHandles};
 use std::alloc::Global;
 use std::sync::Wait;
 
@@ -52,13 +52,21 @@ fn writer(alloc: Global) -> Option<(Writer, RingTake)> {
     let Ok(()) = keeper.set(0, Level::from(Severity::Info)) else {
         return None;
     };
+    let Ok(waiting) = ClaimRoom::make(alloc) else {
+        return None;
+    };
+    let owner = Owner {
+        app: 0,
+        apid: Id::from_bytes(*b"LOG1"),
+        base: 1,
+    };
     let ends = WriterHandles {
         push: passes.split(1),
         reader: readers.split(),
         losses: losses.split(),
         injections: injections.split(),
     };
-    Some((Writer::of(0, 1, ends), ring))
+    Some((Writer::of(owner, 1, ends, waiting), ring))
 }
 
 /// The only context.
@@ -142,7 +150,9 @@ pub fn run_taken<R: Wait>(rt: &R, alloc: Global, count: u32) -> Option<Tally> {
             let _answer = writer.send(rt, &context, Severity::Info, at, &payload);
         }
         for _turn in 0..RING {
-            let item = ring.take(rt)?;
+            let RingItem::Log(item) = ring.take(rt)? else {
+                return None;
+            };
             tally.count(item.payload.bytes().len(), u64::from(item.payload.args()));
         }
     }
@@ -160,9 +170,9 @@ pub fn run_taken_into<R: Wait>(rt: &R, alloc: Global, count: u32) -> Option<Tall
             let _answer = writer.send(rt, &context, Severity::Info, at, &payload);
         }
         for _turn in 0..RING {
-            if !ring.take_into(rt, &mut item) {
+            let Taken::Call = ring.take_into(rt, &mut item) else {
                 return None;
-            }
+            };
             tally.count(item.payload.bytes().len(), u64::from(item.payload.args()));
         }
     }

@@ -118,7 +118,7 @@ where
 fn first_writer<L: Link>(players: &mut Players<L>) -> Option<Writer> {
     match players.books.take_first() {
         Some(book) => {
-            let (writer, _records) = book.into_parts();
+            let (writer, _records, _claims) = book.into_parts();
             Some(writer)
         }
         None => None,

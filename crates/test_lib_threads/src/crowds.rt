@@ -442,21 +442,31 @@ fn are_apart(outcome: Option<Outcome>) -> [bool; 3] {
         Some(outcome) => [
             outcome.claimed == Some(63),
             outcome.full == 65,
-            outcome.calls.calls == 2500,
+            outcome.calls.calls == 160,
         ],
         None => [false; 3],
     }
 }
 
-/// Eight threads claim sixteen contexts each of one application while two others log: no place is claimed twice, and the table is full
-/// once all are.
-#[test]
-fn no_place_twice(rt: HostRuntime) {
+/// Eight threads claim sixteen contexts each of one application while two others log, a hundred times, on a ring that holds all that
+/// they push: whether the places were given apart each time.
+fn are_apart_each_time<R: Threads + Wait + Sync>(rt: &R, alloc: Global) -> bool {
     let job = Job {
         claimers: 8,
         claims: 16,
-        calls: 250,
+        calls: 16,
     };
-    let outcome = run_crowd(&rt, rt.alloc(), 4096, 10, job, Meanwhile::Waits);
-    assert!(rt; are_apart(outcome) == [true; 3]);
+    for _run in 0..100 {
+        let outcome = run_crowd(rt, alloc, 256, 10, job, Meanwhile::Waits);
+        if are_apart(outcome) != [true; 3] {
+            return false;
+        }
+    }
+    true
+}
+
+/// Whatever the schedule: no place is claimed twice, and claims are refused only once all places are.
+#[test]
+fn no_place_twice(rt: HostRuntime) {
+    assert!(rt; are_apart_each_time(&rt, rt.alloc()));
 }

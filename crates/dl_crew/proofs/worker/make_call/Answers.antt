@@ -12,3 +12,4 @@ returns g c =
     is_made announced logged asked c.args.calls.now.ctx c.args.calls.now.severity c.now-at.result.ticks c.args.calls.now.payload c.in-Ok.field-0 c.in-Ok.ensures.whole c.in-Ok.ensures.kept
     (asks_one c.next_injection-injection.result logged asked e.taken e.none e.rest e.asked) first
     (is_announced first announced c.announce_waiting.ensures.whole (length announced.writer.waiting) c.announce_waiting.ensures.announced)
+    c.announce_waiting.ensures.announced

@@ -1,4 +1,4 @@
-use Rattle.std.proofs.Common.{◌+◌, arith}
+use Rattle.std.proofs.Common.{arith}
 use Rattle.dl_daemon.proofs.Counts.{is_behind, is_inside}
 use Rattle.dl_daemon.proofs.counting.open_channels.Goals as goal
 

@@ -23,8 +23,8 @@ round-requires g c =
     let conf = c.loop-round.renewal.conf in
     let so = renewed_so conf c.renew-begun.result c.loop-round.server.core c.renew-begun.new.server.core folder folder_now c.now-moment.result c.loop-round.renewal.tries c.renew-begun.new.self.tries
     c.renew-begun.ensures.renews in
-    let renewed = server_renewed conf c.renew-begun.result c.loop-round.server c.renew-begun.new.server folder folder_now c.renew-begun.ensures.rest so c.loop-round.invariant.server in
-    record { server = server_at c.renew-begun.new.server c.ask_again.new.server c.ask_again.ensures renewed }
+    let renewed = server_renewed g.N.L.Link.told conf c.renew-begun.result c.loop-round.server c.renew-begun.new.server folder folder_now c.renew-begun.ensures.rest so c.loop-round.invariant.server in
+    record { server = server_at g.N.L.Link.told c.renew-begun.new.server c.ask_again.new.server c.ask_again.ensures renewed }
 
 pub loop-round-preserved : goal.loop-round-preserved
 loop-round-preserved g c =
@@ -34,7 +34,7 @@ loop-round-preserved g c =
     let conf = c.loop-round.renewal.conf in
     let so = renewed_so conf c.renew-begun.result c.loop-round.server.core c.renew-begun.new.server.core folder folder_now c.now-moment.result c.loop-round.renewal.tries c.renew-begun.new.self.tries
     c.renew-begun.ensures.renews in
-    let renewed = server_renewed conf c.renew-begun.result c.loop-round.server c.renew-begun.new.server folder folder_now c.renew-begun.ensures.rest so c.loop-round.invariant.server in
+    let renewed = server_renewed g.N.L.Link.told conf c.renew-begun.result c.loop-round.server c.renew-begun.new.server folder folder_now c.renew-begun.ensures.rest so c.loop-round.invariant.server in
     let renews = subst (λ (k : Conf). Renews k c.now-moment.result c.renew-begun.result c.loop-round.renewal.tries c.renew-begun.new.self.tries c.loop-round.server.core c.renew-begun.new.server.core folder folder_now)
     c.loop-round.invariant.conf c.renew-begun.ensures.renews in record {
       rounds = one_round_more told c.args.renewal.now.conf c.args.renewal.now.tries c.loop-round.renewal.tries c.renew-begun.new.self.tries (g.N.Net.told c.args.net.now) (g.N.Net.told c.loop-round.net)

@@ -10,6 +10,6 @@ abbrev pub invariant-loop-round : goal.invariant-loop-round
 invariant-loop-round g l = record {
   rounds : SomeRounds g.N.L.Link.told l.fn.renewal.conf l.fn.renewal.tries l.renewal.tries (g.N.Net.told l.fn.net) (g.N.Net.told l.net) (g.N.Net.told l.fn.users) (g.N.Net.told l.users)
       (seen g.N.L.Link.told noted (g.F.Folder.told l.fn.folder) l.fn.server) (seen g.N.L.Link.told noted (g.F.Folder.told l.folder) l.server);
-  server : IsServer l.server;
+  server : IsServer g.N.L.Link.told l.server;
   conf : l.renewal.conf ≡ l.fn.renewal.conf;
 }

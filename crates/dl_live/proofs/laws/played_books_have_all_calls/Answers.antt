@@ -8,7 +8,7 @@ use Rattle.dl_live.proofs.laws.played_books_have_all_calls.Goals as goal
 
 pub returns-clause-played : goal.returns-clause-played
 returns-clause-played c = λ lines o books runnable opened played found.
-    all_books lines o opened.same_lines (writers lines) o.books books (c.opened_books_ask_for_all.ensures lines o runnable opened) opened.books.each (c.opened_books_can_be_played.ensures.whole lines o opened) played found
+    all_books lines o opened.same_lines opened.contexts (writers lines) o.books books (c.opened_books_ask_for_all.ensures lines o runnable opened) opened.books.each (c.opened_books_can_be_played.ensures.whole lines o opened) played found
 
 pub returns-clause-numbered : goal.returns-clause-numbered
 returns-clause-numbered c = λ lines o books opened played.

@@ -15,4 +15,4 @@ returns-in-Some-get_index_mut c =
     let same : c.in-Some-get_index_mut.app.now ≡ c.in-Some.field-0-1.now = cc value in
     changed_at (releveled_app (relevel_of c.args.levels.now)) c.args.apps.now.entries c.args.place (c.in-Some.apid.now, c.in-Some-get_index_mut.app.now) _
     (entry ∙ ap (λ (v : App). Some (c.in-Some.apid.now, v)) (sym same))
-    (sym c.relevel.ensures)
+    (ap (λ (a : App). (c.in-Some.apid.now, a)) (sym c.relevel.ensures))

@@ -10,11 +10,11 @@ use Rattle.dl_rounds.proofs.rounds.close_all.Given as goal
 -- who visits the rest, has visited all
 abbrev pub invariant-loop-client : goal.invariant-loop-client
 invariant-loop-client g l = let c = seen g.L.Link.told g.D.Post.told g.J.Journal.events g.F.Folder.told in record {
-  behind : (later : Bool) (new : Clients) → HaveVisited (Closed (TellOver g.L.Link.told)) l.last later (c l.links l.listeners l.core l.desk l.journal l.folder) new
-      → (moved : Bool) × HaveVisited (Closed (TellOver g.L.Link.told)) 0 moved (c l.fn.links l.fn.listeners l.fn.core l.fn.desk l.fn.journal l.fn.folder) new;
+  behind : (later : Bool) (new : Clients) → HaveVisited (Closed (TellOver g.L.Link.told)) l.last later (c l.links l.seats.listeners l.core l.desk l.journal l.folder) new
+      → (moved : Bool) × HaveVisited (Closed (TellOver g.L.Link.told)) 0 moved (c l.fn.links l.fn.seats.listeners l.fn.core l.fn.desk l.fn.journal l.fn.folder) new;
   gone : (number : ℕ) → number ≤ l.last → outbox_of l.core.hub number ≡ None;
   linked : AreLinked l.links l.core (g.J.Journal.spare l.journal);
-  heard : AreHeard l.listeners l.core (g.D.Post.told l.desk);
+  heard : AreHeard l.seats l.core (g.D.Post.told l.desk);
   room : KeepsRoom l.fn.core l.core (g.J.Journal.spare l.fn.journal) (g.J.Journal.spare l.journal);
   same : IsSameHub l.fn.core.hub l.core.hub;
   same_rest : g.D.Post.same_rest l.fn.desk l.desk;

@@ -59,7 +59,7 @@ loop-client-preserved g c =
           (visited_next g.L.Link.told (λ d. d) g.J.Journal.events (λ f. f) Pumped was.last client c.pump_to-moved.result later was.links c.of_mut.result.now now.link listeners listener listener was.core now.core
           desk desk was.journal now.journal folder folder new next c.of_mut.ensures.value ear (c.pump_to-moved.ensures.pumped desk folder listener) again));
       linked = linked_again client was.links _ was.core now.core _ _ so.linked but (set_length was.links.links (client - 1) now.link) refl settled c.pump_to-moved.ensures.spare;
-      heard = λ listeners desk heard. heard_still client listeners was.core now.core desk (so.heard listeners desk heard) but next.1 c.pump_to-moved.ensures.registry c.pump_to-moved.ensures.served;
+      heard = λ seated desk heard. heard_still client seated was.core now.core desk (so.heard seated desk heard) but next.1 c.pump_to-moved.ensures.registry c.pump_to-moved.ensures.served;
       room = omega (arith, so.room, c.pump_to-moved.ensures.spare);
       same = same_hub-later _ _ _ so.same but.same;
       many = set_length was.links.links (client - 1) now.link ∙ so.many;

@@ -4,6 +4,7 @@ use Rattle.dl_outside.specs.Told.{FolderTold}
 use Rattle.dl_desk.specs.Told.{PostTold}
 use Rattle.dl_hub.specs.State.{IsSameHub}
 use Rattle.dl_rounds.specs.declared.listener.Listener.{Listener}
+use Rattle.dl_rounds.specs.Seats.{Seated}
 use Rattle.dl_rounds.specs.Clients.{Clients, HaveVisited}
 use Rattle.dl_rounds.specs.Rounds.{seen}
 use Rattle.dl_rounds.specs.Ready.{AreHeard, AreLinked, KeepsRoom}
@@ -17,7 +18,7 @@ invariant-loop-client g l = let c = seen g.L.Link.told (λ d. d) g.J.Journal.eve
       → HaveVisited Pumped l.last later (c l.links listeners l.core desk l.journal folder) new
       → HaveVisited Pumped 0 (l.moved || later) (c l.fn.links listeners l.fn.core desk l.fn.journal folder) new;
   linked : AreLinked l.links l.core (g.J.Journal.spare l.journal);
-  heard : (listeners : List Listener) (desk : PostTold) → AreHeard listeners l.fn.core desk → AreHeard listeners l.core desk;
+  heard : (seated : Seated) (desk : PostTold) → AreHeard seated l.fn.core desk → AreHeard seated l.core desk;
   room : KeepsRoom l.fn.core l.core (g.J.Journal.spare l.fn.journal) (g.J.Journal.spare l.journal);
   same : IsSameHub l.fn.core.hub l.core.hub;
   many : length l.links.links ≡ length l.fn.links.links;

@@ -8,6 +8,6 @@ abbrev pub invariant-loop-round : goal.invariant-loop-round
 invariant-loop-round g l = record {
   rounds : AreRounds g.N.L.Link.told l._round (g.N.Net.told l.fn.net) (g.N.Net.told l.net) (g.N.Net.told l.fn.users) (g.N.Net.told l.users)
       (seen g.N.L.Link.told kept (g.F.Folder.told l.fn.folder) l.fn.server) (seen g.N.L.Link.told kept (g.F.Folder.told l.folder) l.server);
-  server : IsServer l.server;
+  server : IsServer g.N.L.Link.told l.server;
   limits : SameLimits l.fn.server l.server;
 }

@@ -1,17 +1,13 @@
-use Rattle.std.proofs.Common.{◌≡◌, List, length, map, refl, sym, ap, ◌∙◌, subst, arith}
+use Rattle.std.proofs.Common.{◌≡◌, length, map, refl, sym, ap, ◌∙◌, subst, arith}
 use Rattle.std.proofs.lemmas.List.{length-map}
-use Rattle.dl_turns.specs.Gone.{TellOver}
-use Rattle.dl_rounds.specs.Ready.{AreHeard}
-use Rattle.dl_rounds.specs.declared.listener.Listener.{Listener}
 use Rattle.dl_taking.specs.Draining.{closing_told}
 use Rattle.dl_taking.proofs.DrainedEvents.{all_drain}
 use Rattle.dl_lib.proofs.Resting.{drained_stays}
 use Rattle.dl_lib.specs.Settled.{account_of}
 use Rattle.dl_hub.specs.State.{Hub}
 use Rattle.dl_rounds.specs.Partings.{ShutsGone}
-use Rattle.dl_rounds.specs.Visits.{ClosesAll}
 use Rattle.dl_settling.specs.Ends.{ends_in}
-use Rattle.dl_settling.specs.State.{Stopping, clients_of}
+use Rattle.dl_settling.specs.State.{Stopping}
 use Rattle.dl_settling.proofs.Ready.{heard_still, linked_still}
 use Rattle.dl_settling.proofs.settling.settle.Goals as goal
 
@@ -26,8 +22,7 @@ pub close_all-requires-clause-heard : goal.close_all-requires-clause-heard
 close_all-requires-clause-heard g c =
     let now = c.drain_all.new in
     let drain = all_drain c.args.parts.closing.apps _ _ c.drain_all.ensures.drains in
-    heard_still drain.more c.deref_mut.result.now c.args.parts.core now.core (closing_told c.args.parts.closing) (closing_told now.closing)
-    (subst (λ (ls : List Listener). AreHeard ls c.args.parts.core (closing_told c.args.parts.closing)) (sym c.deref_mut.ensures.value) c.requires.heard) drain.clients
+    heard_still drain.more c.args.parts.seats c.args.parts.core now.core (closing_told c.args.parts.closing) (closing_told now.closing) c.requires.heard drain.clients
     c.drain_all.ensures.desk
 
 pub finish-account-requires : goal.finish-account-requires
@@ -45,16 +40,15 @@ returns-clause-settles g c =
     let parts = c.args.parts in
     let one = c.drain_all in
     let other = c.close_all in
-    let drained : Stopping g.row.L.Denot = record { core = one.new.core; closing = one.new.closing; journal = one.new.journal; links = parts.links; listeners = parts.listeners.items } in
-    let closed : Stopping g.row.L.Denot = record { core = other.new.core; closing = other.new.desk; journal = other.new.journal; links = other.new.links; listeners = other.new.listeners } in
+    let drained : Stopping g.row.L.Denot = record { core = one.new.core; closing = one.new.closing; journal = one.new.journal; links = parts.links; seated = parts.seats } in
+    let closed : Stopping g.row.L.Denot = record { core = other.new.core; closing = other.new.desk; journal = other.new.journal; links = other.new.links; seated = other.new.seats } in
     record {
       drained = drained;
       between = g.F.Folder.told one.new.folder;
-      drains = record { drains = one.ensures.drains; drained = one.ensures.drained; same = one.ensures.rest; links = refl; listeners = refl };
+      drains = record { drains = one.ensures.drains; drained = one.ensures.drained; same = one.ensures.rest; links = refl; seated = refl };
       closed = closed;
       closes = record {
-        closes = subst (λ (ls : List Listener). ClosesAll (TellOver g.L.Link.told) (clients_of g.L.Link.told (record drained { listeners = ls }) (g.F.Folder.told one.new.folder)) (clients_of g.L.Link.told closed (g.F.Folder.told other.new.folder)))
-            c.deref_mut.ensures.value other.ensures.visits;
+        closes = other.ensures.visits;
         none_open = other.ensures.none;
         same = other.ensures.rest;
         linked = other.ensures.linked;

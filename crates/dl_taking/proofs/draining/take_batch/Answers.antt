@@ -30,7 +30,7 @@ returns-clause-empty g c = λ short.
     let none = c.may_hold_more.ensures.none short in
     let within = taken_within new c.gathered.ensures c.args.closing.now c.args.app one.rest c.requires.app in
     let left = fewer_left c.args.closing.now.books new.books c.args.app c.batch_size-most.result got _ _ one.takes (ap (λ (s : ClosingState). s.books) one.rest) within in
-    by_count got c.batch_size-most.result new c.args.app (omega (arith, one.takes.few)) (one.empty none.0) (λ same.
+    by_count got c.batch_size-most.result new c.args.app (omega (arith, one.takes.few)) (one.given none.0) (λ same.
     none_left new c.args.app within
     (omega (arith, same, none.1, left.calls, c.requires.enough, c.batch_size-most.ensures.few, c.batch_size-most.ensures.all))
     (omega (arith, same, none.1, left.calls, left.claims, c.requires.enough, c.requires.claims, c.batch_size-most.ensures.few, c.batch_size-most.ensures.all)))

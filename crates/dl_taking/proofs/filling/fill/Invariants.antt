@@ -2,11 +2,11 @@ use Rattle.std.proofs.Common.{◌≡◌, ◌-◌, None, length}
 use Rattle.dl_taking.specs.Filling.{Fills}
 use Rattle.dl_taking.proofs.filling.fill.Given as goal
 
--- The calls that were taken so far are the batch. What is found empty later is found so since the first of them.
+-- The calls that were taken so far are the batch, and no take found the ring empty.
 abbrev pub invariant-loop-batch : goal.invariant-loop-batch
 invariant-loop-batch g l = record {
   fills : Fills l.fn.app l.fn.most None (g.D.Taker.took l.fn.desk) (g.D.Taker.took l.desk) l.batch;
-  later : (later : g.row.D.Denot) → g.D.Taker.found_empty l.desk later l.fn.app → g.D.Taker.found_empty l.fn.desk later l.fn.app;
+  empties : g.D.Taker.empties l.desk ≡ g.D.Taker.empties l.fn.desk;
   told : g.D.Post.told l.desk ≡ g.D.Post.told l.fn.desk;
   same : g.D.Taker.same_but_taken l.fn.desk l.desk;
 }

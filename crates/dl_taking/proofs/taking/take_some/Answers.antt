@@ -1,11 +1,11 @@
-use Rattle.std.proofs.Common.{List, length, map, refl, ◌∙◌, subst}
+use Rattle.std.proofs.Common.{ℕ, Bool, nat_lt, List, length, map, refl, ap, sym, ◌∙◌, subst}
 use Rattle.dl_bytes.specs.declared.item.Item.{Item}
 use Rattle.dl_ring.specs.declared.item.RingItem.TheVariants.{Log}
 use Rattle.dl_admission.specs.Admission.{Logs, Uses}
 use Rattle.dl_admission.specs.Part.{part}
 use Rattle.dl_taking.specs.Side.{Side}
-use Rattle.dl_taking.specs.Took.{with_items}
-use Rattle.dl_taking.proofs.Steps.{takes_calls, takes_claim, with_claim_behind}
+use Rattle.dl_taking.specs.Took.{empties_now, with_items}
+use Rattle.dl_taking.proofs.Steps.{none_claimed, none_unclaimed, takes_calls, takes_claim, with_claim_behind}
 use Rattle.dl_taking.proofs.taking.take_some.Goals as goal
 
 pub returns-in-Some-clause-takes : goal.returns-in-Some-clause-takes
@@ -41,3 +41,14 @@ returns-in-None-clause-takes g c =
     (subst (λ (xs : List Item). Logs c.now-moment.result xs was now) c.items.ensures c.log_items.ensures.logs)
     (subst (λ (xs : List Item). Uses (length xs) c.args.core.now.hub c.log_items.new.core.hub (g.J.Journal.noted c.args.journal.now) (g.J.Journal.noted c.log_items.new.journal)
     (g.J.Journal.spare c.args.journal.now) (g.J.Journal.spare c.log_items.new.journal)) c.items.ensures c.log_items.ensures.uses) c.fill-claim.ensures.told
+
+pub returns-in-Some-clause-empties : goal.returns-in-Some-clause-empties
+returns-in-Some-clause-empties g c =
+    g.met.D.Taker.rest_empties c.fill-claim.new.desk c.note_claim.new.desk c.note_claim.ensures.rest ∙ c.in-Some.ensures.empties
+    ∙ ap (λ (b : Bool). empties_now c.args.app b (g.D.Taker.empties c.args.desk.now)) (sym (none_claimed c.args.most c.len-calls.result))
+
+pub returns-in-None-clause-empties : goal.returns-in-None-clause-empties
+returns-in-None-clause-empties g c =
+    c.in-None.ensures.empties
+    ∙ ap (λ (b : Bool). empties_now c.args.app b (g.D.Taker.empties c.args.desk.now))
+    (ap (λ (n : ℕ). nat_lt n c.args.most) (sym c.len-calls.ensures) ∙ sym (none_unclaimed c.args.most c.len-calls.result))

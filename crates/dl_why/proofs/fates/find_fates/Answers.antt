@@ -12,7 +12,7 @@ use Rattle.dl_why.specs.Followed.{IsFollowing}
 use Rattle.dl_why.specs.Found.{TellsAll, or_later, same_call}
 use Rattle.dl_why.specs.declared.fate.CallName.{CallName}
 use Rattle.dl_why.specs.declared.fate.Fate.{Fate}
-use Rattle.dl_why.proofs.Finding.{one_further}
+use Rattle.dl_stored_in.proofs.Finding.{one_further}
 use Rattle.dl_why.proofs.fates.find_fates.Goals as goal
 
 pub loop-place-init : goal.loop-place-init

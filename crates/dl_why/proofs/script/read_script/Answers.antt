@@ -1,4 +1,4 @@
-use Rattle.dl_why.proofs.Scripts.{too_long}
+use Rattle.dl_replay.proofs.Begins.{too_long}
 use Rattle.dl_why.proofs.script.read_script.Goals as goal
 
 pub returns-in-Err-Long-clause-reads : goal.returns-in-Err-Long-clause-reads

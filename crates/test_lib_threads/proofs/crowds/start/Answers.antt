@@ -34,7 +34,7 @@ spawn_with-requires-clause-keeps g c κs within = λ r gave.
     let number : now.writer.push.number ≡ before.writer.push.number = search rules in
     let base : now.writer.base ≡ before.writer.base = search rules in
     let waiting : All (λ (b : BookState). IsMadeWith c.args.desk.now b.writer) (before ∷ into_iter_items c.next.new.self) =
-        subst (λ (l : List BookState). All (λ b. IsMadeWith c.args.desk.now b.writer) l) c.in-Some.ensures.steps.0 c.loop-book.invariant.made in (
+    subst (λ (l : List BookState). All (λ b. IsMadeWith c.args.desk.now b.writer) l) c.in-Some.ensures.steps.0 c.loop-book.invariant.made in (
       subst (λ (d : DeskState). IsMadeWith d now.writer) (sym c.of.ensures) (made c.args.desk.now (All-head (λ (b : BookState). IsMadeWith c.args.desk.now b.writer) before (into_iter_items c.next.new.self) waiting)),
       number ∙ ap (λ (b : BookState). b.writer.push.number) (sym c.of-before.ensures),
       base ∙ ap (λ (b : BookState). b.writer.base) (sym c.of-before.ensures),

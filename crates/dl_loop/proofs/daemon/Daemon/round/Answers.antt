@@ -2,6 +2,7 @@ use Rattle.std.proofs.Common.{refl}
 use Rattle.dl_loop.specs.Scene.{scene}
 use Rattle.dl_loop.proofs.GoneRounds.{goes_both}
 use Rattle.dl_loop.proofs.Parted.{goes_parts}
+use Rattle.dl_loop.proofs.TurnsHad.{round_had}
 use Rattle.dl_loop.proofs.daemon.Daemon.round.Goals as goal
 
 pub returns-clause-round : goal.returns-clause-round
@@ -11,6 +12,13 @@ returns-clause-round g c = record {
   parts = c.part.ensures;
   folder = refl;
 }
+
+pub returns-clause-turns : goal.returns-clause-turns
+returns-clause-turns g c =
+    let folder = g.F.Folder.told c.serve_all-answer.new.folder in
+    round_had g.L.Link.told c.serve_all-answer.result (g.N.Net.told c.args.net.now) (g.N.Net.told c.serve_all-answer.new.net)
+    (scene c.args.self.now (g.F.Folder.told c.args.folder.now)) (scene c.part.new.self folder)
+    (record { served = scene c.serve_all-answer.new.self folder; serves = c.serve_all-answer.ensures.serves; parts = c.part.ensures; folder = refl })
 
 pub returns-clause-goes : goal.returns-clause-goes
 returns-clause-goes g c =

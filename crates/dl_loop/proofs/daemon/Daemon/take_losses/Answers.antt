@@ -10,7 +10,7 @@ invariant_of-self g c =
     c.a_daemon_goes_on_taking.ensures.losses c.args.app c.report_losses-count.result (g.F.Folder.told c.args.folder.now) (g.F.Folder.told c.report_losses-count.new.folder) _ _ c.self.invariant
     (subst (λ (d : DaemonState g.row.L.Denot). d.greeted ≡ true) (sym c.self.view_is) c.requires.greeted)
     (subst (λ (d : DaemonState g.row.L.Denot). c.args.app < length d.desk.apps) (sym c.self.view_is) c.requires.app) free
-    (record { reports = made.reports; desk = made.rest; noted = one_noted c.self.inside.noted c.report_losses-count.result c.if-count-ne0.true; rest = refl })
+    (record { reports = made.reports; empties = made.empties; desk = made.rest; noted = one_noted c.self.inside.noted c.report_losses-count.result c.if-count-ne0.true; rest = refl })
 
 pub invariant_of-self-else-count-ne0 : goal.invariant_of-self-else-count-ne0
 invariant_of-self-else-count-ne0 g c =
@@ -19,4 +19,4 @@ invariant_of-self-else-count-ne0 g c =
     c.a_daemon_goes_on_taking.ensures.losses c.args.app c.report_losses-count.result (g.F.Folder.told c.args.folder.now) (g.F.Folder.told c.report_losses-count.new.folder) _ _ c.self.invariant
     (subst (λ (d : DaemonState g.row.L.Denot). d.greeted ≡ true) (sym c.self.view_is) c.requires.greeted)
     (subst (λ (d : DaemonState g.row.L.Denot). c.args.app < length d.desk.apps) (sym c.self.view_is) c.requires.app) free
-    (record { reports = made.reports; desk = made.rest; noted = none_noted c.self.inside.noted c.report_losses-count.result c.if-count-ne0.false; rest = refl })
+    (record { reports = made.reports; empties = made.empties; desk = made.rest; noted = none_noted c.self.inside.noted c.report_losses-count.result c.if-count-ne0.false; rest = refl })

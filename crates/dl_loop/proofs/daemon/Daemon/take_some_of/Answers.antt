@@ -1,6 +1,7 @@
 use Rattle.std.proofs.Common.{◌≡◌, ◌+◌, ◌<◌, ◌≤◌, true, length, refl, ap, subst, sym, ◌∙◌}
-use Rattle.dl_loop.specs.State.{DaemonState, claim_limit}
-use Rattle.dl_loop.proofs.SeenDaemons.{as_bit, none_came, some_seen}
+use Rattle.dl_loop.specs.Limits.{claim_limit}
+use Rattle.dl_loop.specs.State.{DaemonState}
+use Rattle.dl_loop.proofs.SeenDaemons.{as_bit, some_seen}
 use Rattle.dl_loop.proofs.daemon.Daemon.take_some_of.Goals as goal
 
 pub invariant_of-self : goal.invariant_of-self
@@ -15,7 +16,7 @@ invariant_of-self g c =
     (subst (λ (d : DaemonState g.row.L.Denot). d.claimed < claim_limit) is c.requires.claims)
     (record {
       takes = made.takes;
-      empty = λ found. (let none = none_came c.args.most got found in made.empty none.0 none.1);
+      empties = made.empties;
       settled = made.settled;
       desk_so = made.desk;
       desk = made.rest;
@@ -30,7 +31,7 @@ returns g c =
     let got = c.take_some-got.result in
     some_seen c.args.app c.args.most got (g.F.Folder.told c.args.folder.now) (g.F.Folder.told c.take_some-got.new.folder) _ _ _ c.self.view_is (record {
       takes = made.takes;
-      empty = λ found. (let none = none_came c.args.most got found in made.empty none.0 none.1);
+      empties = made.empties;
       settled = made.settled;
       desk_so = made.desk;
       desk = made.rest;

@@ -1,6 +1,6 @@
 use Rattle.std.proofs.Common.{◌≡◌, length, ap, ◌∙◌, arith}
-use Rattle.dl_model.specs.Registry.{App, releveled_app, releveled_context}
-use Rattle.dl_registry.specs.Change.{changed_entry, relevel_of}
+use Rattle.dl_model.specs.Registry.{App, releveled_context}
+use Rattle.dl_registry.specs.Change.{changed_entry, relevel_of, releveled_in}
 use Rattle.dl_registry.proofs.Entries.{changed_first-more, changed_first-all, length-changed_first}
 use Rattle.dl_registry.proofs.application.Application.relevel.Goals as goal
 
@@ -29,4 +29,4 @@ returns c =
     let same : (let a : App = record { channel = c.loop-place.self-inside.channel; number = c.loop-place.self-inside.number; pid = c.loop-place.self-inside.pid; text = c.loop-place.self-inside.text; contexts = c.loop-place.self-inside.contexts.entries } in a)
     ≡ record { channel = c.self.inside.channel; number = c.self.inside.number; pid = c.self.inside.pid; text = c.self.inside.text; contexts = _ } =
     λ i. record { channel = is.channel i; number = is.number i; pid = is.pid i; text = is.text i; contexts = all i } in
-    ap (λ (a : App). (c.args.apid, a)) same ∙ ap (λ (a : App). releveled_app (relevel_of c.args.levels.now) (c.args.apid, a)) c.self.view_is
+    same ∙ ap (releveled_in (relevel_of c.args.levels.now) c.args.apid) c.self.view_is

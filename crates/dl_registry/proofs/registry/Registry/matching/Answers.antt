@@ -1,28 +1,32 @@
-use Rattle.std.proofs.Common.{◌≡◌, ◌≤◌, ◌-◌, ◌^◌, min, length, map, ap, ◌∙◌, rules, arith}
-use Rattle.std.specs.List.{flat_map}
-use Rattle.std.specs.Map.Iter.{deref_pair}
-use Rattle.std.proofs.lemmas.Map.Iter.{iter_end}
-use Rattle.dl_model.specs.Registry.{Registry, matching, matching_in}
+use Rattle.std.proofs.Common.{◌≡◌, ◌≢◌, ◌≤◌, length, true≢false, sym, ap, ◌∙◌, rules, arith}
+use Rattle.dl_bytes.specs.Id.{zero_id}
+use Rattle.dl_model.specs.Registry.{Registry, matching}
 use Rattle.dl_registry.specs.Kept.{Kept}
 use Rattle.dl_registry.proofs.Informing.{matching_limit}
+use Rattle.dl_registry.proofs.Naming.{matching-absent, matching-named}
 use Rattle.dl_registry.proofs.registry.Registry.matching.Goals as goal
 
 pub overflow_cast-result : goal.overflow_cast-result
 overflow_cast-result c =
     let r : Registry = record { level = c.self.inside.level; stored = c.self.inside.stored; apps = c.self.inside.apps.entries } in
-    let all : map deref_pair c.loop-id.yielded ≡ c.self.inside.apps.entries = search (rules, iter_end) in
-    let count : c.loop-id.count ≡ min (2 ^ 64 - 1) (length (matching r c.args.apid c.args.ctid)) =
-    c.loop-id.invariant ∙ ap (λ es. min (2 ^ 64 - 1) (length (flat_map (matching_in c.args.apid c.args.ctid) es))) all in
+    let some : c.args.apid ≢ zero_id = λ zero. true≢false (sym (c.is_zero.ensures.1 zero) ∙ c.if-is_zero.false) in
+    let count : c.matching.result ≡ length (matching r c.args.apid c.args.ctid) =
+    c.matching.ensures ∙ ap length (sym (matching-named r c.args.apid c.args.ctid some c.named.ensures.apart c.in-Some.app.now (sym c.in-Some.ensures.value))) in
     let limit : length (matching r c.args.apid c.args.ctid) ≤ 1024 = matching_limit r c.args.apid c.args.ctid c.self.invariant.order in
-    let few : c.loop-id.count ≤ 1024 = omega arith in
+    let few : c.matching.result ≤ 1024 = omega (arith, count, limit) in
     search rules
 
-pub returns : goal.returns
-returns c =
+pub returns-in-Some : goal.returns-in-Some
+returns-in-Some c =
     let r : Registry = record { level = c.self.inside.level; stored = c.self.inside.stored; apps = c.self.inside.apps.entries } in
-    let all : map deref_pair c.loop-id.yielded ≡ c.self.inside.apps.entries = search (rules, iter_end) in
-    let count : c.loop-id.count ≡ min (2 ^ 64 - 1) (length (matching r c.args.apid c.args.ctid)) =
-    c.loop-id.invariant ∙ ap (λ es. min (2 ^ 64 - 1) (length (flat_map (matching_in c.args.apid c.args.ctid) es))) all in
-    let limit : length (matching r c.args.apid c.args.ctid) ≤ 1024 = matching_limit r c.args.apid c.args.ctid c.self.invariant.order in
-    let same : c.loop-id.count ≡ length (matching r c.args.apid c.args.ctid) = omega arith in
-    same ∙ ap (λ (k : Kept). length (matching k.registry c.args.apid c.args.ctid)) c.self.view_is
+    let some : c.args.apid ≢ zero_id = λ zero. true≢false (sym (c.is_zero.ensures.1 zero) ∙ c.if-is_zero.false) in
+    c.matching.ensures
+    ∙ (ap length (sym (matching-named r c.args.apid c.args.ctid some c.named.ensures.apart c.in-Some.app.now (sym c.in-Some.ensures.value)))
+    ∙ ap (λ (k : Kept). length (matching k.registry c.args.apid c.args.ctid)) c.self.view_is)
+
+pub returns-in-None : goal.returns-in-None
+returns-in-None c =
+    let r : Registry = record { level = c.self.inside.level; stored = c.self.inside.stored; apps = c.self.inside.apps.entries } in
+    let some : c.args.apid ≢ zero_id = λ zero. true≢false (sym (c.is_zero.ensures.1 zero) ∙ c.if-is_zero.false) in
+    ap length (sym (matching-absent r c.args.apid c.args.ctid some c.named.ensures.apart (sym c.in-None.ensures.value)))
+    ∙ ap (λ (k : Kept). length (matching k.registry c.args.apid c.args.ctid)) c.self.view_is

@@ -5,13 +5,13 @@ use Rattle.dl_server.proofs.RoomyServers.{roomy_server}
 use Rattle.dl_server.proofs.server.Server.accept_client.Goals as goal
 
 pub accept_connection-requires-clause-server : goal.accept_connection-requires-clause-server
-accept_connection-requires-clause-server g c = roomy_server _ _ c.make_room.ensures.rest c.requires.server
+accept_connection-requires-clause-server g c = roomy_server g.L.Link.told _ _ c.make_room.ensures.rest c.requires.server
 
 pub returns-then-not-make_room-clause-accepts : goal.returns-then-not-make_room-clause-accepts
 returns-then-not-make_room-clause-accepts g c = λ folder. inr (inl (c.if-self.false, refl, refl, c.if-not-make_room.ensures.makes folder))
 
 pub returns-then-not-make_room-clause-server : goal.returns-then-not-make_room-clause-server
-returns-then-not-make_room-clause-server g c = roomy_server _ _ c.make_room.ensures.rest c.requires.server
+returns-then-not-make_room-clause-server g c = roomy_server g.L.Link.told _ _ c.make_room.ensures.rest c.requires.server
 
 pub returns-clause-accepts : goal.returns-clause-accepts
 returns-clause-accepts g c = λ folder.

@@ -2,6 +2,7 @@ use Rattle.std.proofs.Common.{subst, arith}
 use Rattle.dl_registry.specs.Kept.{Kept}
 use Rattle.dl_turns.specs.Events.{IsDeskOf}
 use Rattle.dl_server.proofs.Servers.{connects_so, linked_so, links_of, room_so}
+use Rattle.dl_server.proofs.ShutServers.{accepted_shut}
 use Rattle.dl_server.proofs.server.Server.accept_connection.Goals as goal
 
 pub accept_one-came-requires-clause-linked : goal.accept_one-came-requires-clause-linked
@@ -22,4 +23,5 @@ returns-clause-server g c =
       given = so.given;
       enough = so.enough;
       few = omega (arith, so.few, stays.admitted);
+      shut = λ noted. accepted_shut g.L.Link.told c.accept_one-came.result _ _ _ _ _ _ _ _ _ _ made.arrives made.connects so.linked.many (so.shut noted);
     }

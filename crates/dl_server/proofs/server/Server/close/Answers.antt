@@ -6,7 +6,7 @@ use Rattle.dl_server.proofs.RoomyServers.{limits_both, roomy_limits, roomy_serve
 use Rattle.dl_server.proofs.server.Server.close.Goals as goal
 
 pub close_clients-requires-clause-server : goal.close_clients-requires-clause-server
-close_clients-requires-clause-server g c = roomy_server _ _ c.make_room.ensures.rest c.close_programs.ensures.server
+close_clients-requires-clause-server g c = roomy_server g.L.Link.told _ _ c.make_room.ensures.rest c.close_programs.ensures.server
 
 pub returns-in-Err-clause-half : goal.returns-in-Err-clause-half
 returns-in-Err-clause-half g c = inl c.in-Err.ensures.some

@@ -26,6 +26,7 @@ returns-clause-server g c =
       given = omega (arith, so.given, stays.opened, stays.in_all);
       enough = omega (arith, so.enough, stays.in_all);
       few = made.few;
+      shut = λ noted. absurd (cc noted);
     }
 
 pub returns-clause-limits : goal.returns-clause-limits

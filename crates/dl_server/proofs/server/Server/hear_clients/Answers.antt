@@ -5,7 +5,7 @@ use Rattle.dl_server.proofs.RoomyServers.{roomy_server}
 use Rattle.dl_server.proofs.server.Server.hear_clients.Goals as goal
 
 pub serve_clients-requires-clause-server : goal.serve_clients-requires-clause-server
-serve_clients-requires-clause-server g c = roomy_server _ _ c.make_room.ensures.rest c.requires.server
+serve_clients-requires-clause-server g c = roomy_server g.L.Link.told _ _ c.make_room.ensures.rest c.requires.server
 
 pub returns-then-is_nobody_open-clause-hears : goal.returns-then-is_nobody_open-clause-hears
 returns-then-is_nobody_open-clause-hears g c = inl (refl, c.is_nobody_open.ensures c.if-is_nobody_open.true, refl)
@@ -14,7 +14,7 @@ pub returns-then-not-make_room-clause-hears : goal.returns-then-not-make_room-cl
 returns-then-not-make_room-clause-hears g c = inr (inl (refl, c.if-not-make_room.ensures.makes (g.F.Folder.told c.args.folder.now)))
 
 pub returns-then-not-make_room-clause-server : goal.returns-then-not-make_room-clause-server
-returns-then-not-make_room-clause-server g c = roomy_server _ _ c.make_room.ensures.rest c.requires.server
+returns-then-not-make_room-clause-server g c = roomy_server g.L.Link.told _ _ c.make_room.ensures.rest c.requires.server
 
 pub returns-clause-hears : goal.returns-clause-hears
 returns-clause-hears g c =

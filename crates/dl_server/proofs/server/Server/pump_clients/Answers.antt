@@ -5,13 +5,13 @@ use Rattle.dl_server.proofs.RoomyServers.{roomy_server}
 use Rattle.dl_server.proofs.server.Server.pump_clients.Goals as goal
 
 pub send_clients-requires-clause-server : goal.send_clients-requires-clause-server
-send_clients-requires-clause-server g c = roomy_server _ _ c.make_room.ensures.rest c.requires.server
+send_clients-requires-clause-server g c = roomy_server g.L.Link.told _ _ c.make_room.ensures.rest c.requires.server
 
 pub returns-then-not-make_room-clause-pumps : goal.returns-then-not-make_room-clause-pumps
 returns-then-not-make_room-clause-pumps g c = λ folder. inl (refl, c.if-not-make_room.ensures.makes folder)
 
 pub returns-then-not-make_room-clause-server : goal.returns-then-not-make_room-clause-server
-returns-then-not-make_room-clause-server g c = roomy_server _ _ c.make_room.ensures.rest c.requires.server
+returns-then-not-make_room-clause-server g c = roomy_server g.L.Link.told _ _ c.make_room.ensures.rest c.requires.server
 
 pub returns-clause-pumps : goal.returns-clause-pumps
 returns-clause-pumps g c = λ folder.

@@ -1,8 +1,11 @@
 use Rattle.std.proofs.Common.{◌≡◌, length, refl, ap, subst, ◌∙◌, arith}
+use Rattle.dl_hub.specs.State.{Hub}
 use Rattle.dl_model.specs.Registry.{IsInOrder}
 use Rattle.dl_registry.specs.Kept.{Kept}
+use Rattle.dl_rounds.specs.Ready.{open_clients}
 use Rattle.dl_loop.proofs.SeenDaemons.{slice_back}
 use Rattle.dl_server.proofs.ReadyListeners.{listen_still}
+use Rattle.dl_server.proofs.ShutServers.{shut_noted}
 use Rattle.dl_server.proofs.VisitedScenes.{all_sent}
 use Rattle.dl_server.proofs.VisitedServers.{pumped_so, links_still}
 use Rattle.dl_server.proofs.server.Server.pump_programs.Goals as goal
@@ -31,6 +34,8 @@ returns-clause-server g c =
       given = omega (arith, so.given, stays.opened, stays.in_all);
       enough = omega (arith, so.enough, stays.in_all, made.ends, ap (λ (es : _). length es) c.deref_mut.ensures.value, ap (λ (es : _). length es) (slice_back c.args.self.now.ends.len c.args.self.now.ends.items n.ends long));
       few = made.few;
+      shut = shut_noted _ _ _ _ _ _ _ stays.clients (c.open_clients-open.ensures.count ∙ ap (λ (h : Hub). open_clients h) c.hub.ensures)
+          (c.open_clients.ensures.count ∙ ap (λ (h : Hub). open_clients h) c.hub-2.ensures) refl so.shut;
     }
 
 pub returns-clause-limits : goal.returns-clause-limits

@@ -5,6 +5,7 @@ use Rattle.dl_registry.specs.Kept.{Kept}
 use Rattle.dl_server.proofs.ReadyListeners.{heard_listen}
 use Rattle.dl_server.proofs.Servers.{linked_so, links_of}
 use Rattle.dl_server.proofs.PumpedServers.{pumped_admitted}
+use Rattle.dl_server.proofs.ShutServers.{pumped_shut}
 use Rattle.dl_server.proofs.server.Server.send_clients.Goals as goal
 
 pub pump_all-requires : goal.pump_all-requires
@@ -28,6 +29,7 @@ returns-clause-server g c =
       given = so.given;
       enough = so.enough;
       few = omega (arith, so.few, pumped_admitted c.pump_all.result _ _ _ n.core _ _ made.visits);
+      shut = λ noted. pumped_shut c.links_of_gone_clients_are_shut.ensures.pumped c.pump_all.result _ _ _ n.core _ _ made.visits (so.shut noted);
     }
 
 pub returns-clause-limits : goal.returns-clause-limits

@@ -38,4 +38,4 @@ returns-clause-serves g c =
 pub returns-clause-heard : goal.returns-clause-heard
 returns-clause-heard g c = λ desk desk_so.
     let heard = c.listen_all.ensures.heard in
-    record { enough = heard.enough; limits = heard.limits; counts = heard.counts; unused = heard.unused; desk_so = desk_so }
+    record { enough = heard.enough; limits = heard.limits; counts = heard.counts; unused = heard.unused; waiting = heard.waiting; desk_so = desk_so }

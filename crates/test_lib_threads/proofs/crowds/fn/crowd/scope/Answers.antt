@@ -9,7 +9,7 @@ pub join_all-books-requires : goal.join_all-books-requires
 join_all-books-requires g c =
     let children = c.in_ok-children.children in
     let count : length children.items ≡ vec_len c.captures.books =
-        sym (length-map children.items (λ h. h.promise.before.value.writer.push.number)) ∙ ap length (c.in_ok-children.ensures.numbered ∙ c.requires.numbered) ∙ length-range_with_len 1 (vec_len c.captures.books) in
+    sym (length-map children.items (λ h. h.promise.before.value.writer.push.number)) ∙ ap length (c.in_ok-children.ensures.numbered ∙ c.requires.numbered) ∙ length-range_with_len 1 (vec_len c.captures.books) in
     let long = children.ok.0 in
     let few = c.requires.few in
     record { few = omega (arith, count, long, few); bases = c.in_ok-children.ensures.bases }
