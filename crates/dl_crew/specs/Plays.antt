@@ -79,7 +79,7 @@ pub record Plays (contexts : List Context) (lines : List ScenarioLine) (old new 
 -- ---- one thing after the other
 
 -- One call. First the claims that wait are announced, once; where none waits, nothing is done there. Then the call is made under a
--- context, and its record kept. Then one injection is asked for.
+-- context, and its record kept, and one injection is asked for.
 pub record CallsOnce (call : CallContent) (old new : BookState) : Type 0 where
   pub ctx : Context
   pub severity : Severity

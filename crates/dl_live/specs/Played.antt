@@ -39,7 +39,7 @@ pub record HasClaimed (lines : List ScenarioLine) (b : BookState) : Type 0 where
 
 -- The records of a writer of this application are those of the calls that the lines ask of it, each call of each line, in their order, with
 -- the line's context, severity and arguments. Its claims are those of its lines. The book is what a new one of the writer became as the lines were
--- played one after the other: the claims that waited were announced as one joined them, before each call and at the end, once each, and after each
+-- played one after the other: the claims that waited were announced as one joined them, before each call and at the end, once each, and with each
 -- call the writer asked for an injection.
 pub record HasPlayedAll (lines : List ScenarioLine) (apid : List ℕ) (b : BookState) : Type 0 where
   pub calls : map (λ r. without_slot (content_of r)) b.records ≡ asked_of apid b.writer.push.number lines

@@ -80,7 +80,7 @@ module _ (setting : Setting) (app place : ℕ) where
   are_left before (mark ∷ marks) all = subst (λ b. MessagesLeaveFree setting app place b (journal marks)) (plain before mark refl) (are_left (before ++ mark ∷ []) marks all.1)
 
 -- Level events leave the registry
-abbrev is_other : Event → Bool
+abbrev pub is_other : Event → Bool
 is_other (event.Level slot level) = false
 is_other _ = true
 
@@ -88,10 +88,10 @@ level_leaves : (setting : Setting) (done : List Mark) (e : Event) → is_other e
 level_leaves setting done (event.Level slot level) level_is = refl
 level_leaves setting done _ other = absurd (true≢false other)
 
-abbrev Registered : Setting → Registry → List Mark → Type 0
+abbrev pub Registered : Setting → Registry → List Mark → Type 0
 Registered setting r done = registry_of setting (journal done) ≡ r
 
-registered_on : (setting : Setting) (r : Registry) (done : List Mark) (mark : Mark) → Registered setting r done → Without is_other done mark → Registered setting r (done ++ mark ∷ [])
+pub registered_on : (setting : Setting) (r : Registry) (done : List Mark) (mark : Mark) → Registered setting r done → Without is_other done mark → Registered setting r (done ++ mark ∷ [])
 registered_on setting r done (Noted e) is levels = registry_noted setting done e ∙ level_leaves setting done e levels ∙ is
 registered_on setting r done mark is levels = ap (registry_of setting) (plain done mark refl) ∙ is
 
@@ -133,11 +133,11 @@ module _ (setting : Setting) (app place : ℕ) where
 -- ---- places behind the contexts that lines declare
 
 -- a place is behind these of its application, which is one of those that lines declare once user messages come
-record IsBehind (known : Declared) (done : List Mark) (app place : ℕ) : Type 0 where
-  contexts : (apid : List ℕ) → slice_get known.apps app ≡ Some apid → length (contexts_of apid done) ≤ place
-  declared : known.user ≡ true → app < length known.apps
+pub record IsBehind (known : Declared) (done : List Mark) (app place : ℕ) : Type 0 where
+  pub contexts : (apid : List ℕ) → slice_get known.apps app ≡ Some apid → length (contexts_of apid done) ≤ place
+  pub declared : known.user ≡ true → app < length known.apps
 
-fewer_contexts : (apid : List ℕ) (done more : List Mark) → length (contexts_of apid done) ≤ length (contexts_of apid (done ++ more))
+pub fewer_contexts : (apid : List ℕ) (done more : List Mark) → length (contexts_of apid done) ≤ length (contexts_of apid (done ++ more))
 fewer_contexts apid done more =
     let p = λ (context : ContextLine). bytes_eq context.apid apid in
     omega (
@@ -174,7 +174,7 @@ behind_before known claim done more app place admitted is = record {
 }
 
 -- no claim of an application was taken
-none_taken : (app place : ℕ) (events : List Event) → AllByRecursion (λ (c : Claimed). c.app ≡ app → ⊥) (claims app events) → IsUntaken app place events
+pub none_taken : (app place : ℕ) (events : List Event) → AllByRecursion (λ (c : Claimed). c.app ≡ app → ⊥) (claims app events) → IsUntaken app place events
 none_taken app place [] none = tt
 none_taken app place (event.Claim c moment ∷ events) none = by (eqb c.app app) refl none (none_taken app place events) where
   by : (b : Bool) → eqb c.app app ≡ b → AllByRecursion (λ (d : Claimed). d.app ≡ app → ⊥) (cons_option (cond b (Some c) None) (claims app events)) →
@@ -186,19 +186,19 @@ none_taken app place (_ ∷ events) none = none_taken app place events none
 -- ---- lines
 
 -- After lines: user messages left each place free that is behind.
-record Comes (setting : Setting) (answers : List Done) (known : Declared) (done : List Mark) : Type 0 where
-  stand : Known setting known done
-  tracked : Tracked known done
-  lines : List Step
-  are : done ≡ after_lines setting answers lines
-  left : (app place : ℕ) → IsBehind known done app place → AreAll (Leaves setting app place) [] done
+pub record Comes (setting : Setting) (answers : List Done) (known : Declared) (done : List Mark) : Type 0 where
+  pub stand : Known setting known done
+  pub tracked : Tracked known done
+  pub lines : List Step
+  pub are : done ≡ after_lines setting answers lines
+  pub left : (app place : ℕ) → IsBehind known done app place → AreAll (Leaves setting app place) [] done
 
 module _ (setting : Setting) (answers : List Done) (known : Declared) (done : List Mark) (comes : Comes setting answers known done) where
   abbrev now : Registry
   now = registry_of setting (journal done)
 
   -- where lines claim no place of an application, the daemon took no claim of it
-  none_of : (app : ℕ) (apid : List ℕ) → slice_get known.apps app ≡ Some apid → list_any (is_on apid) known.places ≡ false → AllByRecursion (λ (c : Claimed). c.app ≡ app → ⊥) (claims app (journal done))
+  pub none_of : (app : ℕ) (apid : List ℕ) → slice_get known.apps app ≡ Some apid → list_any (is_on apid) known.places ≡ false → AllByRecursion (λ (c : Claimed). c.app ≡ app → ⊥) (claims app (journal done))
   none_of app apid there none =
       let P : Claimed → Type 0 = λ c. c.app ≡ app → ⊥ in
       noted_are setting done (subst (AreFounded setting []) (sym comes.are) (lines_founded setting answers comes.lines)) P
@@ -269,7 +269,7 @@ module _ (setting : Setting) (answers : List Done) (known : Declared) (done : Li
       )
   line_left step admitted bounds app place behind = quietly_left setting app place (act_of setting answers step) (quiet_line setting answers step tt) done
 
-  comes_on : (step : Step) → refusal known (step_claim step) ≡ None → IsInBounds step → Comes setting answers (noted known (step_claim step)) (done ++ act_of setting answers step done)
+  pub comes_on : (step : Step) → refusal known (step_claim step) ≡ None → IsInBounds step → Comes setting answers (noted known (step_claim step)) (done ++ act_of setting answers step done)
   comes_on step admitted bounds =
       let act = act_of setting answers in
       record {
@@ -281,7 +281,7 @@ module _ (setting : Setting) (answers : List Done) (known : Declared) (done : Li
             both (Leaves setting app place) [] done (act step done) (comes.left app place (behind_before known (step_claim step) done (act step done) app place admitted behind)) (line_left step admitted bounds app place behind);
       }
 
-lines_come : (setting : Setting) (answers : List Done) (steps : List Step) (known : Declared) (done : List Mark) → MayFollow step_claim known steps → AllByRecursion IsInBounds steps → Comes setting answers known done →
+pub lines_come : (setting : Setting) (answers : List Done) (steps : List Step) (known : Declared) (done : List Mark) → MayFollow step_claim known steps → AllByRecursion IsInBounds steps → Comes setting answers known done →
     (last : Declared) × Comes setting answers last (done ++ in_sequence (map (act_of setting answers) steps) done)
 lines_come setting answers [] known done follows bounds comes = (known, subst (Comes setting answers known) (sym (append-nil done)) comes)
 lines_come setting answers (step ∷ steps) known done follows bounds comes =
@@ -296,14 +296,16 @@ pub record IsLeft (setting : Setting) (done : List Mark) (c : Claimed) : Type 0 
   pub below : c.place < 64
   pub free : MessagesLeaveFree setting c.app c.place [] (journal done)
 
+pub begins : (setting : Setting) (answers : List Done) → Comes setting answers nothing []
+begins setting answers = record { stand = nobody_yet setting; tracked = none_tracked; lines = []; are = refl; left = λ app place behind. tt }
+
 pub claims_left : (setting : Setting) (answers : List Done) (steps : List Step) → IsPlayable steps → AllByRecursion (IsLeft setting (run setting answers steps)) (filter_map claim_of (run setting answers steps))
 claims_left setting answers steps playable =
     let acts = map (act_of setting answers) steps in
     let lines = in_sequence acts [] in
     let end = end_of setting lines in
     let whole = lines ++ end in
-    let begin : Comes setting answers nothing [] = record { stand = nobody_yet setting; tracked = none_tracked; lines = []; are = refl; left = λ app place behind. tt } in
-    let come = lines_come setting answers steps nothing [] playable.follows playable.bounds begin in
+    let come = lines_come setting answers steps nothing [] playable.follows playable.bounds (begins setting answers) in
     let last = come.0 in
     let quiet = quietly (end_of setting) (ends setting) in
     let stand : Known setting last whole = stand_still setting last.apps last.user last.apps (end_of setting) quiet lines come.1.stand in

@@ -1,8 +1,9 @@
 -- In a script that can be played the contexts that lines declare of an application come before its claims.
-use Rattle.std.proofs.Common.{◌≡◌, ℕ, ◌<◌, Bool, false, List, [], ◌∷◌, ◌++◌, map, Option, Some, None, refl, sym, ap, subst, ◌∙◌, append_assoc, arith, true≢false}
+use Rattle.std.proofs.Common.{◌≡◌, ℕ, ◌<◌, Bool, true, false, List, [], ◌∷◌, ◌++◌, map, Option, Some, None, refl, sym, ap, subst, ◌∙◌, append_assoc, arith, true≢false}
 use Rattle.std.specs.Prelude.{◌||◌, nat_le, not, negsuc}
 use Rattle.std.specs.List.{AllByRecursion, filter_map, list_any}
 use Rattle.std.specs.Option.{option_map_or}
+use Rattle.dl_lemmas.proofs.Bools.{not_false}
 use Rattle.dl_bytes.specs.Claim.{Claimed}
 use Rattle.dl_bytes.specs.declared.outcome.Done.{Done}
 use Rattle.dl_bytes.specs.declared.user.UserMsg.TheVariants as user
@@ -51,20 +52,24 @@ pub record LineGoes (setting : Setting) (answers : List Done) (known : Declared)
 one_left : (n : ℕ) → nat_le 64 n ≡ false → n < 64
 one_left n is = grind (arith, is)
 
--- What is asked of a context that a line declares: no user message came, no place of its application is claimed, and there is one for it.
-pub record IsAdmitted (known : Declared) (apid : List ℕ) : Type 0 where
+-- What is asked of a context that a line declares: no user message came, its application is declared, the context is not, no place of the
+-- application is claimed, and there is one for it.
+pub record IsAdmitted (known : Declared) (apid ctid : List ℕ) : Type 0 where
+  pub there : is_app known apid ≡ true
+  pub fresh : is_context known apid ctid ≡ false
   pub no_user : known.user ≡ false
   pub no_place : list_any (is_on apid) known.places ≡ false
   pub room : places_on known apid < 64
 
-pub context_admitted : (known : Declared) (apid ctid : List ℕ) → refusal known (claim_of_line.Context apid ctid) ≡ None → IsAdmitted known apid
+pub context_admitted : (known : Declared) (apid ctid : List ℕ) → refusal known (claim_of_line.Context apid ctid) ≡ None → IsAdmitted known apid ctid
 context_admitted known apid ctid admitted =
     let limit : List (Bool × ScriptKind) = (nat_le 64 (places_on known apid), Limit) ∷ [] in
     let twice : List (Bool × ScriptKind) = (is_context known apid ctid, Twice) ∷ limit in
     let first = not_first (known.user || is_claimed_on known apid) Order ((not (is_app known apid), Unknown) ∷ twice) admitted in
-    let fresh = not_first (is_context known apid ctid) Twice limit (not_first (not (is_app known apid)) Unknown twice first.1).1 in
+    let second = not_first (not (is_app known apid)) Unknown twice first.1 in
+    let fresh = not_first (is_context known apid ctid) Twice limit second.1 in
     let parts = neither known.user (is_claimed_on known apid) first.0 in
-    record { no_user = parts.0; no_place = parts.1; room = one_left (places_on known apid) (not_first (nat_le 64 (places_on known apid)) Limit [] fresh.1).0 }
+    record { there = not_false (is_app known apid) second.0; fresh = fresh.0; no_user = parts.0; no_place = parts.1; room = one_left (places_on known apid) (not_first (nat_le 64 (places_on known apid)) Limit [] fresh.1).0 }
 
 module _ (setting : Setting) (answers : List Done) (known : Declared) (done : List Mark) (is : Tracked known done) where
   -- a line that declares no context and no writer, and claims no place

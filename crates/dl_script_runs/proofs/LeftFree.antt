@@ -111,14 +111,14 @@ module _ (app place : ℕ) where
 
 -- ---- which application has a number
 
-found_number : (P : ℕ → Type 0) (test : List ℕ → Bool) (es : List (List ℕ × App)) (a : App) → lookup test es ≡ Some a → AllByRecursion P (numbers es) → P a.number
+pub found_number : (P : ℕ → Type 0) (test : List ℕ → Bool) (es : List (List ℕ × App)) (a : App) → lookup test es ≡ Some a → AllByRecursion P (numbers es) → P a.number
 found_number P test [] a found all = absurd cc
 found_number P test (e ∷ es) a found all = by (test e.0) found (λ later. found_number P test es a later all.1) where
   by : (b : Bool) → cond b (Some e.1) (lookup test es) ≡ Some a → (lookup test es ≡ Some a → P a.number) → P a.number
   by true here rest = let same : e.1 ≡ a = cc in subst (λ (x : App). P x.number) same all.0
   by false later rest = rest later
 
-same_bytes : (a b : List ℕ) → bytes_eq a b ≡ true → a ≡ b
+pub same_bytes : (a b : List ℕ) → bytes_eq a b ≡ true → a ≡ b
 same_bytes a b is = elim (bytes_tell a b) as (λ _. a ≡ b) [ inl same ↦ same.1 | inr other ↦ absurd cc ]
 
 -- one that has the number of one of the first is of this process

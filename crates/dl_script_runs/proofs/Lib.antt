@@ -5,3 +5,8 @@ pub mod PresentApps
 pub mod TrackedClaims
 pub mod ContextsFirst
 pub mod ClaimedFree
+pub mod FairMarks
+pub mod StayingContexts
+pub mod CallSlots
+pub mod DeclaredSlots
+pub mod HeldLevels

@@ -380,6 +380,17 @@ lines_go setting answers (step ∷ steps) known done follows bounds stand =
 pub nobody_yet : (setting : Setting) → Known setting nothing []
 nobody_yet setting = record { first = tt; alone = λ none. refl; declared = refl }
 
+-- after a run the applications stand that its lines declare
+pub run_known : (setting : Setting) (answers : List Done) (steps : List Step) → IsPlayable steps → (last : Declared) × Known setting last (run setting answers steps)
+run_known setting answers steps playable =
+    let acts = map (act_of setting answers) steps in
+    let go = lines_go setting answers steps nothing [] playable.follows playable.bounds (nobody_yet setting) in
+    let last = go.known in (
+      last,
+      subst (Known setting last) (sym (in_sequence-one acts (end_of setting) []))
+          (stand_still setting last.apps last.user last.apps (end_of setting) (quietly (end_of setting) (ends setting)) (in_sequence acts []) go.after),
+    )
+
 -- ---- each claim is of an application that was declared
 
 in_ring : (P : Claimed → Type 0) (all : List Pushed) (n : ℕ) (c : Claimed) → AllByRecursion P (filter_map claim_in all) → slice_get all n ≡ Some (OfClaim c) → P c

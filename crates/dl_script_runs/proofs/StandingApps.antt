@@ -335,7 +335,7 @@ found_at number (apid ∷ apids) (e ∷ es) first n from below = elim (cases_lt 
       )
 ]
 
-own_found : (number : ℕ) (apids : List (List ℕ)) (es : List (List ℕ × App)) (apid : List ℕ) → AreFirst number apids (map who es) → list_any (bytes_eq apid) apids ≡ true →
+pub own_found : (number : ℕ) (apids : List (List ℕ)) (es : List (List ℕ × App)) (apid : List ℕ) → AreFirst number apids (map who es) → list_any (bytes_eq apid) apids ≡ true →
     IsSome (option_and_then (of_channel 0) (lookup (bytes_eq apid) es))
 own_found number [] es apid first one = absurd (true≢false (sym one))
 own_found number (id ∷ apids) [] apid first one = absurd first

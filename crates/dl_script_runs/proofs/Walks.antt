@@ -1,10 +1,11 @@
 -- Acts that declare nothing, claim no place and tell no message: those of most lines, and that of the end of a run.
-use Rattle.std.proofs.Common.{◌≡◌, ℕ, ◌+◌, Bool, true, false, cond, ltb, List, [], ◌∷◌, ◌++◌, length, map, refl, sym, subst, append_assoc, append-nil}
-use Rattle.std.specs.Prelude.{◌&&◌, replicate, slice_get, take, count_by, is_some}
+use Rattle.std.proofs.Common.{◌≡◌, ℕ, ◌+◌, Bool, true, false, cond, ltb, List, [], ◌∷◌, ◌++◌, length, map, Option, Some, None, refl, sym, subst, append_assoc, append-nil}
+use Rattle.std.specs.Prelude.{◌%◌, ◌&&◌, replicate, slice_get, take, count_by, is_some}
 use Rattle.std.specs.List.{range_with_len}
 use Rattle.dl_bytes.specs.Claim.{Claimed}
 use Rattle.dl_bytes.specs.Level.{passes}
 use Rattle.dl_bytes.specs.Limits.{message_limit}
+use Rattle.dl_bytes.specs.Number.{◌>>=◌}
 use Rattle.dl_bytes.specs.declared.outcome.Done.{Done}
 use Rattle.dl_bytes.specs.declared.outcome.Done.TheVariants as did
 use Rattle.dl_message.specs.Cut.{rest_fault, rest_of}
@@ -17,8 +18,9 @@ use Rattle.dl_script_lines.specs.declared.step.LevelEvents.TheVariants as levels
 use Rattle.dl_script_lines.specs.declared.step.Step.{Step}
 use Rattle.dl_script_lines.specs.declared.step.Step.TheVariants as line
 use Rattle.dl_model.specs.declared.registry.LevelChange.{LevelChange}
-use Rattle.dl_model.specs.Journal.{is_connect, is_close, is_request_of, need_after}
-use Rattle.dl_model.specs.Marks.{Call, Mark, HasApp, HasContext, HasWriter, Filtered, Passed, Queued, Refused, Counted, HasClaim, Announced, HeldBack, Noted, Fed, Injected, Handed, Pushed, OfCall, OfClaim, app_of_writer, apps, fed, held_by, injections, is_full, is_later, journal, moment, number_of, pending, pushes, taken, to_announce, to_count, to_push, unannounced, writer_numbers}
+use Rattle.dl_model.specs.Journal.{is_connect, is_close, is_request_of, need_after, slots_of}
+use Rattle.dl_model.specs.Marks.{Call, Mark, HasApp, HasContext, HasWriter, Filtered, Passed, Queued, Refused, Counted, HasClaim, Announced, HeldBack, Noted, Fed, Injected, Handed, Pushed, OfCall, OfClaim, app_of_writer, apps, calls_of, fed, held_by, injections, is_full, is_later, journal, moment, named_place, number_of, passed_of, pending, pushes, taken, to_announce, to_count, to_push, unannounced, writer_numbers}
+use Rattle.dl_model.specs.Registry.{slot_of}
 use Rattle.dl_model.specs.Reply.{Need, Nothing, Folder, Queue}
 use Rattle.dl_model.specs.Setting.{Setting}
 use Rattle.dl_model.specs.Steps.{Act, act_of, announce, announce_all, ask, begin_call, changes, claim, close, close_malformed, connect, count, drain, end_of, event_taken, finish, for_some, in_sequence, is_open, just, level_noted, load, loaded, new_requests, note, note_levels, note_levels_now, on_app, push, receive, request_now, served, take_injection, take_log, take_losses, when, whole_call}
@@ -39,11 +41,22 @@ goes_none P done is = subst P (sym (append-nil done)) is
 
 -- ---- marks that declare nothing, claim no place, and note no event of a kind
 
+-- a call as its load names it: its writer's application, the number that this has, and the place that the call's id has there
+pub record IsNamed (done : List Mark) (c : Call) : Type 0 where
+  pub place : ℕ
+  pub owner : app_of_writer c.item.writer done ≡ Some c.item.apid
+  pub number : number_of c.item.apid done ≡ Some c.item.app
+  pub named : named_place c.item.writer c.item.apid c.item.ctid done ≡ Some place
+  pub slot : c.slot ≡ slot_of c.item.app place
+
+-- the loads among them are of calls that are named
 abbrev pub Without : (Event → Bool) → List Mark → Mark → Type 0
 Without kind done (HasApp app) = ⊥
 Without kind done (HasContext context) = ⊥
 Without kind done (HasWriter apid) = ⊥
 Without kind done (HasClaim claim) = ⊥
+Without kind done (Filtered call) = IsNamed done call
+Without kind done (Passed call) = IsNamed done call
 Without kind done (Noted e) = kind e ≡ false
 Without kind done _ = Unit {0}
 
@@ -73,11 +86,52 @@ module _ (setting : Setting) where
   pub no_message : (slot level : ℕ) → is_message (event.Level slot level) ≡ false
   no_message slot level = refl
 
+  named_so : (call : CallLine) (done : List Mark) (c : Call) → loaded setting call done ≡ Some c → IsNamed done c
+  named_so call done c e = by_writer (app_of_writer call.writer done) refl e where
+    made : List ℕ → ℕ → ℕ → Call
+    made apid app place =
+        let slot = slots_of setting (journal done) (slot_of app place) in
+        record {
+          item = record {
+            app = app;
+            writer = call.writer;
+            call = 1 + calls_of call.writer done;
+            apid = apid;
+            ctid = call.ctid;
+            severity = call.severity;
+            at = call.at;
+            mcnt = passed_of call.writer done % 256;
+            payload = call.payload;
+          };
+          slot = slot_of app place;
+          version = slot.version;
+          held = slot.level;
+        }
+
+    by_place : (apid : List ℕ) (app : ℕ) → app_of_writer call.writer done ≡ Some apid → number_of apid done ≡ Some app → (o : Option ℕ) → named_place call.writer apid call.ctid done ≡ o
+        → (o >>= λ place. Some (made apid app place)) ≡ Some c → IsNamed done c
+    by_place apid app owner number None is e = absurd cc
+    by_place apid app owner number (Some place) is e =
+        let same : made apid app place ≡ c = cc in
+        subst (IsNamed done) same (record { place = place; owner = owner; number = number; named = is; slot = refl })
+
+    by_app : (apid : List ℕ) → app_of_writer call.writer done ≡ Some apid → (o : Option ℕ) → number_of apid done ≡ o
+        → (o >>= λ app. named_place call.writer apid call.ctid done >>= λ place. Some (made apid app place)) ≡ Some c → IsNamed done c
+    by_app apid owner None is e = absurd cc
+    by_app apid owner (Some app) is e = by_place apid app owner is (named_place call.writer apid call.ctid done) refl e
+
+    by_writer : (o : Option (List ℕ)) → app_of_writer call.writer done ≡ o
+        → (o >>= λ apid. number_of apid done >>= λ app. named_place call.writer apid call.ctid done >>= λ place. Some (made apid app place)) ≡ Some c → IsNamed done c
+    by_writer None is e = absurd cc
+    by_writer (Some apid) is e = by_app apid is (number_of apid done) refl e
+
   pub loads : (call : CallLine) → Keeps Still (load setting call)
-  loads call done = asked_for Still (loaded setting call done) (λ c. just (cond (passes c.item.severity c.held) (Passed c) (Filtered c))) done (λ c e. (by c (passes c.item.severity c.held), tt)) where
-    by : (c : Call) (b : Bool) → Still done (cond b (Passed c) (Filtered c))
-    by c true = tt
-    by c false = tt
+  loads call done =
+      asked_for Still (loaded setting call done) (λ c. just (cond (passes c.item.severity c.held) (Passed c) (Filtered c))) done
+      (λ c e. (by c (named_so call done c e) (passes c.item.severity c.held), tt)) where
+        by : (c : Call) → IsNamed done c → (b : Bool) → Still done (cond b (Passed c) (Filtered c))
+        by c named true = named
+        by c named false = named
 
   pub pushed : (writer : ℕ) → Keeps Still (push writer)
   pushed writer done = asked_for Still (to_push writer done) (λ c. just (cond (is_full c.item.app done) (Refused c) (Queued c))) done (λ c e. (by c (is_full c.item.app done), tt)) where
