@@ -29,10 +29,11 @@ pub record HearsClients (moved : Bool) (old new : State) : Type 0 where
     channels = new.channels;
   }
 
--- none is open, or there was no room for their Closes; else they were
+-- none is open, or some are, and there was no room for their Closes; else they were
 abbrev pub HearsClientsIfMay : Bool → State → State → Type 0
 HearsClientsIfMay moved old new =
-    ((moved ≡ false) × IsNextOpen old.core.hub 0 None × (new ≡ old)) ⊎ ((moved ≡ false) × (new ≡ with_want old)) ⊎ HearsClients moved old new
+    ((moved ≡ false) × IsNextOpen old.core.hub 0 None × (new ≡ old)) ⊎ ((moved ≡ false) × (new ≡ with_want old) × (IsNextOpen old.core.hub 0 None → ⊥))
+    ⊎ HearsClients moved old new
 
 -- each channel was listened to
 pub record HearsPrograms (moment : Moment) (moved : Bool) (old new : State) : Type 0 where

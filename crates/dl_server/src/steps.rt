@@ -1,6 +1,6 @@
 //! What a round does with those who are there.
 
-ghost use Rattle.std.specs.Prelude.{◌≡◌, ◌≤◌, ◌+◌, length, true, None};
+ghost use Rattle.std.specs.Prelude.{◌≡◌, ◌≤◌, ◌+◌, length, true, false, None};
 ghost use Rattle.dl_hub.specs.State.{IsNextOpen};
 ghost use Rattle.dl_outside.specs.Told.{FolderTold};
 ghost use Rattle.dl_server.specs.Server.{IsServer, SameLimits};
@@ -20,7 +20,8 @@ use std::sync::Wait;
 
 /// Whether no client is open.
 fn is_nobody_open(core: &Core) -> bool
-    ensures { result ≡ true → IsNextOpen core.now.hub 0 None }
+    ensures none { result ≡ true → IsNextOpen core.now.hub 0 None }
+    ensures some { result ≡ false → IsNextOpen core.now.hub 0 None → ⊥ }
 {
     core.hub().next_open(0).is_none()
 }

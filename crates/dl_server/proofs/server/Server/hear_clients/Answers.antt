@@ -8,10 +8,10 @@ pub serve_clients-requires-clause-server : goal.serve_clients-requires-clause-se
 serve_clients-requires-clause-server g c = roomy_server g.L.Link.told _ _ c.make_room.ensures.rest c.requires.server
 
 pub returns-then-is_nobody_open-clause-hears : goal.returns-then-is_nobody_open-clause-hears
-returns-then-is_nobody_open-clause-hears g c = inl (refl, c.is_nobody_open.ensures c.if-is_nobody_open.true, refl)
+returns-then-is_nobody_open-clause-hears g c = inl (refl, c.is_nobody_open.ensures.none c.if-is_nobody_open.true, refl)
 
 pub returns-then-not-make_room-clause-hears : goal.returns-then-not-make_room-clause-hears
-returns-then-not-make_room-clause-hears g c = inr (inl (refl, c.if-not-make_room.ensures.makes (g.F.Folder.told c.args.folder.now)))
+returns-then-not-make_room-clause-hears g c = inr (inl (refl, c.if-not-make_room.ensures.makes (g.F.Folder.told c.args.folder.now), c.is_nobody_open.ensures.some c.if-is_nobody_open.false))
 
 pub returns-then-not-make_room-clause-server : goal.returns-then-not-make_room-clause-server
 returns-then-not-make_room-clause-server g c = roomy_server g.L.Link.told _ _ c.make_room.ensures.rest c.requires.server
