@@ -18,6 +18,7 @@ use Rattle.dl_registry.specs.Kept.{owed_change}
 use Rattle.dl_hub.specs.State.{Client, Hub, Waiting, IsNextOpen, changed, client_of, is_open, outbox_of, shut, takes}
 use Rattle.dl_hub.proofs.Keeping.{changed_at, count-set, found}
 use Rattle.dl_hub.proofs.Places.{map-same}
+use Rattle.dl_hub.proofs.Calls.{client_some}
 use Rattle.dl_core.specs.State.{Core}
 use Rattle.dl_core.specs.Admission.{AddsEach, more_noted}
 use Rattle.dl_core.specs.Closing.{MayEnd}
@@ -35,9 +36,6 @@ nobody : FolderTold
 nobody = record { files = None; faults = 0; changes = 0; appends = 0 }
 
 -- ---- one client
-
-pub client_at : (hub : Hub) (number : ℕ) (c : Client) → 0 < number → slice_get hub.clients (number - 1) ≡ Some c → client_of hub number ≡ Some c
-client_at hub number c some is = let not_zero : eqb number 0 ≡ false = grind (arith, nat_tests) in rw (not_zero, is) refl
 
 takes_with : (need : ℕ) (c : Client) (w : Waiting) → c.outbox ≡ Some w → takes need c ≡ nat_le (length w.bytes + need) w.capacity
 takes_with need c w is = ap (λ (o : Option Waiting). option_map_or (λ b. nat_le (length b.bytes + need) b.capacity) o true) is
@@ -58,7 +56,7 @@ slow_one need room client hub there has short =
     let at = found hub client there in
     let all = just_at room (outbox_of hub client) at.1 at.5 has in
     let slow : takes need at.0 ≡ false = takes_with need at.0 at.1 at.3 ∙ grind (arith, nat_tests, leb_tells, all, short) in
-    let is = client_at hub client at.0 at.4 at.2 in (
+    let is = client_some hub client at.0 at.4 at.2 in (
       rw (is, slow, room_with at.0 at.1 room at.3 all) refl,
       changed_at hub client (shut_if_slow need) at.0 at.4 at.2
           ∙ ap (λ (d : Client). record hub { clients = slice_set hub.clients (client - 1) d }) (rw slow refl)
@@ -71,7 +69,7 @@ fast_one need room client hub there has enough =
     let at = found hub client there in
     let all = just_at room (outbox_of hub client) at.1 at.5 has in
     let fast : takes need at.0 ≡ true = takes_with need at.0 at.1 at.3 ∙ grind (arith, nat_tests, leb_tells, all, enough) in
-    let is = client_at hub client at.0 at.4 at.2 in (
+    let is = client_some hub client at.0 at.4 at.2 in (
       rw (is, fast) refl,
       changed_at hub client (shut_if_slow need) at.0 at.4 at.2
           ∙ ap (λ (d : Client). record hub { clients = slice_set hub.clients (client - 1) d }) (rw fast refl)
@@ -198,7 +196,7 @@ get_same (v ∷ vs) (suc i) x y z is now = get_same vs i x y z is now
 gone_at : (need : ℕ) (hub : Hub) (place : ℕ) (c : Client) → slice_get hub.clients place ≡ Some c → outbox_of hub (place + 1) ≡ None → takes need c ≡ true
 gone_at need hub place c is none =
     let before : place + 1 - 1 ≡ place = omega arith in
-    let its : client_of hub (place + 1) ≡ Some c = client_at hub (place + 1) c (omega arith) (ap (slice_get hub.clients) before ∙ is) in
+    let its : client_of hub (place + 1) ≡ Some c = client_some hub (place + 1) c (omega arith) (ap (slice_get hub.clients) before ∙ is) in
     let gone : c.outbox ≡ None = ap (λ (o : Option Client). option_and_then (λ (d : Client). d.outbox) o) (sym its) ∙ none in
     ap (λ (o : Option Waiting). option_map_or (λ b. nat_le (length b.bytes + need) b.capacity) o true) gone
 
@@ -245,7 +243,7 @@ shut_at need next hub c some is taking =
     first_slow need 1 (next - 1) hub.clients c is taking
     ∙ ap (λ (n : ℕ). slow_among need n (c ∷ []) ++ slow_among need 1 (slice_set hub.clients (next - 1) (shut_if_slow need c))) number
     ∙ ap (λ (o : Option Client). option_map_or (λ d. slow_among need next (d ∷ [])) o [] ++ slow_among need 1 (slice_set hub.clients (next - 1) (shut_if_slow need c)))
-    (sym (client_at hub next c some is))
+    (sym (client_some hub next c some is))
 
 taking_on : (need next : ℕ) (clients : List Client) (c : Client) → slice_get clients (next - 1) ≡ Some c → AreTaking need (next - 1) clients
     → AreTaking need next (slice_set clients (next - 1) (shut_if_slow need c))
@@ -266,7 +264,7 @@ goes_on need after next old now new events events_now events_new noted noted_now
     let c : Client = at.0 in
     let slows : List Slow = slow_at need now.hub next in
     let shut_one : List Client = slice_set now.hub.clients (next - 1) (shut_if_slow need c) in
-    let its : client_of now.hub next ≡ Some c = client_at now.hub next c at.4 at.2 in
+    let its : client_of now.hub next ≡ Some c = client_some now.hub next c at.4 at.2 in
     let hub_is : new.hub ≡ record now.hub { clients = shut_one } =
     ap (λ (k : Core). k.hub) (one nobody).core ∙ changed_at now.hub next (shut_if_slow need) c at.4 at.2 in
     let clients_are : new.hub.clients ≡ shut_one = ap (λ (h : Hub). h.clients) hub_is in

@@ -1,17 +1,20 @@
 -- What is read as a field is in its form, and what is in its form is read.
 use Rattle.std.proofs.Common.{◌≡◌, ℕ, ℤ, ◌+◌, ◌-◌, ◌<◌, Bool, true, false, cond, List, [], ◌∷◌, ◌++◌, length, get_or, take, Option, Some, None, refl, sym, ap, subst, ◌∙◌, append_assoc, arith, inl, inr}
-use Rattle.std.specs.Prelude.{is_some, ◌⊎◌}
+use Rattle.std.specs.Prelude.{is_some}
 use Rattle.std.specs.Int.{cast_signed}
 use Rattle.std.specs.Io.BufRead.{strip_last, ends_with_byte}
 use Rattle.std.proofs.lemmas.Bool.Decides.{nat_tests}
 use Rattle.std.proofs.lemmas.List.{take_at, take_more, take_all, get_or_at, length-append}
+use Rattle.dl_lemmas.proofs.Options.{same_thing}
+use Rattle.dl_lemmas.proofs.Bools.{bool_cases}
 use Rattle.dl_bytes.specs.declared.cursor.Order.{Order}
 use Rattle.dl_bytes.specs.Number.{At, bytes_at, number_at, ◌>>=◌}
+use Rattle.dl_bytes.proofs.Number.{bind_some}
 use Rattle.dl_args.specs.declared.width.Width.{Width}
 use Rattle.dl_args.specs.Width.{byte_count, int_type}
 use Rattle.dl_args.specs.Fields.{text_at, name_at, names_at, named_bytes_at, unsigned_at, signed_at}
 use Rattle.dl_args.specs.ReadForm.{◌before◌, Is, IsNumber, IsSigned, IsText, IsLength, IsName, AreNames}
-use Rattle.dl_args.proofs.Parts.{bind_some, some_is, TakesForm, TakesForm-then, takes_none, at_front, bytes_take, bytes_again, number_takes, number_again}
+use Rattle.dl_args.proofs.Parts.{TakesForm, TakesForm-then, takes_none, at_front, bytes_take, bytes_again, number_takes, number_again}
 
 -- ---- texts
 
@@ -35,10 +38,6 @@ strip-closed text =
     let front : take (length (text ++ 0 ∷ []) - 1) (text ++ 0 ∷ []) ≡ text = take_at text (0 ∷ []) (length (text ++ 0 ∷ []) - 1) (omega (arith, len)) in
     ap (λ (b : Bool). cond b (take (length (text ++ 0 ∷ []) - 1) (text ++ 0 ∷ [])) (text ++ 0 ∷ [])) (ends_closed text) ∙ front
 
-bool_cases : (b : Bool) → (b ≡ true) ⊎ (b ≡ false)
-bool_cases true = inl refl
-bool_cases false = inr refl
-
 pub text_stripped : (field : List ℕ) → IsText (strip_last 0 field) field
 text_stripped field =
     elim (bool_cases (ends_with_byte 0 field)) [
@@ -59,7 +58,7 @@ unfolding text_at
 text_takes order n c x same e =
     let b = bind_some (bytes_at n c) (λ field. Some (strip_last 0 field.0, field.1)) x e in
     let t = bytes_take order n c b.0 same b.1 in
-    subst (λ (y : List ℕ × At). (field : List ℕ) × IsText y.0 field × TakesForm order (Is field) c y.1 × (length field ≡ n)) (some_is (strip_last 0 b.0.0, b.0.1) x b.2) (b.0.0, text_stripped b.0.0, t.0, t.1)
+    subst (λ (y : List ℕ × At). (field : List ℕ) × IsText y.0 field × TakesForm order (Is field) c y.1 × (length field ≡ n)) (same_thing (strip_last 0 b.0.0, b.0.1) x b.2) (b.0.0, text_stripped b.0.0, t.0, t.1)
 
 pub text_again : (order : Order) (text field rest : List ℕ) → IsText text field → text_at (length field) (at_front order (field ++ rest)) ≡ Some (text, at_front order rest)
 unfolding text_at
@@ -74,7 +73,7 @@ length_is order n field c d len t = record { front = t.front; form = record { le
 pub name_takes : (order : Order) (named : Bool) (c : At) (x : Option (List ℕ) × At) → c.order ≡ order → name_at named c ≡ Some x → TakesForm order (IsName order x.0) c x.1 × (is_some x.0 ≡ named)
 unfolding name_at
 name_takes order false c x same e =
-    subst (λ (y : Option (List ℕ) × At). TakesForm order (IsName order y.0) c y.1 × (is_some y.0 ≡ false)) (some_is (None, c) x e) (takes_none order c same, refl)
+    subst (λ (y : Option (List ℕ) × At). TakesForm order (IsName order y.0) c y.1 × (is_some y.0 ≡ false)) (same_thing (None, c) x e) (takes_none order c same, refl)
 name_takes order true c x same e =
     let a = bind_some (number_at 2 c) (λ len. text_at len.0 len.1 >>= λ name. Some (Some name.0, name.1)) x e in
     let b = bind_some (text_at a.0.0 a.0.1) (λ name. Some (Some name.0, name.1)) x a.2 in
@@ -83,7 +82,7 @@ name_takes order true c x same e =
     let len : TakesForm order (IsLength order t1.0) c a.0.1 = length_is order a.0.0 t1.0 c a.0.1 t1.3 t0 in
     let both = TakesForm-then order c a.0.1 b.0.1 len t1.2 in
     let named : TakesForm order (IsName order (Some b.0.0)) c b.0.1 = record { front = both.front; form = (t1.0, t1.1, both.form); parts = both.parts; same = both.same } in
-    subst (λ (y : Option (List ℕ) × At). TakesForm order (IsName order y.0) c y.1 × (is_some y.0 ≡ true)) (some_is (Some b.0.0, b.0.1) x b.2) (named, refl)
+    subst (λ (y : Option (List ℕ) × At). TakesForm order (IsName order y.0) c y.1 × (is_some y.0 ≡ true)) (same_thing (Some b.0.0, b.0.1) x b.2) (named, refl)
 
 pub name_again : (order : Order) (name : Option (List ℕ)) (front rest : List ℕ) → IsName order name front → name_at (is_some name) (at_front order (front ++ rest)) ≡ Some (name, at_front order rest)
 unfolding name_at
@@ -102,7 +101,7 @@ names_joined order name unit field other c l m a b name_is unit_is t0 t1 t2 t3 =
 pub names_take : (order : Order) (named : Bool) (c : At) (x : (Option (List ℕ) × Option (List ℕ)) × At) → c.order ≡ order → names_at named c ≡ Some x → TakesForm order (AreNames order x.0.0 x.0.1) c x.1 × (is_some x.0.0 ≡ named)
 unfolding names_at
 names_take order false c x same e =
-    subst (λ (y : (Option (List ℕ) × Option (List ℕ)) × At). TakesForm order (AreNames order y.0.0 y.0.1) c y.1 × (is_some y.0.0 ≡ false)) (some_is ((None, None), c) x e) (takes_none order c same, refl)
+    subst (λ (y : (Option (List ℕ) × Option (List ℕ)) × At). TakesForm order (AreNames order y.0.0 y.0.1) c y.1 × (is_some y.0.0 ≡ false)) (same_thing ((None, None), c) x e) (takes_none order c same, refl)
 names_take order true c x same e =
     let l = bind_some (number_at 2 c) (λ name_len. number_at 2 name_len.1 >>= λ unit_len. text_at name_len.0 unit_len.1 >>= λ name. text_at unit_len.0 name.1 >>= λ unit. Some ((Some name.0, Some unit.0), unit.1)) x e in
     let m = bind_some (number_at 2 l.0.1) (λ unit_len. text_at l.0.0 unit_len.1 >>= λ name. text_at unit_len.0 name.1 >>= λ unit. Some ((Some name.0, Some unit.0), unit.1)) x l.2 in
@@ -115,7 +114,7 @@ names_take order true c x same e =
     let name_len : TakesForm order (IsLength order t2.0) c l.0.1 = length_is order l.0.0 t2.0 c l.0.1 t2.3 t0 in
     let unit_len : TakesForm order (IsLength order t3.0) l.0.1 m.0.1 = length_is order m.0.0 t3.0 l.0.1 m.0.1 t3.3 t1 in
     let named = names_joined order a.0.0 b.0.0 t2.0 t3.0 c l.0.1 m.0.1 a.0.1 b.0.1 t2.1 t3.1 name_len unit_len t2.2 t3.2 in
-    subst (λ (y : (Option (List ℕ) × Option (List ℕ)) × At). TakesForm order (AreNames order y.0.0 y.0.1) c y.1 × (is_some y.0.0 ≡ true)) (some_is ((Some a.0.0, Some b.0.0), b.0.1) x b.2) (named, refl)
+    subst (λ (y : (Option (List ℕ) × Option (List ℕ)) × At). TakesForm order (AreNames order y.0.0 y.0.1) c y.1 × (is_some y.0.0 ≡ true)) (same_thing ((Some a.0.0, Some b.0.0), b.0.1) x b.2) (named, refl)
 
 pub names_again : (order : Order) (name unit : Option (List ℕ)) (front rest : List ℕ) → AreNames order name unit front → names_at (is_some name) (at_front order (front ++ rest)) ≡ Some ((name, unit), at_front order rest)
 unfolding names_at
@@ -146,7 +145,7 @@ named_bytes_take order named c x same e =
     let t2 = bytes_take order l.0.0 a.0.1 b.0 t1.0.same b.1 in
     let len : TakesForm order (IsLength order b.0.0) c l.0.1 = length_is order l.0.0 b.0.0 c l.0.1 t2.1 t0 in
     let all = TakesForm-then order c l.0.1 b.0.1 len (TakesForm-then order l.0.1 a.0.1 b.0.1 t1.0 t2.0) in
-    subst (λ (y : (Option (List ℕ) × List ℕ) × At). TakesForm order (IsLength order y.0.1 before IsName order y.0.0 before Is y.0.1) c y.1 × (is_some y.0.0 ≡ named)) (some_is ((a.0.0, b.0.0), b.0.1) x b.2) (all, t1.1)
+    subst (λ (y : (Option (List ℕ) × List ℕ) × At). TakesForm order (IsLength order y.0.1 before IsName order y.0.0 before Is y.0.1) c y.1 × (is_some y.0.0 ≡ named)) (same_thing ((a.0.0, b.0.0), b.0.1) x b.2) (all, t1.1)
 
 pub named_bytes_again : (order : Order) (name : Option (List ℕ)) (bytes front rest : List ℕ) → (IsLength order bytes before IsName order name before Is bytes) front → named_bytes_at (is_some name) (at_front order (front ++ rest)) ≡ Some ((name, bytes), at_front order rest)
 unfolding named_bytes_at
@@ -173,7 +172,7 @@ signed_takes order width c x same e =
     let a = bind_some (number_at (byte_count width) c) (λ n. Some (cast_signed (int_type width) n.0, n.1)) x e in
     let t = number_takes order (byte_count width) c a.0 same a.1 in
     let made : TakesForm order (IsSigned order width (cast_signed (int_type width) a.0.0)) c a.0.1 = record { front = t.front; form = record { bits = a.0.0; number = t.form; value = refl }; parts = t.parts; same = t.same } in
-    subst (λ (y : ℤ × At). TakesForm order (IsSigned order width y.0) c y.1) (some_is (cast_signed (int_type width) a.0.0, a.0.1) x a.2) made
+    subst (λ (y : ℤ × At). TakesForm order (IsSigned order width y.0) c y.1) (same_thing (cast_signed (int_type width) a.0.0, a.0.1) x a.2) made
 
 pub signed_again : (order : Order) (width : Width) (z : ℤ) (front rest : List ℕ) → IsSigned order width z front → signed_at width (at_front order (front ++ rest)) ≡ Some (z, at_front order rest)
 unfolding signed_at

@@ -1,16 +1,18 @@
 -- Where bytes are missing, more of them make an argument.
-use Rattle.std.proofs.Common.{◌≡◌, ℕ, ◌-◌, ◌<◌, ◌≤◌, Bool, true, false, cond, ltb, List, [], ◌++◌, length, take, drop, replicate, Option, Some, None, refl, ap, append_assoc, arith, inl, inr}
+use Rattle.std.proofs.Common.{◌≡◌, ℕ, ◌-◌, ◌<◌, ◌≤◌, Bool, true, false, cond, ltb, List, [], ◌++◌, length, take, drop, Option, Some, None, refl, ap, append_assoc, arith, inl, inr}
 use Rattle.std.specs.Prelude.{◌⊎◌}
 use Rattle.std.specs.Int.{cast_signed}
 use Rattle.std.specs.Io.BufRead.{strip_last}
 use Rattle.std.proofs.lemmas.Bool.{cases_lt, ltb-false, le-ltb}
-use Rattle.std.proofs.lemmas.List.{length-append, length-drop, length-replicate, take-append-le, drop-append-le, get_or-replicate, get_or_past, get_or_append_left, get_or-append_right, nil_from_length}
+use Rattle.std.proofs.lemmas.List.{length-append, length-drop, length-replicate, take-append-le, drop-append-le, nil_from_length}
+use Rattle.dl_lemmas.proofs.Options.{guard_some, same_thing}
 use Rattle.dl_bytes.specs.Bytes.{IsBytes}
 use Rattle.dl_bytes.specs.Number.{At, bytes_at, number_at, number_of, ◌>>=◌}
+use Rattle.dl_bytes.proofs.Bytes.{IsBytes-append, IsBytes-zeros, zeros}
 use Rattle.dl_args.specs.declared.width.Width.{Width}
 use Rattle.dl_args.specs.Width.{byte_count, int_type}
 use Rattle.dl_args.specs.Fields.{text_at, name_at, names_at, named_bytes_at, unsigned_at, signed_at}
-use Rattle.dl_args.proofs.Parts.{some_is, guard_some, number_of-append}
+use Rattle.dl_args.proofs.Parts.{number_of-append}
 
 -- the same place, with more bytes at the end
 abbrev pub onto : At → List ℕ → At
@@ -18,23 +20,6 @@ onto c more = record { rest = c.rest ++ more; order = c.order }
 
 pub onto_twice : (c : At) (a b : List ℕ) → onto (onto c a) b ≡ onto c (a ++ b)
 onto_twice c a b = ap (λ (r : List ℕ). record { rest = r; order = c.order }) (append_assoc c.rest a b)
-
-pub IsBytes-append : (a b : List ℕ) → IsBytes a → IsBytes b → IsBytes (a ++ b)
-IsBytes-append a b small_a small_b i =
-    elim (cases_lt i (length a)) [
-      | inl lt ↦ rw (get_or_append_left a b 0 i lt) (small_a i)
-      | inr le ↦ rw (get_or-append_right a b (length a) i 0 refl le) (small_b (i - length a))
-    ]
-
-abbrev zeros : ℕ → List ℕ
-zeros n = replicate n 0
-
-IsBytes-zeros : (n : ℕ) → IsBytes (zeros n)
-IsBytes-zeros n i =
-    elim (cases_lt i n) [
-      | inl lt ↦ rw (get_or-replicate {A = ℕ} n i 0 0 lt) (omega arith)
-      | inr le ↦ rw (get_or_past (zeros n) i 0 (omega (arith, length-replicate {A = ℕ} n 0))) (omega arith)
-    ]
 
 -- the bytes that a read lacks, so that it takes all that is there
 pub record Grown {A : Type 0} (read : At → Option (A × At)) (c : At) : Type 0 where
@@ -117,8 +102,8 @@ number_grows n = record {
 
 pub value_grows : {A : Type 0} (a : A) → Grows (λ (c : At). Some (a, c))
 value_grows {A = A} a = record {
-  stays = λ c x more e. ap (λ (y : A × At). Some (y.0, onto y.1 more)) (some_is (a, c) x e);
-  shrinks = λ c x e. let same = ap (λ (y : A × At). length y.1.rest) (some_is (a, c) x e) in omega (arith, same);
+  stays = λ c x more e. ap (λ (y : A × At). Some (y.0, onto y.1 more)) (same_thing (a, c) x e);
+  shrinks = λ c x e. let same = ap (λ (y : A × At). length y.1.rest) (same_thing (a, c) x e) in omega (arith, same);
   grows = λ c e. absurd cc;
 }
 

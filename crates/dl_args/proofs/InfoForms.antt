@@ -1,12 +1,14 @@
 -- A type info says a kind exactly where its bits are those of the kind.
 use Rattle.std.proofs.Common.{◌≡◌, ℕ, ◌+◌, ◌*◌, ◌/◌, ◌%◌, ◌^◌, ◌<◌, Bool, true, false, cond, eqb, leb, lit<, Option, Some, None, refl, sym, subst, ◌∙◌, arith, inl, inr}
-use Rattle.std.specs.Prelude.{bit_and, option_map, ◌⊎◌}
+use Rattle.std.specs.Prelude.{bit_and, option_map}
 use Rattle.std.specs.Int.{from_bool}
 use Rattle.std.proofs.lemmas.Bool.{eqb-true, eqb-false, leb-true, le-leb}
 use Rattle.std.proofs.lemmas.Option.{cond_some}
 use Rattle.std.proofs.lemmas.Bool.Decides.{nat_tests}
 use Rattle.std.proofs.lemmas.Nat.{and_mask, and_block, shr_split, mod_below, pow_pos}
 use Rattle.std.proofs.lemmas.Nat.Bits.{and_high, and_pow}
+use Rattle.dl_lemmas.proofs.Options.{mapped_some, same_thing}
+use Rattle.dl_lemmas.proofs.Bools.{bool_cases, chosen}
 use Rattle.dl_args.specs.declared.type_info.Kind.{Kind}
 use Rattle.dl_args.specs.declared.type_info.Kind.TheVariants as kind
 use Rattle.dl_args.specs.declared.width.Width.{Width}
@@ -14,7 +16,6 @@ use Rattle.dl_args.specs.declared.width.Width.TheVariants.{W8, W16, W32, W64, W1
 use Rattle.dl_args.specs.Width.{tyle_of, width_of}
 use Rattle.dl_args.specs.TypeInfo.{tyle, coding, has_name, kind_bits, text_kind, kind_of}
 use Rattle.dl_args.specs.ReadForm.{kind_bit, Allows, Says}
-use Rattle.dl_args.proofs.Parts.{some_is}
 
 -- a mask, above and below a place
 and_parts : (k n m : ℕ) → bit_and n m ≡ bit_and (n / 2 ^ k) (m / 2 ^ k) * 2 ^ k + bit_and (n % 2 ^ k) (m % 2 ^ k)
@@ -86,10 +87,6 @@ byte_small : (b : Bool) → from_bool b < 2
 byte_small false = lit< tt
 byte_small true = lit< tt
 
-bool_cases : (b : Bool) → (b ≡ true) ⊎ (b ≡ false)
-bool_cases true = inl refl
-bool_cases false = inr refl
-
 name_byte : (info : ℕ) → from_bool (has_name info) ≡ info / 0x800 % 2
 name_byte info =
     elim (bool_cases (eqb (bit_and info 0x800) 0)) [
@@ -102,14 +99,6 @@ name_again info false e = rw e refl
 name_again info true e = rw e refl
 
 -- ---- kinds
-
-chosen : {A : Type 0} (b : Bool) (x y z : A) → cond b x y ≡ z → ((b ≡ true) × (x ≡ z)) ⊎ ((b ≡ false) × (y ≡ z))
-chosen true x y z e = inl (refl, e)
-chosen false x y z e = inr (refl, e)
-
-mapped_some : {A B : Type 0} (f : A → B) (o : Option A) (y : B) → option_map f o ≡ Some y → (x : A) × (o ≡ Some x) × (f x ≡ y)
-mapped_some f (Some x) y e = (x, refl, cc)
-mapped_some f None y e = absurd cc
 
 says : (kind : Kind) (info : ℕ) → info < 2 ^ 32 → kind_bits info ≡ kind_bit kind → Allows kind (info % 16) (info / 0x8000 % 8) → Says kind (has_name info) info
 says kind info small bits allowed = record {
@@ -142,7 +131,7 @@ text_says info k small e =
     elim (chosen (eqb (kind_bits info) 0x200) (text_kind (coding info)) (if_raw info) (Some k) e) [
       | inl (b, h) ↦
           elim (chosen (eqb (coding info) 0) (Some (kind.Text false)) (cond (eqb (coding info) 0x8000) (Some (kind.Text true)) None) (Some k) h) [
-            | inl (ascii, h2) ↦ subst (λ (x : Kind). Says x (has_name info) info) (some_is (kind.Text false) k h2) (says (kind.Text false) info small (eqb-true _ _ b) (omega arith, omega (arith, coding_is info, eqb-true _ _ ascii)))
+            | inl (ascii, h2) ↦ subst (λ (x : Kind). Says x (has_name info) info) (same_thing (kind.Text false) k h2) (says (kind.Text false) info small (eqb-true _ _ b) (omega arith, omega (arith, coding_is info, eqb-true _ _ ascii)))
             | inr (other, h2) ↦
                 let g = cond_some (eqb (coding info) 0x8000) (kind.Text true) k h2 in
                 subst (λ (x : Kind). Says x (has_name info) info) g.1 (says (kind.Text true) info small (eqb-true _ _ b) (omega arith, omega (arith, coding_is info, eqb-true _ _ g.0)))

@@ -10,6 +10,7 @@ use Rattle.dl_bytes.specs.Bytes.{IsBytes}
 use Rattle.dl_bytes.specs.declared.cursor.Order.{Order}
 use Rattle.dl_bytes.specs.declared.cursor.Order.TheVariants.{Little, Big}
 use Rattle.dl_bytes.specs.Number.{At, number_at}
+use Rattle.dl_bytes.proofs.Bytes.{IsBytes-append}
 use Rattle.dl_args.specs.declared.arg.Arg.{Arg}
 use Rattle.dl_args.specs.declared.arg.Arg.TheVariants as arg
 use Rattle.dl_args.specs.declared.arg.ArgFault.{ArgFault}
@@ -26,7 +27,7 @@ use Rattle.dl_args.proofs.Parts.{TakesForm, TakesForm-then, at_front, number_tak
 use Rattle.dl_args.proofs.FieldForms.{name_takes}
 use Rattle.dl_args.proofs.InfoForms.{kind_says, kind_again}
 use Rattle.dl_args.proofs.ArgForms.{arg_takes, arg_again, named_as}
-use Rattle.dl_args.proofs.Growth.{onto, onto_twice, Grows, IsBytes-append, number_grows, name_grows, names_grow, named_bytes_grow, unsigned_grows, signed_grows}
+use Rattle.dl_args.proofs.Growth.{onto, onto_twice, Grows, number_grows, name_grows, names_grow, named_bytes_grow, unsigned_grows, signed_grows}
 
 -- ---- where a step failed
 

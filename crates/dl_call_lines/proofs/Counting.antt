@@ -1,12 +1,12 @@
 -- The line that counts a writer's open call, where its ring refuses it.
 use Rattle.std.proofs.Common.{◌≡◌, ℕ, ◌+◌, ◌<◌, Bool, true, false, cond, eqb, List, [], ◌∷◌, ◌++◌, Option, Some, None, refl, sym, ap, subst, ◌∙◌, append_assoc, arith, inl, inr}
-use Rattle.std.proofs.lemmas.Bool.Decides.{nat_tests}
 use Rattle.std.specs.Prelude.{count_by, find, ◌||◌, ◌⊎◌}
 use Rattle.std.specs.List.{list_any}
 use Rattle.std.specs.Option.{option_and_then, option_map_or}
-use Rattle.std.proofs.lemmas.Bool.{eq-eqb}
+use Rattle.std.proofs.lemmas.Bool.{eq-eqb, eqb-true}
 use Rattle.std.proofs.lemmas.List.{append-nil}
 use Rattle.std.proofs.lemmas.List.Folds.{list_any-append}
+use Rattle.std.proofs.Math.Bool.{or-true}
 use Rattle.dl_bytes.specs.declared.outcome.Done.{Done}
 use Rattle.dl_script_lines.specs.declared.line.CallLine.{CallLine}
 use Rattle.dl_script_lines.specs.declared.line.ClaimLine.{ClaimLine}
@@ -17,7 +17,7 @@ use Rattle.dl_model.specs.Setting.{Setting}
 use Rattle.dl_model.specs.Marks.{Call, Mark, Counted, Passed, Queued, Refused, app_of_writer, is_counted_of, is_full, is_step_of, number_of, passed, pending, refused, to_count, to_push}
 use Rattle.dl_model.specs.Steps.{Act, act_of, announce, announce_all, begin_call, claim, count, finish, for_some, in_sequence, just, load, on_app, push, take_log, whole_call}
 use Rattle.dl_laws.proofs.Lists.{last_that-one}
-use Rattle.dl_laws.proofs.Founded.{last_step, passed_is, refused_is}
+use Rattle.dl_laws.proofs.Founded.{last_step, passed_is, refused_is, step_one}
 use Rattle.dl_promises.proofs.Relations.{AreAll, holds_on, second_part}
 use Rattle.dl_call_lines.specs.Lines.{StepAt}
 use Rattle.dl_call_lines.specs.Noted.{has_counted, is_counted_by, is_refused, is_refused_next, lost_behind_count, next_lost}
@@ -43,13 +43,9 @@ and_more mark xs ys has = record {
   there = ap (λ (l : List Mark). l ++ ys) has.there ∙ append_assoc has.before (mark ∷ has.after) ys;
 }
 
-or_true : (b : Bool) → (b || true) ≡ true
-or_true true = refl
-or_true false = refl
-
 is_there : (test : Mark → Bool) (mark : Mark) (marks : List Mark) → test mark ≡ true → Has mark marks → list_any test marks ≡ true
 is_there test mark marks is has =
-    ap (list_any test) has.there ∙ list_any-append test has.before (mark ∷ has.after) ∙ ap (λ (b : Bool). list_any test has.before || (b || list_any test has.after)) is ∙ or_true (list_any test has.before)
+    ap (list_any test) has.there ∙ list_any-append test has.before (mark ∷ has.after) ∙ ap (λ (b : Bool). list_any test has.before || (b || list_any test has.after)) is ∙ or-true (list_any test has.before)
 
 -- a call that is counted is pending
 counted_pending : (c : Call) (done marks : List Mark) → Has (Counted c) marks → AreAll (NoLoss c.item.app) done marks → 0 < pending c.item.app (done ++ marks)
@@ -84,9 +80,6 @@ last_still writer done o marks is all =
     holds_on (NoStep writer) (λ (d : List Mark). last_that (is_step_of writer) d ≡ o)
     (λ d mark before none. last_that-one (is_step_of writer) d mark ∙ ap (λ (b : Bool). cond b (Some mark) (last_that (is_step_of writer) d)) none ∙ before) done marks is all
 
-step_one : (writer : ℕ) (done : List Mark) (mark : Mark) → is_step_of writer mark ≡ true → last_that (is_step_of writer) (done ++ mark ∷ []) ≡ Some mark
-step_one writer done mark is = last_that-one (is_step_of writer) done mark ∙ ap (λ (b : Bool). cond b (Some mark) (last_that (is_step_of writer) done)) is
-
 -- ---- a call that was refused
 
 last_refused : (writer : ℕ) (done : List Mark) (c : Call) → to_count writer done ≡ Some c → last_that (is_step_of writer) done ≡ Some (Refused c)
@@ -105,9 +98,6 @@ finish_is : (writer : ℕ) (done : List Mark) (c : Call) → to_count writer don
 finish_is writer done c opened =
     ap (λ (l : List Mark). l ++ (count writer (done ++ l) ++ [])) (nothing_to_push writer done c opened)
     ∙ ap (λ (d : List Mark). count writer d ++ []) (append-nil done) ∙ ap (λ (l : List Mark). l ++ []) (count_is writer done c opened)
-
-same_writer : (a b : ℕ) → eqb a b ≡ true → a ≡ b
-same_writer a b is = grind (arith, nat_tests, is)
 
 -- what a push makes of a call
 pushed : Call → List Mark → Mark
@@ -199,7 +189,7 @@ module _ (setting : Setting) (answers : List Done) (writer : ℕ) (apid : List �
 
   is_finished : (other : ℕ) (done : List Mark) (c : Call) → eqb other writer ≡ true → to_count writer done ≡ Some c → Has (Counted c) (finish other done)
   is_finished other done c same opened =
-      first (Counted c) (finish other done) [] (finish_is other done c (subst (λ (w : ℕ). to_count w done ≡ Some c) (sym (same_writer other writer same)) opened))
+      first (Counted c) (finish other done) [] (finish_is other done c (subst (λ (w : ℕ). to_count w done ≡ Some c) (sym (eqb-true other writer same)) opened))
 
   refused_line : (step : Step) (done : List Mark) (c : Call) → to_count writer done ≡ Some c → Counts (finishes writer step || counts writer step) c step done
   refused_line (line.Load call) done c opened = by_test (eqb call.writer writer) refl where
@@ -229,12 +219,12 @@ module _ (setting : Setting) (answers : List Done) (writer : ℕ) (apid : List �
   refused_line (line.Count other) done c opened = by_test (eqb other writer) refl where
     by_test : (b : Bool) → eqb other writer ≡ b → Counts b c (line.Count other) done
     by_test true same =
-        inl (refl, first (Counted c) (count other done) [] (count_is other done c (subst (λ (w : ℕ). to_count w done ≡ Some c) (sym (same_writer other writer same)) opened)), tt)
+        inl (refl, first (Counted c) (count other done) [] (count_is other done c (subst (λ (w : ℕ). to_count w done ≡ Some c) (sym (eqb-true other writer same)) opened)), tt)
     by_test false apart = inr (refl, line_still writer setting answers (line.Count other) apart done)
   refused_line (line.Push other) done c opened = inr (refl, by_test (eqb other writer) refl) where
     by_test : (b : Bool) → eqb other writer ≡ b → AreAll (NoStep writer) done (push other done)
     by_test true same =
-        subst (AreAll (NoStep writer) done) (sym (nothing_to_push other done c (subst (λ (w : ℕ). to_count w done ≡ Some c) (sym (same_writer other writer same)) opened))) tt
+        subst (AreAll (NoStep writer) done) (sym (nothing_to_push other done c (subst (λ (w : ℕ). to_count w done ≡ Some c) (sym (eqb-true other writer same)) opened))) tt
     by_test false apart = line_still writer setting answers (line.Push other) apart done
   refused_line step done c opened = inr (refl, line_still writer setting answers step tt done)
 
@@ -270,7 +260,7 @@ module _ (setting : Setting) (answers : List Done) (writer : ℕ) (apid : List �
       ⊎ ((begun ≡ false) × (((test ≡ true) × (act_of setting answers step done ≡ pushed c done ∷ [])) ⊎ ((test ≡ false) × AreAll (NoStep writer) done (act_of setting answers step done))))
 
   opened_by : (other : ℕ) (done : List Mark) (c : Call) → eqb other writer ≡ true → to_push writer done ≡ Some c → to_push other done ≡ Some c
-  opened_by other done c same opened = subst (λ (w : ℕ). to_push w done ≡ Some c) (sym (same_writer other writer same)) opened
+  opened_by other done c same opened = subst (λ (w : ℕ). to_push w done ≡ Some c) (sym (eqb-true other writer same)) opened
 
   finish_starts : (other : ℕ) (done : List Mark) (c : Call) → to_push other done ≡ Some c → Starts (pushed c done) (finish other done)
   finish_starts other done c opened = record { after = count other (done ++ pushed c done ∷ []) ++ []; there = finish_pushes other done c opened }
@@ -352,7 +342,7 @@ module _ (setting : Setting) (answers : List Done) (writer : ℕ) (apid : List �
 
     by_test : (b : Bool) → eqb other writer ≡ b → AreAll (NoStep writer) done (count other done)
     by_test true same =
-        subst (AreAll (NoStep writer) done) (sym (ap (λ (o : Option Call). for_some o (λ d. just (Counted d)) done) (ap (λ (w : ℕ). to_count w done) (same_writer other writer same) ∙ nothing))) tt
+        subst (AreAll (NoStep writer) done) (sym (ap (λ (o : Option Call). for_some o (λ d. just (Counted d)) done) (ap (λ (w : ℕ). to_count w done) (eqb-true other writer same) ∙ nothing))) tt
     by_test false apart = line_still writer setting answers (line.Count other) apart done
   loaded_line step done c opened = inr (refl, inr (refl, line_still writer setting answers step tt done))
 

@@ -8,6 +8,7 @@ use Rattle.std.proofs.lemmas.List.{append-nil}
 use Rattle.std.proofs.lemmas.List.Elements.{filter_map-append}
 use Rattle.std.proofs.lemmas.List.Folds.{list_any-append}
 use Rattle.std.proofs.lemmas.Slice.Eq.{bytes_eq-Decides}
+use Rattle.dl_lemmas.proofs.Lists.{position-more}
 use Rattle.dl_bytes.specs.declared.outcome.Done.{Done}
 use Rattle.dl_events.specs.declared.event.Event.TheVariants as event
 use Rattle.dl_script_lines.specs.declared.line.AppLine.{AppLine}
@@ -18,7 +19,6 @@ use Rattle.dl_model.specs.Setting.{Setting}
 use Rattle.dl_model.specs.Marks.{Mark, Noted, app_of, apps, is_counted_of, is_later, is_lost_of, journal, moment, number_of, pending}
 use Rattle.dl_model.specs.Steps.{act_of, changes, for_some, level_noted, note, note_levels, note_levels_now, on_app, take_losses, when}
 use Rattle.dl_laws.proofs.Lists.{after_last-one, count_by-append}
-use Rattle.dl_promises.proofs.OwnApps.{position-more}
 use Rattle.dl_promises.proofs.Relations.{AreAll, asked_for, holds_on}
 use Rattle.dl_frames.proofs.KeptIds.{named_id}
 use Rattle.dl_call_lines.specs.Lines.{StepAt}

@@ -1,7 +1,8 @@
 -- What holds of each plain mark, and of each step of the writer whose calls a line moves, holds of the marks of the line.
-use Rattle.std.proofs.Common.{◌≡◌, ℕ, ◌+◌, Bool, true, false, cond, eqb, ltb, List, [], ◌∷◌, ◌++◌, Option, Some, None, refl, subst, arith}
-use Rattle.std.proofs.lemmas.Bool.Decides.{nat_tests}
+use Rattle.std.proofs.Common.{◌≡◌, ℕ, ◌+◌, Bool, true, false, cond, eqb, ltb, List, [], ◌∷◌, ◌++◌, Option, Some, None, refl, subst}
 use Rattle.std.specs.Prelude.{map, count_by, slice_get, take, unwrap_or, is_some, negsuc, reverse, ◌&&◌, ◌%◌}
+use Rattle.std.proofs.lemmas.Bool.{eq-eqb}
+use Rattle.dl_lemmas.proofs.Options.{same_thing}
 use Rattle.dl_bytes.specs.Claim.{Claimed}
 use Rattle.dl_bytes.specs.Limits.{message_limit}
 use Rattle.dl_bytes.specs.Level.{passes}
@@ -44,12 +45,6 @@ is_plain _ = true
 
 -- ---- whose call it is
 
-same_by : (a b : ℕ) → a ≡ b → eqb a b ≡ true
-same_by a b e = grind (arith, nat_tests, e)
-
-some_call : (x y : Call) → ◌≡◌ {A = Option Call} (Some x) (Some y) → x ≡ y
-some_call x y e = cc
-
 pub loaded_writer : (setting : Setting) (call : CallLine) (done : List Mark) (c : Call) → loaded setting call done ≡ Some c → c.item.writer ≡ call.writer
 loaded_writer setting call done c e = by_writer (app_of_writer call.writer done) e where
   made : List ℕ → ℕ → ℕ → Call
@@ -72,7 +67,7 @@ loaded_writer setting call done c e = by_writer (app_of_writer call.writer done)
 
   by_place : (apid : List ℕ) (app : ℕ) (o : Option ℕ) → (o >>= λ place. Some (made apid app place)) ≡ Some c → c.item.writer ≡ call.writer
   by_place apid app None e = absurd cc
-  by_place apid app (Some place) e = subst (λ (x : Call). x.item.writer ≡ call.writer) (some_call (made apid app place) c e) refl
+  by_place apid app (Some place) e = subst (λ (x : Call). x.item.writer ≡ call.writer) (same_thing (made apid app place) c e) refl
 
   by_app : (apid : List ℕ) (o : Option ℕ) → (o >>= λ app. named_place call.writer apid call.ctid done >>= λ place. Some (made apid app place)) ≡ Some c → c.item.writer ≡ call.writer
   by_app apid None e = absurd cc
@@ -129,7 +124,7 @@ module _ (R : List Mark → Mark → Type 0) (plain : (done : List Mark) (mark :
   load_walk : (setting : Setting) (call : CallLine) → suits call.writer → Keeps R (load setting call)
   load_walk setting call so done =
       asked_for R (loaded setting call done) (λ c. just (cond (passes c.item.severity c.held) (Passed c) (Filtered c))) done
-      (λ c e. (by_test c (passes c.item.severity c.held) (same_by c.item.writer call.writer (loaded_writer setting call done c e)), tt)) where
+      (λ c e. (by_test c (passes c.item.severity c.held) (eq-eqb c.item.writer call.writer (loaded_writer setting call done c e)), tt)) where
         by_test : (c : Call) (b : Bool) → eqb c.item.writer call.writer ≡ true → R done (cond b (Passed c) (Filtered c))
         by_test c true is = own call.writer so done (Passed c) is
         by_test c false is = own call.writer so done (Filtered c) is

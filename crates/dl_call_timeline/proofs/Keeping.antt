@@ -1,17 +1,14 @@
 -- The columns of overflow records, with one call more.
-use Rattle.std.proofs.Common.{◌≡◌, ℕ, Bool, true, false, cond, List, [], ◌∷◌, ◌++◌, Option, Some, None, refl, sym, ap, ◌∙◌}
-use Rattle.std.specs.Prelude.{fold, unwrap_or}
+use Rattle.std.proofs.Common.{◌≡◌, ℕ, Bool, true, false, cond, List, [], ◌∷◌, ◌++◌, Option, Some, None, sym, ap, ◌∙◌}
+use Rattle.std.specs.Prelude.{unwrap_or}
 use Rattle.std.specs.Option.{option_map_or}
+use Rattle.dl_lemmas.proofs.Lists.{fold-one}
 use Rattle.dl_call_timeline.specs.Calls.{same_record, teller_of}
 use Rattle.dl_call_timeline.specs.Records.{record_column, with_call}
 use Rattle.dl_call_timeline.specs.Scale.{column_of}
 use Rattle.dl_call_timeline.specs.declared.call.Call.{Call}
 use Rattle.dl_call_timeline.specs.declared.call.RecordName.{RecordName}
 use Rattle.dl_call_timeline.specs.declared.scale.Scale.{Scale}
-
-fold-one : {A B : Type 0} (f : A → B → A) (z : A) (xs : List B) (x : B) → fold f z (xs ++ x ∷ []) ≡ f (fold f z xs) x
-fold-one f z [] x = refl
-fold-one f z (y ∷ ys) x = fold-one f (f z y) ys x
 
 module _ (scale : Scale) (calls : List Call) (call : Call) (name : RecordName) where
   -- the column of a record behind the call, by the record that tells of it

@@ -9,7 +9,7 @@ use Rattle.dl_user.specs.declared.cutter.UserCut.{UserCut}
 use Rattle.dl_user.specs.declared.cutter.UserCut.TheVariants as cut
 use Rattle.dl_user.specs.declared.fault.Stop.TheVariants as stops
 use Rattle.dl_user.specs.declared.fault.UserFault.{UserFault}
-use Rattle.dl_user.proofs.Cuts.{fault_stays}
+use Rattle.dl_user.proofs.Cuts.{begins_more, fault_stays}
 use Rattle.dl_channel.specs.Finding.{Finds, IsWithin}
 use Rattle.dl_channel.specs.declared.finding.Next.TheVariants as next
 
@@ -18,9 +18,6 @@ pub record IsLooking (bytes piece : List ℕ) (taken : ℕ) (cutter : cutter.Cha
   pub within : taken ≤ length piece
   pub same : bytes ≡ cutter.unread ++ drop taken piece
   pub room : IsWithin cutter
-
-pub begins_more : (bytes after more : List ℕ) (msg : UserMsg) → Begins bytes msg after → Begins (bytes ++ more) msg (after ++ more)
-begins_more bytes after more msg b = (b.0, b.1, ap (λ (x : List ℕ). x ++ more) b.2 ∙ append_assoc b.0 after more)
 
 pub sets_out : (piece : List ℕ) (cutter : cutter.Channel) → IsWithin cutter → IsLooking (cutter.unread ++ piece) piece 0 cutter
 sets_out piece cutter room = record { within = omega arith; same = refl; room = room }

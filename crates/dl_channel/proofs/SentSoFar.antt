@@ -1,9 +1,10 @@
 -- What went through a link so far.
-use Rattle.std.proofs.Common.{◌≡◌, ℕ, ◌+◌, ◌≤◌, List, [], ◌++◌, length, take, drop, Option, Some, None, inl, refl, sym, ap, subst, ◌∙◌, append_assoc, length-drop, arith}
+use Rattle.std.proofs.Common.{◌≡◌, ℕ, ◌+◌, ◌≤◌, List, [], length, take, drop, Option, Some, None, inl, refl, sym, ap, subst, ◌∙◌, length-drop, arith}
 use Rattle.std.proofs.lemmas.List.{append-nil, drop-drop, take-take}
 use Rattle.std.proofs.Math.Seq.{take-add}
 use Rattle.dl_outside.specs.Outside.{Grows}
 use Rattle.dl_outside.specs.Told.{LinkTold}
+use Rattle.dl_outside.proofs.Staying.{grows_both}
 use Rattle.dl_hub.specs.Pumping.{IsOnlySent}
 use Rattle.dl_hub.proofs.Pumping.{only_sent, only_sent-later}
 use Rattle.dl_channel.specs.Pumping.{EndsSending, HasSent}
@@ -22,10 +23,6 @@ pub record SoFar (old new : List ℕ) (link link_now : LinkTold) : Type 0 where
 grows_none : (o : Option (List ℕ)) → Grows o o []
 grows_none None = tt
 grows_none (Some bytes) = ap Some (sym (append-nil bytes))
-
-grows_both : (a b c : Option (List ℕ)) (xs ys : List ℕ) → Grows a b xs → Grows b c ys → Grows a c (xs ++ ys)
-grows_both None b c xs ys one two = tt
-grows_both (Some z) b c xs ys one two = subst (λ (t : Option (List ℕ)). Grows t c ys) one two ∙ ap Some (append_assoc z xs ys)
 
 pub nothing_sent : (bytes : List ℕ) (link : LinkTold) → SoFar bytes bytes link link
 nothing_sent bytes link = record { count = 0; within = omega arith; taken = grows_none link.taken; left = refl; faults = refl; waits = refl; only = only_sent link }

@@ -19,12 +19,11 @@ use Rattle.dl_user.specs.Reading.{kind_at, message_at}
 use Rattle.dl_user.specs.declared.fault.Stop.{Stop}
 use Rattle.dl_user.specs.declared.fault.Stop.TheVariants as stops
 use Rattle.dl_user.specs.declared.fault.UserFault.{UserFault}
-use Rattle.dl_user.proofs.Cuts.{cut_once}
+use Rattle.dl_user.proofs.Cuts.{begins_more, cut_once}
 use Rattle.dl_user.proofs.FrontLemmas.{open_is}
 use Rattle.dl_model.specs.declared.registry.LevelChange.{LevelChange}
 use Rattle.dl_channel.specs.declared.outcome.ChannelEnd.{ChannelEnd}
 use Rattle.dl_channel.specs.declared.outcome.ChannelEnd.TheVariants.{Left, Broken, Bad, Slow, NoMemory}
-use Rattle.dl_channel.proofs.Looking.{begins_more}
 use Rattle.dl_core.specs.Admission.{AddsEach, has_frames}
 use Rattle.dl_admission.specs.Admission.{AreNoted, message_entry}
 use Rattle.dl_admission.specs.Slow as slow

@@ -8,11 +8,11 @@ use Rattle.std.proofs.lemmas.List.Sums.{sum_by-cons}
 use Rattle.std.proofs.lemmas.Option.{slice_get_within}
 use Rattle.dl_hub.specs.State.{Client, Hub, Waiting, EachHasRoom, IsNextOpen, client_of, is_open, outbox_of}
 use Rattle.dl_hub.proofs.Keeping.{found}
-use Rattle.dl_admission.proofs.Slows.{client_at}
+use Rattle.dl_hub.proofs.Calls.{client_some}
 
 -- ---- lists of clients
 
-one : (c : Client) (cs : List Client) → count_by is_open (c ∷ cs) ≡ cond (is_open c) 1 0 + count_by is_open cs
+pub one : (c : Client) (cs : List Client) → count_by is_open (c ∷ cs) ≡ cond (is_open c) 1 0 + count_by is_open cs
 one c cs = sum_by-cons (λ x. cond (is_open x) 1 0) c cs
 
 shut_first : (b : Bool) (n m : ℕ) → b ≡ false → n ≡ m → cond b 1 0 + n ≡ m
@@ -79,7 +79,7 @@ module _ (hub : Hub) (after count : ℕ) (so : SoFar hub after count) where
   shut_behind till none = λ place c low below at.
       let place_is : place ≡ place + 1 - 1 = omega arith in
       let its_place : slice_get hub.clients (place + 1 - 1) ≡ Some c = subst (λ (n : ℕ). slice_get hub.clients n ≡ Some c) place_is at in
-      let client : client_of hub (place + 1) ≡ Some c = client_at hub (place + 1) c (omega arith) its_place in
+      let client : client_of hub (place + 1) ≡ Some c = client_some hub (place + 1) c (omega arith) its_place in
       let gone : outbox_of hub (place + 1) ≡ None = none (place + 1) (omega (arith, low)) (omega (arith, below)) in
       let its : c.outbox ≡ None = sym (ap (λ (o : Option Client). option_and_then (λ d. d.outbox) o) client) ∙ gone in
       ap is_some its

@@ -57,7 +57,7 @@ one_counter n below = elim (eqb_tells (n % counter_limit) 0) [
       ∙ ap (λ (k : ℕ). k + length (cond ((n % counter_limit) == 0) [] (n % counter_limit ∷ []))) (length-replicate {A = ℕ} (n / counter_limit) counter_limit)
 
 -- it has one frame at most
-frames_few : (ecu : List ℕ) (msg : UserMsg) → HasRanges msg → length (user_frames ecu msg) ≤ 1
+pub frames_few : (ecu : List ℕ) (msg : UserMsg) → HasRanges msg → length (user_frames ecu msg) ≤ 1
 frames_few ecu (user.Log message) ranges = omega arith
 frames_few ecu (user.Overflow counter apid) ranges = omega (arith, length-map (counters counter) (overflow_record ecu apid zero_id), one_counter counter ranges.0)
 frames_few ecu (user.RegisterApp apid pid text) ranges = omega arith

@@ -67,10 +67,6 @@ below_by n k false e = let above = ltb-false n k e in ⊎_elim
 pub bit_below : (n k : ℕ) → bit (nat_lt n (k + 1)) ≡ bit (nat_lt n k) + bit (k == n)
 bit_below n k = below_by n k (nat_lt n k) refl
 
-pub bit_small : (b : Bool) → bit b ≤ 1
-bit_small true = omega arith
-bit_small false = omega arith
-
 -- where nothing is noted
 pub none_noted : (count place : ℕ) → get_or (replicate count false) place false ≡ false
 none_noted zero place = refl

@@ -1,14 +1,11 @@
 -- Own levels that hold, one after another.
-use Rattle.std.proofs.Common.{◌≡◌, Bool, true, false, not, ◌||◌, List, [], ◌∷◌, ◌++◌, refl, ap, ◌∙◌, inl, inr}
+use Rattle.std.proofs.Common.{◌≡◌, Bool, not, ◌||◌, List, [], ◌∷◌, ◌++◌, refl, ap, ◌∙◌, inl, inr}
 use Rattle.std.specs.List.{list_any, filter}
 use Rattle.std.proofs.lemmas.Bool.{cases_Bool}
 use Rattle.std.proofs.lemmas.List.Folds.{list_any-append}
+use Rattle.dl_lemmas.proofs.Bools.{or_false}
 use Rattle.dl_bytes.specs.declared.conf.StoredLevel.{StoredLevel}
 use Rattle.dl_conf.specs.Stored.{same_ids, held}
-
-or_false : (a : Bool) → (a || false) ≡ a
-or_false true = refl
-or_false false = refl
 
 any_push : (test : StoredLevel → Bool) (levels : List StoredLevel) (last : StoredLevel) → list_any test (levels ++ last ∷ []) ≡ (list_any test levels || test last)
 any_push test levels last = list_any-append test levels (last ∷ []) ∙ ap (λ t. list_any test levels || t) (or_false (test last))

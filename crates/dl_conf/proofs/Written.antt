@@ -8,6 +8,7 @@ use Rattle.std.proofs.lemmas.List.Sums.{sum_by-append}
 use Rattle.std.proofs.lemmas.List.Folds.{list_all-append}
 use Rattle.bstr.specs.Text as bstr
 use Rattle.bstr.proofs.lemmas.LineLemmas.{lines-nil}
+use Rattle.dl_lemmas.proofs.Bools.{both}
 use Rattle.dl_bytes.specs.Id.{zero_id}
 use Rattle.dl_bytes.specs.declared.conf.StoredLevel.{StoredLevel}
 use Rattle.dl_text.specs.Faults.{size_limit, first_fault, first_fault_behind}
@@ -39,9 +40,6 @@ record Stands (own : StoredLevel) : Type 0 where
 
 parts : (a b c d e : Bool) → ((((a && b) && not c) && not d) && e) ≡ true → (a ≡ true) × (b ≡ true) × (c ≡ false) × (d ≡ false) × (e ≡ true)
 parts a b c d e h = grind (arith, common_steps)
-
-both : (a b : Bool) → (a && b) ≡ true → (a ≡ true) × (b ≡ true)
-both a b h = grind (arith, common_steps)
 
 an_id : (id : List ℕ) → is_id id ≡ true → bytes_eq id zero_id ≡ false → IsReadable id
 an_id id e other =

@@ -1,51 +1,20 @@
 -- Reading a field takes it from the front, and a field that stands at the front is read.
-use Rattle.std.proofs.Common.{◌≡◌, ℕ, ◌+◌, ◌-◌, ◌^◌, ◌<◌, ◌≤◌, Bool, true, false, cond, ltb, List, [], ◌∷◌, ◌++◌, length, take, drop, replicate, Option, Some, None, refl, sym, ap, subst, ◌∙◌, append_assoc, arith, inl, inr}
+use Rattle.std.proofs.Common.{◌≡◌, ℕ, ◌+◌, ◌-◌, ◌^◌, ◌<◌, ◌≤◌, false, ltb, List, [], ◌∷◌, ◌++◌, length, take, drop, Option, Some, None, refl, sym, ap, subst, ◌∙◌, append_assoc, arith, inl, inr}
 use Rattle.std.proofs.lemmas.Bool.{cases_lt, ltb-false, le-ltb, lt-ltb}
-use Rattle.std.proofs.lemmas.List.{append-nil, take_at, drop_at, take-append-drop, length-append, length-take, get_or-drop, get_or-take, get_or_past, get_or_append_left, get_or-append_right, get_or-replicate, length-replicate, length-drop, drop-append-le}
+use Rattle.std.proofs.lemmas.List.{append-nil, take_at, drop_at, take-append-drop, length-append, length-take, length-drop, drop-append-le}
 use Rattle.std.proofs.lemmas.Nat.{be_bytes_4, le_bytes_4}
 use Rattle.byteorder.specs.Numbers.{big_from-take, little_from-take, big_number-reads_back, little_number-reads_back, big_from-append, little_from-append, big_from-lt, little_from-lt}
+use Rattle.dl_lemmas.proofs.Options.{guard_some}
 use Rattle.dl_bytes.specs.Bytes.{IsBytes}
 use Rattle.dl_bytes.specs.declared.cursor.Order.{Order}
 use Rattle.dl_bytes.specs.declared.cursor.Order.TheVariants.{Little, Big}
 use Rattle.dl_bytes.specs.Number.{At, bytes_of, number_of, bytes_at, number_at, ◌>>=◌}
-
-pub IsBytes-drop : (n : ℕ) (bytes : List ℕ) → IsBytes bytes → IsBytes (drop n bytes)
-IsBytes-drop n bytes h i = rw get_or-drop (h (n + i))
-
-pub IsBytes-take : (n : ℕ) (bytes : List ℕ) → IsBytes bytes → IsBytes (take n bytes)
-IsBytes-take n bytes h i =
-    elim (cases_lt i n) [
-      | inl lt ↦ rw (get_or-take n bytes i 0 lt) (h i)
-      | inr le ↦ rw (get_or_past (take n bytes) i 0 (omega (arith, length-take n bytes))) (omega arith)
-    ]
-
-pub IsBytes-append : (a b : List ℕ) → IsBytes a → IsBytes b → IsBytes (a ++ b)
-IsBytes-append a b fits_a fits_b i =
-    elim (cases_lt i (length a)) [
-      | inl lt ↦ rw (get_or_append_left a b 0 i lt) (fits_a i)
-      | inr le ↦ rw (get_or-append_right a b (length a) i 0 refl le) (fits_b (i - length a))
-    ]
-
--- zero bytes
-abbrev pub zeros : ℕ → List ℕ
-zeros n = replicate n 0
-
-pub IsBytes-zeros : (n : ℕ) → IsBytes (zeros n)
-IsBytes-zeros n i =
-    elim (cases_lt i n) [
-      | inl lt ↦ rw (get_or-replicate {A = ℕ} n i 0 0 lt) (omega arith)
-      | inr le ↦ rw (get_or_past (zeros n) i 0 (omega (arith, length-replicate {A = ℕ} n 0))) (omega arith)
-    ]
+use Rattle.dl_bytes.proofs.Bytes.{IsBytes-drop, IsBytes-take}
 
 -- a step that did not fail gave a value, from which the next went on
 pub with_step : {A B : Type 0} (r : Option A) (f : A → Option B) (y : B) (P : Type 0) → (r >>= f) ≡ Some y → ((x : A) → r ≡ Some x → f x ≡ Some y → P) → P
 with_step (Some x) f y P e then = then x refl e
 with_step None f y P e then = absurd cc
-
--- a test that did not fail
-pub guard_some : {A : Type 0} (b : Bool) (x y : A) → cond b None (Some x) ≡ Some y → (b ≡ false) × (x ≡ y)
-guard_some true x y e = absurd cc
-guard_some false x y e = (refl, cc)
 
 -- reading took these bytes from the front
 pub record TakesBytes (c : At) (bytes : List ℕ) (left : At) : Type 0 where

@@ -8,13 +8,14 @@ use Rattle.std.proofs.lemmas.List.{append-nil, nil_from_length, length-append, l
 use Rattle.dl_bytes.specs.Bytes.{IsBytes}
 use Rattle.dl_bytes.specs.declared.cursor.Order.{Order}
 use Rattle.dl_bytes.specs.Number.{At, bytes_of, number_at}
+use Rattle.dl_bytes.proofs.Bytes.{IsBytes-append, IsBytes-zeros, zeros}
 use Rattle.dl_control.specs.declared.request.Request.{Request}
 use Rattle.dl_control.specs.declared.request.Request.TheVariants.{SetLogLevel, GetLogInfo, GetDefault, Store, Reset, SetDefault, Version, Inject, Other}
 use Rattle.dl_control.specs.declared.request.RequestFault.{RequestFault}
 use Rattle.dl_control.specs.declared.request.RequestFault.TheVariants.{Short, Excess}
 use Rattle.dl_control.specs.Request.{service_of, fields_of, MayFollow, Fits, IsLaidOut, IsWithinLimit, BeginsRequest, service_told, IsFault}
 use Rattle.dl_control.specs.Reading.{log_level_at, log_info_at, default_level_at, body_at, whole_of, injection_of, request_of, request_in}
-use Rattle.dl_control.proofs.Fields.{IsBytes-append, zeros, IsBytes-zeros, TakesBytes, number_takes, number_none, number_long, number_left, number_more, bytes_again, bytes_last, byte_again, number_again, Needs, needs_number}
+use Rattle.dl_control.proofs.Fields.{TakesBytes, number_takes, number_none, number_long, number_left, number_more, bytes_again, bytes_last, byte_again, number_again, Needs, needs_number}
 use Rattle.dl_control.proofs.Rows.{TakesRequest, TakesRow, Row, fields, bare, injected, row_of, needs_body, injected_of, other_of, level_again}
 
 -- the bytes from the front of a payload

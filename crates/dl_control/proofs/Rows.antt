@@ -6,6 +6,7 @@ use Rattle.std.proofs.lemmas.Bool.{cases_lt, le-ltb, ne_eqb, le-leb}
 use Rattle.std.proofs.lemmas.Bool.Decides.{eqb_tells}
 use Rattle.std.proofs.lemmas.Int.{of_z-to_z, to_z-of_z}
 use Rattle.std.proofs.Math.Facts.{sfits_to_z, Fits-of_lt}
+use Rattle.dl_lemmas.proofs.Options.{same_thing}
 use Rattle.dl_bytes.specs.declared.cursor.Order.{Order}
 use Rattle.dl_bytes.specs.Number.{At, bytes_at, number_at}
 use Rattle.dl_control.specs.declared.request.Request.{Request}
@@ -37,9 +38,6 @@ pub record TakesRequest (c : At) (request : Request) (left : At) : Type 0 where
 abbrev pub TakesRow : ℕ → (At → Option (Request × At)) → Type 0
 TakesRow service read = (c : At) (x : Request × At) → IsBytes c.rest → read c ≡ Some x → TakesRequest c x.0 x.1 × (service_of x.0 ≡ service)
 
-some_is : {A : Type 0} (x y : A) → Some x ≡ Some y → x ≡ y
-some_is x y e = cc
-
 log_level_made : (c a b l left : At) (apid ctid : List ℕ) (level : ℕ) (reserved : List ℕ) → TakesBytes c apid a × (length apid ≡ 4) → TakesBytes a ctid b × (length ctid ≡ 4)
     → TakesBytes b (level ∷ []) l × (level < 256) → TakesBytes l reserved left × (length reserved ≡ 4) → TakesRequest c (SetLogLevel apid ctid (cast_signed w8 level)) left
 log_level_made c a b l left apid ctid level reserved first second third last =
@@ -65,7 +63,7 @@ log_level_takes c x fits e =
     let tb = bytes_take 4 a.1 b ta.0.fits eb in
     let tl = byte_takes b.1 l tb.0.fits el in
     let tr = bytes_take 4 l.1 r tl.0.fits er in
-    subst (λ (y : Request × At). TakesRequest c y.0 y.1 × (service_of y.0 ≡ 0x01)) (some_is (SetLogLevel a.0 b.0 (cast_signed w8 l.0), r.1) x made)
+    subst (λ (y : Request × At). TakesRequest c y.0 y.1 × (service_of y.0 ≡ 0x01)) (same_thing (SetLogLevel a.0 b.0 (cast_signed w8 l.0), r.1) x made)
     (log_level_made c a.1 b.1 l.1 r.1 a.0 b.0 l.0 r.0 ta tb tl tr, refl)))))
 
 log_info_made : (c o a b left : At) (options : ℕ) (apid ctid reserved : List ℕ) → TakesBytes c (options ∷ []) o → TakesBytes o apid a × (length apid ≡ 4)
@@ -87,7 +85,7 @@ log_info_takes c x fits e =
     let ta = bytes_take 4 o.1 a to.0.fits ea in
     let tb = bytes_take 4 a.1 b ta.0.fits eb in
     let tr = bytes_take 4 b.1 r tb.0.fits er in
-    subst (λ (y : Request × At). TakesRequest c y.0 y.1 × (service_of y.0 ≡ 0x03)) (some_is (GetLogInfo o.0 a.0 b.0, r.1) x made)
+    subst (λ (y : Request × At). TakesRequest c y.0 y.1 × (service_of y.0 ≡ 0x03)) (same_thing (GetLogInfo o.0 a.0 b.0, r.1) x made)
     (log_info_made c o.1 a.1 b.1 r.1 o.0 a.0 b.0 r.0 to.0 ta tb tr, refl)))))
 
 default_level_takes : TakesRow 0x11 default_level_at
@@ -98,7 +96,7 @@ default_level_takes c x fits e =
     let tl = byte_takes c l fits el in
     let tr = bytes_take 4 l.1 r tl.0.fits er in
     let whole = TakesBytes-then c (l.0 ∷ []) l.1 r.0 r.1 tl.0 tr.0 in
-    subst (λ (y : Request × At). TakesRequest c y.0 y.1 × (service_of y.0 ≡ 0x11)) (some_is (SetDefault l.0, r.1) x made)
+    subst (λ (y : Request × At). TakesRequest c y.0 y.1 × (service_of y.0 ≡ 0x11)) (same_thing (SetDefault l.0, r.1) x made)
     (record { fits = tt; within = tt; ignored = r.0; may_follow = tr.1; takes = whole }, refl)))
 
 needs_log_level : Needs 13 log_level_at

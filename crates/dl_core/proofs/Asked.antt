@@ -1,22 +1,20 @@
 -- Requests by their kind: what their replies are, and where their ids stand.
-use Rattle.std.proofs.Common.{◌≡◌, ℕ, suc, ◌+◌, ◌≤◌, Bool, true, false, cond, eqb, List, [], ◌∷◌, ◌++◌, length, take, drop, Option, Some, None, Result, Ok, Err, refl, sym, ap, subst, ◌∙◌, append_assoc, length-append, is_some, arith}
+use Rattle.std.proofs.Common.{◌≡◌, ℕ, suc, ◌+◌, ◌≤◌, Bool, true, false, eqb, List, [], ◌∷◌, ◌++◌, length, take, drop, Option, Some, None, Result, Ok, Err, refl, sym, ap, subst, ◌∙◌, append_assoc, arith}
 use Rattle.std.specs.Prelude.{◌<◌, ◌||◌, not, unwrap_or, IfOk, IfSome, OnErr, if◌then◌else◌}
 use Rattle.std.specs.Option.{option_map, option_and_then}
 use Rattle.std.specs.Result.{result_ok}
 use Rattle.std.proofs.lemmas.Bool.{ltb-false}
-use Rattle.std.proofs.lemmas.List.{take_at, drop_at}
-use Rattle.byteorder.specs.Endian.{big_bytes}
 use Rattle.dl_bytes.specs.Htyp.{htyp_of, standard_len}
 use Rattle.dl_bytes.specs.declared.outcome.Done.{Done}
 use Rattle.dl_bytes.specs.declared.outcome.Done.TheVariants as done
+use Rattle.dl_headers.proofs.Lengths.{apid_at, ctid_at, standard_long}
 use Rattle.dl_control.specs.declared.reply.Reply.{Reply}
 use Rattle.dl_control.specs.declared.request.Request.{Request}
 use Rattle.dl_control.specs.declared.request.Request.TheVariants.{SetLogLevel, GetLogInfo, GetDefault, Store, Reset, SetDefault, Version, Inject, Other}
 use Rattle.dl_control.specs.declared.request.RequestFault.{RequestFault}
 use Rattle.dl_control.specs.declared.request.RequestFault.TheVariants.{Short, Excess}
-use Rattle.dl_headers.specs.declared.header.Standard.{Standard}
 use Rattle.dl_headers.specs.declared.header.Extended.{Extended}
-use Rattle.dl_headers.specs.Header.{standard_header, extended_header, optional, IsStandard, IsExtended}
+use Rattle.dl_headers.specs.Header.{standard_header, extended_header, optional, IsExtended}
 use Rattle.dl_headers.specs.Message.{Message, IsMessage}
 use Rattle.dl_model.specs.declared.registry.Slot.{Slot}
 use Rattle.dl_model.specs.Registry.{Registry, app_of, context_of, matching, reset}
@@ -98,34 +96,6 @@ body_same setting slots registry apid ctid (Ok (Other service)) one other is = a
 body_same setting slots registry apid ctid (Err fault) one other is = absurd (cc is)
 
 -- ---- the ids of a request's message
-
-id_long : (ecu : Option (List ℕ)) → IfSome ecu (λ id. length id ≡ 4) → length (optional (λ (id : List ℕ). id) ecu) ≡ cond (is_some ecu) 4 0
-id_long None four = refl
-id_long (Some id) four = four
-
-number_long : (n : Option ℕ) → length (optional (big_bytes 4) n) ≡ cond (is_some n) 4 0
-number_long None = refl
-number_long (Some n) = refl
-
-header_long : (htyp mcnt len : ℕ) (ecu session ticks : List ℕ)
-    → length ((htyp ∷ mcnt ∷ []) ++ big_bytes 2 len ++ ecu ++ session ++ ticks) ≡ 4 + length ecu + length session + length ticks
-header_long htyp mcnt len ecu session ticks = omega (arith, length-append ecu session, length-append (ecu ++ session) ticks)
-
-standard_long : (s : Standard) → IsStandard s → length (standard_header s) ≡ standard_len s.htyp
-standard_long s is =
-    let ecu = optional (λ (id : List ℕ). id) s.ecu in
-    let session = optional (big_bytes 4) s.session in
-    let ticks = optional (big_bytes 4) s.ticks in
-    let long = header_long s.htyp s.mcnt s.len ecu session ticks in
-    rw (← s.ecu_as_told, ← s.session_as_told, ← s.ticks_as_told)
-    (omega (arith, long, id_long s.ecu is.ecu, number_long s.session, number_long s.ticks))
-
-apid_at : (msin noar : ℕ) (apid ctid payload : List ℕ) → length apid ≡ 4 → take 4 (drop 2 (((msin ∷ noar ∷ []) ++ apid ++ ctid) ++ payload)) ≡ apid
-apid_at msin noar apid ctid payload four = ap (take 4) (append_assoc apid ctid payload) ∙ take_at apid (ctid ++ payload) 4 four
-
-ctid_at : (msin noar : ℕ) (apid ctid payload : List ℕ) → length apid ≡ 4 → length ctid ≡ 4 → take 4 (drop 6 (((msin ∷ noar ∷ []) ++ apid ++ ctid) ++ payload)) ≡ ctid
-ctid_at msin noar apid ctid payload four four' =
-    ap (λ x. take 4 (drop 4 x)) (append_assoc apid ctid payload) ∙ ap (take 4) (drop_at apid (ctid ++ payload) 4 four) ∙ take_at ctid payload 4 four'
 
 -- what stands some bytes behind a part
 drop_behind : (front rest : List ℕ) (size more : ℕ) → length front ≡ size → drop (size + more) (front ++ rest) ≡ drop more rest

@@ -1,7 +1,6 @@
 -- Log calls of a batch, one after the other.
-use Rattle.std.proofs.Common.{◌≡◌, ℕ, ◌+◌, ◌<◌, List, [], ◌∷◌, ◌++◌, length, map, take, drop, suc, Option, Some, None, sym, ap, subst, ◌∙◌, append_assoc, length-append, arith}
-use Rattle.std.specs.Prelude.{IfSome, option_map, get_or}
-use Rattle.std.proofs.Math.Seq.{take-suc, drop-cons}
+use Rattle.std.proofs.Common.{◌≡◌, ℕ, ◌+◌, List, [], ◌∷◌, ◌++◌, length, map, suc, Option, Some, None, sym, ap, subst, ◌∙◌, append_assoc, length-append, arith}
+use Rattle.std.specs.Prelude.{IfSome, option_map}
 use Rattle.std.proofs.lemmas.List.{map-append}
 use Rattle.std.proofs.lemmas.List.Sums.{sum_by-cons}
 use Rattle.dl_bytes.specs.declared.item.Item.{Item}
@@ -86,12 +85,3 @@ gathers_one ecu moment done left item frame h0 h1 h2 w0 w1 w2 e0 e1 e2 n0 n1 n2 
           sum_by-cons length (log_message ecu item) (map (log_message ecu) left) ∙ ap (λ (f : List ℕ). length f + size_of (map (log_message ecu) left)) (sym what) in
           rooms (size_of (map (log_message ecu) left)) (subst (λ (n : ℕ). EachHasRoom n h1) size far.room);
     }
-
--- the items before a place, and from it on, with the one there
-pub item_here : {A : Type 0} (items : List A) (k : ℕ) (item : A) → k < length items → item ≡ get_or items k item
-    → (take (k + 1) items ≡ take k items ++ item ∷ []) × (drop k items ≡ item ∷ drop (k + 1) items)
-item_here {A} items k item within is =
-    let next : k + 1 ≡ suc k = omega arith in (
-      rw next (take-suc items k item within ∙ ap (λ (x : A). take k items ++ x ∷ []) (sym is)),
-      rw next (drop-cons items k item within ∙ ap (λ (x : A). x ∷ drop (suc k) items) (sym is)),
-    )

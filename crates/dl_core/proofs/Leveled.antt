@@ -9,6 +9,7 @@ use Rattle.std.proofs.lemmas.Bool.{cases_lt}
 use Rattle.std.proofs.lemmas.Bool.Decides.{eqb_tells}
 use Rattle.std.proofs.lemmas.List.{get_or-set_same, get_or-set_other}
 use Rattle.std.proofs.lemmas.Map.Keys.{IsDistinct-head, IsDistinct-tail}
+use Rattle.dl_lemmas.proofs.Options.{ifok_unless, ifsome_unless}
 use Rattle.dl_bytes.specs.Claim.{Claimed}
 use Rattle.dl_bytes.specs.Id.{zero_id}
 use Rattle.dl_bytes.specs.declared.user.UserMsg.{UserMsg}
@@ -25,7 +26,7 @@ use Rattle.dl_model.proofs.Order.{app_of_found, placed_of_found}
 use Rattle.dl_model.proofs.Placed.{Free, apart-right, free_tells, numbered-among, places-further, places-same}
 use Rattle.dl_registry.proofs.Finding.{valued, valued-absent, valued-set_value, numbers_of}
 use Rattle.dl_registry.proofs.Placing.{all_of, not_both, placed, placed-free}
-use Rattle.dl_registry.specs.Change.{placed_again}
+use Rattle.dl_applications.specs.Change.{placed_again}
 use Rattle.dl_registry.proofs.Fitting.{level_of, level_at-found, level_at-places, level_at-same, level_at-new_app, level_of-further, level_of-told, level_of-new}
 use Rattle.dl_registry.proofs.Following.{change_is_level, change_follows}
 use Rattle.dl_events.specs.declared.event.Event.TheVariants as event
@@ -296,10 +297,6 @@ context_gone r apid ctid app is found slot =
 
 -- ---- what each message leaves
 
-ifok_if : {A E : Type 0} (P : A → Type 0) (b : Bool) (e : E) (r : Result A E) → (b ≡ false → IfOk r P) → IfOk (cond b (Err e) r) P
-ifok_if P true e r ok = tt
-ifok_if P false e r ok = ok refl
-
 stays : (old new : Registry) → ((slot : ℕ) → level_at new slot ≡ level_at old slot) → ChangesNone old new
 stays old new same = λ slot. inl (same slot)
 
@@ -311,7 +308,7 @@ app_changes r channel apid pid text (Some app) found is = by (app.channel == cha
   by : (b : Bool) → IfOk (if b then Ok (with_app r apid (record app { pid = pid; text = text })) else Err fault.Taken) (ChangesNone r)
   by true = stays r (with_app r apid (record app { pid = pid; text = text })) (level_at-same r apid app (record app { pid = pid; text = text }) is found refl (λ slot. refl))
   by false = tt
-app_changes r channel apid pid text None found is = ifok_if (ChangesNone r) (nat_le 16 (length r.apps)) fault.AppsFull _ (λ room.
+app_changes r channel apid pid text None found is = ifok_unless (ChangesNone r) (nat_le 16 (length r.apps)) fault.AppsFull _ (λ room.
     stays r (with_new_app r apid (record { channel = channel; number = least_free (numbers r.apps); pid = pid; text = text; contexts = [] }))
     (level_at-new_app r apid channel (least_free (numbers r.apps)) pid text))
 
@@ -361,8 +358,8 @@ context_comes s r apid ctid position own text app (Some context) there is found 
     all : IsNumbered 64 (places app.contexts)
     all = placed_of_found r apid app is found
 context_comes s r apid ctid position own text app None there is found =
-    ifok_if (ChangesOne r) (nat_le 64 (length (places app.contexts))) fault.ContextsFull _ (λ room.
-    ifok_if (ChangesOne r) ((s (slot_of app.number new.place)).version == last_version) fault.Worn _ (λ fresh.
+    ifok_unless (ChangesOne r) (nat_le 64 (length (places app.contexts))) fault.ContextsFull _ (λ room.
+    ifok_unless (ChangesOne r) ((s (slot_of app.number new.place)).version == last_version) fault.Worn _ (λ fresh.
     new_at r apid ctid app new is found refl (below room) (least_free-is_free (places app.contexts))))
   where
     new : Context
@@ -378,20 +375,16 @@ for_app_found P r apid channel (Some app) next found each = each app (app_of_fou
 
 applied_changes : (s : ℕ → Slot) (r : Registry) (channel : ℕ) (msg : UserMsg) → IsInOrder r → IfOk (applied s r channel msg) (ChangesAsMany (changes_by msg) r)
 applied_changes s r channel (RegisterApp apid pid text) is =
-    ifok_if (ChangesNone r) (bytes_eq apid zero_id) fault.ZeroId _ (λ named. app_changes r channel apid pid text (lookup (bytes_eq apid) r.apps) refl is)
+    ifok_unless (ChangesNone r) (bytes_eq apid zero_id) fault.ZeroId _ (λ named. app_changes r channel apid pid text (lookup (bytes_eq apid) r.apps) refl is)
 applied_changes s r channel (UnregisterApp apid pid) is = app_leaves r apid (app_of r channel apid) is
 applied_changes s r channel (RegisterContext apid ctid position level trace pid text) is =
-    ifok_if (ChangesOne r) (bytes_eq apid zero_id || bytes_eq ctid zero_id) fault.ZeroId _ (λ named.
+    ifok_unless (ChangesOne r) (bytes_eq apid zero_id || bytes_eq ctid zero_id) fault.ZeroId _ (λ named.
     for_app_found (ChangesOne r) r apid channel (app_of r channel apid) _ refl (λ app found. context_comes s r apid ctid position level text app (context_of app ctid) refl is found))
 applied_changes s r channel (UnregisterContext apid ctid pid) is =
     for_app_found (ChangesNone r) r apid channel (app_of r channel apid) _ refl (λ app found. context_leaves r apid ctid app (context_of app ctid) is found)
 applied_changes s r channel _ is = λ slot. inl refl
 
 -- ---- what a claim leaves
-
-if_some : {A : Type 0} (P : A → Type 0) (b : Bool) (o : Option A) → (b ≡ false → IfSome o P) → IfSome (cond b None o) P
-if_some P true o ok = tt
-if_some P false o ok = ok refl
 
 with_claim_changes : (r : Registry) (apid : List ℕ) (claim : Claimed) (app : App) (o : Option Context) → context_of app claim.ctid ≡ o → IsInOrder r → lookup (bytes_eq apid) r.apps ≡ Some app
     → Free claim.place app.contexts → ChangesOne r (with_app r apid (with_claim r.stored apid claim app o))
@@ -409,8 +402,8 @@ with_claim_changes r apid claim app None there is found free =
 context_claim_changes : (s : ℕ → Slot) (r : Registry) (apid : List ℕ) (claim : Claimed) (app : App) → IsInOrder r → lookup (bytes_eq apid) r.apps ≡ Some app
     → IfSome (context_claimed s r apid claim app) (ChangesOne r)
 context_claim_changes s r apid claim app is found =
-    if_some (ChangesOne r) (not (is_free claim.place app.contexts)) _ (λ free.
-    if_some (ChangesOne r) ((s (slot_of app.number claim.place)).version == last_version) _ (λ fresh.
+    ifsome_unless (ChangesOne r) (not (is_free claim.place app.contexts)) _ (λ free.
+    ifsome_unless (ChangesOne r) ((s (slot_of app.number claim.place)).version == last_version) _ (λ fresh.
     with_claim_changes r apid claim app (context_of app claim.ctid) refl is found (free_tells claim.place app.contexts free)))
 
 app_claim_changes : (s : ℕ → Slot) (r : Registry) (apid : List ℕ) (claim : Claimed) (o : Option App) → app_of r 0 apid ≡ o → IsInOrder r

@@ -1,11 +1,11 @@
 -- A request that was served, against the journal with its event.
-use Rattle.std.proofs.Common.{◌≡◌, ◌≢◌, ℕ, ◌+◌, Bool, false, cond, List, [], ◌∷◌, ◌++◌, length, Option, Some, None, Result, Ok, Err, refl, sym, ap, subst, ◌∙◌, length-append, arith}
+use Rattle.std.proofs.Common.{◌≡◌, ◌≢◌, ℕ, ◌+◌, Bool, false, List, [], ◌∷◌, ◌++◌, length, Option, Some, None, Result, Ok, Err, refl, sym, ap, subst, ◌∙◌, length-append, arith}
 use Rattle.std.specs.Prelude.{codes, IfSome}
 use Rattle.std.specs.FinMap as map
 use Rattle.std.specs.Ordering.{nat_cmp, eq_by_cmp, is_eq}
-use Rattle.std.specs.Cmp.Lexicographic.{slice_cmp, nat_list_cmp_total}
+use Rattle.std.specs.Cmp.Lexicographic.{slice_cmp}
 use Rattle.std.specs.declared.cmp.Ordering.TheVariants.{Less, Equal, Greater}
-use Rattle.std.specs.FinMap.{slice_cmp-IsAntisymmetric, nat_cmp-IsAntisymmetric, get-insert, get-remove}
+use Rattle.std.specs.FinMap.{slice_cmp-IsAntisymmetric, nat_cmp-IsAntisymmetric}
 use Rattle.std.proofs.lemmas.List.{append-nil}
 use Rattle.dl_bytes.specs.declared.outcome.Done.{Done}
 use Rattle.dl_control.specs.Reply.{control_reply}
@@ -31,6 +31,7 @@ use Rattle.dl_services.specs.declared.wish.Want.{Want}
 use Rattle.dl_services.specs.declared.wish.Want.TheVariants as want
 use Rattle.dl_trace.specs.State.{Trace}
 use Rattle.dl_trace.specs.Stands.{HasFiles}
+use Rattle.dl_trace.proofs.Holding.{gone_other, put_other}
 use Rattle.dl_core.specs.State.{Core}
 use Rattle.dl_core.specs.Settings.{IsSetTo, seen}
 use Rattle.dl_core.specs.Follows.{Run, stored_by, files_with, HoldsFiles, Adds}
@@ -41,7 +42,7 @@ use Rattle.dl_core.proofs.Tracing.{Traced}
 
 -- ---- the file of the stored configuration is no trace file
 
-name_length : (directory digits : List ℕ) → length digits ≡ 6 → length (directory ++ codes "/dlt_offlinetrace." ++ digits ++ codes ".dlt") ≢ 14
+pub name_length : (directory digits : List ℕ) → length digits ≡ 6 → length (directory ++ codes "/dlt_offlinetrace." ++ digits ++ codes ".dlt") ≢ 14
 name_length directory digits six e =
     let front : length (directory ++ codes "/dlt_offlinetrace.") ≡ length directory + 18 = length-append directory (codes "/dlt_offlinetrace.") in
     let behind : length ((directory ++ codes "/dlt_offlinetrace.") ++ digits) ≡ length (directory ++ codes "/dlt_offlinetrace.") + length digits =
@@ -59,12 +60,6 @@ not_tied x y other =
       | Equal ↦ λ e. absurd (other (slice_cmp-IsAntisymmetric nat_cmp-IsAntisymmetric x y e))
       | Greater ↦ λ _. refl
     ] refl
-
-pub put_other : (folder : Files) (name bytes other : List ℕ) → other ≢ name → map.get (map.insert folder name bytes) other ≡ map.get folder other
-put_other folder name bytes other apart = get-insert nat_list_cmp_total folder name bytes other ∙ ap (λ b. cond b (Some bytes) (map.get folder other)) (not_tied other name apart)
-
-pub gone_other : (folder : Files) (name other : List ℕ) → other ≢ name → map.get (map.remove folder name) other ≡ map.get folder other
-gone_other folder name other apart = get-remove nat_list_cmp_total folder name other ∙ ap (λ b. cond b None (map.get folder other)) (not_tied other name apart)
 
 -- ---- so the trace files stay
 

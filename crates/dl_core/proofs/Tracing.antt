@@ -1,18 +1,18 @@
 -- A trace after a call that stored frames, or that stopped at one of them.
-use Rattle.std.proofs.Common.{◌≡◌, ℕ, ◌+◌, ◌-◌, ◌≤◌, Bool, true, false, cond, leb, List, [], ◌∷◌, ◌++◌, length, map, Option, Some, None, refl, sym, ap, subst, ◌∙◌, append_assoc, arith}
-use Rattle.std.specs.Prelude.{nat_lt, IfSome}
-use Rattle.std.proofs.lemmas.Bool.Decides.{nat_tests}
+use Rattle.std.proofs.Common.{◌≡◌, ℕ, ◌+◌, ◌-◌, Bool, true, false, cond, leb, List, [], ◌∷◌, ◌++◌, length, map, Option, Some, None, refl, sym, ap, subst, ◌∙◌, append_assoc}
+use Rattle.std.specs.Prelude.{IfSome}
 use Rattle.std.proofs.lemmas.List.{append-nil}
 use Rattle.dl_bytes.specs.declared.outcome.TraceEnd.{TraceEnd}
 use Rattle.dl_bytes.specs.declared.outcome.TraceEnd.TheVariants.{Spent}
 use Rattle.dl_outside.specs.Folder.{Files}
 use Rattle.dl_outside.specs.Told.{FolderTold}
-use Rattle.dl_model.specs.Backlog.{size_of}
-use Rattle.dl_model.specs.TraceFiles.{StoredFile, greatest, number_limit, segments_from, segments, trace_files, is_spent}
+use Rattle.dl_model.specs.TraceFiles.{trace_files, is_spent}
 use Rattle.dl_trace.specs.State.{Trace, IsAfter, listed}
 use Rattle.dl_trace.specs.Stands.{HasFiles}
 use Rattle.dl_trace.specs.Pieces.{pieces, pieces_from, frames_in, room_of}
 use Rattle.dl_trace.specs.Storing.{IsStored, Stops}
+use Rattle.dl_trace.proofs.Spent.{spent_later}
+use Rattle.dl_trace.proofs.Joined.{frames_in-append}
 use Rattle.dl_core.specs.Follows.{Run, HoldsFiles, IsTraceAfter, files_with}
 use Rattle.dl_core.specs.Storing.{StoresTill, Stores, StoresIn, StoresEach}
 
@@ -35,42 +35,7 @@ frames_in_cut size room (frame ∷ frames) = by_test (leb (length frame) room) w
   by_test true = frames_in_from size (room - length frame) (frame ∷ []) frames
   by_test false = frames_in_from size (size - length frame) (frame ∷ []) frames
 
-frames_in-append : (xs ys : List (List (List ℕ))) → frames_in (xs ++ ys) ≡ frames_in xs ++ frames_in ys
-frames_in-append [] ys = refl
-frames_in-append (x ∷ xs) ys = ap (λ (fs : List (List ℕ)). x ++ fs) (frames_in-append xs ys) ∙ sym (append_assoc x (frames_in xs) (frames_in ys))
-
 -- ---- more frames need no fewer files
-
-least_segments : (size : ℕ) (segment frames : List (List ℕ)) → 1 ≤ length (segments_from size segment frames)
-least_segments size segment [] = omega arith
-least_segments size segment (x ∷ frames) = by_test (leb (size_of segment + length x) size) (least_segments size (segment ++ x ∷ []) frames) where
-  by_test : (b : Bool) → 1 ≤ length (segments_from size (segment ++ x ∷ []) frames)
-      → 1 ≤ length (cond b (segments_from size (segment ++ x ∷ []) frames) (segment ∷ segments_from size (x ∷ []) frames))
-  by_test true goes_on = goes_on
-  by_test false goes_on = omega arith
-
-more_segments_from : (size : ℕ) (segment frames more : List (List ℕ)) → length (segments_from size segment frames) ≤ length (segments_from size segment (frames ++ more))
-more_segments_from size segment [] more = least_segments size segment more
-more_segments_from size segment (x ∷ frames) more =
-    by_test (leb (size_of segment + length x) size) (more_segments_from size (segment ++ x ∷ []) frames more) (more_segments_from size (x ∷ []) frames more) where
-      by_test : (b : Bool) → length (segments_from size (segment ++ x ∷ []) frames) ≤ length (segments_from size (segment ++ x ∷ []) (frames ++ more))
-          → length (segments_from size (x ∷ []) frames) ≤ length (segments_from size (x ∷ []) (frames ++ more))
-          → length (cond b (segments_from size (segment ++ x ∷ []) frames) (segment ∷ segments_from size (x ∷ []) frames))
-          ≤ length (cond b (segments_from size (segment ++ x ∷ []) (frames ++ more)) (segment ∷ segments_from size (x ∷ []) (frames ++ more)))
-      by_test true goes_on begins = goes_on
-      by_test false goes_on begins = omega (arith, begins)
-
-more_segments : (size : ℕ) (frames more : List (List ℕ)) → length (segments size frames) ≤ length (segments size (frames ++ more))
-more_segments size [] more = omega arith
-more_segments size (x ∷ frames) more = more_segments_from size (x ∷ []) frames more
-
-above_limit : (m n : ℕ) → m ≤ n → nat_lt number_limit m ≡ true → nat_lt number_limit n ≡ true
-above_limit m n below is = grind (arith, nat_tests)
-
-spent_later : (size : ℕ) (stood : List StoredFile) (frames more : List (List ℕ)) → is_spent size stood frames ≡ true → is_spent size stood (frames ++ more) ≡ true
-spent_later size stood frames more is =
-    let grows = more_segments size frames more in
-    above_limit (greatest stood + length (segments size frames)) (greatest stood + length (segments size (frames ++ more))) (omega (arith, grows)) is
 
 -- ---- a trace after more frames
 

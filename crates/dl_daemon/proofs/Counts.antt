@@ -3,6 +3,7 @@ use Rattle.std.proofs.Common.{◌≡◌, ◌+◌, ◌<◌, ◌≤◌, ℕ, zero,
 use Rattle.std.specs.Prelude.{slice_get, sum_by}
 use Rattle.std.specs.Map.{keys_of}
 use Rattle.std.proofs.lemmas.List.Sums.{sum_by-append, sum_by-cons}
+use Rattle.dl_lemmas.proofs.Lists.{within_of}
 use Rattle.dl_bytes.specs.declared.outcome.TraceFile.{TraceFile}
 use Rattle.dl_trace.specs.Steps.{bytes_in}
 
@@ -10,11 +11,6 @@ pub sum_more : (files : List TraceFile) (file : TraceFile) → sum_by bytes_in (
 sum_more files file = omega (arith, sum_by-append bytes_in files (file ∷ []), sum_by-cons bytes_in file [])
 
 -- ---- places of a list
-
-inside : {A : Type 0} (xs : List A) (place : ℕ) (x : A) → slice_get xs place ≡ Some x → place < length xs
-inside [] place x at = absurd (cc at)
-inside (y ∷ ys) zero x at = omega arith
-inside (y ∷ ys) (suc place) x at = omega (arith, inside ys place x at)
 
 behind : {A : Type 0} (xs : List A) (place : ℕ) → slice_get xs place ≡ None → length xs ≤ place
 behind [] place at = omega arith
@@ -26,7 +22,7 @@ keys_length [] = refl
 keys_length (e ∷ es) = ap suc (keys_length es)
 
 pub is_inside : {A : Type 0} (es : List (ℕ × A)) (place key : ℕ) (o : Option ℕ) → o ≡ slice_get (keys_of es) place → o ≡ Some key → place < length es
-is_inside es place key o is some = omega (arith, inside (keys_of es) place key (sym is ∙ some), keys_length es)
+is_inside es place key o is some = omega (arith, within_of (keys_of es) place key (sym is ∙ some), keys_length es)
 
 pub is_behind : {A : Type 0} (es : List (ℕ × A)) (place : ℕ) (o : Option ℕ) → o ≡ slice_get (keys_of es) place → o ≡ None → length es ≤ place
 is_behind es place o is none = omega (arith, behind (keys_of es) place (sym is ∙ none), keys_length es)

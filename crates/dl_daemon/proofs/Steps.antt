@@ -3,8 +3,8 @@ use Rattle.std.proofs.Common.{◌≡◌, ℕ, List, map, Option, Some, None, ref
 use Rattle.std.specs.Prelude.{Err}
 use Rattle.dl_bytes.specs.declared.conf.Conf.{Conf}
 use Rattle.dl_bytes.specs.declared.moment.Moment.{Moment}
+use Rattle.dl_outside.proofs.Staying.{stays_same}
 use Rattle.dl_loop.specs.Daemon.{TellTaken}
-use Rattle.dl_outside.specs.Outside.{Stays}
 use Rattle.dl_outside.specs.Told.{FolderTold, LinkTold, NetTold}
 use Rattle.dl_server.specs.State.{State, seen}
 use Rattle.dl_server.specs.declared.server.Server.{Server}
@@ -40,14 +40,10 @@ use Rattle.dl_daemon.specs.Rounds.{HasGoneRound, noted}
 use Rattle.dl_daemon.specs.Status.{status_of}
 use Rattle.dl_daemon.proofs.HeardToTheEnd.{rounds_listen}
 
-stays_as_it_is : {A : Type 0} (o : Option A) → Stays o o
-stays_as_it_is None = tt
-stays_as_it_is (Some x) = refl
-
 -- they ask for nothing, and the folder is not asked
 pub unasked : (said : List (List ℕ)) (folder : FolderTold) (s : Status) → Asks said (Err s) → Refuses said folder folder s
 unasked said folder status.WordsRefused none = (none, refl)
-unasked said folder status.OutOfMemory none = record { unchanged = record { files = stays_as_it_is folder.files; changes = refl }; well = refl }
+unasked said folder status.OutOfMemory none = record { unchanged = record { files = stays_same folder.files; changes = refl }; well = refl }
 unasked said folder status.NetFault none = absurd none
 unasked said folder status.Ok none = absurd none
 unasked said folder (status.ConfRefused line kind) none = absurd none

@@ -10,3 +10,7 @@ pub record Outside (L : Type 0) : Type 0 where
 -- it, by its parts
 abbrev pub outside : {L : Type 0} → FolderTold → NetTold L → NetTold L → Outside L
 outside folder net users = record { folder = folder; net = net; users = users }
+
+-- the same of a folder and two nets, by what these tell
+abbrev pub seen : {L F N : Type 0} → (F → FolderTold) → (N → NetTold L) → F → N → N → Outside L
+seen folder_told net_told folder net users = outside (folder_told folder) (net_told net) (net_told users)

@@ -3,7 +3,7 @@
 ghost use Rattle.std.specs.Prelude.{◌≡◌, IfSome, None, map, string_bytes};
 ghost use Rattle.dl_server.specs.Server.{IsServer};
 ghost use Rattle.dl_trace.specs.Made.{IsMade};
-ghost use Rattle.dl_daemon.specs.Outside.{outside};
+ghost use Rattle.dl_daemon.specs.Outside.{seen};
 ghost use Rattle.dl_daemon.specs.Program.{Ended, EndsBegun, EndsWith, IsKeeping};
 ghost use Rattle.dl_daemon.specs.Status.{status_of};
 
@@ -62,8 +62,8 @@ fn keep_opened<R: Wait, F: Folder, N: Net, C: Clock, W: Watch>(
 where
     N::L: Drop,
     requires server { IsServer N.L.told opened.server }
-    ensures { EndsWith N.L.told opened.renewal.conf opened.renewal.tries opened.server (outside (F.told folder.old) (N.told net.old) (N.told users.old))
-        (outside (F.told folder.new) (N.told net.new) (N.told users.new)) result.status result.left }
+    ensures { let s = seen F.told N.told in EndsWith N.L.told opened.renewal.conf opened.renewal.tries opened.server
+        (s folder.old net.old users.old) (s folder.new net.new users.new) result.status result.left }
 {
     let Opened {
         mut server,
@@ -104,8 +104,8 @@ fn keep_begun<R: Wait, F: Folder, N: Net, C: Clock, W: Watch>(
 where
     N::L: Drop,
     requires { IfSome begun.trace (IsMade begun.conf) }
-    ensures { EndsBegun N.L.told limits begun (outside (F.told folder.old) (N.told net.old) (N.told users.old))
-        (outside (F.told folder.new) (N.told net.new) (N.told users.new)) result.status result.left }
+    ensures { let s = seen F.told N.told in EndsBegun N.L.told limits begun
+        (s folder.old net.old users.old) (s folder.new net.new users.new) result.status result.left }
 {
     let opened = match open(alloc, limits, begun) {
         Ok(opened) => opened,
@@ -130,8 +130,8 @@ fn keep_words<R: Wait, F: Folder, N: Net, C: Clock, W: Watch>(
 ) -> Outcome<N::L>
 where
     N::L: Drop,
-    ensures { Ended N.L.told (map string_bytes words.now) (outside (F.told folder.old) (N.told net.old) (N.told users.old))
-        (outside (F.told folder.new) (N.told net.new) (N.told users.new)) result.status result.left }
+    ensures { let s = seen F.told N.told in Ended N.L.told (map string_bytes words.now)
+        (s folder.old net.old users.old) (s folder.new net.new users.new) result.status result.left }
 {
     what_was_kept_is_its_journal::<N::L>();
     what_programs_sent_is_admitted::<N::L>();
@@ -177,8 +177,8 @@ pub fn keep<R: Wait, F: Folder, N: Net, C: Clock, W: Watch, E: Sink>(
 ) -> Outcome<N::L>
 where
     N::L: Drop,
-    ensures { IsKeeping N.L.told (map string_bytes words.now) (outside (F.told folder.old) (N.told net.old) (N.told users.old))
-        (outside (F.told folder.new) (N.told net.new) (N.told users.new)) (E.told err.old) (E.told err.new) result.status result.left }
+    ensures { let s = seen F.told N.told in IsKeeping N.L.told (map string_bytes words.now)
+        (s folder.old net.old users.old) (s folder.new net.new users.new) (E.told err.old) (E.told err.new) result.status result.left }
 {
     an_end_is_a_keeping::<N::L>();
     let ended = keep_words(rt, alloc, words, folder, net, users, clock, watch);

@@ -16,6 +16,7 @@ use Rattle.dl_storage.specs.declared.ends.StoreEnd.{StoreEnd}
 use Rattle.dl_storage.specs.declared.ends.StoreEnds.{StoreEnds}
 use Rattle.dl_storage_text.specs.declared.filter.Filter.{Filter}
 use Rattle.dl_ending.specs.Ending.{Finishes, failures_with, records_of, text_of}
+use Rattle.dl_ending.specs.declared.concluding.Concluded.{Concluded}
 
 -- the report of an account with what its filters stored: the text of the account, and the filters' lines last
 abbrev pub report_text : Setting → AccountState → List Filter → List StoreEnd → List ℕ
@@ -52,6 +53,12 @@ with_storage ends failures = record failures {
 
 -- ---- how a run is concluded
 
+-- The report was written, with what the filters stored, and that decides the status with all else that went wrong, in the run and as the
+-- filters ended.
+abbrev pub Reports : Setting → AccountState → List Filter → List StoreEnd → Failures → (out out_now : SinkTold) → Status → Type 0
+Reports setting account filters ends failures out out_now status =
+    Finishes (report_text setting account filters ends) (with_storage ends (failures_with account failures)) out out_now status
+
 -- What passes the filters was stored; then the report was written, with what they stored, and that decides the status with all else that
 -- went wrong, in the run and as the filters ended. Or there was no memory to store anything: the folder is as it was, and nothing was written.
 abbrev pub Concludes : Setting → AccountState → List Filter → Failures → (folder folder_now : FolderTold) → (out out_now : SinkTold) → Status → Option StoreEnds → Type 0
@@ -59,4 +66,9 @@ Concludes setting account filters failures folder folder_now out out_now status 
     (status ≡ OutOfMemory) × WroteNothing out out_now × (folder_now ≡ folder)
 Concludes setting account filters failures folder folder_now out out_now status (Some stored) =
     AreStored setting.ecu (records_of account) account.events folder.files folder_now.files folder.faults folder_now.faults filters stored.filters
-    × Finishes (report_text setting account filters stored.filters) (with_storage stored.filters (failures_with account failures)) out out_now status
+    × Reports setting account filters stored.filters failures out out_now status
+
+-- the same of a run that was concluded so
+abbrev pub IsConcluded : Setting → AccountState → List Filter → Failures → (folder folder_now : FolderTold) → (out out_now : SinkTold) → Concluded → Type 0
+IsConcluded setting account filters failures folder folder_now out out_now concluded =
+    Concludes setting account filters failures folder folder_now out out_now concluded.status concluded.storage

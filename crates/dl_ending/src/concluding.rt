@@ -4,7 +4,7 @@ ghost use Rattle.std.specs.Prelude.{◌≡◌};
 ghost use Rattle.dl_model.specs.Setting.{Setting};
 ghost use Rattle.dl_storage.specs.Storing.{ChangesFiltersFiles};
 ghost use Rattle.dl_ending.specs.Ending.{CanReport, IsSettingOf};
-ghost use Rattle.dl_ending.specs.Storage.{Concludes};
+ghost use Rattle.dl_ending.specs.Storage.{IsConcluded};
 
 use crate::finishing::finish;
 use dl_bytes::Conf;
@@ -38,7 +38,7 @@ pub fn conclude<F: Folder, O: Sink>(
 ) -> Concluded
     requires { CanReport account.now }
     ensures concludes { (setting : Setting) → IsSettingOf conf.now setting →
-        Concludes setting account.now filters.now failures (F.told folder.old) (F.told folder.new) (O.told out.old) (O.told out.new) result.status result.storage }
+        IsConcluded setting account.now filters.now failures (F.told folder.old) (F.told folder.new) (O.told out.old) (O.told out.new) result }
     ensures others { ChangesFiltersFiles filters.now (F.told folder.old).files (F.told folder.new).files }
 {
     let stored = store(

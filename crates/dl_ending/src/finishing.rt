@@ -2,8 +2,8 @@
 
 ghost use Rattle.std.specs.Prelude.{◌≡◌, IfOk};
 ghost use Rattle.dl_model.specs.Setting.{Setting};
-ghost use Rattle.dl_ending.specs.Ending.{CanReport, Finishes, IsTextOf, IsSettingOf, failures_with};
-ghost use Rattle.dl_ending.specs.Storage.{report_text, with_storage};
+ghost use Rattle.dl_ending.specs.Ending.{CanReport, IsTextOf, IsSettingOf};
+ghost use Rattle.dl_ending.specs.Storage.{Reports};
 
 use crate::failing::{failures_with, with_storage};
 use dl_bytes::{Bytes, Conf, OutOfMemory};
@@ -45,8 +45,7 @@ pub fn finish<O: Sink>(
 ) -> Status
     requires { CanReport account.now }
     ensures { (setting : Setting) → IsSettingOf conf.now setting →
-        Finishes (report_text setting account.now filters.now ends.now.filters) (with_storage ends.now.filters (failures_with account.now failures))
-        (O.told out.old) (O.told out.new) result }
+        Reports setting account.now filters.now ends.now.filters failures (O.told out.old) (O.told out.new) result }
 {
     let Ok(text) = report_of(alloc, account, conf) else {
         return Status::OutOfMemory;

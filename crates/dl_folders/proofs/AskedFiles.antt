@@ -10,9 +10,9 @@ use Rattle.dl_outside.specs.declared.folder.FolderFault.TheVariants as fault
 use Rattle.dl_services.specs.declared.wish.Want.{Want}
 use Rattle.dl_services.specs.declared.wish.Want.TheVariants as want
 use Rattle.dl_trace.specs.State.{Trace}
+use Rattle.dl_trace.proofs.Holding.{gone_other, put_other}
 use Rattle.dl_core.specs.Serving.{Answers, stored_name}
 use Rattle.dl_core.specs.State.{Core}
-use Rattle.dl_core.proofs.Requested.{put_other, gone_other}
 use Rattle.dl_outside.specs.Told.{FolderTold}
 use Rattle.dl_folders.specs.Files.{ChangesOwnFiles, Leaves}
 

@@ -1,6 +1,5 @@
 -- What a trace's writing leaves in the folder: every file but the trace files as it was, and so the stored configuration.
-use Rattle.std.proofs.Common.{◌≡◌, ◌≢◌, ℕ, ◌+◌, List, ◌++◌, length, Option, Some, None, refl, sym, ap, subst, ◌∙◌, length-append, arith}
-use Rattle.std.specs.Prelude.{codes}
+use Rattle.std.proofs.Common.{◌≡◌, ℕ, List, length, Option, Some, None, refl, sym, ap, subst, ◌∙◌}
 use Rattle.dl_model.specs.TraceFiles.{six_digits}
 use Rattle.dl_outside.specs.Folder.{Files}
 use Rattle.dl_outside.specs.Told.{FolderTold}
@@ -8,6 +7,7 @@ use Rattle.dl_trace.specs.State.{Trace}
 use Rattle.dl_trace.specs.Stands.{ChangesTraceFiles, IsTraceName}
 use Rattle.dl_core.specs.Serving.{stored_name}
 use Rattle.dl_core.specs.Storing.{ChangesTraceAlone}
+use Rattle.dl_core.proofs.Requested.{name_length}
 use Rattle.dl_folders.specs.Files.{ChangesOwnFiles, KeepsStored}
 
 -- no file of others changes
@@ -22,14 +22,6 @@ own_files trace told told_now changes = by trace told.files refl changes where
       subst (λ (files : Option Files). ChangesOwnFiles (Some kept) files told_now.files) (sym is) (there.0, there.1, λ name not_trace other. there.2 name not_trace)
 
 -- ---- the stored configuration
-
--- no trace file has its name, which is too short
-name_length : (directory digits : List ℕ) → length digits ≡ 6 → length (directory ++ codes "/dlt_offlinetrace." ++ digits ++ codes ".dlt") ≢ 14
-name_length directory digits six e =
-    let front : length (directory ++ codes "/dlt_offlinetrace.") ≡ length directory + 18 = length-append directory (codes "/dlt_offlinetrace.") in
-    let behind = length-append (directory ++ codes "/dlt_offlinetrace.") digits in
-    let whole = length-append ((directory ++ codes "/dlt_offlinetrace.") ++ digits) (codes ".dlt") in
-    absurd (omega (arith, front, behind, whole, six, e))
 
 no_trace_name : (directory : List ℕ) → IsTraceName directory stored_name → ⊥
 no_trace_name directory is = name_length directory (six_digits is.0) refl (ap length (sym is.3))

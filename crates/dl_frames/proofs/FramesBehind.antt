@@ -1,20 +1,18 @@
 -- Frames behind those that a stream had, and their bytes.
-use Rattle.std.proofs.Common.{◌≡◌, ℕ, ◌+◌, List, [], ◌∷◌, ◌++◌, length, refl, sym, ap, subst, ◌∙◌, length-append}
+use Rattle.std.proofs.Common.{◌≡◌, ℕ, ◌+◌, List, [], ◌++◌, length, sym, ap, subst, ◌∙◌}
 use Rattle.std.specs.List.{concat, AllByRecursion}
 use Rattle.std.proofs.lemmas.List.{append_cancel_left}
 use Rattle.std.proofs.lemmas.List.Folds.{concat-append}
-use Rattle.std.proofs.lemmas.List.Sums.{sum_by-cons}
+use Rattle.dl_lemmas.proofs.Lists.{all_second}
 use Rattle.dl_events.specs.declared.event.Event.{Event}
 use Rattle.dl_model.specs.Along.{along_from}
 use Rattle.dl_model.specs.Frames.{FrameSource}
 use Rattle.dl_model.specs.Traffic.{Traffic}
-use Rattle.dl_model.specs.Backlog.{size_of}
 use Rattle.dl_model.specs.ClientStream.{put, sent, traffic_of, traffic, stream}
 use Rattle.dl_frames.specs.Frames.{TellsLen}
 use Rattle.dl_laws.proofs.Lists.{along_from-append}
 use Rattle.dl_frames.specs.FrameLengths.{CarriesLen}
 use Rattle.dl_frames.specs.FramesPut.{IsPut}
-use Rattle.dl_frames.proofs.Entries.{all_second}
 use Rattle.dl_frames.proofs.Traffics.{sent_tell}
 
 pub sent-append : (ecu : List ℕ) (buffer client : ℕ) (ts more : List Traffic) → sent ecu buffer client (ts ++ more) ≡ sent ecu buffer client ts ++ along_from (put ecu buffer client) ts more
@@ -64,7 +62,3 @@ pub put_by_events : (source : FrameSource) (buffer client : ℕ) (events more : 
 put_by_events source buffer client events more frames bytes ecu_long all had e =
     let now = stream source buffer client (events ++ more) in
     put_where frames now bytes (subst (λ (fs : List (List ℕ)). Grows fs now) (sym had) (grows_by_events source buffer client events more ecu_long all)) e
-
-pub length-concat : (frames : List (List ℕ)) → length (concat frames) ≡ size_of frames
-length-concat [] = refl
-length-concat (frame ∷ frames) = length-append frame (concat frames) ∙ ap (λ (n : ℕ). length frame + n) (length-concat frames) ∙ sym (sum_by-cons length frame frames)

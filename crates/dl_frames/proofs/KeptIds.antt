@@ -1,5 +1,5 @@
 -- Applications keep their ids.
-use Rattle.std.proofs.Common.{◌≡◌, ℕ, zero, suc, ◌+◌, ◌<◌, Bool, true, false, cond, ltb, List, [], ◌∷◌, ◌++◌, length, Some, None, refl, sym, ap, subst, ◌∙◌, arith}
+use Rattle.std.proofs.Common.{◌≡◌, ℕ, zero, suc, ◌+◌, ◌<◌, Bool, true, false, cond, ltb, List, [], ◌∷◌, ◌++◌, length, Some, refl, sym, ap, subst, ◌∙◌, arith}
 use Rattle.std.specs.Prelude.{not, slice_get, position}
 use Rattle.std.specs.List.{filter_map, prefix_len}
 use Rattle.std.specs.Option.{option_map_or}
@@ -7,18 +7,15 @@ use Rattle.std.specs.Str.{bytes_eq}
 use Rattle.std.proofs.lemmas.Bool.{ltb-true}
 use Rattle.std.proofs.lemmas.List.Elements.{filter_map-append}
 use Rattle.std.proofs.lemmas.Slice.Eq.{bytes_eq-Decides}
+use Rattle.dl_lemmas.proofs.Lists.{get_more}
+use Rattle.dl_lemmas.proofs.Options.{place_is}
 use Rattle.dl_script_lines.specs.declared.line.AppLine.{AppLine}
 use Rattle.dl_model.specs.Marks.{Mark, app_of, apps, number_of, apid_of}
-
-slice_get-more : {A : Type 0} (xs ys : List A) (i : ℕ) (x : A) → slice_get xs i ≡ Some x → slice_get (xs ++ ys) i ≡ Some x
-slice_get-more [] ys i x e = absurd cc
-slice_get-more (y ∷ xs) ys zero x e = e
-slice_get-more (y ∷ xs) ys (suc i) x e = slice_get-more xs ys i x e
 
 pub placed_id : (done more : List Mark) (app : ℕ) (line : AppLine) → slice_get (apps done) app ≡ Some line → apid_of (done ++ more) app ≡ line.apid
 placed_id done more app line e =
     ap (λ o. option_map_or (λ (l : AppLine). l.apid) o [])
-    (ap (λ (ls : List AppLine). slice_get ls app) (filter_map-append app_of done more) ∙ slice_get-more (apps done) (filter_map app_of more) app line e)
+    (ap (λ (ls : List AppLine). slice_get ls app) (filter_map-append app_of done more) ∙ get_more (apps done) (filter_map app_of more) app line e)
 
 there : (xs : List AppLine) (place : ℕ) → place < length xs → (line : AppLine) × (slice_get xs place ≡ Some line)
 there [] place within = absurd (omega (arith, within))
@@ -49,14 +46,10 @@ first_that {A = A} p (x ∷ xs) lt = by_test (p x) refl lt (first_that p xs) whe
       let found = later (omega (arith, lt)) in
       record { entry = found.entry; there = ap (slice_get (x ∷ xs)) next ∙ found.there; passes = found.passes }
 
-position_is : (b : Bool) (k n : ℕ) → cond b (Some k) None ≡ Some n → (b ≡ true) × (k ≡ n)
-position_is true k n e = (refl, cc)
-position_is false k n e = absurd cc
-
 at_position : {A : Type 0} (p : A → Bool) (xs : List A) (n : ℕ) → position p xs ≡ Some n → First p xs n
 at_position {A = A} p xs n e =
     let k = prefix_len (λ (x : A). not (p x)) xs in
-    let is = position_is (ltb k (length xs)) k n e in
+    let is = place_is (ltb k (length xs)) k n e in
     subst (First p xs) is.1 (first_that p xs (ltb-true k (length xs) is.0))
 
 pub named_id : (done more : List Mark) (apid : List ℕ) (app : ℕ) → number_of apid done ≡ Some app → apid_of (done ++ more) app ≡ apid

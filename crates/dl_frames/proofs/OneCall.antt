@@ -5,6 +5,8 @@ use Rattle.std.specs.List.{find, filter, filter_map, cons_option, AllByRecursion
 use Rattle.std.specs.Option.{option_map_or, option_or}
 use Rattle.std.proofs.lemmas.List.Elements.{filter-append, filter_map-append}
 use Rattle.std.proofs.lemmas.List.Folds.{find-append}
+use Rattle.std.proofs.lemmas.Bool.{eqb-true}
+use Rattle.dl_lemmas.proofs.Lists.{all_at, all_both, all_found, all_map, all_reverse}
 use Rattle.dl_message.specs.Frames.{log_message}
 use Rattle.dl_model.specs.Along.{last_that}
 use Rattle.dl_model.specs.Setting.{Setting}
@@ -14,9 +16,9 @@ use Rattle.dl_model.specs.Replay.{is_call, frame_of_call}
 use Rattle.dl_laws.proofs.Lists.{count_by-append}
 use Rattle.dl_laws.proofs.ClientStreams.{same_number}
 use Rattle.dl_laws.proofs.Founded.{passed_is, refused_is, last_step}
-use Rattle.dl_laws.proofs.RunLaws.{holds_after, same_app}
+use Rattle.dl_laws.proofs.RunLaws.{holds_after}
 use Rattle.dl_frames.specs.CallFrame.{HasItsFrame}
-use Rattle.dl_frames.proofs.Entries.{all_more, all_map, all_reverse, all_found, all_at, all_given}
+use Rattle.dl_frames.proofs.Entries.{all_given}
 
 abbrev calls : List Mark → List Call
 calls done = filter_map call_of done
@@ -72,8 +74,8 @@ none_so_far writer number [] all = refl
 none_so_far writer number (d ∷ cs) all = by_tests (eqb d.item.writer writer) (eqb d.item.call number) refl refl (none_so_far writer number cs all.1) where
   by_tests : (a b : Bool) → eqb d.item.writer writer ≡ a → eqb d.item.call number ≡ b → find (is_call writer number) cs ≡ None → cond (a && b) (Some d) (find (is_call writer number) cs) ≡ None
   by_tests true true e f later =
-      let less = all.0 (same_app d.item.writer writer e) in
-      let same : d.item.call ≡ number = same_app d.item.call number f in
+      let less = all.0 (eqb-true d.item.writer writer e) in
+      let same : d.item.call ≡ number = eqb-true d.item.call number f in
       absurd (omega (arith, less, same))
   by_tests true false e f later = later
   by_tests false b e f later = later
@@ -124,7 +126,7 @@ known_by setting done _ all rests = tt
 
 known_goes_on : (setting : Setting) (done : List Mark) (mark : Mark) → AllKnown done → RestsOn setting done mark → AllKnown (done ++ mark ∷ [])
 known_goes_on setting done mark all rests =
-    all_more (KnownIn (done ++ mark ∷ [])) done (mark ∷ []) (all_map (KnownIn done) (KnownIn (done ++ mark ∷ [])) (known_in_later done mark) done all) (known_by setting done mark all rests, tt)
+    all_both (KnownIn (done ++ mark ∷ [])) done (mark ∷ []) (all_map (KnownIn done) (KnownIn (done ++ mark ∷ [])) (known_in_later done mark) done all) (known_by setting done mark all rests, tt)
 
 all_known : (setting : Setting) (done : List Mark) → AreFounded setting [] done → AllKnown done
 all_known setting done founded = holds_after setting AllKnown (known_goes_on setting) [] done tt founded

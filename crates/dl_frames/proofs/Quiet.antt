@@ -1,49 +1,27 @@
 -- Clients that are not there, and who is there by the traffic and by the journal.
 use Rattle.std.proofs.Common.{eqb, ◌≡◌, ℕ, zero, suc, ◌+◌, ◌≤◌, ◌<◌, Bool, true, false, cond, List, [], ◌∷◌, ◌++◌, length, Option, Some, refl, sym, ap, append_assoc, ◌∙◌, length-append, arith}
-use Rattle.std.specs.Prelude.{◌||◌, ◌&&◌, map, count_by}
+use Rattle.std.specs.Prelude.{◌||◌, map, count_by}
 use Rattle.std.specs.List.{list_any, range_with_len}
 use Rattle.std.specs.Option.{option_map_or}
 use Rattle.std.proofs.lemmas.Bool.Decides.{nat_tests}
 use Rattle.std.proofs.lemmas.List.{append-nil}
 use Rattle.std.proofs.lemmas.List.Elements.{filter_map-append}
 use Rattle.std.proofs.lemmas.List.Folds.{list_any-append}
+use Rattle.dl_lemmas.proofs.Lists.{by_end}
+use Rattle.dl_lemmas.proofs.Bools.{choice_same, neither}
 use Rattle.dl_events.specs.declared.event.Event.{Event}
 use Rattle.dl_events.specs.declared.event.Event.TheVariants as event
 use Rattle.dl_events.specs.declared.event.Why.{Why}
 use Rattle.dl_model.specs.Along.{along_from, last_that}
 use Rattle.dl_model.specs.Frames.{FrameSource, frames_of}
 use Rattle.dl_model.specs.Journal as journal
-use Rattle.dl_model.specs.Traffic.{Traffic, Connected, Admitted, Reply, Closed, is_coming, comes_or_goes, comer_of, clients, is_open}
+use Rattle.dl_model.specs.Traffic.{Traffic, Connected, Admitted, Reply, Closed, comes_or_goes, comer_of, clients, is_open}
 use Rattle.dl_model.specs.ClientStream.{put, sent, traffic_of, traffic, stream}
 use Rattle.dl_laws.proofs.Lists.{along-one, last_that-one, count_by-append}
-use Rattle.dl_laws.proofs.ClientStreams.{is_open-one}
-use Rattle.dl_frames.proofs.Entries.{by_end}
+use Rattle.dl_laws.proofs.ClientStreams.{all_quiet, is_open-one, puts_nothing}
 use Rattle.dl_frames.proofs.FramesBehind.{sent-append, traffic-append}
 
-none_of : (a b : Bool) → (a || b) ≡ false → (a ≡ false) × (b ≡ false)
-none_of true b e = absurd cc
-none_of false b e = (refl, e)
-
-and_false : (a b : Bool) → b ≡ false → (a && b) ≡ false
-and_false true b e = e
-and_false false b e = refl
-
 -- ---- who is not there is put nothing
-
-puts_nothing : (ecu : List ℕ) (buffer client : ℕ) (before : List Traffic) (t : Traffic) → is_open client before ≡ false → comes_or_goes client t ≡ false → put ecu buffer client before t ≡ []
-puts_nothing ecu buffer client before (Connected other) shut none = rw none refl
-puts_nothing ecu buffer client before (Admitted frame) shut none = rw shut refl
-puts_nothing ecu buffer client before (Reply other frame) shut none = rw (and_false (eqb other client) (is_open client before) shut) refl
-puts_nothing ecu buffer client before (Closed other) shut none = refl
-
-all_quiet : (ecu : List ℕ) (buffer client : ℕ) (before ts : List Traffic) → is_open client before ≡ false → list_any (comes_or_goes client) ts ≡ false → along_from (put ecu buffer client) before ts ≡ []
-all_quiet ecu buffer client before [] shut none = refl
-all_quiet ecu buffer client before (t ∷ ts) shut none =
-    let parts = none_of (comes_or_goes client t) (list_any (comes_or_goes client) ts) none in
-    let next : is_open client (before ++ t ∷ []) ≡ false = is_open-one client before t ∙ ap (λ (b : Bool). cond b (is_coming t) (is_open client before)) parts.0 ∙ shut in
-    let now = puts_nothing ecu buffer client before t shut parts.0 in
-    let later = all_quiet ecu buffer client (before ++ t ∷ []) ts next parts.1 in
-    rw (now, later) refl
 
 pub quiet : (ecu : List ℕ) (buffer client : ℕ) (ts more : List Traffic) → is_open client ts ≡ false → list_any (comes_or_goes client) more ≡ false → sent ecu buffer client (ts ++ more) ≡ sent ecu buffer client ts
 quiet ecu buffer client ts more shut none =
@@ -66,7 +44,7 @@ event_quiet source client before (event.User channel msg moment) none = admits_n
 events_quiet : (source : FrameSource) (client : ℕ) (before more : List Event) → list_any (journal.comes_or_goes client) more ≡ false → list_any (comes_or_goes client) (along_from (traffic_of source) before more) ≡ false
 events_quiet source client before [] none = refl
 events_quiet source client before (e ∷ more) none =
-    let parts = none_of (journal.comes_or_goes client e) (list_any (journal.comes_or_goes client) more) none in
+    let parts = neither (journal.comes_or_goes client e) (list_any (journal.comes_or_goes client) more) none in
     list_any-append (comes_or_goes client) (traffic_of source before e) (along_from (traffic_of source) (before ++ e ∷ []) more)
     ∙ ap (λ (b : Bool). b || list_any (comes_or_goes client) (along_from (traffic_of source) (before ++ e ∷ []) more)) (event_quiet source client before e parts.0)
     ∙ events_quiet source client (before ++ e ∷ []) more parts.1
@@ -84,10 +62,6 @@ closes_quietly source buffer client other why events =
 
 -- ---- who never came
 
-same_choice : (b : Bool) → cond b false false ≡ false
-same_choice true = refl
-same_choice false = refl
-
 -- a client that doesn't come stays away, and is put nothing
 record StaysAway (ecu : List ℕ) (buffer client : ℕ) (before ts : List Traffic) : Type 0 where
   shut : is_open client (before ++ ts) ≡ false
@@ -96,18 +70,18 @@ record StaysAway (ecu : List ℕ) (buffer client : ℕ) (before ts : List Traffi
 away_now : (ecu : List ℕ) (buffer client : ℕ) (before : List Traffic) (t : Traffic) → is_open client before ≡ false → list_any (λ d. eqb d client) (clients (t ∷ [])) ≡ false →
     (put ecu buffer client before t ≡ []) × (is_open client (before ++ t ∷ []) ≡ false)
 away_now ecu buffer client before (Connected other) shut none =
-    let apart : eqb other client ≡ false = (none_of (eqb other client) false none).0 in
+    let apart : eqb other client ≡ false = (neither (eqb other client) false none).0 in
     (rw apart refl, is_open-one client before (Connected other) ∙ ap (λ (b : Bool). cond b true (is_open client before)) apart ∙ shut)
 away_now ecu buffer client before (Admitted frame) shut none = (puts_nothing ecu buffer client before (Admitted frame) shut refl, is_open-one client before (Admitted frame) ∙ shut)
 away_now ecu buffer client before (Reply other frame) shut none = (puts_nothing ecu buffer client before (Reply other frame) shut refl, is_open-one client before (Reply other frame) ∙ shut)
-away_now ecu buffer client before (Closed other) shut none = (refl, is_open-one client before (Closed other) ∙ ap (cond (eqb other client) false) shut ∙ same_choice (eqb other client))
+away_now ecu buffer client before (Closed other) shut none = (refl, is_open-one client before (Closed other) ∙ ap (cond (eqb other client) false) shut ∙ choice_same (eqb other client))
 
 stays_away : (ecu : List ℕ) (buffer client : ℕ) (before ts : List Traffic) → is_open client before ≡ false → list_any (λ d. eqb d client) (clients ts) ≡ false → StaysAway ecu buffer client before ts
 stays_away ecu buffer client before [] shut none = record { shut = ap (is_open client) (append-nil before) ∙ shut; nothing = refl }
 stays_away ecu buffer client before (t ∷ ts) shut none =
     let p = λ (d : ℕ). eqb d client in
     let split : list_any p (clients (t ∷ []) ++ clients ts) ≡ false = ap (list_any p) (sym (filter_map-append comer_of (t ∷ []) ts)) ∙ none in
-    let parts = none_of (list_any p (clients (t ∷ []))) (list_any p (clients ts)) (sym (list_any-append p (clients (t ∷ [])) (clients ts)) ∙ split) in
+    let parts = neither (list_any p (clients (t ∷ []))) (list_any p (clients ts)) (sym (list_any-append p (clients (t ∷ [])) (clients ts)) ∙ split) in
     let now = away_now ecu buffer client before t shut parts.0 in
     let later = stays_away ecu buffer client (before ++ t ∷ []) ts now.1 parts.1 in
     record { shut = ap (is_open client) (sym (append_assoc before (t ∷ []) ts)) ∙ later.shut; nothing = rw (now.0, later.nothing) refl }

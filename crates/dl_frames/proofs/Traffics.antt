@@ -2,6 +2,7 @@
 use Rattle.std.proofs.Common.{◌≡◌, ℕ, ◌-◌, Bool, true, false, cond, eqb, leb, List, [], ◌∷◌, ◌++◌, length, Option, Some, refl, sym, subst}
 use Rattle.std.specs.Prelude.{map, not, ◌&&◌}
 use Rattle.std.specs.List.{AllByRecursion, suffix_len, after_last}
+use Rattle.dl_lemmas.proofs.Lists.{all_both}
 use Rattle.dl_bytes.specs.Id.{zero_id}
 use Rattle.dl_control.specs.Reply.{daemon_apid, daemon_ctid}
 use Rattle.dl_events.specs.declared.event.Event.{Event}
@@ -15,7 +16,7 @@ use Rattle.dl_model.specs.ClientStream.{put, sent, traffic_of, traffic}
 use Rattle.dl_frames.specs.Frames.{TellsLen}
 use Rattle.dl_laws.proofs.Lists.{along_from-append}
 use Rattle.dl_frames.specs.FrameLengths.{CarriesLen, GivesLengths, EachGivesLengths}
-use Rattle.dl_frames.proofs.Entries.{all_more, all_drop, all_given}
+use Rattle.dl_frames.proofs.Entries.{all_drop, all_given}
 use Rattle.dl_frames.proofs.Spellings.{records_tell, user_tells}
 
 -- ---- the backlog
@@ -47,7 +48,7 @@ fitting_tell limit (frame ∷ frames) all = by_test (leb (length frame) limit) (
 handed_tell : (ecu : List ℕ) (buffer : ℕ) (frames : List (List ℕ)) → length ecu ≡ 4 → AllByRecursion TellsLen frames → AllByRecursion TellsLen (due_backlog ecu buffer frames)
 handed_tell ecu buffer frames ecu_long all =
     let n = refused buffer frames in
-    all_more TellsLen (fitting buffer frames) (overflow_frames ecu daemon_apid daemon_ctid n) (fitting_tell buffer frames all) (records_tell ecu daemon_apid daemon_ctid n ecu_long refl refl)
+    all_both TellsLen (fitting buffer frames) (overflow_frames ecu daemon_apid daemon_ctid n) (fitting_tell buffer frames all) (records_tell ecu daemon_apid daemon_ctid n ecu_long refl refl)
 
 -- ---- a client's stream
 
@@ -71,8 +72,8 @@ all_put_tell : (ecu : List ℕ) (buffer client : ℕ) (before ts : List Traffic)
     AllByRecursion TellsLen (along_from (put ecu buffer client) before ts)
 all_put_tell ecu buffer client before [] ecu_long earlier all = tt
 all_put_tell ecu buffer client before (t ∷ ts) ecu_long earlier all =
-    all_more TellsLen (put ecu buffer client before t) (along_from (put ecu buffer client) (before ++ t ∷ []) ts) (put_tells ecu buffer client before t ecu_long earlier all.0)
-    (all_put_tell ecu buffer client (before ++ t ∷ []) ts ecu_long (all_more CarriesLen before (t ∷ []) earlier (all.0, tt)) all.1)
+    all_both TellsLen (put ecu buffer client before t) (along_from (put ecu buffer client) (before ++ t ∷ []) ts) (put_tells ecu buffer client before t ecu_long earlier all.0)
+    (all_put_tell ecu buffer client (before ++ t ∷ []) ts ecu_long (all_both CarriesLen before (t ∷ []) earlier (all.0, tt)) all.1)
 
 pub sent_tell : (ecu : List ℕ) (buffer client : ℕ) (ts : List Traffic) → length ecu ≡ 4 → AllByRecursion CarriesLen ts → AllByRecursion TellsLen (sent ecu buffer client ts)
 sent_tell ecu buffer client ts ecu_long all = all_put_tell ecu buffer client [] ts ecu_long tt all
@@ -97,7 +98,7 @@ event_tells source before (event.User channel msg moment) ecu_long gives = all_a
 events_tell : (source : FrameSource) (before events : List Event) → length source.ecu ≡ 4 → EachGivesLengths source before events → AllByRecursion CarriesLen (along_from (traffic_of source) before events)
 events_tell source before [] ecu_long all = tt
 events_tell source before (e ∷ events) ecu_long all =
-    all_more CarriesLen (traffic_of source before e) (along_from (traffic_of source) (before ++ e ∷ []) events) (event_tells source before e ecu_long all.0)
+    all_both CarriesLen (traffic_of source before e) (along_from (traffic_of source) (before ++ e ∷ []) events) (event_tells source before e ecu_long all.0)
     (events_tell source (before ++ e ∷ []) events ecu_long all.1)
 
 pub journal_tells : (source : FrameSource) (events : List Event) → length source.ecu ≡ 4 → EachGivesLengths source [] events → AllByRecursion CarriesLen (traffic source events)
@@ -107,4 +108,4 @@ pub journal_goes_on : (source : FrameSource) (events more : List Event) → leng
     AllByRecursion CarriesLen (traffic source (events ++ more))
 journal_goes_on source events more ecu_long told all =
     subst (AllByRecursion CarriesLen) (sym (along_from-append (traffic_of source) [] events more))
-    (all_more CarriesLen (traffic source events) (along_from (traffic_of source) events more) told (events_tell source events more ecu_long all))
+    (all_both CarriesLen (traffic source events) (along_from (traffic_of source) events more) told (events_tell source events more ecu_long all))

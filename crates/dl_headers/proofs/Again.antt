@@ -4,6 +4,7 @@ use Rattle.std.specs.Prelude.{IfSome}
 use Rattle.std.proofs.Props.{props}
 use Rattle.std.proofs.lemmas.Bool.{le-ltb}
 use Rattle.std.proofs.lemmas.List.{take_at, drop_at}
+use Rattle.dl_lemmas.proofs.Options.{some_is}
 use Rattle.dl_bytes.specs.Htyp.{has_ecu, has_session, has_ticks}
 use Rattle.dl_bytes.specs.Number.{At, Gives, bytes_at}
 use Rattle.dl_bytes.specs.declared.cursor.Order.{Order}
@@ -12,14 +13,11 @@ use Rattle.dl_headers.specs.declared.header.Standard.{Standard}
 use Rattle.dl_headers.specs.declared.header.Extended.{Extended}
 use Rattle.dl_headers.specs.Header.{optional, extended_header, IsExtended}
 
-abbrev pair : {A B : Type 0} → A → B → A × B
+abbrev pub pair : {A B : Type 0} → A → B → A × B
 pair a x = (a, x)
 
-both : {A B : Type 0} {a b : A} {x y : B} → a ≡ b → x ≡ y → pair a x ≡ pair b y
+pub both : {A B : Type 0} {a b : A} {x y : B} → a ≡ b → x ≡ y → pair a x ≡ pair b y
 both {b = b} {x = x} p q = ap (λ a. pair a x) p ∙ ap (λ y. pair b y) q
-
-some_is : {A : Type 0} {x y : A} → Some x ≡ Some y → x ≡ y
-some_is e = cc
 
 -- an id of four bytes at the front
 id_at_front : (id rest : List ℕ) (order : Order) → length id ≡ 4 → bytes_at 4 (record { rest = id ++ rest; order = order }) ≡ Some (id, record { rest = rest; order = order })

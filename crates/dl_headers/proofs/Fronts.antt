@@ -2,6 +2,7 @@
 use Rattle.std.proofs.Common.{◌≡◌, ℕ, ◌<◌, ◌≤◌, Bool, true, false, cond, ltb, List, [], ◌∷◌, ◌++◌, length, Option, Some, None, refl, length-append, arith}
 use Rattle.std.specs.Prelude.{not, ◌==◌}
 use Rattle.std.proofs.lemmas.Bool.{ltb-false, le-ltb, lt-ltb, eqb-true}
+use Rattle.dl_lemmas.proofs.Bools.{not_false}
 use Rattle.dl_bytes.specs.Htyp.{htyp_of, len_of, version, header_len}
 use Rattle.dl_headers.specs.declared.fault.HeaderFault.TheVariants.{Short, Version, Length}
 use Rattle.dl_headers.specs.Reading.{front_fault}
@@ -15,10 +16,6 @@ pub record GoodFront (bytes : List ℕ) : Type 0 where
 passed : {A : Type 0} (b : Bool) (x : A) (o : Option A) → cond b (Some x) o ≡ None → (b ≡ false) × (o ≡ None)
 passed true x o e = absurd cc
 passed false x o e = (refl, e)
-
-not_false : (b : Bool) → not b ≡ false → b ≡ true
-not_false true e = refl
-not_false false e = absurd cc
 
 pub good_front : (bytes : List ℕ) → front_fault bytes ≡ None → GoodFront bytes
 good_front bytes e =

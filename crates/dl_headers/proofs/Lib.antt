@@ -1,3 +1,4 @@
 pub mod Parts
 pub mod Again
 pub mod Fronts
+pub mod Lengths

@@ -15,6 +15,7 @@ use Rattle.dl_control.specs.Reply.{daemon_apid, daemon_ctid}
 use Rattle.dl_model.specs.Overflow.{counters, overflow_frames}
 use Rattle.dl_model.specs.Backlog.{outbox_limit, size_of, waiting, fitting, refused, due_backlog}
 use Rattle.dl_model.specs.Traffic.{Connected, Admitted, Reply, Closed}
+use Rattle.dl_laws.proofs.Rotation.{length-concat}
 use Rattle.dl_hub.specs.State.{Client, Waiting, Stored, Hub, hub_of, stored, emptied, added, with_frame, with_reply, without, shut, is_open, is_any_open, client_of, outbox_of, HasRoom, EachHasRoom, changed}
 use Rattle.dl_hub.specs.Kept.{Fits, IsBounded, IsFree, places_of}
 use Rattle.dl_hub.specs.Overflow.{came, left_over}
@@ -22,7 +23,7 @@ use Rattle.std.proofs.lemmas.List.Elements.{All-append, All-cons}
 use Rattle.dl_hub.specs.Follows.{Adds, IsAfter}
 use Rattle.dl_hub.proofs.Keeping.{any_counts, found, changed_at, fits-change, fits-close, bounded-at, bounded-reply, bounded-took, fits-admit-open, fits-admit-waits, open_by_free, one_is_open, all_room}
 use Rattle.dl_hub.proofs.Places.{all_at, count_places, map-same, slice_get_or}
-use Rattle.dl_hub.proofs.Following.{admit-open, admit-waits, reply-follows, goes-follows, comes-follows, nothing_waits, bytes_of}
+use Rattle.dl_hub.proofs.Following.{admit-open, admit-waits, reply-follows, goes-follows, comes-follows, nothing_waits}
 
 pub is_some_of : {A : Type 0} (P : A → Type 0) (o : Option A) → IsSomeAnd o P → IsSome o
 is_some_of P None h = absurd h
@@ -31,7 +32,7 @@ is_some_of P (Some x) h = refl
 pub some_and : {A : Type 0} (P : A → Type 0) (o : Option A) (x : A) → o ≡ Some x → IsSomeAnd o P → P x
 some_and P o x e h = subst (λ p. IsSomeAnd p P) e h
 
-client_some : (hub : Hub) (number : ℕ) (c : Client) → 0 < number → slice_get hub.clients (number - 1) ≡ Some c → client_of hub number ≡ Some c
+pub client_some : (hub : Hub) (number : ℕ) (c : Client) → 0 < number → slice_get hub.clients (number - 1) ≡ Some c → client_of hub number ≡ Some c
 client_some hub number c some is = let not_zero : eqb number 0 ≡ false = grind (arith, nat_tests) in rw (not_zero, is) refl
 
 lt_of : (k : ℕ) → nat_lt k 8 ≡ true → k < 8
@@ -315,7 +316,7 @@ module _ (ecu : List ℕ) (store : Stored) (limit : ℕ) (clients : List Client)
       let few : length told ≤ 257 = rw (length-map (counters store.refused) (overflow_record ecu daemon_apid daemon_ctid)) (counters_few store.refused (omega (arith, fits.refusals, fits.admissions))) in
       let each : size_of told ≡ 28 * length told = rw (length-map (counters store.refused) (overflow_record ecu daemon_apid daemon_ctid)) (sizes ecu fits.ecu (counters store.refused)) in
       record {
-        outbox = (its.1, rw (length-append store.ring.bytes (concat told), bytes_of told) (omega (arith, fits.fits, size)));
+        outbox = (its.1, rw (length-append store.ring.bytes (concat told), length-concat told) (omega (arith, fits.fits, size)));
         frames = omega (arith, fits.frames, few);
         bytes = omega (arith, fits.bytes, each);
         replies = omega arith;
@@ -355,7 +356,7 @@ module _ (ecu : List ℕ) (store : Stored) (limit : ℕ) (clients : List Client)
       (ap concat due ∙ concat-append (fitting store.ring.capacity (waiting ts)) told ∙ rw after.waits.bytes refl)
       (ap length due ∙ length-append (fitting store.ring.capacity (waiting ts)) told ∙ rw after.waits.frames_kept refl)
       (ap size_of due ∙ sum_by-append length (fitting store.ring.capacity (waiting ts)) told
-      ∙ rw (sym (bytes_of (fitting store.ring.capacity (waiting ts))), after.waits.bytes) refl)
+      ∙ rw (sym (length-concat (fitting store.ring.capacity (waiting ts))), after.waits.bytes) refl)
       refl
   adds-comes false any ts taken after =
       let nothing = nothing_waits ts taken (hub_of ecu store limit clients n) after any in

@@ -1,6 +1,6 @@
 -- What each entry of traffic does to a hub that stands as the traffic before it has it.
 use Rattle.std.proofs.Common.{◌≡◌, ◌≢◌, ℕ, ◌+◌, ◌-◌, ◌≤◌, ◌<◌, ◌⊎◌, inl, inr, Bool, true, false, cond, eqb, leb, take, drop, List, [], ◌∷◌, ◌++◌, length, map, Option, Some, None, refl, sym, ap, ◌∙◌, append_assoc, length-append, subst, suc, zero, arith}
-use Rattle.std.specs.Prelude.{count_by, slice_get, slice_set, option_map, is_some, IfSome, IsSomeAnd, ◌||◌, ◌&&◌}
+use Rattle.std.specs.Prelude.{count_by, slice_get, slice_set, option_map, is_some, IfSome, IsSomeAnd}
 use Rattle.std.specs.List.{concat, list_any, range_with_len, after_last}
 use Rattle.std.specs.Option.{option_map_or}
 use Rattle.std.proofs.lemmas.List.{append-nil, length-map, length-set, take-append-drop}
@@ -10,7 +10,10 @@ use Rattle.std.proofs.lemmas.List.Sums.{sum_by-append, sum_by-cons}
 use Rattle.std.proofs.lemmas.Option.{slice_get-map, slice_get_within}
 use Rattle.std.proofs.lemmas.Bool.{lt-leb}
 use Rattle.std.proofs.lemmas.Bool.Decides.{nat_tests, leb_tells, eqb_tells}
+use Rattle.std.proofs.Math.Bool.{and-false}
 use Rattle.circular_buffer.proofs.Places.{slice_get-set_same, slice_get-set_other, slice_get-append_left, slice_get-append_right}
+use Rattle.dl_lemmas.proofs.Options.{mapped_some, some_is}
+use Rattle.dl_lemmas.proofs.Bools.{cond_same, neither}
 use Rattle.dl_model.specs.Along.{along_from}
 use Rattle.dl_model.specs.Traffic as traffic
 use Rattle.dl_model.specs.Traffic.{Traffic, Connected, Admitted, Reply, Closed, comer_of, frame_of, comes_or_goes, is_coming, is_going, clients, admitted_in}
@@ -19,15 +22,12 @@ use Rattle.dl_model.specs.ClientStream.{put, sent}
 use Rattle.dl_laws.proofs.Lists.{along-one}
 use Rattle.std.proofs.Math.Nat.{eq-zero-or-pos}
 use Rattle.dl_laws.proofs.ClientStreams.{fitting-one, is_open-one, same_number, waiting-comes, waiting-goes, waiting-admit, waiting-reply}
+use Rattle.dl_laws.proofs.Rotation.{length-concat}
 use Rattle.dl_hub.specs.State as state
 use Rattle.dl_hub.specs.State.{Client, Waiting, Stored, Hub, stored, keeps, added, with_frame, with_reply, without, consumed, bytes_before, shut}
 use Rattle.dl_hub.specs.Follows.{IsAfter, IsStream, IsBacklog, is_reply_to, took_more}
 
 -- ---- lists and options
-
-pub mapped : {A B : Type 0} (f : A → B) (o : Option A) (y : B) → option_map f o ≡ Some y → (x : A) × (o ≡ Some x) × (f x ≡ y)
-mapped f None y h = absurd cc
-mapped f (Some x) y h = (x, refl, cc)
 
 pub any_numbered : {C : Type 0} (p : ℕ → Bool) (q : C → Bool) (xs : List C) (first : ℕ)
     → ((place : ℕ) (x : C) → slice_get xs place ≡ Some x → p (first + place) ≡ q x)
@@ -145,7 +145,7 @@ admit-open frame ts taken hub is any = record {
   came = same_clients ts (Admitted frame) refl ∙ is.came ∙ ap (range_with_len 1) (sym (length-map hub.clients (with_frame frame)));
   admissions = more_admissions ts frame ∙ ap (λ n. n + 1) is.admissions;
   streams = λ place client there.
-      let old = mapped (with_frame frame) (slice_get hub.clients place) client (sym (slice_get-map (with_frame frame) hub.clients place) ∙ there) in
+      let old = mapped_some (with_frame frame) (slice_get hub.clients place) client (sym (slice_get-map (with_frame frame) hub.clients place) ∙ there) in
       subst (λ c. IsStream hub.ecu hub.buffer (ts ++ Admitted frame ∷ []) (taken (place + 1)) (place + 1) c) old.2 (admit_stream frame (is.streams place old.0 old.1));
   untaken = λ number above. is.untaken number (rw (length-map hub.clients (with_frame frame)) at above);
   unanswered = λ number above. same_replies number ts (Admitted frame) refl ∙ is.unanswered number (rw (length-map hub.clients (with_frame frame)) at above);
@@ -183,10 +183,6 @@ too_many limit (f ∷ fs) some = by_size (leb_tells (length f) limit) some (too_
       omega (arith, fits.1, shorter less, sum_by-cons length f fs)
   by_size (inr above) some shorter = omega (arith, above.1, sum_by-cons length f fs)
 
-pub bytes_of : (frames : List (List ℕ)) → length (concat frames) ≡ size_of frames
-bytes_of [] = refl
-bytes_of (f ∷ fs) = length-append f (concat fs) ∙ rw (bytes_of fs) (sym (sum_by-cons length f fs))
-
 size_behind : (frames : List (List ℕ)) (f : List ℕ) → size_of (frames ++ f ∷ []) ≡ size_of frames + length f
 size_behind frames f = sum_by-append length frames (f ∷ []) ∙ omega arith
 
@@ -206,7 +202,7 @@ backlog-one f frames ecu store limit some later n m is = by_refused (eq-zero-or-
       → IsBacklog store.ring.capacity (frames ++ f ∷ []) (state.hub_of ecu (stored f store) limit later m)
   by_size none (inl fits) =
       let all = kept_all store.ring.capacity frames (is.refusals ∙ none) in
-      let bytes : length store.ring.bytes ≡ size_of frames = ap length (sym is.bytes ∙ ap concat all.0) ∙ bytes_of frames in
+      let bytes : length store.ring.bytes ≡ size_of frames = ap length (sym is.bytes ∙ ap concat all.0) ∙ length-concat frames in
       let within : leb (size_of (frames ++ f ∷ [])) store.ring.capacity ≡ true = rw (size_behind frames f, sym bytes) fits.0 in
       let kept : fitting store.ring.capacity (frames ++ f ∷ []) ≡ frames ++ f ∷ [] = fitting-one store.ring.capacity frames f ∙ rw within refl in
       let is_so : keeps f store ≡ true = rw (none, fits.0) refl in
@@ -217,7 +213,7 @@ backlog-one f frames ecu store limit some later n m is = by_refused (eq-zero-or-
       })
   by_size none (inr above) =
       let all = kept_all store.ring.capacity frames (is.refusals ∙ none) in
-      let bytes : length store.ring.bytes ≡ size_of frames = ap length (sym is.bytes ∙ ap concat all.0) ∙ bytes_of frames in
+      let bytes : length store.ring.bytes ≡ size_of frames = ap length (sym is.bytes ∙ ap concat all.0) ∙ length-concat frames in
       let past : leb (size_of (frames ++ f ∷ [])) store.ring.capacity ≡ false = rw (size_behind frames f, sym bytes) above.0 in
       let same : fitting store.ring.capacity (frames ++ f ∷ []) ≡ fitting store.ring.capacity frames = fitting-one store.ring.capacity frames f ∙ rw past refl in
       refuses (rw (none, above.0) refl)
@@ -235,17 +231,10 @@ backlog-one f frames ecu store limit some later n m is = by_refused (eq-zero-or-
       (ap (λ fs. length (frames ++ f ∷ []) - length fs) same ∙ omega (arith, is.refusals, some_were, length-append frames (f ∷ [])))
       same
 
-neither : (a b : Bool) → (a || b) ≡ false → (a ≡ false) × (b ≡ false)
-neither true b e = absurd cc
-neither false b e = (refl, e)
-
-pub one_of : {A : Type 0} {x y : A} → Some x ≡ Some y → x ≡ y
-one_of e = cc
-
 -- a client that isn't open is sent nothing
 shut_each : (all : List Client) → list_any state.is_open all ≡ false → (place : ℕ) (client : Client) → slice_get all place ≡ Some client → state.is_open client ≡ false
 shut_each [] none place client there = absurd cc
-shut_each (c ∷ cs) none zero client there = subst (λ x. state.is_open x ≡ false) (one_of there) (neither (state.is_open c) (list_any state.is_open cs) none).0
+shut_each (c ∷ cs) none zero client there = subst (λ x. state.is_open x ≡ false) (some_is there) (neither (state.is_open c) (list_any state.is_open cs) none).0
 shut_each (c ∷ cs) none (suc place) client there = shut_each cs (neither (state.is_open c) (list_any state.is_open cs) none).1 place client there
 
 closed_stream : {ecu : List ℕ} {buffer : ℕ} {ts : List Traffic} {taken : List ℕ} {number : ℕ} {client : Client} (frame : List ℕ)
@@ -293,7 +282,7 @@ one_changes t number change old ts taken hub is found no_comer no_frame quiet st
   by_place : (place : ℕ) (client : Client) → slice_get (slice_set hub.clients number (change old)) place ≡ Some client → ((eqb place number ≡ true) × (place ≡ number)) ⊎ ((eqb place number ≡ false) × (place ≢ number))
       → IsStream hub.ecu hub.buffer (ts ++ t ∷ []) (taken (place + 1)) (place + 1) client
   by_place place client there (inl e) =
-      let now : change old ≡ client = one_of (sym (slice_get-set_same hub.clients number (change old) (slice_get_within hub.clients number old found)) ∙ ap (slice_get (slice_set hub.clients number (change old))) (sym e.1) ∙ there) in
+      let now : change old ≡ client = some_is (sym (slice_get-set_same hub.clients number (change old) (slice_get_within hub.clients number old found)) ∙ ap (slice_get (slice_set hub.clients number (change old))) (sym e.1) ∙ there) in
       subst (λ n. IsStream hub.ecu hub.buffer (ts ++ t ∷ []) (taken (n + 1)) (n + 1) client) (sym e.1)
       (subst (λ c. IsStream hub.ecu hub.buffer (ts ++ t ∷ []) (taken (number + 1)) (number + 1) c) now stream)
   by_place place client there (inr other) =
@@ -359,14 +348,6 @@ goes-follows number old ts taken hub is found there any =
 
 -- ---- a client comes
 
-and_false : (a : Bool) → (a && false) ≡ false
-and_false true = refl
-and_false false = refl
-
-cond_same : {A : Type 0} (b : Bool) (x : A) → cond b x x ≡ x
-cond_same true x = refl
-cond_same false x = refl
-
 -- a client that has not come was sent nothing
 never_came : (ecu : List ℕ) (buffer number : ℕ) (before ts : List Traffic) → traffic.is_open number before ≡ false → list_any (λ m. eqb m number) (clients ts) ≡ false
     → (along_from (put ecu buffer number) before ts ≡ []) × (traffic.is_open number (before ++ ts) ≡ false)
@@ -383,7 +364,7 @@ never_came ecu buffer number before (Admitted frame ∷ ts) closed none =
 never_came ecu buffer number before (Reply m frame ∷ ts) closed none =
     let still : traffic.is_open number (before ++ Reply m frame ∷ []) ≡ false = is_open-one number before (Reply m frame) ∙ closed in
     let rest = never_came ecu buffer number (before ++ Reply m frame ∷ []) ts still none in
-    (rw (closed, and_false (eqb m number), rest.0) refl, ap (traffic.is_open number) (sym (append_assoc before (Reply m frame ∷ []) ts)) ∙ rest.1)
+    (rw (closed, and-false (eqb m number), rest.0) refl, ap (traffic.is_open number) (sym (append_assoc before (Reply m frame ∷ []) ts)) ∙ rest.1)
 never_came ecu buffer number before (Closed m ∷ ts) closed none =
     let still : traffic.is_open number (before ++ Closed m ∷ []) ≡ false = is_open-one number before (Closed m) ∙ rw closed (cond_same (eqb m number) false) in
     let rest = never_came ecu buffer number (before ++ Closed m ∷ []) ts still none in
@@ -454,7 +435,7 @@ comes-follows new number ts taken hub is numbered outbox frames bytes replies = 
       untouched t (is.streams place client was) (rw other refl) other refl
   by_place place client there (inl past) =
       let last : place ≡ length hub.clients = omega (arith, past.1, longer, slice_get_within (hub.clients ++ new ∷ []) place client there) in
-      let it : new ≡ client = one_of (sym (slice_get-append_right hub.clients (new ∷ []) place 0 (omega (arith, last))) ∙ there) in
+      let it : new ≡ client = some_is (sym (slice_get-append_right hub.clients (new ∷ []) place 0 (omega (arith, last))) ∙ there) in
       let its : number ≡ place + 1 = omega (arith, numbered, last) in
       subst (λ n. IsStream hub.ecu hub.buffer (ts ++ t ∷ []) (taken n) n client) its (subst (λ c. IsStream hub.ecu hub.buffer (ts ++ t ∷ []) (taken number) number c) it new_stream)
 
@@ -507,7 +488,7 @@ took-follows count number old ts taken hub is found fits = record {
   by_place : (place : ℕ) (client : Client) → slice_get (slice_set hub.clients number (without count old)) place ≡ Some client
       → ((eqb place number ≡ true) × (place ≡ number)) ⊎ ((eqb place number ≡ false) × (place ≢ number)) → IsStream hub.ecu hub.buffer ts (more (place + 1)) (place + 1) client
   by_place place client there (inl e) =
-      let now : without count old ≡ client = one_of (sym (slice_get-set_same hub.clients number (without count old) (slice_get_within hub.clients number old found)) ∙ ap (slice_get (slice_set hub.clients number (without count old))) (sym e.1) ∙ there) in
+      let now : without count old ≡ client = some_is (sym (slice_get-set_same hub.clients number (without count old) (slice_get_within hub.clients number old found)) ∙ ap (slice_get (slice_set hub.clients number (without count old))) (sym e.1) ∙ there) in
       subst (λ n. IsStream hub.ecu hub.buffer ts (more (n + 1)) (n + 1) client) (sym e.1) (subst (λ c. IsStream hub.ecu hub.buffer ts (more (number + 1)) (number + 1) c) now stream)
   by_place place client there (inr other) =
       let was = sym (slice_get-set_other hub.clients number place (without count old) other.1) ∙ there in

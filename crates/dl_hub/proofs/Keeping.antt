@@ -9,6 +9,7 @@ use Rattle.std.proofs.lemmas.List.Elements.{All-set, All-map, All-append, All-co
 use Rattle.std.proofs.lemmas.List.Sums.{sum_by-cons}
 use Rattle.std.proofs.lemmas.Bool.{le-leb}
 use Rattle.std.proofs.lemmas.Bool.Decides.{nat_tests, leb_tells}
+use Rattle.dl_lemmas.proofs.Bools.{both}
 use Rattle.dl_model.specs.Backlog.{outbox_limit}
 use Rattle.dl_hub.specs.State.{Client, Waiting, Stored, Hub, hub_of, stored, keeps, emptied, with_frame, with_reply, without, shut, is_open, takes, outbox_of, EachHasRoom, changed}
 use Rattle.dl_hub.specs.Kept.{Fits, IsBounded, IsFree}
@@ -232,10 +233,6 @@ all_room more hub rooms = λ k d below.
     each_room more hub k (get_or hub.clients k d) rooms (slice_get_or hub.clients k d below)
 
 -- ---- room, as a test
-
-both : (a b : Bool) → (a && b) ≡ true → (a ≡ true) × (b ≡ true)
-both true b e = (refl, e)
-both false b e = absurd cc
 
 each_passes : {A : Type 0} (p : A → Bool) (xs : List A) (k : ℕ) (x : A) → list_all p xs ≡ true → slice_get xs k ≡ Some x → p x ≡ true
 each_passes p [] k x all is = absurd cc

@@ -7,12 +7,13 @@ use Rattle.std.proofs.lemmas.Option.{slice_get_within}
 use Rattle.std.proofs.lemmas.Bool.Decides.{nat_tests}
 use Rattle.std.proofs.Math.Seq.{take-add}
 use Rattle.circular_buffer.proofs.Places.{slice_get-set_same}
-use Rattle.dl_outside.specs.Outside.{Grows, Stays}
+use Rattle.dl_lemmas.proofs.Options.{some_is}
+use Rattle.dl_outside.specs.Outside.{Grows}
+use Rattle.dl_outside.proofs.Staying.{stays_both, stays_same}
 use Rattle.dl_hub.specs.State.{Client, Waiting, Hub, outbox_of, changed, without, consumed}
 use Rattle.dl_outside.specs.Told.{LinkTold}
 use Rattle.dl_hub.specs.Pumping.{Pumps, IsOnlySent}
 use Rattle.dl_hub.proofs.Keeping.{found, changed_at}
-use Rattle.dl_hub.proofs.Following.{one_of}
 use Rattle.dl_hub.proofs.Calls.{some_and}
 
 set_again : {A : Type 0} (xs : List A) (i : ℕ) (a b : A) → slice_set (slice_set xs i a) i b ≡ slice_set xs i b
@@ -22,7 +23,7 @@ set_again (x ∷ xs) (suc i) a b = ap (λ ys. x ∷ ys) (set_again xs i a b)
 
 set_same : {A : Type 0} (xs : List A) (i : ℕ) (a : A) → slice_get xs i ≡ Some a → slice_set xs i a ≡ xs
 set_same [] i a is = refl
-set_same (x ∷ xs) zero a is = ap (λ y. y ∷ xs) (sym (one_of is))
+set_same (x ∷ xs) zero a is = ap (λ y. y ∷ xs) (sym (some_is is))
 set_same (x ∷ xs) (suc i) a is = ap (λ ys. x ∷ ys) (set_same xs i a is)
 
 drop_again : {A : Type 0} (n m : ℕ) (xs : List A) → drop m (drop n xs) ≡ drop (n + m) xs
@@ -51,12 +52,12 @@ nothing-sent number hub link there =
     let it = found hub number there in
     record {
       count = 0;
-      sent = rw it.5 (omega arith, stays link.taken);
+      sent = rw it.5 (omega arith, stays_same link.taken);
       left = sym (changed_at hub number (without 0) it.0 it.4 it.2 ∙ ap (λ cs. record hub { clients = cs }) (ap (slice_set hub.clients (number - 1)) (nothing it.0) ∙ set_same hub.clients (number - 1) it.0 it.2));
     } where
-      stays : (o : Option (List ℕ)) → Grows o o []
-      stays None = tt {0}
-      stays (Some b) = ap Some (sym (append-nil b))
+      stays_same : (o : Option (List ℕ)) → Grows o o []
+      stays_same None = tt {0}
+      stays_same (Some b) = ap Some (sym (append-nil b))
 
 grow : (t0 t1 t2 : Option (List ℕ)) (xs ys : List ℕ) → Grows t0 t1 xs → Grows t1 t2 ys → Grows t0 t2 (xs ++ ys)
 grow None t1 t2 xs ys a b = tt {0}
@@ -72,7 +73,7 @@ look b client = option_and_then (λ c. c.outbox) (cond b None client)
 pub outbox-after : (number count : ℕ) (hub : Hub) (w : Waiting) → outbox_of hub number ≡ Some w → outbox_of (changed number (without count) hub) number ≡ Some (consumed count w)
 outbox-after number count hub w is =
     let it = found hub number (some_of (outbox_of hub number) w is) in
-    let same : it.1 ≡ w = one_of (sym it.5 ∙ is) in
+    let same : it.1 ≡ w = some_is (sym it.5 ∙ is) in
     let not_zero : eqb number 0 ≡ false = grind (arith, nat_tests, it.4) in
     let its : option_map (consumed count) it.0.outbox ≡ Some (consumed count w) = rw (it.3, same) refl in
     ap (λ h. outbox_of h number) (changed_at hub number (without count) it.0 it.4 it.2)
@@ -113,24 +114,16 @@ more-sent number n old mid new l0 l1 l2 piece pumped there front fits some grown
       at_most : (xs ys : List ℕ) → xs ≡ take (length xs) ys → length xs ≤ length ys
       at_most xs ys e = omega (arith, ap length e, length-take (length xs) ys)
 
-still_stays : {A : Type 0} (a b c : Option A) → Stays a b → Stays b c → Stays a c
-still_stays None b c h k = tt {0}
-still_stays (Some x) b c h k = subst (λ o. Stays o c) h k
-
-stays : {A : Type 0} (o : Option A) → Stays o o
-stays None = tt {0}
-stays (Some x) = refl
-
 -- ---- what else a link tells
 
 pub only_sent : (link : LinkTold) → IsOnlySent link link
-only_sent link = record { left = stays link.left; over = λ is_over. is_over; given = stays link.given; idles = refl; shut = refl }
+only_sent link = record { left = stays_same link.left; over = λ is_over. is_over; given = stays_same link.given; idles = refl; shut = refl }
 
 pub only_sent-later : (a b c : LinkTold) → IsOnlySent a b → IsOnlySent b c → IsOnlySent a c
 only_sent-later a b c first later = record {
-  left = still_stays a.left b.left c.left first.left later.left;
+  left = stays_both a.left b.left c.left first.left later.left;
   over = λ is_over. later.over (first.over is_over);
-  given = still_stays a.given b.given c.given first.given later.given;
+  given = stays_both a.given b.given c.given first.given later.given;
   idles = later.idles ∙ first.idles;
   shut = later.shut ∙ first.shut;
 }

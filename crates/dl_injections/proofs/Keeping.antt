@@ -14,6 +14,7 @@ use Rattle.dl_bytes.specs.declared.item.Injection.{Injection}
 use Rattle.dl_thread_rules.specs.Views.{Each, total, bit}
 use Rattle.dl_thread_rules.proofs.Each.{each_set, each_put, each_snoc, each_end, each_one}
 use Rattle.dl_thread_rules.proofs.Totals.{total-set, total-append, total-snoc, total_at, total_alone}
+use Rattle.dl_thread_rules.proofs.Bits.{bit_none, bit_small}
 use Rattle.dl_injections.specs.declared.view.View.{View}
 use Rattle.dl_injections.specs.declared.view.Entry.{Entry}
 use Rattle.dl_injections.specs.Order.{Rises, IsPart, times, times_in, MetEmpty, Rest}
@@ -272,10 +273,6 @@ no_joined : (j : List (List Entry)) → length j ≡ 0 → j ≡ []
 no_joined [] e = refl
 no_joined (x ∷ xs) e = absurd (omega arith)
 
-not_taking : (b : Bool) → bit b ≡ 0 → b ≡ false
-not_taking true e = absurd (omega arith)
-not_taking false e = refl
-
 still_times : (n : ℕ) (v : View) → v.takes ≡ false → times_of n v ≡ times_in n v.joined
 still_times n v b = ap (λ (c : Bool). cond c (times n v.taken) 0 + times_in n v.joined) b ∙ zero-add (times_in n v.joined)
 
@@ -283,10 +280,10 @@ still_takes : (v : View) → v.takes ≡ false → takes_of v ≡ total length v
 still_takes v b = ap (λ (c : Bool). cond c (length v.taken) 0 + total length v.joined) b ∙ zero-add (total length v.joined)
 
 idle_times : (n : ℕ) (v : View) → takers v ≡ 0 → times_of n v ≡ 0
-idle_times n v e = still_times n v (not_taking v.takes (omega arith)) ∙ ap (times_in n) (no_joined v.joined (omega arith))
+idle_times n v e = still_times n v (bit_none v.takes (omega arith)) ∙ ap (times_in n) (no_joined v.joined (omega arith))
 
 idle_takes : (v : View) → takers v ≡ 0 → takes_of v ≡ 0
-idle_takes v e = still_takes v (not_taking v.takes (omega arith)) ∙ ap (total length) (no_joined v.joined (omega arith))
+idle_takes v e = still_takes v (bit_none v.takes (omega arith)) ∙ ap (total length) (no_joined v.joined (omega arith))
 
 -- what holds of each pass's list holds of all
 list_by : (P : List Entry → Type 0) (b : Bool) (list : List Entry) → (b ≡ true → P list) → All P (cond b (list ∷ []) [])
@@ -330,10 +327,6 @@ empties id v may items views k at none =
           omega arith);
     }
 
-bit_small : (b : Bool) → bit b ≤ 1
-bit_small true = omega arith
-bit_small false = omega arith
-
 -- what is below, with as much added on both sides
 shift_by : (n front l all : ℕ) → all ≡ front + l → (b : Bool) → nat_lt n front ≡ b → bit b ≡ bit (nat_lt (n + l) all)
 shift_by n front l all is true e = let h = ltb-true n front e in sym (ap bit (lt-ltb (n + l) all (omega arith)))
@@ -359,7 +352,7 @@ rests id v may items views k at =
           (let splits : v.splits ≡ k.splits = (mine.gives first).1 in
           let live = k.live in
           let one = total_at takers views id v at in
-          let idle : v.takes ≡ false = not_taking v.takes (omega arith) in
+          let idle : v.takes ≡ false = bit_none v.takes (omega arith) in
           let alone : total takers views ≡ takers v = omega arith in
           record {
             once = λ n.
@@ -409,7 +402,7 @@ gives_now : (b c : Bool) (id other giver mine theirs splits : ℕ) → (b ≡ tr
 gives_now true c id other giver mine theirs splits t m e = (refl, (t refl).1)
 gives_now false c id other giver mine theirs splits t m e = m e
 
-gives_else : (b : Bool) (id other giver j : ℕ) → (b ≡ true → other ≡ giver) → j ≢ other → j ≡ giver → j ≡ cond b id giver
+pub gives_else : (b : Bool) (id other giver j : ℕ) → (b ≡ true → other ≡ giver) → j ≢ other → j ≡ giver → j ≡ cond b id giver
 gives_else true id other giver j t apart e = absurd (apart (e ∙ sym (t refl)))
 gives_else false id other giver j t apart e = e
 

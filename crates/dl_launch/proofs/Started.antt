@@ -5,6 +5,7 @@ use Rattle.std.proofs.lemmas.List.{length-take, take-append-drop, take_more}
 use Rattle.dl_outside.specs.Outside.{HasRisen, Stays}
 use Rattle.dl_outside.specs.Told.{NetTold}
 use Rattle.dl_outside.specs.declared.client.ClientScript.{ClientScript}
+use Rattle.dl_outside.proofs.Staying.{stays_both}
 use Rattle.dl_launch.specs.Launching.{AreStarted, HasRisenBy, Launched, LaunchedFront}
 use Rattle.dl_lemmas.proofs.Options.{if_some_of}
 
@@ -34,10 +35,6 @@ few_started (first ∷ all) started failed are = elim are [
 ]
 
 -- ---- what the net tells
-
-stays_on : {A : Type 0} → (old mid new : Option A) → Stays old mid → Stays mid new → Stays old new
-stays_on None mid new a b = tt
-stays_on (Some x) mid new a b = if_some_of mid x (λ told. new ≡ Some told) a b
 
 -- a list that grew, and stays or grows again
 grew_stays : {A : Type 0} → (old mid new : Option (List A)) (more : List A) → IfSome old (λ before. mid ≡ Some (before ++ more)) → Stays mid new → IfSome old (λ before. new ≡ Some (before ++ more))
@@ -76,7 +73,7 @@ launched_one scripts script old mid new count so_far launched waiting listens fa
   counted = ap (λ (n : ℕ). n + 1) so_far.counted ∙ sym (length-append so_far.started (script ∷ []));
   launched = grew_one old.launched mid.launched new.launched so_far.started script so_far.launched launched;
   waiting = waits_one old.waiting mid.waiting new.waiting count so_far.waiting waiting;
-  listens = stays_on old.listens_on mid.listens_on new.listens_on so_far.listens listens;
+  listens = stays_both old.listens_on mid.listens_on new.listens_on so_far.listens listens;
   faults = subst (HasRisenBy so_far.failed old.faults) (sym faults) so_far.faults;
 }
 
@@ -89,7 +86,7 @@ launched_fault scripts script old mid new count so_far launched waiting listens 
   counted = so_far.counted;
   launched = grew_stays old.launched mid.launched new.launched so_far.started so_far.launched launched;
   waiting = waits_stays old.waiting mid.waiting new.waiting count so_far.waiting waiting;
-  listens = stays_on old.listens_on mid.listens_on new.listens_on so_far.listens listens;
+  listens = stays_both old.listens_on mid.listens_on new.listens_on so_far.listens listens;
   faults = record {
     never_falls = omega (arith, so_far.faults.never_falls, faults.0);
     rose = omega (arith, so_far.faults.rose, faults.1);
@@ -107,7 +104,7 @@ launched_no_more scripts old mid new count so_far launched waiting listens fault
   counted = so_far.counted;
   launched = grew_stays old.launched mid.launched new.launched so_far.started so_far.launched launched;
   waiting = waits_stays old.waiting mid.waiting new.waiting count so_far.waiting waiting;
-  listens = stays_on old.listens_on mid.listens_on new.listens_on so_far.listens listens;
+  listens = stays_both old.listens_on mid.listens_on new.listens_on so_far.listens listens;
   faults = subst (HasRisenBy so_far.failed old.faults) (sym faults) so_far.faults;
 }
 

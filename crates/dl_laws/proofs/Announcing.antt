@@ -5,11 +5,12 @@ use Rattle.std.specs.List.{filter, filter_map}
 use Rattle.std.proofs.lemmas.List.{append-nil}
 use Rattle.std.proofs.lemmas.List.Elements.{filter-append, filter_map-append}
 use Rattle.std.proofs.lemmas.Option.{slice_get_past}
+use Rattle.std.proofs.lemmas.Bool.{eqb-true}
 use Rattle.dl_bytes.specs.Claim.{Claimed}
 use Rattle.dl_model.specs.Setting.{Setting}
 use Rattle.dl_model.specs.Marks.{Mark, HasClaim, Announced, claim_of, announced_of, claims_of, announced_by, to_announce}
 use Rattle.dl_model.specs.Runs.{RestsOn, AreFounded}
-use Rattle.dl_laws.proofs.RunLaws.{holds_after, same_app}
+use Rattle.dl_laws.proofs.RunLaws.{holds_after}
 
 -- the first of a list, with those behind them
 abbrev pub Leads : List Claimed → List Claimed → Type 0
@@ -52,7 +53,7 @@ leads_by setting writer done (HasClaim c) rests leads = leads_still (announced_b
 leads_by setting writer done (Announced c) rests leads = by_test (eqb c.writer writer) refl where
   by_test : (b : Bool) → eqb c.writer writer ≡ b → Leads (announced_by writer done ++ cond b (c ∷ []) []) (claims_of writer done ++ [])
   by_test true e =
-      leads_next (announced_by writer done) (claims_of writer done) c leads (subst (λ (w : ℕ). to_announce w done ≡ Some c) (same_app c.writer writer e) rests.0)
+      leads_next (announced_by writer done) (claims_of writer done) c leads (subst (λ (w : ℕ). to_announce w done ≡ Some c) (eqb-true c.writer writer e) rests.0)
   by_test false e = leads_still (announced_by writer done) (claims_of writer done) [] leads
 leads_by setting writer done _ rests leads = leads_still (announced_by writer done) (claims_of writer done) [] leads
 

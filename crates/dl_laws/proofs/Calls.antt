@@ -1,10 +1,12 @@
 -- The calls of a writer are numbered from 1, and none is missing.
-use Rattle.std.proofs.Common.{◌≡◌, ℕ, zero, suc, ◌+◌, Bool, true, false, cond, eqb, List, [], ◌∷◌, ◌++◌, Option, Some, None, refl, sym, ap, subst, ◌∙◌, arith}
+use Rattle.std.proofs.Common.{◌≡◌, ℕ, ◌+◌, Bool, true, false, cond, eqb, List, [], ◌∷◌, ◌++◌, Option, Some, None, refl, sym, ap, subst, ◌∙◌, arith}
 use Rattle.std.specs.Prelude.{count_by, map}
 use Rattle.std.specs.List.{filter, filter_map, range_with_len}
 use Rattle.std.specs.Option.{option_and_then}
 use Rattle.std.proofs.lemmas.List.{append-nil, map-append}
 use Rattle.std.proofs.lemmas.List.Elements.{filter-append, filter_map-append}
+use Rattle.std.proofs.lemmas.Bool.{eqb-true}
+use Rattle.dl_lemmas.proofs.Lists.{range-one}
 use Rattle.dl_events.specs.declared.record.Record.{Record}
 use Rattle.dl_events.specs.declared.record.Answer.TheVariants as answer
 use Rattle.dl_model.specs.Along.{last_that}
@@ -13,14 +15,7 @@ use Rattle.dl_model.specs.Marks.{Call, Mark, Filtered, Passed, Queued, Refused, 
 use Rattle.dl_model.specs.Runs.{RestsOn, AreFounded}
 use Rattle.dl_laws.proofs.Lists.{last_that-one, count_by-append}
 use Rattle.dl_laws.proofs.Founded.{passed_is, refused_is, last_step}
-use Rattle.dl_laws.proofs.RunLaws.{holds_after, same_app}
-
-range-one : (a n : ℕ) → range_with_len a (n + 1) ≡ range_with_len a n ++ (a + n) ∷ []
-range-one a zero = ap (λ (x : ℕ). x ∷ []) (omega arith)
-range-one a (suc n) =
-    let count : suc n + 1 ≡ suc (n + 1) = omega arith in
-    let last : a + 1 + n ≡ a + suc n = omega arith in
-    ap (range_with_len a) count ∙ ap (λ (xs : List ℕ). a ∷ xs) (range-one (a + 1) n ∙ ap (λ (x : ℕ). range_with_len (a + 1) n ++ x ∷ []) last)
+use Rattle.dl_laws.proofs.RunLaws.{holds_after}
 
 abbrev open_numbers : Option Mark → List ℕ
 open_numbers o = map (λ (c : Call). c.item.call) (opened_call o)
@@ -88,7 +83,7 @@ numbered_by setting writer done (Filtered c) rests is = by_test (eqb c.item.writ
   by_test : (b : Bool) → eqb c.item.writer writer ≡ b →
       Numbered writer (records_of writer done ++ cond b (recorded c answer.Filtered ∷ []) []) (cond b (Some (Filtered c)) (last_that (is_step_of writer) done)) (calls_of writer done + count_by is_load (cond b (Filtered c ∷ []) []))
   by_test true e =
-      let same = same_app c.item.writer writer e in
+      let same = eqb-true c.item.writer writer e in
       let shut = open_none (last_that (is_step_of writer) done) (subst (λ w. to_push w done ≡ None) same rests.0.none_to_push) (subst (λ w. to_count w done ≡ None) same rests.0.none_to_count) in
       as_record (records_of writer done) (recorded c answer.Filtered)
       ∙ begun (records_of writer done) (calls_of writer done) c.item.call (last_that (is_step_of writer) done) shut is (subst (λ w. c.item.call ≡ 1 + calls_of w done) same rests.0.number)
@@ -97,7 +92,7 @@ numbered_by setting writer done (Passed c) rests is = by_test (eqb c.item.writer
   by_test : (b : Bool) → eqb c.item.writer writer ≡ b →
       Numbered writer (records_of writer done ++ []) (cond b (Some (Passed c)) (last_that (is_step_of writer) done)) (calls_of writer done + count_by is_load (cond b (Passed c ∷ []) []))
   by_test true e =
-      let same = same_app c.item.writer writer e in
+      let same = eqb-true c.item.writer writer e in
       let shut = open_none (last_that (is_step_of writer) done) (subst (λ w. to_push w done ≡ None) same rests.0.none_to_push) (subst (λ w. to_count w done ≡ None) same rests.0.none_to_count) in
       as_open (records_of writer done) c.item.call
       ∙ begun (records_of writer done) (calls_of writer done) c.item.call (last_that (is_step_of writer) done) shut is (subst (λ w. c.item.call ≡ 1 + calls_of w done) same rests.0.number)
@@ -106,7 +101,7 @@ numbered_by setting writer done (Queued c) rests is = by_test (eqb c.item.writer
   by_test : (b : Bool) → eqb c.item.writer writer ≡ b →
       Numbered writer (records_of writer done ++ cond b (recorded c answer.Queued ∷ []) []) (cond b (Some (Queued c)) (last_that (is_step_of writer) done)) (calls_of writer done + count_by is_load (cond b (Queued c ∷ []) []))
   by_test true e =
-      let same = same_app c.item.writer writer e in
+      let same = eqb-true c.item.writer writer e in
       let there = open_push (last_that (is_step_of writer) done) c (subst (λ w. to_push w done ≡ Some c) same rests.0) in
       as_record (records_of writer done) (recorded c answer.Queued) ∙ ended (records_of writer done) (calls_of writer done) c.item.call (last_that (is_step_of writer) done) there is
   by_test false e = passes_by (records_of writer done) (last_that (is_step_of writer) done) (calls_of writer done) writer is
@@ -114,7 +109,7 @@ numbered_by setting writer done (Refused c) rests is = by_test (eqb c.item.write
   by_test : (b : Bool) → eqb c.item.writer writer ≡ b →
       Numbered writer (records_of writer done ++ []) (cond b (Some (Refused c)) (last_that (is_step_of writer) done)) (calls_of writer done + count_by is_load (cond b (Refused c ∷ []) []))
   by_test true e =
-      let same = same_app c.item.writer writer e in
+      let same = eqb-true c.item.writer writer e in
       let there = open_push (last_that (is_step_of writer) done) c (subst (λ w. to_push w done ≡ Some c) same rests.0) in
       as_open (records_of writer done) c.item.call ∙ ended (records_of writer done) (calls_of writer done) c.item.call (last_that (is_step_of writer) done) there is
   by_test false e = passes_by (records_of writer done) (last_that (is_step_of writer) done) (calls_of writer done) writer is
@@ -122,7 +117,7 @@ numbered_by setting writer done (Counted c) rests is = by_test (eqb c.item.write
   by_test : (b : Bool) → eqb c.item.writer writer ≡ b →
       Numbered writer (records_of writer done ++ cond b (recorded c answer.Lost ∷ []) []) (cond b (Some (Counted c)) (last_that (is_step_of writer) done)) (calls_of writer done + count_by is_load (cond b (Counted c ∷ []) []))
   by_test true e =
-      let same = same_app c.item.writer writer e in
+      let same = eqb-true c.item.writer writer e in
       let there = open_count (last_that (is_step_of writer) done) c (subst (λ w. to_count w done ≡ Some c) same rests) in
       as_record (records_of writer done) (recorded c answer.Lost) ∙ ended (records_of writer done) (calls_of writer done) c.item.call (last_that (is_step_of writer) done) there is
   by_test false e = passes_by (records_of writer done) (last_that (is_step_of writer) done) (calls_of writer done) writer is

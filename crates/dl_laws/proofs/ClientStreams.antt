@@ -12,6 +12,9 @@ use Rattle.std.proofs.lemmas.List.Sums.{sum_by-cons}
 use Rattle.std.specs.Prelude.{map}
 use Rattle.std.specs.List.{flat_map}
 use Rattle.std.proofs.lemmas.List.Concat.{flat_map-cons}
+use Rattle.std.proofs.lemmas.Bool.{eqb-true}
+use Rattle.std.proofs.Math.Bool.{and-false}
+use Rattle.dl_lemmas.proofs.Bools.{cond_same, neither}
 use Rattle.dl_events.specs.declared.event.Event.{Event}
 use Rattle.dl_events.specs.declared.event.Event.TheVariants as event
 use Rattle.dl_model.specs.Frames.{FrameSource, frames_of, admitted}
@@ -37,10 +40,6 @@ or_last : (a b : Bool) → b ≡ true → (a || (b || false)) ≡ true
 or_last true b e = refl
 or_last false true e = refl
 or_last false false e = absurd cc
-
-cond_same : {A : Type 0} (b : Bool) (x : A) → cond b x x ≡ x
-cond_same true x = refl
-cond_same false x = refl
 
 pub same_number : (n : ℕ) → eqb n n ≡ true
 same_number n = grind (arith, nat_tests)
@@ -113,10 +112,6 @@ fitting-one limit (x ∷ frames) frame = by_test (leb_tells (length x) limit) (f
 
 -- ---- one client's stream
 
-none_of : (a b : Bool) → (a || b) ≡ false → (a ≡ false) × (b ≡ false)
-none_of true b e = absurd cc
-none_of false b e = (refl, e)
-
 or_swap : (a b : Bool) → (a || (b || false)) ≡ (b || a)
 or_swap true true = refl
 or_swap true false = refl
@@ -130,17 +125,13 @@ any_reverse p (x ∷ xs) = ap (list_any p) (reverse-append (x ∷ []) xs) ∙ li
 find_none : {X : Type 0} (p : X → Bool) (xs : List X) → list_any p xs ≡ false → find p xs ≡ None
 find_none p [] none = refl
 find_none p (x ∷ xs) none =
-    let parts = none_of (p x) (list_any p xs) none in
+    let parts = neither (p x) (list_any p xs) none in
     rw (parts.0, find_none p xs parts.1) refl
 
-and_false : (a : Bool) → (a && false) ≡ false
-and_false true = refl
-and_false false = refl
-
-puts_nothing : (ecu : List ℕ) (buffer client : ℕ) (before : List Traffic) (t : Traffic) → is_open client before ≡ false → comes_or_goes client t ≡ false → put ecu buffer client before t ≡ []
+pub puts_nothing : (ecu : List ℕ) (buffer client : ℕ) (before : List Traffic) (t : Traffic) → is_open client before ≡ false → comes_or_goes client t ≡ false → put ecu buffer client before t ≡ []
 puts_nothing ecu buffer client before (Connected other) shut none = rw none refl
 puts_nothing ecu buffer client before (Admitted frame) shut none = rw shut refl
-puts_nothing ecu buffer client before (Reply other frame) shut none = rw (shut, and_false (eqb other client)) refl
+puts_nothing ecu buffer client before (Reply other frame) shut none = rw (shut, and-false (eqb other client)) refl
 puts_nothing ecu buffer client before (Closed other) shut none = refl
 
 puts_meant : (ecu : List ℕ) (buffer client : ℕ) (before : List Traffic) (t : Traffic) → is_open client before ≡ true → comes_or_goes client t ≡ false →
@@ -154,13 +145,13 @@ puts_meant ecu buffer client before (Reply other frame) there none = rw there (b
 puts_meant ecu buffer client before (Closed other) there none = refl
 
 -- from where it is closed on, until it comes: nothing
-quiet : (ecu : List ℕ) (buffer client : ℕ) (before ts : List Traffic) → is_open client before ≡ false → list_any (comes_or_goes client) ts ≡ false →
+pub all_quiet : (ecu : List ℕ) (buffer client : ℕ) (before ts : List Traffic) → is_open client before ≡ false → list_any (comes_or_goes client) ts ≡ false →
     along_from (put ecu buffer client) before ts ≡ []
-quiet ecu buffer client before [] shut none = refl
-quiet ecu buffer client before (t ∷ ts) shut none =
-    let parts = none_of (comes_or_goes client t) (list_any (comes_or_goes client) ts) none in
+all_quiet ecu buffer client before [] shut none = refl
+all_quiet ecu buffer client before (t ∷ ts) shut none =
+    let parts = neither (comes_or_goes client t) (list_any (comes_or_goes client) ts) none in
     let next : is_open client (before ++ t ∷ []) ≡ false = is_open-one client before t ∙ rw parts.0 shut in
-    let later = quiet ecu buffer client (before ++ t ∷ []) ts next parts.1 in
+    let later = all_quiet ecu buffer client (before ++ t ∷ []) ts next parts.1 in
     let now : put ecu buffer client before t ≡ [] = puts_nothing ecu buffer client before t shut parts.0 in
     rw (now, later) refl
 
@@ -169,7 +160,7 @@ during : (ecu : List ℕ) (buffer client : ℕ) (before ts : List Traffic) → i
     along_from (put ecu buffer client) before ts ≡ filter_map (meant_for client) ts
 during ecu buffer client before [] there none = refl
 during ecu buffer client before (t ∷ ts) there none =
-    let parts = none_of (comes_or_goes client t) (list_any (comes_or_goes client) ts) none in
+    let parts = neither (comes_or_goes client t) (list_any (comes_or_goes client) ts) none in
     let next : is_open client (before ++ t ∷ []) ≡ true = is_open-one client before t ∙ rw parts.0 there in
     let later = during ecu buffer client (before ++ t ∷ []) ts next parts.1 in
     let now = puts_meant ecu buffer client before t there parts.0 in
@@ -189,18 +180,22 @@ unbroken ecu buffer client before middle after none_before none_middle none_afte
     let shut : is_open client before ≡ false = shut_before client before none_before in
     let there : is_open client came ≡ true = is_open-one client before (Connected client) ∙ ap (λ b. cond b true (is_open client before)) (same_number client) in
     let left : is_open client gone ≡ false = is_open-one client (came ++ middle) (Closed client) ∙ ap (λ b. cond b false (is_open client (came ++ middle))) (same_number client) in
-    let start : along_from f [] before ≡ [] = quiet ecu buffer client [] before refl none_before in
+    let start : along_from f [] before ≡ [] = all_quiet ecu buffer client [] before refl none_before in
     let stay = during ecu buffer client came middle there none_middle in
-    let end : along_from f gone after ≡ [] = quiet ecu buffer client gone after left none_after in
+    let end : along_from f gone after ≡ [] = all_quiet ecu buffer client gone after left none_after in
     let first : put ecu buffer client before (Connected client) ≡ due_backlog ecu buffer (waiting before) = ap (λ b. cond b (due_backlog ecu buffer (waiting before)) []) (same_number client) in
     along_from-append f [] before (Connected client ∷ (middle ++ Closed client ∷ after))
     ∙ rw (start, first, along_from-append f came middle (Closed client ∷ after), stay, end, append-nil (filter_map (meant_for client) middle)) refl
 
 -- ---- the traffic of a journal
 
-admits_all : (frames : List (List ℕ)) → filter_map frame_of (map Admitted frames) ≡ frames
+pub admits_all : (frames : List (List ℕ)) → filter_map frame_of (map Admitted frames) ≡ frames
 admits_all [] = refl
 admits_all (frame ∷ frames) = ap (λ (fs : List (List ℕ)). frame ∷ fs) (admits_all frames)
+
+pub meant_admit : (client : ℕ) (frames : List (List ℕ)) → filter_map (meant_for client) (map Admitted frames) ≡ frames
+meant_admit client [] = refl
+meant_admit client (frame ∷ frames) = ap (λ (fs : List (List ℕ)). frame ∷ fs) (meant_admit client frames)
 
 admits_of : (source : FrameSource) (before : List Event) (e : Event) → filter_map frame_of (traffic_of source before e) ≡ frames_of source e
 admits_of source before (event.Connect client) = refl
@@ -229,9 +224,6 @@ any_one {A = A} p (x ∷ xs) e = by_test (p x) refl e (any_one p xs) where
   by_test : (b : Bool) → p x ≡ b → (b || list_any p xs) ≡ true → (list_any p xs ≡ true → (y : A) × (p y ≡ true)) → (y : A) × (p y ≡ true)
   by_test true is e later = (x, is)
   by_test false is e later = later e
-
-same_by : (a b : ℕ) → eqb a b ≡ true → a ≡ b
-same_by a b e = grind (arith, nat_tests)
 
 or_second : (a b : Bool) → b ≡ true → (a || b) ≡ true
 or_second true b e = refl
@@ -278,6 +270,6 @@ came_from client before (t ∷ ts) came there =
 pub any_open : (ts : List Traffic) → (is_any_open ts ≡ true → (client : ℕ) × (is_open client ts ≡ true)) × ((client : ℕ) → is_open client ts ≡ true → is_any_open ts ≡ true)
 any_open ts = (
   any_one (λ c. is_open c ts) (clients ts),
-  λ client there. any_where (λ d. eqb d client) (λ c. is_open c ts) (λ d e. ap (λ c. is_open c ts) (same_by d client e) ∙ there) (clients ts)
+  λ client there. any_where (λ d. eqb d client) (λ c. is_open c ts) (λ d e. ap (λ c. is_open c ts) (eqb-true d client e) ∙ there) (clients ts)
       (came_from client [] ts (λ e. absurd cc) there),
 )

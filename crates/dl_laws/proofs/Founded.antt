@@ -6,6 +6,8 @@ use Rattle.std.specs.Option.{option_and_then}
 use Rattle.std.proofs.lemmas.List.{append-nil}
 use Rattle.std.proofs.lemmas.List.Elements.{filter_map-append}
 use Rattle.std.proofs.lemmas.Bool.Decides.{nat_tests}
+use Rattle.std.proofs.lemmas.Bool.{eqb-true}
+use Rattle.dl_lemmas.proofs.Options.{same_thing}
 use Rattle.dl_bytes.specs.Claim.{Claimed}
 use Rattle.dl_bytes.specs.Limits.{message_limit}
 use Rattle.dl_bytes.specs.Level.{passes}
@@ -117,36 +119,30 @@ note_founded setting make done rests =
 none_some : {A B : Type 0} (x : A) → ◌≡◌ {A = Option A} None (Some x) → B
 none_some x e = absurd cc
 
-some_is : {A : Type 0} (x y : A) → ◌≡◌ {A = Option A} (Some x) (Some y) → x ≡ y
-some_is x y e = cc
-
 -- the last step of a writer's call, where it let the call through, or the ring refused it
 pub passed_is : (mark : Mark) (c : Call) → passed mark ≡ Some c → mark ≡ Passed c
-passed_is (Passed d) c e = ap Passed (some_is d c e)
+passed_is (Passed d) c e = ap Passed (same_thing d c e)
 passed_is _ c e = none_some c e
 
 pub refused_is : (mark : Mark) (c : Call) → refused mark ≡ Some c → mark ≡ Refused c
-refused_is (Refused d) c e = ap Refused (some_is d c e)
+refused_is (Refused d) c e = ap Refused (same_thing d c e)
 refused_is _ c e = none_some c e
 
 pub last_step : (f : Mark → Option Call) (o : Option Mark) (c : Call) → option_and_then f o ≡ Some c → (mark : Mark) × (o ≡ Some mark) × (f mark ≡ Some c)
 last_step f None c e = none_some c e
 last_step f (Some mark) c e = (mark, refl, e)
 
-same_by : (a b : ℕ) → eqb a b ≡ true → a ≡ b
-same_by a b e = grind (arith, nat_tests)
-
-pushes_own : (writer : ℕ) (done : List Mark) (c : Call) → to_push writer done ≡ Some c → c.item.writer ≡ writer
+pub pushes_own : (writer : ℕ) (done : List Mark) (c : Call) → to_push writer done ≡ Some c → c.item.writer ≡ writer
 pushes_own writer done c e =
     let last = last_step passed (last_that (is_step_of writer) done) c e in
     let is = find-passes (is_step_of writer) (reverse done) last.0 last.1 in
-    same_by c.item.writer writer (subst (λ m. is_step_of writer m ≡ true) (passed_is last.0 c last.2) is)
+    eqb-true c.item.writer writer (subst (λ m. is_step_of writer m ≡ true) (passed_is last.0 c last.2) is)
 
-counts_own : (writer : ℕ) (done : List Mark) (c : Call) → to_count writer done ≡ Some c → c.item.writer ≡ writer
+pub counts_own : (writer : ℕ) (done : List Mark) (c : Call) → to_count writer done ≡ Some c → c.item.writer ≡ writer
 counts_own writer done c e =
     let last = last_step refused (last_that (is_step_of writer) done) c e in
     let is = find-passes (is_step_of writer) (reverse done) last.0 last.1 in
-    same_by c.item.writer writer (subst (λ m. is_step_of writer m ≡ true) (refused_is last.0 c last.2) is)
+    eqb-true c.item.writer writer (subst (λ m. is_step_of writer m ≡ true) (refused_is last.0 c last.2) is)
 
 push_founded : (setting : Setting) (writer : ℕ) → IsFounded setting (push writer)
 push_founded setting writer done =
@@ -189,7 +185,7 @@ loaded_founded setting call done c no_push no_count e = by_writer (app_of_writer
   by_place : (apid : List ℕ) (app : ℕ) (o : Option ℕ) → (o >>= λ place. Some (made apid app place)) ≡ Some c → IsLoaded setting c done
   by_place apid app None e = none_some c e
   by_place apid app (Some place) e =
-      subst (λ x. IsLoaded setting x done) (some_is (made apid app place) c e) (record { none_to_push = no_push; none_to_count = no_count; number = refl; counter = refl; version = refl; held = refl })
+      subst (λ x. IsLoaded setting x done) (same_thing (made apid app place) c e) (record { none_to_push = no_push; none_to_count = no_count; number = refl; counter = refl; version = refl; held = refl })
 
   by_app : (apid : List ℕ) (o : Option ℕ) → (o >>= λ app. named_place call.writer apid call.ctid done >>= λ place. Some (made apid app place)) ≡ Some c → IsLoaded setting c done
   by_app apid None e = none_some c e
@@ -209,10 +205,10 @@ load_founded setting call done no_push no_count =
 
 -- ---- a writer's call is finished before its next one
 
-step_one : (writer : ℕ) (done : List Mark) (mark : Mark) → is_step_of writer mark ≡ true → last_that (is_step_of writer) (done ++ mark ∷ []) ≡ Some mark
+pub step_one : (writer : ℕ) (done : List Mark) (mark : Mark) → is_step_of writer mark ≡ true → last_that (is_step_of writer) (done ++ mark ∷ []) ≡ Some mark
 step_one writer done mark is = last_that-one (is_step_of writer) done mark ∙ ap (λ b. cond b (Some mark) (last_that (is_step_of writer) done)) is
 
-own_step : (writer : ℕ) (c : Call) → c.item.writer ≡ writer → eqb c.item.writer writer ≡ true
+pub own_step : (writer : ℕ) (c : Call) → c.item.writer ≡ writer → eqb c.item.writer writer ≡ true
 own_step writer c e = grind (arith, nat_tests, e)
 
 pub pushed : (writer : ℕ) (done : List Mark) → to_push writer (done ++ push writer done) ≡ None
@@ -262,7 +258,7 @@ claimed_founded asked done c no_push no_count e = by_writer (app_of_writer asked
   by_app : (apid : List ℕ) → app_of_writer asked.writer done ≡ Some apid → (o : Option ℕ) → number_of apid done ≡ o → (o >>= λ app. Some (made apid app)) ≡ Some c → IsClaimed c done
   by_app apid owner None is e = none_some c e
   by_app apid owner (Some app) is e =
-      subst (λ (x : Claimed). IsClaimed x done) (some_is (made apid app) c e)
+      subst (λ (x : Claimed). IsClaimed x done) (same_thing (made apid app) c e)
       (record { none_to_push = no_push; none_to_count = no_count; apid = apid; owner = owner; number = is; place = refl })
 
   by_writer : (o : Option (List ℕ)) → app_of_writer asked.writer done ≡ o → (o >>= λ apid. number_of apid done >>= λ app. Some (made apid app)) ≡ Some c → IsClaimed c done
@@ -286,13 +282,13 @@ pub kept-passes : {A : Type 0} (p : A → Bool) (xs : List A) (i : ℕ) (x : A) 
 kept-passes p [] i x e = none_some x e
 kept-passes {A = A} p (y ∷ xs) i x e = by_test (p y) refl (λ k. kept-passes p xs k x) i e where
   by_test : (b : Bool) → p y ≡ b → ((k : ℕ) → slice_get (filter p xs) k ≡ Some x → p x ≡ true) → (k : ℕ) → slice_get (cond b (y ∷ filter p xs) (filter p xs)) k ≡ Some x → p x ≡ true
-  by_test true is later zero e = subst (λ (z : A). p z ≡ true) (some_is y x e) is
+  by_test true is later zero e = subst (λ (z : A). p z ≡ true) (same_thing y x e) is
   by_test true is later (suc k) e = later k e
   by_test false is later k e = later k e
 
 announces_own : (writer : ℕ) (done : List Mark) (c : Claimed) → to_announce writer done ≡ Some c → c.writer ≡ writer
 announces_own writer done c e =
-    same_by c.writer writer (kept-passes (λ (claim : Claimed). eqb claim.writer writer) (filter_map claim_of done) (length (announced_by writer done)) c e)
+    eqb-true c.writer writer (kept-passes (λ (claim : Claimed). eqb claim.writer writer) (filter_map claim_of done) (length (announced_by writer done)) c e)
 
 announce_founded : (setting : Setting) (writer : ℕ) → IsFounded setting (announce writer)
 announce_founded setting writer done =
@@ -326,11 +322,11 @@ IsOf app (OfClaim c) = c.app ≡ app
 own_push : (app : ℕ) (mark : Mark) → IfSome (pushed_of app mark) (IsOf app)
 own_push app (Queued c) = by_test (eqb c.item.app app) refl where
   by_test : (b : Bool) → eqb c.item.app app ≡ b → IfSome (cond b (Some (OfCall c)) None) (IsOf app)
-  by_test true e = same_by c.item.app app e
+  by_test true e = eqb-true c.item.app app e
   by_test false e = tt
 own_push app (Announced c) = by_test (eqb c.app app) refl where
   by_test : (b : Bool) → eqb c.app app ≡ b → IfSome (cond b (Some (OfClaim c)) None) (IsOf app)
-  by_test true e = same_by c.app app e
+  by_test true e = eqb-true c.app app e
   by_test false e = tt
 own_push app _ = tt
 
@@ -339,7 +335,7 @@ pushed-own app [] i what e = none_some what e
 pushed-own app (mark ∷ done) i what e = by_push (pushed_of app mark) (own_push app mark) (λ k. pushed-own app done k what) i e where
   by_push : (o : Option Pushed) → IfSome o (IsOf app) → ((k : ℕ) → slice_get (pushes app done) k ≡ Some what → IsOf app what) → (k : ℕ) → slice_get (cons_option o (pushes app done)) k ≡ Some what → IsOf app what
   by_push None own later k e = later k e
-  by_push (Some first) own later zero e = subst (IsOf app) (some_is first what e) own
+  by_push (Some first) own later zero e = subst (IsOf app) (same_thing first what e) own
   by_push (Some first) own later (suc k) e = later k e
 
 -- the event of what is first in a ring

@@ -136,7 +136,7 @@ numbered-at last at [] segment e =
 numbered-at last at (s ∷ segs) segment e =
     ap (λ (fs : List StoredFile). file_of (last + 1) (concat s) ∷ fs) (numbered-at (last + 1) at segs segment (omega (arith, e)))
 
-length-concat : (frames : List (List ℕ)) → length (concat frames) ≡ size_of frames
+pub length-concat : (frames : List (List ℕ)) → length (concat frames) ≡ size_of frames
 length-concat [] = refl
 length-concat (frame ∷ frames) = length-append frame (concat frames) ∙ ap (λ n. length frame + n) (length-concat frames) ∙ sym (sum_by-cons length frame frames)
 

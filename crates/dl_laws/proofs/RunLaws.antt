@@ -1,12 +1,13 @@
 -- What holds of every list of marks that rest on those before them.
-use Rattle.std.proofs.Common.{◌≡◌, ℕ, zero, suc, length-append, ◌+◌, ◌-◌, ◌≤◌, Bool, true, false, cond, eqb, List, [], ◌∷◌, ◌++◌, length, take, Option, Some, None, refl, sym, ap, subst, ◌∙◌, append_assoc, arith}
-use Rattle.std.specs.Prelude.{IfSome, unwrap_or, count_by, sum_by, map, slice_get, not, find, reverse}
+use Rattle.std.proofs.Common.{◌≡◌, ℕ, length-append, ◌+◌, ◌-◌, ◌≤◌, Bool, true, false, cond, eqb, List, [], ◌∷◌, ◌++◌, length, take, Option, Some, None, refl, sym, ap, subst, ◌∙◌, append_assoc, arith}
+use Rattle.std.specs.Prelude.{IfSome, unwrap_or, count_by, sum_by, map, slice_get, not, reverse}
 use Rattle.std.specs.List.{cons_option, filter_map, after_last, last_or, AllByRecursion}
 use Rattle.std.specs.Option.{option_and_then}
-use Rattle.std.proofs.lemmas.List.{append-nil, take-append-le, reverse-append, map-append}
+use Rattle.std.proofs.lemmas.List.{append-nil, take-append-le, map-append}
 use Rattle.std.proofs.lemmas.List.Elements.{filter_map-append}
 use Rattle.std.proofs.lemmas.List.Sums.{sum_by-append}
-use Rattle.std.proofs.lemmas.Bool.Decides.{nat_tests}
+use Rattle.std.proofs.lemmas.Bool.{eqb-true}
+use Rattle.dl_lemmas.proofs.Lists.{all_both, all_found, all_map, all_reverse, get_more, take_next}
 use Rattle.dl_bytes.specs.Claim.{Claimed}
 use Rattle.dl_bytes.specs.Level.{passes}
 use Rattle.dl_events.specs.declared.event.Event.{Event}
@@ -31,9 +32,6 @@ holds_after setting P goes_on before [] holds founded = subst P (sym (append-nil
 holds_after setting P goes_on before (mark ∷ marks) holds founded =
     subst P (append_assoc before (mark ∷ []) marks) (holds_after setting P goes_on (before ++ mark ∷ []) marks (goes_on before mark holds founded.0) founded.1)
 
-same_thing : {A : Type 0} (x y : A) → ◌≡◌ {A = Option A} (Some x) (Some y) → x ≡ y
-same_thing x y e = cc
-
 -- ---- losses
 
 abbrev Told : List Mark → Type 0
@@ -43,15 +41,12 @@ Told done = (app : ℕ) → reported app (journal done) + pending app done ≡ c
 abbrev lost_in : ℕ → Mark → ℕ
 lost_in app mark = sum_by (lost_of app) (filter_map event_of (mark ∷ []))
 
-pub same_app : (a b : ℕ) → eqb a b ≡ true → a ≡ b
-same_app a b e = grind (arith, nat_tests)
-
 told_by : (setting : Setting) (app : ℕ) (done : List Mark) (mark : Mark) → RestsOn setting done mark →
     lost_in app mark + cond (is_lost_of app mark) 0 (pending app done + cond (is_counted_of app mark) 1 0) ≡ pending app done + cond (is_counted_of app mark) 1 0
 told_by setting app done (Noted (event.Lost other n moment)) rests = by_test (eqb other app) refl where
   by_test : (b : Bool) → eqb other app ≡ b → 0 + cond b n 0 + cond b 0 (pending app done + 0) ≡ pending app done + 0
   by_test true e =
-      let same : pending other done ≡ pending app done = ap (λ a. pending a done) (same_app other app e) in
+      let same : pending other done ≡ pending app done = ap (λ a. pending a done) (eqb-true other app e) in
       omega (arith, rests.0, same)
   by_test false e = omega arith
 told_by setting app done _ rests = omega arith
@@ -76,13 +71,6 @@ pub losses_told : (setting : Setting) (marks : List Mark) → AreFounded setting
 losses_told setting marks founded = holds_after setting Told (told_goes_on setting) [] marks (λ _. refl) founded
 
 -- ---- the order of admission
-
-take_next : {A : Type 0} (xs : List A) (i : ℕ) (x : A) → slice_get xs i ≡ Some x → take (i + 1) xs ≡ take i xs ++ x ∷ []
-take_next [] i x e = absurd cc
-take_next (y ∷ xs) zero x e = cc
-take_next {A = A} (y ∷ xs) (suc i) x e =
-    let count : suc i + 1 ≡ suc (i + 1) = omega arith in
-    ap (λ n. take n (y ∷ xs)) count ∙ ap (λ (zs : List A). y ∷ zs) (take_next xs i x e)
 
 -- what was taken so far is the first that was pushed
 abbrev IsFront : List Took → ℕ → List Pushed → Type 0
@@ -123,7 +111,7 @@ front_by setting app done (Noted (event.Log other writer call moment)) rests fro
   here : eqb other app ≡ true → IsFront (takes app (journal done) ++ TookCall writer call ∷ []) (taken app done + 1) (pushes app done ++ [])
   here e =
       let first : slice_get (pushes app done) (taken app done) ≡ Some (OfCall rests.call) =
-      subst (λ a. slice_get (pushes a done) (taken a done) ≡ Some (OfCall rests.call)) (same_app other app e) rests.first in
+      subst (λ a. slice_get (pushes a done) (taken a done) ≡ Some (OfCall rests.call)) (eqb-true other app e) rests.first in
       let is = next_front (takes app (journal done)) (taken app done) (pushes app done) (OfCall rests.call) front first in
       subst (λ w. IsFront (takes app (journal done) ++ TookCall w call ∷ []) (taken app done + 1) (pushes app done ++ [])) rests.writer_is
       (subst (λ n. IsFront (takes app (journal done) ++ TookCall rests.call.item.writer n ∷ []) (taken app done + 1) (pushes app done ++ [])) rests.number_is is)
@@ -136,7 +124,7 @@ front_by setting app done (Noted (event.Claim c moment)) rests front = by_test (
   here : eqb c.app app ≡ true → IsFront (takes app (journal done) ++ TookClaim c ∷ []) (taken app done + 1) (pushes app done ++ [])
   here e =
       next_front (takes app (journal done)) (taken app done) (pushes app done) (OfClaim c) front
-      (subst (λ a. slice_get (pushes a done) (taken a done) ≡ Some (OfClaim c)) (same_app c.app app e) rests)
+      (subst (λ a. slice_get (pushes a done) (taken a done) ≡ Some (OfClaim c)) (eqb-true c.app app e) rests)
 
   by_test : (b : Bool) → eqb c.app app ≡ b →
       IsFront (takes app (journal done) ++ filter_map (λ (o : Option Took). o) (cond b (Some (TookClaim c)) None ∷ [])) (taken app done + (0 + cond b 1 0)) (pushes app done ++ [])
@@ -250,22 +238,6 @@ IsRight (Refused c) = passes c.item.severity c.held ≡ true
 IsRight (Counted c) = passes c.item.severity c.held ≡ true
 IsRight _ = Unit {0}
 
-all_more : {A : Type 0} (P : A → Type 0) (xs ys : List A) → AllByRecursion P xs → AllByRecursion P ys → AllByRecursion P (xs ++ ys)
-all_more P [] ys all more = more
-all_more P (x ∷ xs) ys all more = (all.0, all_more P xs ys all.1 more)
-
-all_reverse : {A : Type 0} (P : A → Type 0) (xs : List A) → AllByRecursion P xs → AllByRecursion P (reverse xs)
-all_reverse P [] all = tt
-all_reverse P (x ∷ xs) all =
-    subst (AllByRecursion P) (sym (reverse-append (x ∷ []) xs)) (all_more P (reverse xs) (x ∷ []) (all_reverse P xs all.1) (all.0, tt))
-
-all_found : {A : Type 0} (P : A → Type 0) (p : A → Bool) (xs : List A) (x : A) → AllByRecursion P xs → find p xs ≡ Some x → P x
-all_found P p [] x all e = absurd cc
-all_found P p (y ∷ xs) x all e = by_test (p y) e (all_found P p xs x all.1) where
-  by_test : (b : Bool) → cond b (Some y) (find p xs) ≡ Some x → (find p xs ≡ Some x → P x) → P x
-  by_test true e later = subst P (same_thing y x e) all.0
-  by_test false e later = later e
-
 right_push : (writer : ℕ) (done : List Mark) (c : Call) → AllByRecursion IsRight done → to_push writer done ≡ Some c → passes c.item.severity c.held ≡ true
 right_push writer done c all e =
     let last = last_step passed (last_that (is_step_of writer) done) c e in
@@ -286,11 +258,6 @@ right_by setting done _ all rests = tt
 
 -- ---- each call holds the level that its slot held at its version
 
-slice_get-more : {A : Type 0} (xs ys : List A) (i : ℕ) (x : A) → slice_get xs i ≡ Some x → slice_get (xs ++ ys) i ≡ Some x
-slice_get-more [] ys i x e = absurd cc
-slice_get-more (y ∷ xs) ys zero x e = e
-slice_get-more (y ∷ xs) ys (suc i) x e = slice_get-more xs ys i x e
-
 last_entry : (x : ℕ) (xs : List ℕ) → slice_get (x ∷ xs) (length xs) ≡ Some (unwrap_or (last_or (Some x) xs) 0)
 last_entry x [] = refl
 last_entry x (y ∷ xs) = last_entry y xs
@@ -302,7 +269,7 @@ holds_more : (first : ℕ) (events more : List Event) (c : Call) → Holds first
 holds_more first events more c holds = (
   holds.0,
   subst (λ h. slice_get h (c.version - first) ≡ Some c.held) (ap (λ (t : List ℕ). 0 ∷ t) (sym (filter_map-append (level_for c.slot) events more)))
-      (slice_get-more (history events c.slot) (filter_map (level_for c.slot) more) (c.version - first) c.held holds.1),
+      (get_more (history events c.slot) (filter_map (level_for c.slot) more) (c.version - first) c.held holds.1),
 )
 
 holds_at : (setting : Setting) (done : List Mark) (c : Call) → IsLoaded setting c done → Holds setting.first (journal done) c
@@ -313,10 +280,6 @@ holds_at setting done c loaded =
 
 abbrev HoldsMark : ℕ → List Event → Mark → Type 0
 HoldsMark first events mark = IfSome (call_of mark) (Holds first events)
-
-all_map : {A : Type 0} (P Q : A → Type 0) → ((x : A) → P x → Q x) → (xs : List A) → AllByRecursion P xs → AllByRecursion Q xs
-all_map P Q f [] all = tt
-all_map P Q f (x ∷ xs) all = (f x all.0, all_map P Q f xs all.1)
 
 mark_more : (first : ℕ) (events more : List Event) (mark : Mark) → HoldsMark first events mark → HoldsMark first (events ++ more) mark
 mark_more first events more mark holds = by_call (call_of mark) holds where
@@ -352,7 +315,7 @@ held_goes_on setting done mark all rests =
     let P = HoldsMark setting.first (journal done) in
     let Q = HoldsMark setting.first (journal done ++ filter_map event_of (mark ∷ [])) in
     let more = all_map P Q (mark_more setting.first (journal done) (filter_map event_of (mark ∷ []))) (done ++ mark ∷ [])
-    (all_more P done (mark ∷ []) all (held_by_mark setting done mark all rests, tt)) in
+    (all_both P done (mark ∷ []) all (held_by_mark setting done mark all rests, tt)) in
     subst (λ events. AllByRecursion (HoldsMark setting.first events) (done ++ mark ∷ [])) (sym (filter_map-append event_of done (mark ∷ []))) more
 
 exact_records : (first : ℕ) (events : List Event) (done : List Mark) → AllByRecursion IsRight done → AllByRecursion (HoldsMark first events) done → AllByRecursion (IsExact first events) (filter_map record_of done)
@@ -368,5 +331,5 @@ exact_records first events (_ ∷ done) right held = exact_records first events 
 pub calls_exact : (setting : Setting) (marks : List Mark) → AreFounded setting [] marks → AllByRecursion (IsExact setting.first (journal marks)) (filter_map record_of marks)
 calls_exact setting marks founded =
     exact_records setting.first (journal marks) marks
-    (holds_after setting (AllByRecursion IsRight) (λ done mark all rests. all_more IsRight done (mark ∷ []) all (right_by setting done mark all rests, tt)) [] marks tt founded)
+    (holds_after setting (AllByRecursion IsRight) (λ done mark all rests. all_both IsRight done (mark ∷ []) all (right_by setting done mark all rests, tt)) [] marks tt founded)
     (holds_after setting (AllHold setting.first) (held_goes_on setting) [] marks tt founded)

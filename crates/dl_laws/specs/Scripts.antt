@@ -10,13 +10,13 @@ use Rattle.dl_events.specs.declared.record.Answer.{Answer}
 use Rattle.dl_script_lines.specs.declared.line.CallLine.{CallLine}
 use Rattle.dl_script_lines.specs.declared.step.LevelEvents.TheVariants.{Later}
 use Rattle.dl_script_lines.specs.declared.step.Step.{Step}
-use Rattle.dl_script_lines.specs.declared.step.Step.TheVariants.{Announce, App, Clock, Context, Levels, Writer, Call, Log, Load, Push, Register, Take, Connect, Bytes}
+use Rattle.dl_script_lines.specs.declared.step.Step.TheVariants.{Announce, App, Clock, Close, Context, Levels, Writer, Call, Log, Load, Push, Register, Take, Connect, Bytes, User}
 use Rattle.dl_model.specs.Marks.{Mark, Passed}
 use Rattle.dl_model.specs.Marks as marks
 use Rattle.dl_model.specs.Setting.{Setting}
 use Rattle.dl_model.specs.Steps.{after_lines}
 use Rattle.dl_model.specs.TraceFiles.{StoredFile}
-use Rattle.dl_model.specs.RegistryExamples.{id, control, query, defaults}
+use Rattle.dl_model.specs.RegistryExamples.{id, control, query, defaults, hex, reset_all, store}
 
 -- the written form of one text argument
 abbrev pub text : List ℕ → Arguments
@@ -52,7 +52,45 @@ log_info at letters = Log (call_line Info at (text letters))
 abbrev pub call_info : ℕ → List ℕ → Step
 call_info at letters = Call (call_line Info at (text letters))
 
+-- a request of client 1, as bytes
+abbrev pub ask : List ℕ → Step
+ask payload = Bytes 1 (query payload)
+
+-- ---- frames
+
+-- the frame of an info call of one letter: its message counter and its moment have a byte each
+abbrev pub frame_of : (mcnt at : ℕ) → List ℕ → List ℕ
+frame_of mcnt at letter =
+    hex (codes "3D") ++ mcnt ∷ hex (codes "00 22 45 43 55 31 00 00 00 01 00 00 00") ++ at ∷ hex (codes "41 01 4C 4F 47 31 54 45 53 54 00 82 00 00 02 00") ++ letter ++ 0 ∷ []
+
+-- the reply to a request that tells its status alone
+abbrev pub status_reply : (service status : ℕ) → List ℕ
+status_reply service status = hex (codes "25 00 00 17 45 43 55 31 26 01 44 41 31 00 44 43 31 00") ++ little_bytes 4 service ++ status ∷ []
+
 -- ---- scripts
+
+-- three calls wait for a client, which hears a fourth one and leaves
+abbrev pub waiting_script : List Step
+waiting_script = one_writer 16 ++ log_info 1 (codes "a") ∷ log_info 2 (codes "b") ∷ log_info 3 (codes "c") ∷ Connect ∷ log_info 4 (codes "d") ∷ Close 1 ∷ []
+
+-- a buffer that keeps two frames of 34 bytes
+abbrev pub two_frames : Setting
+two_frames = record defaults { buffer = 70 }
+
+-- four calls wait, of which the last is the shortest
+abbrev pub full_buffer_script : List Step
+full_buffer_script = one_writer 16 ++ log_info 1 (codes "a") ∷ log_info 1 (codes "b") ∷ log_info 1 (codes "long") ∷ log_info 1 [] ∷ Connect ∷ []
+
+-- a client asks for a Store and a Reset, and hears a call
+abbrev pub store_script : List Step
+store_script = one_writer 16 ++ Connect ∷ ask store ∷ ask reset_all ∷ log_info 1 (codes "a") ∷ []
+
+-- a channel of user messages: an application registers, and then logs a message, which comes in two pieces; four bytes that begin none end it, and
+-- the message comes once more
+abbrev pub channel_script : List Step
+channel_script =
+    Connect ∷ User 1 (hex (codes "44 55 48 01 02 00 00 00 53 4F 43 4B 01 00 00 00 03 00 00 00 61 62 63 44 55 48")) ∷ User 1 (hex (codes "01 01 00 00 00 20 00 00 05 AA"))
+    ∷ User 1 (hex (codes "00 00 00 00")) ∷ User 1 (hex (codes "44 55 48 01 01 00 00 00 20 00 00 05 AA")) ∷ []
 
 abbrev pub two_clients_script : List Step
 two_clients_script = one_writer 16 ++ log_info 1 (codes "z") ∷ Connect ∷ log_info 1 (codes "a") ∷ Connect ∷ log_info 1 (codes "b") ∷ []
@@ -60,10 +98,6 @@ two_clients_script = one_writer 16 ++ log_info 1 (codes "z") ∷ Connect ∷ log
 abbrev pub full_ring_script : List Step
 full_ring_script =
     one_writer 1 ++ Connect ∷ call_info 1 (codes "a") ∷ call_info 2 (codes "b") ∷ Take (id (codes "LOG1")) ∷ call_info 3 (codes "c") ∷ []
-
--- a request of client 1, as bytes
-abbrev pub ask : List ℕ → Step
-ask payload = Bytes 1 (query payload)
 
 -- SetLogLevel of all contexts
 abbrev pub set_all : ℕ → List ℕ

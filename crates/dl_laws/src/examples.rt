@@ -7,10 +7,10 @@ ghost use Rattle.dl_bytes.specs.declared.level.Severity.TheVariants.{Debug, Fata
 ghost use Rattle.dl_bytes.specs.declared.moment.Moment.{Moment};
 ghost use Rattle.dl_bytes.specs.declared.user.UserMsg.TheVariants.{Overflow};
 ghost use Rattle.dl_events.specs.declared.event.Event.TheVariants as event;
-ghost use Rattle.dl_script_lines.specs.declared.step.Step.TheVariants.{Call, Connect, Close, Level, Levels, Bytes, User, Inject};
+ghost use Rattle.dl_script_lines.specs.declared.step.Step.TheVariants.{Call, Connect, Close, Level, Levels, Bytes, Inject};
 ghost use Rattle.dl_script_lines.specs.declared.step.LevelEvents.TheVariants.{Later, Now};
 ghost use Rattle.dl_model.specs.Accounts.{claims};
-ghost use Rattle.dl_model.specs.RegistryExamples.{hex, defaults, query, store, reset_all, id};
+ghost use Rattle.dl_model.specs.RegistryExamples.{hex, defaults, query, id};
 ghost use Rattle.dl_model.specs.Journal.{is_connect};
 ghost use Rattle.dl_model.specs.Steps.{loaded, run};
 ghost use Rattle.dl_model.specs.Replay.{printed, source_of, stream_of};
@@ -19,7 +19,7 @@ ghost use Rattle.dl_model.specs.Overflow.{counters};
 ghost use Rattle.dl_model.specs.Marks.{records_of, journal};
 ghost use Rattle.dl_bytes.specs.declared.outcome.Done.TheVariants.{Yes, Failed};
 ghost use Rattle.dl_events.specs.declared.record.Answer.TheVariants.{Filtered, Queued, Lost};
-ghost use Rattle.dl_laws.specs.Scripts.{log_info, one_writer, log_filled, small_files, file_four, version, injection, injections_script, ask, call_info, later_script, two_clients_script, full_ring_script, between_script, with_level, loaded_level, text, call_line, two_levels_script, calls_that_passed, clocked_script, claimed_script, same_context_script, waiting_claim_script};
+ghost use Rattle.dl_laws.specs.Scripts.{frame_of, status_reply, waiting_script, two_frames, full_buffer_script, store_script, channel_script, log_info, one_writer, log_filled, small_files, file_four, version, injection, injections_script, ask, call_info, later_script, two_clients_script, full_ring_script, between_script, with_level, loaded_level, text, call_line, two_levels_script, calls_that_passed, clocked_script, claimed_script, same_context_script, waiting_claim_script};
 
 /// A client that is there hears a call, and leaves.
 pub fn one_call()
@@ -31,38 +31,36 @@ pub fn one_call()
 
 /// A client is handed what waited for it, and no overflow record.
 pub fn waits_for_a_client()
-    ensures { stream_of defaults (run defaults []
-        (one_writer 16 ++ log_info 1 (codes "a") ∷ log_info 2 (codes "b") ∷ log_info 3 (codes "c") ∷ Connect ∷ log_info 4 (codes "d") ∷ Close 1 ∷ [])) 1
-        ≡ hex (codes "3D 00 00 22 45 43 55 31 00 00 00 01 00 00 00 01 41 01 4C 4F 47 31 54 45 53 54 00 82 00 00 02 00 61 00") ∷ hex (codes "3D 01 00 22 45 43 55 31 00 00 00 01 00 00 00 02 41 01 4C 4F 47 31 54 45 53 54 00 82 00 00 02 00 62 00") ∷ hex (codes "3D 02 00 22 45 43 55 31 00 00 00 01 00 00 00 03 41 01 4C 4F 47 31 54 45 53 54 00 82 00 00 02 00 63 00") ∷ hex (codes "3D 03 00 22 45 43 55 31 00 00 00 01 00 00 00 04 41 01 4C 4F 47 31 54 45 53 54 00 82 00 00 02 00 64 00") ∷ [] }
+    ensures { stream_of defaults (run defaults [] waiting_script) 1
+        ≡ frame_of 0 1 (codes "a") ∷ frame_of 1 2 (codes "b") ∷ frame_of 2 3 (codes "c") ∷ frame_of 3 4 (codes "d") ∷ [] }
 {}
 
 /// The second client, which comes while the first is there, is handed nothing.
 pub fn two_clients()
     ensures first { stream_of defaults (run defaults [] two_clients_script) 1
-        ≡ hex (codes "3D 00 00 22 45 43 55 31 00 00 00 01 00 00 00 01 41 01 4C 4F 47 31 54 45 53 54 00 82 00 00 02 00 7A 00") ∷ hex (codes "3D 01 00 22 45 43 55 31 00 00 00 01 00 00 00 01 41 01 4C 4F 47 31 54 45 53 54 00 82 00 00 02 00 61 00") ∷ hex (codes "3D 02 00 22 45 43 55 31 00 00 00 01 00 00 00 01 41 01 4C 4F 47 31 54 45 53 54 00 82 00 00 02 00 62 00") ∷ [] }
+        ≡ frame_of 0 1 (codes "z") ∷ frame_of 1 1 (codes "a") ∷ frame_of 2 1 (codes "b") ∷ [] }
     ensures second { stream_of defaults (run defaults [] two_clients_script) 2
-        ≡ hex (codes "3D 02 00 22 45 43 55 31 00 00 00 01 00 00 00 01 41 01 4C 4F 47 31 54 45 53 54 00 82 00 00 02 00 62 00") ∷ [] }
+        ≡ frame_of 2 1 (codes "b") ∷ [] }
 {}
 
 /// A ring that holds one call: the second call is lost, and the daemon tells it at the end.
 pub fn a_full_ring()
     ensures answers { map (λ r. r.answer) (records_of 1 (run defaults [] full_ring_script)) ≡ Queued ∷ Lost ∷ Queued ∷ [] }
     ensures stream { stream_of defaults (run defaults [] full_ring_script) 1
-        ≡ hex (codes "3D 00 00 22 45 43 55 31 00 00 00 01 00 00 00 01 41 01 4C 4F 47 31 54 45 53 54 00 82 00 00 02 00 61 00") ∷ hex (codes "3D 02 00 22 45 43 55 31 00 00 00 01 00 00 00 03 41 01 4C 4F 47 31 54 45 53 54 00 82 00 00 02 00 63 00") ∷ hex (codes "25 00 00 1C 45 43 55 31 26 01 4C 4F 47 31 00 00 00 00 14 00 00 00 00 01 01 00 00 00") ∷ [] }
+        ≡ frame_of 0 1 (codes "a") ∷ frame_of 2 3 (codes "c") ∷ hex (codes "25 00 00 1C 45 43 55 31 26 01 4C 4F 47 31 00 00 00 00 14 00 00 00 00 01 01 00 00 00") ∷ [] }
 {}
 
 /// A level that changes between the load and the push of a call doesn't count for it; the next call loads the new one.
 pub fn a_level_between_load_and_push()
     ensures versions { map loaded_level (records_of 1 (run defaults [] between_script)) ≡ with_level Queued 1 4 ∷ with_level Filtered 2 3 ∷ [] }
     ensures stream { stream_of defaults (run defaults [] between_script) 1
-        ≡ hex (codes "25 00 00 17 45 43 55 31 26 01 44 41 31 00 44 43 31 00 01 00 00 00 00") ∷ hex (codes "3D 00 00 22 45 43 55 31 00 00 00 01 00 00 00 01 41 01 4C 4F 47 31 54 45 53 54 00 82 00 00 02 00 61 00") ∷ [] }
+        ≡ status_reply 1 0 ∷ frame_of 0 1 (codes "a") ∷ [] }
 {}
 
 /// A buffer of 70 bytes holds two frames of 34: the third is refused, and the fourth with it, though it is smaller.
 pub fn a_full_buffer()
-    ensures { stream_of (record defaults { buffer = 70 }) (run (record defaults { buffer = 70 }) []
-        (one_writer 16 ++ log_info 1 (codes "a") ∷ log_info 1 (codes "b") ∷ log_info 1 (codes "long") ∷ log_info 1 [] ∷ Connect ∷ [])) 1
-        ≡ hex (codes "3D 00 00 22 45 43 55 31 00 00 00 01 00 00 00 01 41 01 4C 4F 47 31 54 45 53 54 00 82 00 00 02 00 61 00") ∷ hex (codes "3D 01 00 22 45 43 55 31 00 00 00 01 00 00 00 01 41 01 4C 4F 47 31 54 45 53 54 00 82 00 00 02 00 62 00") ∷ hex (codes "25 00 00 1C 45 43 55 31 26 01 44 41 31 00 44 43 31 00 14 00 00 00 00 01 02 00 00 00") ∷ [] }
+    ensures { stream_of two_frames (run two_frames [] full_buffer_script) 1
+        ≡ frame_of 0 1 (codes "a") ∷ frame_of 1 1 (codes "b") ∷ hex (codes "25 00 00 1C 45 43 55 31 26 01 44 41 31 00 44 43 31 00 14 00 00 00 00 01 02 00 00 00") ∷ [] }
 {}
 
 /// Nine stored frames of 500 bytes in files of 2000, of which 4000 bytes may stand: the first file went when the third
@@ -100,16 +98,15 @@ pub fn level_events_wait()
 /// An application on a channel of its own registers, and logs a message of its own; four other bytes end the channel.
 #[tactic(auto, unfolding(dl_model::specs::Steps::changes, dl_user::specs::Reading::limited_at, dl_user::specs::Reading::inner_len, dl_user::specs::Reading::log_at, dl_user::specs::Reading::register_app_at, dl_user::specs::Reading::fields_at, dl_user::specs::Reading::kind_at, dl_user::specs::Reading::message_at, dl_user::specs::Fields::app_at))]
 pub fn a_user_channel()
-    ensures { stream_of defaults (run defaults [] (Connect ∷ User 1 (hex (codes "44 55 48 01 02 00 00 00 53 4F 43 4B 01 00 00 00 03 00 00 00 61 62 63 44 55 48"))
-        ∷ User 1 (hex (codes "01 01 00 00 00 20 00 00 05 AA")) ∷ User 1 (hex (codes "00 00 00 00")) ∷ User 1 (hex (codes "44 55 48 01 01 00 00 00 20 00 00 05 AA")) ∷ [])) 1
+    ensures { stream_of defaults (run defaults [] channel_script) 1
         ≡ hex (codes "20 00 00 05 AA") ∷ [] }
 {}
 
 /// A Store and a Reset, where the folder does the one and fails at the other: the replies say so, and the own level of
 /// the context stays.
 pub fn a_folder_that_fails()
-    ensures { stream_of defaults (run defaults (Yes ∷ Failed ∷ []) (one_writer 16 ++ Connect ∷ ask store ∷ ask reset_all ∷ log_info 1 (codes "a") ∷ [])) 1
-        ≡ hex (codes "25 00 00 17 45 43 55 31 26 01 44 41 31 00 44 43 31 00 05 00 00 00 00") ∷ hex (codes "25 00 00 17 45 43 55 31 26 01 44 41 31 00 44 43 31 00 06 00 00 00 02") ∷ hex (codes "3D 00 00 22 45 43 55 31 00 00 00 01 00 00 00 01 41 01 4C 4F 47 31 54 45 53 54 00 82 00 00 02 00 61 00") ∷ [] }
+    ensures { stream_of defaults (run defaults (Yes ∷ Failed ∷ []) store_script) 1
+        ≡ status_reply 5 0 ∷ status_reply 6 2 ∷ frame_of 0 1 (codes "a") ∷ [] }
 {}
 
 /// The ninth client is refused while eight are open, and taken once one of them has gone.
@@ -121,9 +118,9 @@ pub fn nine_clients()
 /// The queue of an application takes 16 injections; the next one is refused until the application takes one out.
 pub fn injections_wait()
     ensures full { drop 16 (stream_of defaults (run defaults [] (injections_script ++ replicate 17 injection)) 1)
-        ≡ hex (codes "25 00 00 17 45 43 55 31 26 01 44 41 31 00 44 43 31 00 FF 0F 00 00 02") ∷ [] }
+        ≡ status_reply 0xfff 2 ∷ [] }
     ensures taken { drop 16 (stream_of defaults (run defaults [] (injections_script ++ replicate 16 injection ++ Inject (id (codes "LOG1")) ∷ injection ∷ [])) 1)
-        ≡ hex (codes "25 00 00 17 45 43 55 31 26 01 44 41 31 00 44 43 31 00 FF 0F 00 00 00") ∷ [] }
+        ≡ status_reply 0xfff 0 ∷ [] }
 {}
 
 /// Two contexts of one application have slots and levels of their own: the same call passes in the one and is filtered in the other.
@@ -176,7 +173,7 @@ pub fn a_report_adds_up()
 
 /// A buffer of 70 bytes that keeps two frames of 34 and refuses a third, and nobody who comes: what is left says so.
 pub fn nobody_comes()
-    ensures { printed (record defaults { buffer = 70 }) [] [] false (one_writer 16 ++ log_info 1 (codes "a") ∷ log_info 2 (codes "b") ∷ log_info 3 (codes "c") ∷ [])
+    ensures { printed two_frames [] [] false (one_writer 16 ++ log_info 1 (codes "a") ∷ log_info 2 (codes "b") ∷ log_info 3 (codes "c") ∷ [])
         ≡ codes "backlog 2 68 1\napp LOG1 calls 3 queued 3 filtered 0 lost 0 reported 0\n" }
 {}
 

@@ -1,13 +1,14 @@
 //! Laws on client streams and the backlog.
 
-ghost use Rattle.std.specs.Prelude.{◌≡◌, ◌≤◌, ◌<◌, ◌+◌, ℕ, true, false, nat_le, List, [], ◌∷◌, ◌++◌, length, sum, if◌then◌else◌};
-ghost use Rattle.std.specs.List.{list_any, filter_map};
+ghost use Rattle.std.specs.Prelude.{◌≡◌, ◌≤◌, ◌<◌, ◌+◌, ℕ, true, nat_le, List, [], ◌∷◌, ◌++◌, length, sum, if◌then◌else◌};
+ghost use Rattle.std.specs.List.{filter_map};
 ghost use Rattle.dl_events.specs.declared.event.Event.{Event};
 ghost use Rattle.dl_model.specs.Frames.{FrameSource, admitted};
 ghost use Rattle.dl_model.specs.Overflow.{counters};
 ghost use Rattle.dl_model.specs.Traffic.{Traffic, Connected, Admitted, Reply, Closed, is_coming, comes_or_goes, meant_for, admitted_in, is_open, is_any_open};
 ghost use Rattle.dl_model.specs.Backlog.{size_of, waiting, fitting, refused, due_backlog};
 ghost use Rattle.dl_model.specs.ClientStream.{put, sent, traffic_of, traffic};
+ghost use Rattle.dl_laws.specs.OneStay.{ComesOnce};
 
 /// With one entry of traffic more, a client's stream goes on with what the entry puts, and nothing in it changes.
 pub fn streams_go_on()
@@ -72,7 +73,7 @@ pub fn nothing_is_refused_while_there_is_room()
 /// with its replies where they were put. Nothing is left out.
 pub fn unbroken()
     ensures { (ecu : List ℕ) (buffer client : ℕ) (before middle after : List Traffic) →
-        list_any (comes_or_goes client) before ≡ false → list_any (comes_or_goes client) middle ≡ false → list_any (comes_or_goes client) after ≡ false →
+        ComesOnce client before middle after →
         sent ecu buffer client (before ++ Connected client ∷ (middle ++ Closed client ∷ after))
         ≡ due_backlog ecu buffer (waiting before) ++ filter_map (meant_for client) middle }
 {}

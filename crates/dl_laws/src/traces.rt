@@ -20,8 +20,8 @@ pub fn trace_files_have_room()
     ensures room { (size max_size : ℕ) (old : List StoredFile) (first : List ℕ) (frames : List (List ℕ)) →
         total_size (closed (trace_files size max_size old (first ∷ frames))) ≤ max_size - size }
     ensures longest { (size max_size : ℕ) (old gone : List StoredFile) (file : StoredFile) (first : List ℕ) (frames : List (List ℕ)) →
-        old ++ made size old (first ∷ frames) ≡ gone ++ file ∷ trace_files size max_size old (first ∷ frames)
-        → max_size - size < total_size (file ∷ closed (trace_files size max_size old (first ∷ frames))) }
+        let standing = trace_files size max_size old (first ∷ frames) in
+        old ++ made size old (first ∷ frames) ≡ gone ++ file ∷ standing → max_size - size < total_size (file ∷ closed standing) }
 {}
 
 /// The trace files after one frame more: the first frame begins a file behind the old ones, each later one goes into

@@ -6,6 +6,7 @@ use Rattle.std.proofs.lemmas.Bool.Decides.{leb_tells}
 use Rattle.std.proofs.lemmas.List.{append-nil, length-map, length-replicate}
 use Rattle.std.proofs.lemmas.List.Sums.{sum_by-cons, sum_by-append}
 use Rattle.std.proofs.Math.Nat.{eq-zero-or-pos}
+use Rattle.dl_lemmas.proofs.Lists.{empty_of}
 use Rattle.dl_bytes.specs.declared.outcome.Backlog.{Backlog}
 use Rattle.dl_model.specs.Backlog.{fitting, refused, size_of}
 use Rattle.dl_laws.proofs.Backlogs.{prefix, room}
@@ -49,10 +50,6 @@ fits_alike limit (f ∷ frames) (suc n) size (suc k) are some within most =
     rw (fits, sum_by-cons length f (fitting (limit - length f) frames)) (omega (arith, later.0), omega (arith, later.1, one_more k size, here))
 
 -- ---- behind other frames
-
-empty_of : {A : Type 0} (xs : List A) → length xs ≡ 0 → xs ≡ []
-empty_of [] e = refl
-empty_of (x ∷ xs) e = absurd (omega (arith, e))
 
 -- where none was refused, all are kept
 pub all_kept : (limit : ℕ) (frames : List (List ℕ)) → refused limit frames ≡ 0 → (fitting limit frames ≡ frames) × (size_of frames ≤ limit)

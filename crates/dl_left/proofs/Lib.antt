@@ -1,4 +1,3 @@
-pub mod Numbering
 pub mod Sizes
 pub mod Buffers
 pub mod OpenClients

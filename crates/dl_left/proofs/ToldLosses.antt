@@ -1,10 +1,10 @@
 -- The lost calls that an accounted journal tells have their records.
-use Rattle.std.proofs.Common.{◌≡◌, ℕ, ◌+◌, ◌<◌, ◌≤◌, Bool, true, false, cond, eqb, List, [], ◌∷◌, ◌++◌, length, refl, sym, ap, ◌∙◌, length-append, arith}
+use Rattle.std.proofs.Common.{◌≡◌, ℕ, ◌+◌, ◌<◌, ◌≤◌, Bool, true, false, cond, eqb, List, [], ◌∷◌, length, refl, sym, ap, ◌∙◌, arith}
 use Rattle.std.specs.Prelude.{not}
 use Rattle.std.specs.List.{filter, flat_map, range_with_len, AllByRecursion}
-use Rattle.std.proofs.lemmas.List.Elements.{filter-append}
 use Rattle.std.proofs.lemmas.List.Filters.{length-filter_both}
 use Rattle.std.proofs.lemmas.List.Sums.{sum_by-cons, sum_by-append}
+use Rattle.dl_lemmas.proofs.Lists.{all_map}
 use Rattle.dl_bytes.specs.Claim.{Claimed}
 use Rattle.dl_events.specs.declared.event.Event.{Event}
 use Rattle.dl_events.specs.declared.event.Event.TheVariants as event
@@ -13,7 +13,7 @@ use Rattle.dl_events.specs.declared.record.Answer.TheVariants as answer
 use Rattle.dl_model.specs.Accounts.{with_answer}
 use Rattle.dl_model.specs.Report.{is_answer, lost_of, reported}
 use Rattle.dl_model.specs.WholeAccounts.{IsAccounted}
-use Rattle.dl_promises.proofs.Alls.{all_map}
+use Rattle.dl_model.proofs.Records.{with_answer-append}
 use Rattle.dl_promises.proofs.Partition.{sums_add, split}
 use Rattle.dl_left.specs.Losses.{told, told_in}
 
@@ -58,9 +58,6 @@ below {X = X} number (x ∷ xs) =
     let later = below number xs in
     (number x + 1 + later.0, ((omega arith, omega arith), all_map (λ y. (0 ≤ number y) × (number y < 0 + later.0)) (λ y. (0 ≤ number y) × (number y < 0 + (number x + 1 + later.0))) (λ y is. (is.0, omega (arith, is.1))) xs later.1))
 
-more_lost : (xs ys : List Record) → length (with_answer answer.Lost (xs ++ ys)) ≡ length (with_answer answer.Lost xs) + length (with_answer answer.Lost ys)
-more_lost xs ys = ap length (filter-append (λ (r : Record). is_answer answer.Lost r.answer) xs ys) ∙ length-append (with_answer answer.Lost xs) (with_answer answer.Lost ys)
-
 few_lost : (records : List Record) → length (with_answer answer.Lost records) ≤ length records
 few_lost records = omega (arith, length-filter_both (λ (r : Record). is_answer answer.Lost r.answer) (λ (r : Record). not (is_answer answer.Lost r.answer)) (λ r. refl) records)
 
@@ -74,7 +71,7 @@ told_have_records first events pending refusals pushed records are =
     let events_within = all_map (λ e. (0 ≤ app_of e) × (app_of e < 0 + of_events.0)) (λ e. (0 ≤ app_of e) × (app_of e < 0 + n)) (λ e is. (is.0, omega (arith, is.1))) events of_events.1 in
     let records_within = all_map (λ (r : Record). (0 ≤ r.item.app) × (r.item.app < 0 + of_records.0)) (λ (r : Record). (0 ≤ r.item.app) × (r.item.app < 0 + n)) (λ r is. (is.0, omega (arith, is.1))) all of_records.1 in
     let of_journal = split app_of told refl (sum_by-append told_in) n 0 events events_within in
-    let lost = split (λ (r : Record). r.item.app) (λ rs. length (with_answer answer.Lost rs)) refl more_lost n 0 all records_within in
+    let lost = split (λ (r : Record). r.item.app) (λ rs. length (with_answer answer.Lost rs)) refl with_answer-append n 0 all records_within in
     let parts = sums_add (λ app. length (with_answer answer.Lost (filter (λ (r : Record). eqb r.item.app app) all))) (λ app. told (filter (λ e. eqb (app_of e) app) events)) pending
     (λ app. sym (ap (λ (k : ℕ). k + pending app) (own_losses app events) ∙ are.told app)) apps in
     omega (arith, of_journal, lost, parts, few_lost all)

@@ -1,11 +1,13 @@
 -- Lists: what stands at a place, at the front and at the end, and what holds of all.
-use Rattle.std.proofs.Common.{Bool, Bor, List, None, Option, Some, [], ap, arith, cond, eqb, false, get_or, inl, inr, length, length-append, ltb, option_map, pred, refl, slice_get, subst, suc, sym, true, zero, ℕ, ◌++◌, ◌+◌, ◌-◌, ◌<◌, ◌∙◌, ◌∷◌, ◌≡◌, ◌≢◌, ◌≤◌, ◌⊎◌}
+use Rattle.std.proofs.Common.{Bool, Bor, List, None, Option, Some, [], ap, append_assoc, arith, cond, drop, eqb, false, get_or, inl, inr, length, length-append, ltb, option_map, pred, refl, slice_get, subst, suc, sym, take, true, zero, ℕ, ◌++◌, ◌+◌, ◌-◌, ◌<◌, ◌∙◌, ◌∷◌, ◌≡◌, ◌≢◌, ◌≤◌, ◌⊎◌}
 use Rattle.std.proofs.lemmas.Bool.{lt-ltb, ltb-true, ne_eqb}
+use Rattle.std.proofs.lemmas.List.{append-nil, reverse-append}
+use Rattle.std.proofs.Math.Seq.{drop-cons, take-suc}
 use Rattle.std.proofs.lemmas.Option.{slice_get_cases, slice_get_read}
-use Rattle.std.specs.List.{AllByRecursion, list_any, position, prefix_len, range_with_len}
-use Rattle.std.specs.Prelude.{not, slice_set, ◌||◌}
+use Rattle.std.specs.List.{AllByRecursion, find, list_any, position, prefix_len, range_with_len}
+use Rattle.std.specs.Prelude.{fold, not, reverse, slice_set, ◌||◌}
 use Rattle.std.specs.Slice.{IsItemAt}
-use Rattle.dl_lemmas.proofs.Options.{place_is}
+use Rattle.dl_lemmas.proofs.Options.{place_is, same_thing}
 
 pub range-one : (a n : ℕ) → range_with_len a (n + 1) ≡ range_with_len a n ++ (a + n) ∷ []
 range-one a zero = ap (λ (x : ℕ). x ∷ []) (omega arith)
@@ -143,3 +145,53 @@ pub within_of : {A : Type 0} (xs : List A) (place : ℕ) (x : A) → slice_get x
 within_of [] place x at = absurd (cc at)
 within_of (y ∷ ys) zero x at = omega arith
 within_of (y ∷ ys) (suc place) x at = omega (arith, within_of ys place x at)
+
+pub all_map : {A : Type 0} (P Q : A → Type 0) → ((x : A) → P x → Q x) → (xs : List A) → AllByRecursion P xs → AllByRecursion Q xs
+all_map P Q f [] all = tt
+all_map P Q f (x ∷ xs) all = (f x all.0, all_map P Q f xs all.1)
+
+pub all_end : {A : Type 0} (P : A → Type 0) (xs : List A) (y : A) → AllByRecursion P xs → P y → AllByRecursion P (xs ++ y ∷ [])
+all_end P xs y all here = all_both P xs (y ∷ []) all (here, tt)
+
+pub all_reverse : {A : Type 0} (P : A → Type 0) (xs : List A) → AllByRecursion P xs → AllByRecursion P (reverse xs)
+all_reverse P [] all = tt
+all_reverse P (x ∷ xs) all =
+    subst (AllByRecursion P) (sym (reverse-append (x ∷ []) xs)) (all_both P (reverse xs) (x ∷ []) (all_reverse P xs all.1) (all.0, tt))
+
+pub all_found : {A : Type 0} (P : A → Type 0) (p : A → Bool) (xs : List A) (x : A) → AllByRecursion P xs → find p xs ≡ Some x → P x
+all_found P p [] x all e = absurd cc
+all_found P p (y ∷ xs) x all e = by_test (p y) e (all_found P p xs x all.1) where
+  by_test : (b : Bool) → cond b (Some y) (find p xs) ≡ Some x → (find p xs ≡ Some x → P x) → P x
+  by_test true e later = subst P (same_thing y x e) all.0
+  by_test false e later = later e
+
+-- what holds of the empty list, and goes on with one entry more at the end
+pub by_end : {A : Type 0} (P : List A → Type 0) → P [] → ((xs : List A) (x : A) → P xs → P (xs ++ x ∷ [])) → (xs : List A) → P xs
+by_end {A = A} P start more xs = from [] xs start where
+  from : (before xs : List A) → P before → P (before ++ xs)
+  from before [] is = subst P (sym (append-nil before)) is
+  from before (x ∷ xs) is = subst P (append_assoc before (x ∷ []) xs) (from (before ++ x ∷ []) xs (more before x is))
+
+pub fold-one : {A B : Type 0} (f : A → B → A) (z : A) (xs : List B) (x : B) → fold f z (xs ++ x ∷ []) ≡ f (fold f z xs) x
+fold-one f z [] x = refl
+fold-one f z (y ∷ ys) x = fold-one f (f z y) ys x
+
+pub front_empty : {A : Type 0} (xs ys : List A) → xs ++ ys ≡ [] → xs ≡ []
+front_empty [] ys e = refl
+front_empty (x ∷ xs) ys e = absurd cc
+
+pub take_next : {A : Type 0} (xs : List A) (i : ℕ) (x : A) → slice_get xs i ≡ Some x → take (i + 1) xs ≡ take i xs ++ x ∷ []
+take_next [] i x e = absurd cc
+take_next (y ∷ xs) zero x e = cc
+take_next {A = A} (y ∷ xs) (suc i) x e =
+    let count : suc i + 1 ≡ suc (i + 1) = omega arith in
+    ap (λ n. take n (y ∷ xs)) count ∙ ap (λ (zs : List A). y ∷ zs) (take_next xs i x e)
+
+-- the items before a place, and from it on, with the one there
+pub item_here : {A : Type 0} (items : List A) (k : ℕ) (item : A) → k < length items → item ≡ get_or items k item
+    → (take (k + 1) items ≡ take k items ++ item ∷ []) × (drop k items ≡ item ∷ drop (k + 1) items)
+item_here {A} items k item within is =
+    let next : k + 1 ≡ suc k = omega arith in (
+      rw next (take-suc items k item within ∙ ap (λ (x : A). take k items ++ x ∷ []) (sym is)),
+      rw next (drop-cons items k item within ∙ ap (λ (x : A). x ∷ drop (suc k) items) (sym is)),
+    )

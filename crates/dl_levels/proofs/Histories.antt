@@ -17,7 +17,7 @@ module _ {A : Type 0} where
   slice_get_end [] a = refl
   slice_get_end (x ∷ xs) a = slice_get_end xs a
 
-levels_set-append : (slot : ℕ) (sets more : List Change) → levels_set slot (sets ++ more) ≡ levels_set slot sets ++ levels_set slot more
+pub levels_set-append : (slot : ℕ) (sets more : List Change) → levels_set slot (sets ++ more) ≡ levels_set slot sets ++ levels_set slot more
 levels_set-append slot sets more = ap (λ (cs : List Change). map (λ c. c.level) cs) (filter-append (λ c. eqb c.slot slot) sets more)
     ∙ map-append (λ (c : Change). c.level) (filter (λ c. eqb c.slot slot) sets) (filter (λ c. eqb c.slot slot) more)
 

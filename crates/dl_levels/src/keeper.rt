@@ -96,11 +96,11 @@ impl LevelKeeper {
     pub fn join(&mut self, reader: LevelReader)
         requires table { reader.table ≡ self.old.table }
         requires claims { reader.claims ≡ self.old.claims }
-        ensures { self.new ≡ record self.old {
-          reads = self.old.reads ++ reader.reads;
-          given = self.old.given ++ reader.given;
-          refused = self.old.refused ++ reader.refused;
-          shares = self.old.shares + reader.splits_left + 1;
+        ensures { let s = self.old in self.new ≡ record s {
+          reads = s.reads ++ reader.reads;
+          given = s.given ++ reader.given;
+          refused = s.refused ++ reader.refused;
+          shares = s.shares + reader.splits_left + 1;
         } }
     {
         let LevelReader {

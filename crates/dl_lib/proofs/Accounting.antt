@@ -5,13 +5,14 @@ use Rattle.std.specs.List.{filter, flat_map, IsDistinct}
 use Rattle.std.proofs.lemmas.Bool.{eqb-true}
 use Rattle.std.proofs.lemmas.List.{nil_from_length}
 use Rattle.std.proofs.lemmas.List.Concat.{flat_map-cons}
-use Rattle.std.proofs.lemmas.List.Elements.{All-head, All-tail, All-weaker, filter-append}
+use Rattle.std.proofs.lemmas.List.Elements.{All-head, All-tail, All-weaker}
 use Rattle.std.proofs.lemmas.List.Sums.{sum_by-cons}
 use Rattle.dl_bytes.specs.Claim.{Claimed}
 use Rattle.dl_bytes.specs.declared.outcome.Ends.{Ends}
 use Rattle.dl_events.specs.declared.event.Event.{Event}
 use Rattle.dl_events.specs.declared.record.Answer.TheVariants as answer
 use Rattle.dl_events.specs.declared.record.Record.{Record}
+use Rattle.dl_model.proofs.Records.{with_answer-append}
 use Rattle.dl_levels.specs.declared.history.Read.{Read}
 use Rattle.dl_levels.specs.History as levels
 use Rattle.dl_losses.specs.Losses.{counted_of, reported_of}
@@ -71,9 +72,6 @@ none_lost app w (r ∷ rs) other own = by_test (none_lost app w rs other (All-ta
   by_test rest true =
       let this : one_if (eqb r.item.app app) ≡ 0 = ap (λ (n : ℕ). one_if (eqb n app)) (All-head (IsOf w) r rs own).0 ∙ ap one_if other in
       sum_by-cons (λ (a : ℕ). one_if (eqb a app)) r.item.app (map (λ (r : Record). r.item.app) (with_answer answer.Lost rs)) ∙ omega (arith, this, rest)
-
-with_answer-append : (xs ys : List Record) → length (with_answer answer.Lost (xs ++ ys)) ≡ length (with_answer answer.Lost xs) + length (with_answer answer.Lost ys)
-with_answer-append xs ys = ap length (filter-append (λ (r : Record). is_answer answer.Lost r.answer) xs ys) ∙ length-append (with_answer answer.Lost xs) (with_answer answer.Lost ys)
 
 -- what the writers counted of an application are the lost calls of its writers
 lost_calls : (app : ℕ) (books : List BookState) → All (λ (b : BookState). TellAll b.writer b.records b.claims) books → lost_of app books ≡ length (with_answer answer.Lost (records_of app books))

@@ -10,10 +10,6 @@ use Rattle.dl_thread_rules.proofs.Totals.{times-append}
 
 -- ---- all differ
 
-pub bit_small : (b : Bool) → bit b ≤ 1
-bit_small true = omega arith
-bit_small false = omega arith
-
 -- what isn't there is equal to none
 none_equal : (x : ℕ) (xs : List ℕ) → times x xs ≡ 0 → AllByRecursion (λ y. nat_eq x y ≡ false) xs
 none_equal x [] none = tt

@@ -6,6 +6,7 @@ use Rattle.std.proofs.lemmas.Bool.{eqb-true, eqb-false, ltb-true}
 use Rattle.std.proofs.lemmas.List.{map-append}
 use Rattle.std.proofs.lemmas.List.Elements.{All-nil, All-cons, All-head, All-tail}
 use Rattle.dl_bytes.specs.Claim.{Claimed}
+use Rattle.dl_thread_rules.proofs.Bits.{bit_small}
 use Rattle.dl_claims.specs.Claims.{given_of, refused_of}
 use Rattle.dl_claims.specs.declared.claimer.Given.{Given}
 use Rattle.dl_levels.specs.States.{KeeperState}
@@ -18,7 +19,7 @@ use Rattle.dl_lib.specs.Books.{books_of, claimed_of, registers_of}
 use Rattle.dl_lib.specs.Joining.{AreGiven}
 use Rattle.dl_lib.specs.Known.{AreClaimed}
 use Rattle.dl_lib.specs.Making.{SameBases}
-use Rattle.dl_lib.proofs.Apart.{bit_small, differ, map-flat, part_below, times-filter, times-flat, times-moved, total-below, total-filter, total-passing}
+use Rattle.dl_lib.proofs.Apart.{differ, map-flat, part_below, times-filter, times-flat, times-moved, total-below, total-filter, total-passing}
 use Rattle.dl_lib.proofs.InOrder.{all_front}
 use Rattle.dl_lib.proofs.Lists.{all_flat, all_kept, all_mapped}
 

@@ -7,6 +7,7 @@ use Rattle.std.proofs.lemmas.List.{map-append}
 use Rattle.std.proofs.lemmas.List.Elements.{All-cons, All-contains, All-head, All-nil, All-push, All-tail, All-weaker, Contains-append_cases}
 use Rattle.dl_bytes.specs.declared.conf.AppSpec.{AppSpec}
 use Rattle.dl_thread_rules.specs.Views.{bit, times}
+use Rattle.dl_thread_rules.proofs.Bits.{bit_small}
 use Rattle.dl_writer.specs.State.{BookState, WriterState, numbers}
 use Rattle.dl_desk.specs.Apps.{AppState}
 use Rattle.dl_desk.specs.Handles.{HandlesState}
@@ -83,10 +84,6 @@ one_open app old new books b count open_so makes made number =
     }
 
 -- ---- numbers in a row are apart
-
-bit_small : (b : Bool) → bit b ≤ 1
-bit_small true = omega arith
-bit_small false = omega arith
 
 times_below : (n from count : ℕ) → n < from → times n (range_with_len from count) ≡ 0
 times_below n from zero below = refl

@@ -1,14 +1,11 @@
 -- How a run ends that came to an account, by what its report's writing left.
-use Rattle.std.proofs.Common.{◌≡◌, ◌≢◌, inl, inr, ℕ, ◌<◌, ◌≤◌, Bool, true, false, List, [], ◌∷◌, Option, Some, None, refl, sym, ap, subst, ◌∙◌, arith}
-use Rattle.std.specs.Prelude.{nat_lt}
+use Rattle.std.proofs.Common.{◌≡◌, ◌≢◌, inl, inr, ℕ, Bool, true, false, List, [], ◌∷◌, Option, Some, None, refl, sym, ap, subst, ◌∙◌}
 use Rattle.std.specs.List.{AllByRecursion}
-use Rattle.std.proofs.lemmas.Bool.{ltb-false, ltb-true}
 use Rattle.dl_bytes.specs.declared.outcome.TraceEnd.{TraceEnd}
 use Rattle.dl_bytes.specs.declared.outcome.TraceEnd.TheVariants as end
 use Rattle.dl_ending.specs.Ending.{Finishes}
 use Rattle.dl_ending.specs.Storage.{has_failed, has_no_memory, is_spent, some_end}
 use Rattle.dl_lib.specs.State.{AccountState}
-use Rattle.dl_outside.specs.Outside.{HasRisen}
 use Rattle.dl_outside.specs.Written.{WroteAll, WroteFront}
 use Rattle.dl_startup.specs.Failures.{status_of}
 use Rattle.dl_startup.specs.declared.failures.Failures.{Failures}
@@ -18,13 +15,6 @@ use Rattle.dl_live.specs.declared.beginning.Begun.{Begun}
 use Rattle.dl_live.specs.Ends.{EndsStored, KnownOf, report}
 use Rattle.dl_live.specs.Told.{Told}
 use Rattle.dl_lemmas.proofs.Bools.{or_left as left, or_right as right}
-
--- a count tells whether it rose
-pub counted : (before now : ℕ) (failed : Bool) → before ≤ now → failed ≡ nat_lt before now → (failed ≡ true → HasRisen before now) × (failed ≡ false → now ≡ before)
-counted before now failed later is = (
-  λ risen. let up : before < now = ltb-true before now (sym is ∙ risen) in (later, omega (arith, up)),
-  λ still. let down : now ≤ before = ltb-false before now (sym is ∙ still) in omega (arith, down, later),
-)
 
 -- ---- a trace and filters that ended for no cause go on
 

@@ -14,6 +14,7 @@ use Rattle.dl_outside.specs.Folder.{Files}
 use Rattle.dl_outside.specs.Links.{Links}
 use Rattle.dl_outside.specs.Outside.{HasRisen, Stays}
 use Rattle.dl_outside.specs.Told.{FolderTold, LinkTold, NetTold, SinkTold}
+use Rattle.dl_outside.proofs.Staying as staying
 use Rattle.dl_script.specs.Playable.{IsRunnable}
 use Rattle.dl_settling.specs.Room.{together}
 use Rattle.dl_startup.specs.Setup.{IsBegun}
@@ -121,13 +122,13 @@ module _ {L : Type 0} (link_told : L → LinkTold) (begun : Begun) (p : Players 
         kept filter = kept_before begun filter first.files folder_now.files begins own_first
 
         net_counts : (net_failed ≡ true → HasRisen before.faults net_now.faults) × (net_failed ≡ false → net_now.faults ≡ before.faults)
-        net_counts = ended.counted before.faults net_now.faults net_failed come_so.played_out.net_after.faults net_is
+        net_counts = staying.counted before.faults net_now.faults net_failed come_so.played_out.net_after.faults net_is
 
         later : folder.faults ≤ folder_now.faults
         later = let well = quiet.well in let never = come_so.played_out.folder_after.never_falls in omega (arith, well, never)
 
         folder_counts : (folder_failed ≡ true → HasRisen folder.faults folder_now.faults) × (folder_failed ≡ false → folder_now.faults ≡ folder.faults)
-        folder_counts = ended.counted folder.faults folder_now.faults folder_failed later folder_is
+        folder_counts = staying.counted folder.faults folder_now.faults folder_failed later folder_is
 
         by : (o : Option StoreEnds) → Concludes (setting begun) account begun.filters (failed_so (failed || net_failed) folder_failed wanted) folder_now last out out_now status o
             → Performs link_told begun (told first before out) (told last net_now out_now) status (Some account) o links

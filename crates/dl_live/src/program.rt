@@ -7,7 +7,7 @@ ghost use Rattle.dl_live.specs.Ends.{failed_so};
 ghost use Rattle.dl_live.specs.Performing.{HasBegun, LeavesOthers, LeavesSome, PerformsFrom, PlaysOn, status_of};
 ghost use Rattle.dl_live.specs.Playing.{CanBePlayed, HasBeenPlayed, HasSetOut, IsUnderWay};
 ghost use Rattle.dl_live.specs.Program.{ChangesNoOther, HasRun, Outcome, no_links};
-ghost use Rattle.dl_live.specs.Told.{told};
+ghost use Rattle.dl_live.specs.Told.{seen};
 
 use crate::beginning::{Begun, begin};
 use crate::gathering::gather;
@@ -231,8 +231,8 @@ where
     N::L: Drop + Send,
     requires runnable { IsRunnable begun.scenario }
     requires begun { HasBegun begun }
-    ensures performs { PerformsFrom N.L.told begun (told (F.told folder.old) (N.told net.old) (O.told out.old))
-        (told (F.told folder.new) (N.told net.new) (O.told out.new)) result.status result.account result.storage result.links }
+    ensures performs { let s = seen F.told N.told O.told in PerformsFrom N.L.told begun
+        (s folder.old net.old out.old) (s folder.new net.new out.new) result.status result.account result.storage result.links }
     ensures others { LeavesOthers begun (F.told folder.old).files (F.told folder.new).files }
 {
     let net_before = net.faults();
@@ -298,8 +298,8 @@ fn ask<
 ) -> Came<N::L>
 where
     N::L: Drop + Send,
-    ensures outcome { Outcome N.L.told (map string_bytes words.now) (told (F.told folder.old) (N.told net.old) (O.told out.old))
-        (told (F.told folder.new) (N.told net.new) (O.told out.new)) result.status result.account result.storage result.links }
+    ensures outcome { let s = seen F.told N.told O.told in Outcome N.L.told (map string_bytes words.now)
+        (s folder.old net.old out.old) (s folder.new net.new out.new) result.status result.account result.storage result.links }
     ensures others { ChangesNoOther (map string_bytes words.now) (F.told folder.old) (F.told folder.new) }
 {
     match begin(alloc, words, folder) {
@@ -333,8 +333,8 @@ pub fn run<
 ) -> Ended<N::L>
 where
     N::L: Drop + Send,
-    ensures { HasRun N.L.told (map string_bytes words.now) (told (F.told folder.old) (N.told net.old) (O.told out.old))
-        (told (F.told folder.new) (N.told net.new) (O.told out.new)) (E.told err.old) (E.told err.new) result }
+    ensures { let s = seen F.told N.told O.told in
+        HasRun N.L.told (map string_bytes words.now) (s folder.old net.old out.old) (s folder.new net.new out.new) (E.told err.old) (E.told err.new) result }
 {
     an_outcome_is_a_run::<N::L>();
     let came = ask(rt, alloc, words, folder, net, clock, gate, out);

@@ -1,6 +1,5 @@
 -- A daemon is later by each part of a round, and by rounds in a row.
-use Rattle.std.proofs.Common.{◌⊎◌, ◌≡◌, ◌≢◌, ℕ, ◌+◌, ◌<◌, ◌≤◌, inl, inr, Bool, true, cond, List, [], ◌∷◌, ◌++◌, Option, Some, None, append-nil, append_assoc, length, map, count_by, refl, sym, ap, subst, ◌∙◌, arith}
-use Rattle.std.specs.Prelude.{IfSome}
+use Rattle.std.proofs.Common.{◌⊎◌, ◌≡◌, ◌≢◌, ℕ, ◌+◌, ◌<◌, ◌≤◌, inl, inr, Bool, true, cond, List, [], ◌∷◌, ◌++◌, Some, append-nil, append_assoc, length, map, count_by, refl, sym, ap, subst, ◌∙◌, arith}
 use Rattle.std.specs.List.{AllByRecursion}
 use Rattle.std.proofs.lemmas.Bool.{cases_lt}
 use Rattle.std.proofs.lemmas.List.{length-append, length-map}
@@ -8,6 +7,7 @@ use Rattle.std.proofs.lemmas.List.Sums.{sum_by-append, sum_by-cons}
 use Rattle.dl_bytes.specs.Limits.{open_client_limit}
 use Rattle.dl_bytes.specs.declared.conf.AppSpec.{AppSpec}
 use Rattle.dl_bytes.specs.declared.item.Item.{Item}
+use Rattle.dl_outside.proofs.Staying.{stays_both, stays_same}
 use Rattle.dl_events.specs.Journal.{Journaled}
 use Rattle.dl_events.specs.declared.event.Event.{Event}
 use Rattle.dl_events.specs.declared.event.Event.TheVariants as event
@@ -62,14 +62,6 @@ use Rattle.dl_lemmas.proofs.Bools.{at_most_one}
 use Rattle.dl_lemmas.proofs.Lists.{all_first as front}
 
 -- ---- the net
-
-stays_same : {A : Type 0} (o : Option A) → Stays o o
-stays_same None = tt
-stays_same (Some x) = refl
-
-stays_both : {A : Type 0} (a b c : Option A) → Stays a b → Stays b c → Stays a c
-stays_both None b c one two = tt
-stays_both (Some x) b c one two = subst (λ (o : Option _). IfSome o (λ told. c ≡ Some told)) one two
 
 pub net_none : {L : Type 0} (net : NetTold L) → IsNetLater net net
 net_none net = record { listens = stays_same net.listens_on; launched = stays_same net.launched; faults = omega arith }

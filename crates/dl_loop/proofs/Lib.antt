@@ -18,6 +18,8 @@ pub mod FolderSides
 pub mod ListedApps
 pub mod GreetedDaemons
 pub mod TakesTurned
+pub mod TakesCounted
+pub mod RestedNets
 pub mod TurnsHad
 pub mod GoneRounds
 pub mod NewDesks

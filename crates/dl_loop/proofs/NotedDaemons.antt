@@ -1,7 +1,6 @@
 -- A daemon's clients stay as its journal has them.
 use Rattle.std.proofs.Common.{◌≡◌, ℕ, ◌+◌, ◌-◌, ◌<◌, ◌≤◌, inl, inr, Bool, true, false, cond, List, [], ◌∷◌, ◌++◌, length, map, slice_get, append-nil, append_assoc, length-append, Option, Some, None, is_some, refl, sym, ap, subst, ◌∙◌, arith}
 use Rattle.std.specs.Prelude.{IsSome, get_or}
-use Rattle.std.specs.List.{cons_option}
 use Rattle.std.proofs.lemmas.Bool.{ne_eqb}
 use Rattle.std.proofs.lemmas.Bool.Decides.{eqb_tells}
 use Rattle.std.proofs.lemmas.List.Elements.{filter_map-append}
@@ -90,11 +89,6 @@ noted_later run events took old new stays tells noted = noted_any run (events ++
 
 client_here : (hub : Hub) (number : ℕ) (c : HubClient) → 0 < number → slice_get hub.clients (number - 1) ≡ Some c → client_of hub number ≡ Some c
 client_here hub number c some at = ap (λ (b : Bool). cond b None (slice_get hub.clients (number - 1))) (ne_eqb number 0 (λ same. omega (arith, some, same))) ∙ at
-
--- who was sent no reply asked nothing
-one_asked : (b : Bool) (frame : List ℕ) (others : List (List ℕ)) → length (cons_option (cond b (Some frame) None) others) ≡ cond b 1 0 + length others
-one_asked true frame others = omega arith
-one_asked false frame others = omega arith
 
 asked_none : (run : Run) (events : List Event) (took : ℕ → List ℕ) (core : Core) (number : ℕ) (c : HubClient) → IsAfter run events took core → client_of core.hub number ≡ Some c → c.replies ≡ 0 → asked_by number events ≡ []
 asked_none run events took core number c after there none = nothing (asked_by number events) (how_many number events ∙ sym (replies_are run events took core number c after there) ∙ none)

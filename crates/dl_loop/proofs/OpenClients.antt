@@ -5,6 +5,7 @@ use Rattle.std.specs.Option.{option_and_then}
 use Rattle.std.proofs.lemmas.Bool.Decides.{eqb_tells}
 use Rattle.std.proofs.lemmas.List.{length-map}
 use Rattle.dl_bytes.specs.declared.conf.AppSpec.{AppSpec}
+use Rattle.dl_outside.proofs.Staying.{stays_both}
 use Rattle.dl_events.specs.declared.event.Why.{Why}
 use Rattle.dl_outside.specs.Links.{Links}
 use Rattle.dl_outside.specs.Outside.{HasRisen, Stays}
@@ -48,12 +49,8 @@ pumped_idles number moved was now pumped = by pumped.why pumped.shut ∙ pumped.
   by None same = ap (λ (l : LinkTold). l.idles) same
   by (Some why) shut = shut.idles
 
-stays_on : {A : Type 0} (a b c : Option A) → Stays a b → Stays b c → Stays a c
-stays_on None b c one two = tt
-stays_on (Some x) b c one two = subst (λ (o : Option _). IfSome o (λ told. c ≡ Some told)) one two
-
 pumped_given : (number : ℕ) (moved : Bool) (was now : Client) → Pumped number moved was now → Stays was.link.given now.link.given
-pumped_given number moved was now pumped = stays_on was.link.given pumped.link.given now.link.given pumped.pump.only_sent.given (by pumped.why pumped.shut) where
+pumped_given number moved was now pumped = stays_both was.link.given pumped.link.given now.link.given pumped.pump.only_sent.given (by pumped.why pumped.shut) where
   same_given : (o : Option (List ℕ)) → Stays o o
   same_given None = tt
   same_given (Some x) = refl

@@ -1,6 +1,7 @@
 -- A daemon is one after calls and a claim of an application were taken, and after its losses were.
 use Rattle.std.proofs.Common.{◌≡◌, ℕ, ◌+◌, ◌<◌, ◌≤◌, ◌^◌, Bool, true, false, cond, eqb, List, [], ◌∷◌, ◌++◌, length, refl, sym, ap, subst, ◌∙◌, arith}
 use Rattle.dl_bytes.specs.declared.moment.Moment.{Moment}
+use Rattle.dl_thread_rules.proofs.Bits.{bit_small}
 use Rattle.dl_losses.specs.Losses.{report, reported_of}
 use Rattle.dl_losses.specs.declared.keeper.Report.{Report}
 use Rattle.dl_outside.specs.Told.{LinkTold}
@@ -37,10 +38,6 @@ few_behind true app apps noted claims calls moment between new takes below few =
     }
 few_behind false app apps noted claims calls moment between new same below few = subst (λ (s : Side). StayFew noted claims calls 0 apps s.took) (sym same) few
 
-at_most : (b : Bool) → bit b ≤ 1
-at_most true = omega arith
-at_most false = omega arith
-
 module _ {L : Type 0} (told : L → LinkTold) (app : ℕ) (old new : Scene L) (is : IsDaemon told old.daemon) (greeted : old.daemon.greeted ≡ true) (within : app < length old.daemon.desk.apps) where
   -- ---- calls and a claim
 
@@ -62,7 +59,7 @@ module _ {L : Type 0} (told : L → LinkTold) (app : ℕ) (old new : Scene L) (i
           noted = takes.noted;
           claimed = takes.claimed;
           within = omega (arith, takes.noted, some.few, calls);
-          within_claims = omega (arith, takes.claimed, at_most got.claimed, claims);
+          within_claims = omega (arith, takes.claimed, bit_small got.claimed, claims);
           few = subst (λ (n : ℕ). IsFew n (took_by new.daemon.desk.handles) (length old.daemon.desk.apps)) (sym takes.noted) few.noted_few;
           few_claims = subst (λ (n : ℕ). HasFewClaims n (took_by new.daemon.desk.handles) (length old.daemon.desk.apps)) (sym takes.claimed) few.claims_few;
           bounds = subst (λ (n : ℕ). HasBounds n new.daemon.core.hub.admitted new.daemon.desk.handles.losses.reported) (sym takes.noted)

@@ -5,6 +5,7 @@ use Rattle.std.proofs.lemmas.Bool.{eqb-true}
 use Rattle.std.proofs.lemmas.Bool.Decides.{eqb_tells}
 use Rattle.std.proofs.lemmas.List.{length-map}
 use Rattle.std.proofs.lemmas.List.Elements.{filter-append}
+use Rattle.dl_thread_rules.proofs.Bits.{bit_small}
 use Rattle.dl_losses.specs.Losses.{report}
 use Rattle.dl_losses.specs.declared.keeper.Report.{Report}
 use Rattle.dl_outside.specs.Told.{LinkTold, NetTold}
@@ -79,10 +80,6 @@ first_found : (app : ℕ) (first rest : Bool) (was mid now : ℕ → ℕ) → (f
 first_found app true true was mid now apart one two = absurd (let e = apart refl in cc)
 first_found app true false was mid now apart one two = two ∙ one
 first_found app false rest was mid now apart one two = two ∙ ap (empties_now app rest) one
-
-at_most : (b : Bool) → bit b ≤ 1
-at_most true = omega arith
-at_most false = omega arith
 
 module _ {L : Type 0} where
   some_items : (app most : ℕ) (got : Got) (old new : Scene L) → TakesSomeOf app most got old new
@@ -277,7 +274,7 @@ module _ {L : Type 0} where
           taken = losses_taken app turn.between new turn.losses app ∙ ap (λ (t : Took). t.taken app) on.took ∙ taken_here app on.items (took_by old.daemon.desk.handles);
           few = (let few = on.few (omega arith) in omega (arith, few));
           ended = ended_turn app (length on.items) on.found old turn.between new on.ended empties turn_calls turn_claims;
-          once = omega (arith, empties, at_most on.found);
+          once = omega (arith, empties, bit_small on.found);
           losses = report_since app old turn.between new (same_reports app) (losses_own app turn.between new turn.losses);
         }
 

@@ -1,12 +1,12 @@
 -- What a round of the daemon does: one accept, each client is listened to, each application has its turn, each client is sent what waits.
-use Rattle.std.specs.Prelude.{◌≡◌, ◌⊎◌, Bool, true, false}
+use Rattle.std.specs.Prelude.{◌≡◌, ◌⊎◌, ◌||◌, Bool, true, false}
 use Rattle.dl_outside.specs.Told.{LinkTold, NetTold}
 use Rattle.dl_rounds.specs.declared.accepting.Arrival.{Arrival}
 use Rattle.dl_rounds.specs.declared.accepting.Arrival.TheVariants as arrival
 use Rattle.dl_loop.specs.Scene.{Scene}
 use Rattle.dl_loop.specs.State.{DaemonState}
 use Rattle.dl_loop.specs.Steps.{Accepts, Hears, Parts, Pumps}
-use Rattle.dl_loop.specs.Takes.{TakesAll}
+use Rattle.dl_loop.specs.Takes.{TakesAll, has_taken}
 use Rattle.dl_loop.specs.declared.round.Round.{Round}
 
 -- ---- the accept
@@ -46,6 +46,11 @@ pub record Serves {L : Type 0} (told : L → LinkTold) (answer : Round) (net net
   pub takes : TakesAll heard taken
   pub pumps : (moved : Bool) × Pumps told moved taken.daemon new.daemon
   pub folder : new.folder ≡ taken.folder
+
+-- Something moved: a link came, a client said something or was closed, something was taken, or a client's link took a byte.
+abbrev pub has_moved : {L : Type 0} {told : L → LinkTold} {answer : Round} {net net_now : NetTold L} {old new : Scene L}
+    → Serves told answer net net_now old new → Bool
+has_moved {answer = answer} serves = answer.accepted || serves.hears.0 || has_taken serves.heard.daemon serves.taken.daemon || serves.pumps.0
 
 -- One round: so all were served, and then the links of clients that are gone were shut, also of those that were too slow for what was taken.
 pub record IsRound {L : Type 0} (told : L → LinkTold) (answer : Round) (net net_now : NetTold L) (old new : Scene L) : Type 0 where

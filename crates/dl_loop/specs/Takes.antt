@@ -1,5 +1,5 @@
 -- What a round takes of the programs that log.
-use Rattle.std.specs.Prelude.{◌≡◌, ℕ, zero, suc, ◌+◌, ◌-◌, ◌<◌, ◌==◌, min, ◌⊎◌, Bool, true, false, ◌||◌, List, [], ◌∷◌, length, None, if◌then◌else◌}
+use Rattle.std.specs.Prelude.{◌≡◌, ℕ, zero, suc, ◌+◌, ◌-◌, ◌<◌, ◌==◌, nat_lt, min, ◌⊎◌, Bool, true, false, ◌||◌, List, [], ◌∷◌, length, None, if◌then◌else◌}
 use Rattle.dl_thread_rules.specs.Views.{bit}
 use Rattle.dl_desk.specs.State.{DeskState}
 use Rattle.dl_registry.specs.Kept.{owed_change}
@@ -83,3 +83,7 @@ TakesTurns {L} first (suc many) old new = (next : Scene L) × TakesTurn first ol
 -- all applications had their turns, in order
 abbrev pub TakesAll : {L : Type 0} → Scene L → Scene L → Type 0
 TakesAll old new = TakesTurns 0 (length old.daemon.desk.apps) old new
+
+-- Something was taken between the two: a call, a claim or losses. Each has its event, so more Log, Lost and Claim events are noted.
+abbrev pub has_taken : {L : Type 0} → DaemonState L → DaemonState L → Bool
+has_taken old new = nat_lt (old.noted + old.claimed) (new.noted + new.claimed)

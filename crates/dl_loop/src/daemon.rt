@@ -10,13 +10,14 @@ ghost use Rattle.dl_loop.specs.Greeting.{AreListed, Greets, GreetsFirst};
 ghost use Rattle.dl_loop.specs.InRound.{HasHadTurn};
 ghost use Rattle.dl_loop.specs.Later.{GoesRound, IsLaterGreeted};
 ghost use Rattle.dl_loop.specs.Made.{IsBegun, IsMade, IsUntouched, fresh_listeners};
-ghost use Rattle.dl_loop.specs.RoundSteps.{AcceptsIfMay, IsRound, Serves, answer_of};
+ghost use Rattle.dl_loop.specs.RoundSteps.{AcceptsIfMay, IsRound, Serves, answer_of, has_moved};
 ghost use Rattle.dl_loop.specs.Scene.{scene};
 ghost use Rattle.dl_loop.specs.Limits.{more_events};
 ghost use Rattle.dl_loop.specs.Steps.{Hears, Parts, Pumps, is_failure, is_want};
 
 use crate::laws::a_daemon_goes_on;
 use crate::limits::{CLIENT_LIMIT, MORE_EVENTS};
+use crate::resting::rest_if_idle;
 use crate::round::Round;
 use dl_bytes::{Moment, OutOfMemory};
 use dl_core::Core;
@@ -213,10 +214,17 @@ impl<L: Link> Daemon<L> {
             → HasHadTurn app (scene self.old (F.told folder.old)) (scene self.new (F.told folder.new)) }
         ensures goes { GoesRound (N.told net.old) (N.told net.new) (scene self.old (F.told folder.old)) (scene self.new (F.told folder.new)) }
     {
-        let answer = self.serve_all(rt, net, clock, folder);
+        let served = self.serve_all(rt, net, clock, folder);
         self.part();
-        answer
+        served.answer
     }
+}
+
+/// What a round answers, and whether anything moved in it.
+#[derive(Drop)]
+struct Served {
+    answer: Round,
+    moved: bool,
 }
 
 /// What clients, the calls of a round and the ends of links have room in.
@@ -260,15 +268,6 @@ fn all_seats(alloc: Global) -> Result<Seats, OutOfMemory>
     Seats::make(alloc, CLIENT_LIMIT)
 }
 
-/// Rests where nothing moved.
-fn rest_if_idle<N: Net>(net: &mut N, moved: bool)
-    ensures { N.told net.new ≡ N.told net.old }
-{
-    if !moved {
-        net.rest();
-    }
-}
-
 /// The answer of a round, by what came of its accept.
 fn answer_of(came: Arrival) -> Round
     ensures { result ≡ answer_of came }
@@ -296,19 +295,19 @@ fn is_want(came: Arrival) -> bool
 }
 
 impl<L: Link> Daemon<L> {
-    // All of a round but that the links of clients that are gone are shut.
+    // All of a round but that the links of clients that are gone are shut. The net rests where nothing moved.
     fn serve_all<R: Wait, N: Net<L = L>, C: Clock, F: Folder>(
         &mut self,
         rt: &R,
         net: &mut N,
         clock: &C,
         folder: &mut F,
-    ) -> Round
+    ) -> Served
     where
         L: Drop,
         requires greeted { self.old.greeted ≡ true }
-        ensures serves { Serves L.told result (N.told net.old) (N.told net.new)
-            (scene self.old (F.told folder.old)) (scene self.new (F.told folder.new)) }
+        ensures serves { (serves : Serves L.told result.answer (N.told net.old) (N.told net.new)
+            (scene self.old (F.told folder.old)) (scene self.new (F.told folder.new))) × (result.moved ≡ has_moved serves) }
         ensures goes { GoesRound (N.told net.old) (N.told net.new) (scene self.old (F.told folder.old)) (scene self.new (F.told folder.new)) }
     {
         dl_rounds::laws::a_round_is_its_events::<L>();
@@ -321,8 +320,8 @@ impl<L: Link> Daemon<L> {
         self.is_daemon();
         let sent = self.pump();
         let answer = answer_of(came);
-        rest_if_idle(net, answer.accepted || heard || taken || sent);
-        answer
+        let moved = rest_if_idle(net, answer.accepted | heard | taken | sent);
+        Served { answer, moved }
     }
 
     // The links of clients that are gone are shut.

@@ -10,10 +10,12 @@ pub mod accept_laws;
 mod daemon;
 pub mod laws;
 mod limits;
+mod resting;
 mod round;
 mod stop;
 pub mod stop_laws;
 mod taking;
 
 pub use daemon::Daemon;
+pub use resting::{Rests, rest_if_idle};
 pub use round::Round;

@@ -1,12 +1,12 @@
 //! What a round takes of the programs that log: the turns of the applications.
 
-ghost use Rattle.std.specs.Prelude.{◌≡◌, ◌+◌, ◌<◌, ◌≤◌, ℕ, Bool, true, false, length};
+ghost use Rattle.std.specs.Prelude.{◌≡◌, ◌+◌, ◌<◌, ◌≤◌, ◌==◌, ℕ, Bool, true, false, length, if◌then◌else◌};
 ghost use Rattle.dl_outside.specs.Told.{NetTold};
 ghost use Rattle.dl_taking.specs.Takes.{found_none, gave};
 ghost use Rattle.dl_loop.specs.Later.{GoesRound};
 ghost use Rattle.dl_loop.specs.Scene.{scene};
 ghost use Rattle.dl_loop.specs.Limits.{claim_limit, take_limit};
-ghost use Rattle.dl_loop.specs.Takes.{TakesAll, TakesCalls, TakesLossesIfMay, TakesSomeOf, is_over, most_of};
+ghost use Rattle.dl_loop.specs.Takes.{TakesAll, TakesCalls, TakesLossesIfMay, TakesSomeOf, has_taken, is_over, most_of};
 
 use crate::daemon::Daemon;
 use crate::laws::a_daemon_goes_on_taking;
@@ -41,6 +41,7 @@ impl<L: Link> Daemon<L> {
     ) -> bool
         requires greeted { self.old.greeted ≡ true }
         ensures takes { TakesAll (scene self.old (F.told folder.old)) (scene self.new (F.told folder.new)) }
+        ensures moved { result ≡ has_taken self.old self.new }
         ensures goes { (net : NetTold L) → GoesRound net net (scene self.old (F.told folder.old)) (scene self.new (F.told folder.new)) }
     {
         let apps = self.desk.apps().len() as u8;
@@ -49,7 +50,8 @@ impl<L: Link> Daemon<L> {
             let calls = self.take_calls(rt, app, clock, folder);
             self.is_daemon();
             let losses = self.take_losses(app, clock, folder);
-            moved |= calls != 0 || losses != 0;
+            moved |= calls != 0;
+            moved |= losses != 0;
         }
         moved
     }
@@ -66,6 +68,7 @@ impl<L: Link> Daemon<L> {
         requires app { app < length self.old.desk.apps }
         requires greeted { self.old.greeted ≡ true }
         ensures takes { TakesCalls app (scene self.old (F.told folder.old)) (scene self.new (F.told folder.new)) }
+        ensures count { self.new.noted + self.new.claimed ≡ self.old.noted + self.old.claimed + result }
         ensures goes { (net : NetTold L) → GoesRound net net (scene self.old (F.told folder.old)) (scene self.new (F.told folder.new)) }
     {
         let mut done = 0;
@@ -132,7 +135,8 @@ impl<L: Link> Daemon<L> {
     fn take_losses<C: Clock, F: Folder>(&mut self, app: u8, clock: &C, folder: &mut F) -> u64
         requires app { app < length self.old.desk.apps }
         requires greeted { self.old.greeted ≡ true }
-        ensures { TakesLossesIfMay app (scene self.old (F.told folder.old)) (scene self.new (F.told folder.new)) }
+        ensures takes { TakesLossesIfMay app (scene self.old (F.told folder.old)) (scene self.new (F.told folder.new)) }
+        ensures count { self.new.noted + self.new.claimed ≡ self.old.noted + self.old.claimed + (if result == 0 then 0 else 1) }
     {
         a_daemon_goes_on_taking::<L>();
         if self.noted == self.calls {

@@ -15,7 +15,7 @@ use Rattle.dl_message.proofs.Pieces.{bad_no_piece}
 abbrev DoesAt : ℕ → Cutting → Call Found → Cutting → Type 0
 DoesAt limit old call new = (old.limit ≡ limit) × Does old call new
 
-cuts_limit : (old new : Cutting) (cut : Cut) → Cuts old cut new → new.limit ≡ old.limit
+pub cuts_limit : (old new : Cutting) (cut : Cut) → Cuts old cut new → new.limit ≡ old.limit
 cuts_limit old new Message d = ap (λ (v : Cutting). v.limit) d.1
 cuts_limit old new NeedMore d = ap (λ (v : Cutting). v.limit) d.2
 cuts_limit old new (Bad fault) d = ap (λ (v : Cutting). v.limit) d.1
@@ -26,7 +26,7 @@ runs_at limit (Feed piece count ∷ calls) old new is r =
     (r.0, (is, r.1), runs_at limit calls r.0 new (ap (λ (v : Cutting). v.limit) r.1.taken ∙ is) r.2)
 runs_at limit (Next found ∷ calls) old new is r = (r.0, (is, r.1), runs_at limit calls r.0 new (cuts_limit old r.0 found.cut r.1.0 ∙ is) r.2)
 
-begins_more : (limit : ℕ) (bytes after more message : List ℕ) → Begins limit bytes message after → Begins limit (bytes ++ more) message (after ++ more)
+pub begins_more : (limit : ℕ) (bytes after more message : List ℕ) → Begins limit bytes message after → Begins limit (bytes ++ more) message (after ++ more)
 begins_more limit bytes after more message b = (b.0, b.1, ap (λ (x : List ℕ). x ++ more) b.2 ∙ append_assoc b.0 after more, b.3)
 
 answers_of : (old new : Cutting) (cut : Cut) (message : List ℕ) → Cuts old cut new → message ≡ new.message → AreCut (Begins old.limit) old.unread (message_of_cut cut message) new.unread

@@ -7,6 +7,7 @@ use Rattle.dl_headers.specs.declared.header.Standard.{Standard}
 use Rattle.dl_headers.specs.declared.header.Extended.{Extended}
 use Rattle.dl_headers.specs.Header.{extended_header, IsExtended}
 use Rattle.dl_headers.specs.Message.{Message}
+use Rattle.dl_headers.proofs.Again.{both}
 use Rattle.dl_message.specs.Cutting.{Cutting}
 
 -- two parts that stand one behind the other, na and nb items long, and what is behind them
@@ -31,12 +32,6 @@ ok_is e = cc
 pub no_first : {A : Type 0} (x y : Option A) → option_or x y ≡ None → x ≡ None
 no_first None y e = refl
 no_first (Some x) y e = absurd cc
-
-abbrev pair : {A B : Type 0} → A → B → A × B
-pair a x = (a, x)
-
-both : {A B : Type 0} {a b : A} {x y : B} → a ≡ b → x ≡ y → pair a x ≡ pair b y
-both {b = b} {x = x} p q = ap (λ a. pair a x) p ∙ ap (λ y. pair b y) q
 
 -- messages of the same parts are the same
 pub same_message : (g h : Message) → g.standard ≡ h.standard → g.extended ≡ h.extended → g.payload ≡ h.payload → g ≡ h

@@ -1,13 +1,12 @@
 -- Each whole message is the spelling of some message.
-use Rattle.std.proofs.Common.{◌≡◌, ℕ, ◌+◌, ◌<◌, ◌≤◌, ◌^◌, Bool, true, false, cond, List, [], ◌∷◌, ◌++◌, length, get_or, take, drop, Option, Some, None, refl, sym, ap, ◌∙◌, append_assoc, length-drop, length-take, take-append-drop, is_some, inl, inr, arith}
+use Rattle.std.proofs.Common.{◌≡◌, ℕ, ◌+◌, ◌<◌, ◌≤◌, ◌^◌, Bool, true, false, cond, List, [], ◌∷◌, ◌++◌, length, get_or, take, drop, Option, Some, None, refl, sym, ap, ◌∙◌, append_assoc, length-drop, length-take, take-append-drop, is_some, arith}
 use Rattle.std.specs.Prelude.{IfSome}
-use Rattle.std.proofs.lemmas.List.{get_or-drop, get_or-take, get_or_past}
-use Rattle.std.proofs.lemmas.Bool.{cases_lt}
 use Rattle.std.proofs.lemmas.Nat.{be_bytes_4}
 use Rattle.byteorder.specs.Endian.{big_bytes, big_number}
 use Rattle.byteorder.specs.Numbers.{big_from-take, big_from-lt}
 use Rattle.dl_bytes.specs.Bytes.{IsBytes}
 use Rattle.dl_bytes.specs.Htyp.{htyp_of, len_of, has_extended, has_ecu, has_session, has_ticks}
+use Rattle.dl_bytes.proofs.Bytes.{IsBytes-drop, IsBytes-take}
 use Rattle.dl_headers.specs.declared.header.Standard.{Standard}
 use Rattle.dl_headers.specs.Header.{extended_header, optional, IsExtended}
 use Rattle.dl_headers.specs.Message.{Message, spelling, IsMessage}
@@ -17,16 +16,6 @@ use Rattle.dl_headers.proofs.Fronts.{good_front}
 use Rattle.dl_message.specs.Cut.{IsWholeMessage}
 
 -- ---- bytes of a list of bytes
-
-IsBytes-drop : (n : ℕ) (bytes : List ℕ) → IsBytes bytes → IsBytes (drop n bytes)
-IsBytes-drop n bytes small i = rw get_or-drop (small (n + i))
-
-IsBytes-take : (n : ℕ) (bytes : List ℕ) → IsBytes bytes → IsBytes (take n bytes)
-IsBytes-take n bytes small i =
-    elim (cases_lt i n) [
-      | inl lt ↦ rw (get_or-take n bytes i 0 lt) (small i)
-      | inr le ↦ rw (get_or_past (take n bytes) i 0 (omega (arith, length-take n bytes))) (omega arith)
-    ]
 
 -- the number of the first four bytes has them
 four_bytes : (bytes : List ℕ) → 4 ≤ length bytes → IsBytes bytes → big_bytes 4 (big_number 4 bytes) ≡ take 4 bytes

@@ -6,6 +6,7 @@ use Rattle.std.specs.Option.{option_and_then, option_map_or, option_or, is_some}
 use Rattle.std.specs.Result.{is_ok, result_unwrap_or, result_ok}
 use Rattle.std.specs.Str.{bytes_eq}
 use Rattle.std.proofs.lemmas.Bool.Decides.{eqb_tells}
+use Rattle.dl_lemmas.proofs.Options.{ifok_if, ifsome_if}
 use Rattle.dl_bytes.specs.Claim.{Claimed}
 use Rattle.dl_bytes.specs.Id.{zero_id}
 use Rattle.dl_bytes.specs.Level.{own_level_of}
@@ -89,14 +90,6 @@ comes_anew false n t is none = ap (λ u. u || false) (sym none)
 goes : (b n t : Bool) → n ≡ true → t ≡ b → false ≡ cond (b && n) false (t || (b && false))
 goes true n t is same = ap (λ m. cond m false (t || false)) (sym is)
 goes false n t is same = ap (λ u. u || false) (sym same)
-
-ifok_if : {A E : Type 0} (P : A → Type 0) (b : Bool) (e : E) (r : Result A E) → IfOk r P → IfOk (cond b (Err e) r) P
-ifok_if P true e r ok = tt
-ifok_if P false e r ok = ok
-
-pub ifsome_if : {A : Type 0} (P : A → Type 0) (b : Bool) (o : Option A) → IfSome o P → IfSome (cond b None o) P
-ifsome_if P true o ok = tt
-ifsome_if P false o ok = ok
 
 -- ---- one message
 

@@ -5,6 +5,7 @@ use Rattle.std.specs.Map.{lookup, set_value}
 use Rattle.std.specs.Option.{option_and_then, option_map_or, option_or, is_some}
 use Rattle.std.specs.Result.{is_ok, result_unwrap_or, result_ok}
 use Rattle.std.specs.Str.{bytes_eq}
+use Rattle.dl_lemmas.proofs.Options.{ifok_if, ifsome_if, or_none}
 use Rattle.dl_bytes.specs.Claim.{Claimed}
 use Rattle.dl_bytes.specs.Id.{zero_id}
 use Rattle.dl_bytes.specs.Level.{own_level_of}
@@ -33,7 +34,7 @@ use Rattle.dl_model.specs.Stays.{drops_app, stays}
 use Rattle.dl_model.proofs.OneMore.{registry-one}
 use Rattle.dl_model.proofs.Presence.{stays-push, bytes_tell, bytes_same, bytes_differ, lookup-set_same, lookup-set_other, lookup-push, lookup-without_same, lookup-without_other}
 use Rattle.dl_model.specs.Stays.{names_context, drops_context, registers_context, ends_context, is_context_there}
-use Rattle.dl_model.proofs.AppPresence.{found_own, ifsome_if}
+use Rattle.dl_model.proofs.AppPresence.{found_own}
 
 -- a context of an application that belongs to the channel
 abbrev pub ctx_there : ℕ → List ℕ → Option App → Bool
@@ -104,14 +105,6 @@ and_true : (b x : Bool) → x ≡ true → (b && x) ≡ b
 and_true true x is = is
 and_true false x is = refl
 
-or_none : {A : Type 0} (o : Option A) → option_or o None ≡ o
-or_none None = refl
-or_none (Some x) = refl
-
-ifok_if2 : {A E : Type 0} (P : A → Type 0) (b : Bool) (e : E) (r : Result A E) → IfOk r P → IfOk (cond b (Err e) r) P
-ifok_if2 P true e r ok = tt
-ifok_if2 P false e r ok = ok
-
 -- ---- one message
 
 module _ (r : Registry) (c : ℕ) (a k : List ℕ) (ch : ℕ) where
@@ -144,7 +137,7 @@ module _ (r : Registry) (c : ℕ) (a k : List ℕ) (ch : ℕ) where
     by true = same_app (RegisterApp apid pid text) apid app (record app { pid = pid; text = text }) refl refl refl found refl refl
     by false = tt
   app_registered-ctx apid pid text None found =
-      ifok_if2 (ContextStep r c a k ch (RegisterApp apid pid text)) (nat_le 16 (length r.apps)) fault.AppsFull (Ok (with_new_app r apid new)) told
+      ifok_if (ContextStep r c a k ch (RegisterApp apid pid text)) (nat_le 16 (length r.apps)) fault.AppsFull (Ok (with_new_app r apid new)) told
     where
       new : App
       new = record { channel = ch; number = least_free (numbers r.apps); pid = pid; text = text; contexts = [] }
@@ -239,8 +232,8 @@ module _ (r : Registry) (c : ℕ) (a k : List ℕ) (ch : ℕ) where
   context_registered-ctx slots apid ctid position own text app (Some context) found channel there =
       context_told-ctx apid ctid app context (record context { position = position; text = text }) found channel there
   context_registered-ctx slots apid ctid position own text app None found channel there =
-      ifok_if2 Step (nat_le 64 (length (places app.contexts))) fault.ContextsFull _
-      (ifok_if2 Step ((slots (slot_of app.number (least_free (places app.contexts)))).version == last_version) fault.Worn _
+      ifok_if Step (nat_le 64 (length (places app.contexts))) fault.ContextsFull _
+      (ifok_if Step ((slots (slot_of app.number (least_free (places app.contexts)))).version == last_version) fault.Worn _
       (context_new-ctx apid ctid app (record { place = least_free (places app.contexts); further = []; own = option_or (stored_level r.stored apid ctid) own; position = position; text = text }) found channel there))
     where
       Step : Registry → Type 0
@@ -297,10 +290,10 @@ module _ (r : Registry) (c : ℕ) (a k : List ℕ) (ch : ℕ) where
   applied-ctx : (slots : ℕ → Slot) (msg : UserMsg) → IfOk (applied slots r ch msg) (ContextStep r c a k ch msg)
   unfolding ContextStep
   applied-ctx slots (RegisterApp apid pid text) =
-      ifok_if2 (ContextStep r c a k ch (RegisterApp apid pid text)) (bytes_eq apid zero_id) fault.ZeroId _ (app_registered-ctx apid pid text (lookup (bytes_eq apid) r.apps) refl)
+      ifok_if (ContextStep r c a k ch (RegisterApp apid pid text)) (bytes_eq apid zero_id) fault.ZeroId _ (app_registered-ctx apid pid text (lookup (bytes_eq apid) r.apps) refl)
   applied-ctx slots (UnregisterApp apid pid) = app_unregistered-ctx apid pid (app_of r ch apid) refl
   applied-ctx slots (RegisterContext apid ctid position level trace pid text) =
-      ifok_if2 (ContextStep r c a k ch (RegisterContext apid ctid position level trace pid text)) (bytes_eq apid zero_id || bytes_eq ctid zero_id) fault.ZeroId _
+      ifok_if (ContextStep r c a k ch (RegisterContext apid ctid position level trace pid text)) (bytes_eq apid zero_id || bytes_eq ctid zero_id) fault.ZeroId _
       (for_app-ctx (ContextStep r c a k ch (RegisterContext apid ctid position level trace pid text)) apid (app_of r ch apid) _ refl
       (λ app found channel. context_registered-ctx slots apid ctid position level text app (context_of app ctid) found channel refl))
   applied-ctx slots (UnregisterContext apid ctid pid) =

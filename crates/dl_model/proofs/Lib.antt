@@ -6,3 +6,6 @@ pub mod Presence
 pub mod AppPresence
 pub mod OwnLevels
 pub mod ContextPresence
+pub mod StandingApps
+pub mod Records
+pub mod Marks

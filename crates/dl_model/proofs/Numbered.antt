@@ -10,6 +10,7 @@ use Rattle.std.proofs.lemmas.List.Sums.{prefix_len-le-length, prefix_len_passes,
 use Rattle.std.proofs.lemmas.Map.Keys.{IsDistinct-push, IsDistinct-head, IsDistinct-tail, IsDistinct-cons}
 use Rattle.std.proofs.lemmas.Map.Steps.{le-length_from_below, length-le_from_distinct_below}
 use Rattle.std.specs.Cmp.{nat_eq_equiv}
+use Rattle.dl_lemmas.proofs.Lists.{all_end}
 use Rattle.dl_model.specs.Registry.{least_free, IsNumbered}
 
 -- ---- the least free number
@@ -43,15 +44,11 @@ least_free-is_free used = by (list_any (nat_eq (least_free used)) used) refl whe
 
 -- ---- numbers that stay apart
 
-AllByRecursion-push : (P : ℕ → Type 0) (xs : List ℕ) (y : ℕ) → AllByRecursion P xs → P y → AllByRecursion P (xs ++ y ∷ [])
-AllByRecursion-push P [] y all here = (here, tt)
-AllByRecursion-push P (x ∷ xs) y all here = (all.0, AllByRecursion-push P xs y all.1 here)
-
 -- a number that is free is added
 pub IsNumbered-add : (limit : ℕ) (used : List ℕ) (n : ℕ) → IsNumbered limit used → list_any (nat_eq n) used ≡ false → n < limit → IsNumbered limit (used ++ n ∷ [])
 IsNumbered-add limit used n is free below = record {
   apart = IsDistinct-push nat_eq_equiv used n is.apart free;
-  below = AllByRecursion-push (λ m. m < limit) used n is.below below;
+  below = all_end (λ m. m < limit) used n is.below below;
 }
 
 pub IsNumbered-push : (limit : ℕ) (used : List ℕ) → IsNumbered limit used → length used < limit → IsNumbered limit (used ++ least_free used ∷ [])

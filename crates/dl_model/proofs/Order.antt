@@ -7,6 +7,7 @@ use Rattle.std.specs.Option.{option_and_then, option_or}
 use Rattle.std.specs.Result.{result_unwrap_or, result_ok}
 use Rattle.std.specs.Str.{bytes_eq}
 use Rattle.std.proofs.lemmas.List.{length-map, map-append}
+use Rattle.dl_lemmas.proofs.Options.{ifok_unless, ifsome_unless}
 use Rattle.dl_bytes.specs.Claim.{Claimed}
 use Rattle.dl_bytes.specs.Id.{zero_id}
 use Rattle.dl_bytes.specs.Level.{own_level_of}
@@ -84,17 +85,13 @@ in_order-with_new_app r apid channel pid text is room = record {
 
 -- ---- user messages
 
-ifok_if : {A E : Type 0} (P : A → Type 0) (b : Bool) (e : E) (r : Result A E) → (b ≡ false → IfOk r P) → IfOk (cond b (Err e) r) P
-ifok_if P true e r ok = tt
-ifok_if P false e r ok = ok refl
-
 app_registered-order : (r : Registry) (channel : ℕ) (apid : List ℕ) (pid : ℕ) (text : List ℕ) (o : Option App) → lookup (bytes_eq apid) r.apps ≡ o → IsInOrder r → IfOk (app_registered r channel apid pid text o) IsInOrder
 app_registered-order r channel apid pid text (Some app) found is = by (app.channel == channel) where
   by : (b : Bool) → IfOk (if b then Ok (with_app r apid (record app { pid = pid; text = text })) else Err fault.Taken) IsInOrder
   by true = in_order-with_app r apid app (record app { pid = pid; text = text }) is found refl (subst (λ (o : Option App). IfSome o (λ a. IsNumbered 64 (places a.contexts))) found (placed_of_lookup (bytes_eq apid) r.apps is.placed))
   by false = tt
 app_registered-order r channel apid pid text None found is =
-    ifok_if IsInOrder (nat_le 16 (length r.apps)) fault.AppsFull _ (λ room. in_order-with_new_app r apid channel pid text is (below room))
+    ifok_unless IsInOrder (nat_le 16 (length r.apps)) fault.AppsFull _ (λ room. in_order-with_new_app r apid channel pid text is (below room))
   where
     below : nat_le 16 (length r.apps) ≡ false → length r.apps < 16
     below room = omega (arith, leb-false 16 (length r.apps) room)
@@ -119,8 +116,8 @@ context_registered-order slots r apid ctid position own text app (Some context) 
     in_order-with_app r apid app (with_context app ctid (record context { position = position; text = text })) is found refl
     (subst (IsNumbered 64) (sym (places-same (bytes_eq ctid) app.contexts context (record context { position = position; text = text }) there refl)) (placed_of_found r apid app is found))
 context_registered-order slots r apid ctid position own text app None found there is =
-    ifok_if IsInOrder (nat_le 64 (length (places app.contexts))) fault.ContextsFull _ (λ room.
-    ifok_if IsInOrder ((slots (slot_of app.number (least_free (places app.contexts)))).version == last_version) fault.Worn _ (λ fresh.
+    ifok_unless IsInOrder (nat_le 64 (length (places app.contexts))) fault.ContextsFull _ (λ room.
+    ifok_unless IsInOrder ((slots (slot_of app.number (least_free (places app.contexts)))).version == last_version) fault.Worn _ (λ fresh.
     in_order-with_app r apid app (with_new_context app ctid new) is found refl (more room)))
   where
     new : Context
@@ -154,20 +151,16 @@ for_app-order r apid channel (Some app) next found each = each app (app_of_found
 
 pub applied-order : (slots : ℕ → Slot) (r : Registry) (channel : ℕ) (msg : UserMsg) → IsInOrder r → IfOk (applied slots r channel msg) IsInOrder
 applied-order slots r channel (RegisterApp apid pid text) is =
-    ifok_if IsInOrder (bytes_eq apid zero_id) fault.ZeroId _ (λ named. app_registered-order r channel apid pid text (lookup (bytes_eq apid) r.apps) refl is)
+    ifok_unless IsInOrder (bytes_eq apid zero_id) fault.ZeroId _ (λ named. app_registered-order r channel apid pid text (lookup (bytes_eq apid) r.apps) refl is)
 applied-order slots r channel (UnregisterApp apid pid) is = app_unregistered-order r apid (app_of r channel apid) is
 applied-order slots r channel (RegisterContext apid ctid position level trace pid text) is =
-    ifok_if IsInOrder (bytes_eq apid zero_id || bytes_eq ctid zero_id) fault.ZeroId _ (λ named.
+    ifok_unless IsInOrder (bytes_eq apid zero_id || bytes_eq ctid zero_id) fault.ZeroId _ (λ named.
     for_app-order r apid channel (app_of r channel apid) _ refl (λ app found. context_registered-order slots r apid ctid position level text app (context_of app ctid) found refl is))
 applied-order slots r channel (UnregisterContext apid ctid pid) is =
     for_app-order r apid channel (app_of r channel apid) _ refl (λ app found. context_unregistered-order r apid ctid app (context_of app ctid) found is)
 applied-order slots r channel _ is = is
 
 -- ---- claims
-
-ifsome_if : {A : Type 0} (P : A → Type 0) (b : Bool) (o : Option A) → (b ≡ false → IfSome o P) → IfSome (cond b None o) P
-ifsome_if P true o ok = tt
-ifsome_if P false o ok = ok refl
 
 -- a context that is there has one place more, or one comes at that place
 with_claim-order : (r : Registry) (apid : List ℕ) (claim : Claimed) (app : App) (o : Option Context) → lookup (bytes_eq apid) r.apps ≡ Some app → context_of app claim.ctid ≡ o → Free claim.place app.contexts → IsInOrder r
@@ -184,8 +177,8 @@ with_claim-order r apid claim app None found there free is =
 
 pub context_claimed-order : (slots : ℕ → Slot) (r : Registry) (apid : List ℕ) (claim : Claimed) (app : App) → lookup (bytes_eq apid) r.apps ≡ Some app → IsInOrder r → IfSome (context_claimed slots r apid claim app) IsInOrder
 context_claimed-order slots r apid claim app found is =
-    ifsome_if IsInOrder (not (is_free claim.place app.contexts)) _ (λ free.
-    ifsome_if IsInOrder ((slots (slot_of app.number claim.place)).version == last_version) _ (λ fresh.
+    ifsome_unless IsInOrder (not (is_free claim.place app.contexts)) _ (λ free.
+    ifsome_unless IsInOrder ((slots (slot_of app.number claim.place)).version == last_version) _ (λ fresh.
     with_claim-order r apid claim app (context_of app claim.ctid) found refl (free_tells claim.place app.contexts free) is))
 
 claimed-order : (slots : ℕ → Slot) (r : Registry) (claim : Claimed) → IsInOrder r → IfSome (claimed slots r claim) IsInOrder
@@ -200,7 +193,7 @@ claimed-order slots r claim is = by (apid_numbered r claim.app) where
 
 -- ---- levels
 
-releveled_numbers : (relevel : Relevel) (es : List (List ℕ × App)) → numbers (map (releveled_app relevel) es) ≡ numbers es
+pub releveled_numbers : (relevel : Relevel) (es : List (List ℕ × App)) → numbers (map (releveled_app relevel) es) ≡ numbers es
 releveled_numbers relevel [] = refl
 releveled_numbers relevel (e ∷ es) = ap (λ t. e.1.number ∷ t) (releveled_numbers relevel es)
 

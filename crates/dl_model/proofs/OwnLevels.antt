@@ -6,6 +6,7 @@ use Rattle.std.specs.Map.{lookup, set_value}
 use Rattle.std.specs.Option.{option_and_then, option_map, option_map_or, option_or, is_none, is_some}
 use Rattle.std.specs.Result.{is_ok, result_unwrap_or, result_ok}
 use Rattle.std.specs.Str.{bytes_eq}
+use Rattle.dl_lemmas.proofs.Options.{ifok_if, ifsome_if}
 use Rattle.dl_bytes.specs.Claim.{Claimed}
 use Rattle.dl_bytes.specs.Id.{zero_id}
 use Rattle.dl_bytes.specs.Level.{own_level_of}
@@ -32,7 +33,6 @@ use Rattle.dl_model.specs.Setting.{Setting}
 use Rattle.dl_model.specs.Stays.{own_at, given_by_message, given_where_set, none_given, given_by_request, given_at, levels_given}
 use Rattle.dl_model.proofs.OneMore.{registry-one}
 use Rattle.dl_model.proofs.Order.{app_of_found}
-use Rattle.dl_model.proofs.AppPresence.{ifsome_if}
 use Rattle.dl_model.proofs.Presence.{bytes_tell, bytes_same, bytes_differ, lookup-set_same, lookup-set_other, lookup-push, lookup-without_same, lookup-without_other}
 
 -- the own level of a context of an application
@@ -59,10 +59,6 @@ is_given old None given own now gives = tt
 is_given old (Some other) given own now gives =
     let same : own ≡ other = cc (sym now) in
     inl (gives ∙ ap (λ o. o ∷ []) same)
-
-ifok_if : {A E : Type 0} (P : A → Type 0) (b : Bool) (e : E) (r : Result A E) → IfOk r P → IfOk (cond b (Err e) r) P
-ifok_if P true e r ok = tt
-ifok_if P false e r ok = ok
 
 -- ---- one message
 

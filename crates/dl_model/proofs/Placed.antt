@@ -1,12 +1,13 @@
 -- The places of an application's contexts: what each change of these leaves of them.
-use Rattle.std.proofs.Common.{◌≡◌, ℕ, ◌<◌, inl, inr, Bool, true, false, not, cond, List, [], ◌∷◌, ◌++◌, map, Option, Some, None, refl, sym, ap, subst, ◌∙◌, append-nil, append_assoc}
-use Rattle.std.specs.Prelude.{nat_eq, nat_lt, ◌&&◌, ◌||◌}
+use Rattle.std.proofs.Common.{◌≡◌, ℕ, ◌<◌, Bool, true, false, not, cond, List, [], ◌∷◌, ◌++◌, map, Option, Some, None, refl, sym, ap, subst, ◌∙◌, append-nil, append_assoc}
+use Rattle.std.specs.Prelude.{nat_eq, nat_lt, ◌&&◌}
 use Rattle.std.specs.List.{AllByRecursion, IsDistinct, filter, flat_map, list_any}
 use Rattle.std.specs.Map.{lookup, set_value}
 use Rattle.std.proofs.lemmas.Bool.{ltb-true}
-use Rattle.std.proofs.lemmas.Bool.Decides.{eqb_tells}
 use Rattle.std.proofs.lemmas.Grind.{flat_map-append}
 use Rattle.std.proofs.lemmas.Map.Keys.{IsDistinct-head, IsDistinct-tail, IsDistinct-cons}
+use Rattle.dl_lemmas.proofs.Numbers.{nat_eq_apart}
+use Rattle.dl_lemmas.proofs.Bools.{or_left, or_right}
 use Rattle.dl_model.specs.declared.context.Context.{Context}
 use Rattle.dl_model.specs.Registry.{IsNumbered, Relevel, places_of, places, is_free, releveled_context}
 use Rattle.dl_model.proofs.Numbered.{IsNumbered-add}
@@ -43,29 +44,15 @@ apart-behind (x ∷ xs) ys zs is rest fewer =
     (all-append (λ y. nat_eq x y ≡ false) xs zs (all-left (λ y. nat_eq x y ≡ false) xs ys others) (fewer x (all-right (λ y. nat_eq x y ≡ false) xs ys others)))
     (apart-behind xs ys zs (IsDistinct-tail nat_eq x (xs ++ ys) is) rest fewer)
 
-or_first : (a b : Bool) → (a || b) ≡ false → a ≡ false
-or_first false b is = refl
-or_first true b is = is
-
-or_second : (a b : Bool) → (a || b) ≡ false → b ≡ false
-or_second false b is = is
-or_second true b is = absurd (cc is)
-
 pub none_is : (n : ℕ) (xs : List ℕ) → list_any (nat_eq n) xs ≡ false → AllByRecursion (λ y. nat_eq n y ≡ false) xs
 none_is n [] none = tt
-none_is n (x ∷ xs) none = (or_first (nat_eq n x) (list_any (nat_eq n) xs) none, none_is n xs (or_second (nat_eq n x) (list_any (nat_eq n) xs) none))
-
-turned : (a b : ℕ) → nat_eq a b ≡ false → nat_eq b a ≡ false
-turned a b is = elim (eqb_tells b a) [
-  | inl same ↦ elim (eqb_tells a b) [ inl here ↦ absurd (cc (sym here.0 ∙ is)) | inr other ↦ absurd (other.1 (sym same.1)) ]
-  | inr other ↦ other.0
-]
+none_is n (x ∷ xs) none = (or_left (nat_eq n x) (list_any (nat_eq n) xs) none, none_is n xs (or_right (nat_eq n x) (list_any (nat_eq n) xs) none))
 
 apart-insert : (xs ys : List ℕ) (n : ℕ) → IsDistinct nat_eq (xs ++ ys) → AllByRecursion (λ y. nat_eq n y ≡ false) (xs ++ ys) → IsDistinct nat_eq (xs ++ n ∷ ys)
 apart-insert [] ys n is none = IsDistinct-cons nat_eq n ys none is
 apart-insert (x ∷ xs) ys n is none =
     IsDistinct-cons nat_eq x (xs ++ n ∷ ys)
-    (all-insert (λ y. nat_eq x y ≡ false) xs ys n (IsDistinct-head nat_eq x (xs ++ ys) is) (turned n x none.0))
+    (all-insert (λ y. nat_eq x y ≡ false) xs ys n (IsDistinct-head nat_eq x (xs ++ ys) is) (nat_eq_apart n x none.0))
     (apart-insert xs ys n (IsDistinct-tail nat_eq x (xs ++ ys) is) none.1)
 
 -- a free number, put anywhere among others

@@ -48,6 +48,9 @@ bytes_tell a b = by (bytes_eq a b) refl where
   by true is = inl (is, (bytes_eq-Decides a b).0 is)
   by false is = inr (is, λ same. true≢false (sym ((bytes_eq-Decides a b).1 same) ∙ is))
 
+pub same_bytes : (a b : List ℕ) → bytes_eq a b ≡ true → a ≡ b
+same_bytes a b e = elim (bytes_tell a b) as (λ _. a ≡ b) [ inl same ↦ same.1 | inr other ↦ absurd cc ]
+
 pub bytes_same : (a : List ℕ) → bytes_eq a a ≡ true
 bytes_same a = (bytes_eq-Decides a a).1 refl
 

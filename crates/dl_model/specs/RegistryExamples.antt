@@ -1,12 +1,14 @@
 -- Journals of the examples on registries, levels and replies.
-use Rattle.std.specs.Prelude.{ℕ, ◌+◌, ◌*◌, ◌-◌, true, nat_lt, List, [], ◌∷◌, ◌++◌, length, codes, if◌then◌else◌, Option, Some, None, negsuc}
-use Rattle.dl_bytes.specs.Id.{filled}
+use Rattle.std.specs.Prelude.{◌≡◌, ℕ, ◌+◌, ◌*◌, ◌-◌, true, nat_lt, List, [], ◌∷◌, ◌++◌, length, codes, if◌then◌else◌, Option, Some, None, negsuc}
+use Rattle.dl_bytes.specs.Id.{filled, zero_id}
 use Rattle.dl_bytes.specs.Limits.{client_limit, last_version}
 use Rattle.dl_bytes.specs.declared.moment.Moment.{Moment}
+use Rattle.dl_bytes.specs.declared.outcome.Done.{Done}
 use Rattle.dl_bytes.specs.declared.outcome.Done.TheVariants.{Yes}
 use Rattle.dl_bytes.specs.declared.user.UserMsg.TheVariants.{RegisterApp, UnregisterApp, RegisterContext, UnregisterContext, Log}
 use Rattle.dl_events.specs.declared.event.Event.{Event}
 use Rattle.dl_events.specs.declared.event.Event.TheVariants.{User, Claim, Level, Connect, Request}
+use Rattle.dl_model.specs.Frames.{FrameSource}
 use Rattle.dl_model.specs.Setting.{Setting}
 
 -- ---- bytes, written as two hexadecimal digits each, parted by one blank
@@ -86,6 +88,18 @@ asks payload = Request 1 (query payload) Yes
 abbrev pub set_level : List ℕ → List ℕ → ℕ → List ℕ
 set_level apid ctid level = 1 ∷ 0 ∷ 0 ∷ 0 ∷ (id apid ++ id ctid ++ (level ∷ 0 ∷ 0 ∷ 0 ∷ 0 ∷ []))
 
+-- client 1 sets the level of the context TEST of LOG1
+abbrev pub asks_level : ℕ → Event
+asks_level level = asks (set_level (codes "LOG1") (codes "TEST") level)
+
+-- GetLogInfo of all applications: with 6 the levels of their contexts, with 7 their texts too
+abbrev pub get_log_info : ℕ → List ℕ
+get_log_info option = 3 ∷ 0 ∷ 0 ∷ 0 ∷ option ∷ (zero_id ++ zero_id ++ (0 ∷ 0 ∷ 0 ∷ 0 ∷ []))
+
+-- an injection of one byte for the context of these ids
+abbrev pub injection_for : List ℕ → List ℕ → List ℕ
+injection_for apid ctid = control apid ctid (hex (codes "FF 0F 00 00 01 00 00 00 AB"))
+
 -- SetDefaultLogLevel
 abbrev pub set_default : ℕ → List ℕ
 set_default level = 0x11 ∷ 0 ∷ 0 ∷ 0 ∷ level ∷ 0 ∷ 0 ∷ 0 ∷ 0 ∷ []
@@ -100,6 +114,10 @@ reset_all = 6 ∷ 0 ∷ 0 ∷ 0 ∷ []
 -- GetSoftwareVersion
 abbrev pub version : List ℕ
 version = 0x13 ∷ 0 ∷ 0 ∷ 0 ∷ []
+
+-- all replies have so many bytes
+abbrev pub RepliesHave : ℕ → FrameSource → Type 0
+RepliesHave size source = (before : List Event) (frame : List ℕ) (answer : Done) → length (source.reply before frame answer) ≡ size
 
 -- ---- journals
 

@@ -3,24 +3,22 @@
 
 ghost use Rattle.std.specs.Prelude.{◌≡◌, ℕ, List, [], ◌∷◌, ◌++◌, codes, length};
 ghost use Rattle.dl_bytes.specs.declared.moment.Moment.{Moment};
-ghost use Rattle.dl_bytes.specs.declared.outcome.Done.{Done};
 ghost use Rattle.dl_bytes.specs.declared.outcome.Done.TheVariants.{Yes, Failed, NoMemory};
-ghost use Rattle.dl_events.specs.declared.event.Event.{Event};
 ghost use Rattle.dl_events.specs.declared.event.Event.TheVariants.{Log, Connect, Request, Close};
 ghost use Rattle.dl_events.specs.declared.event.Why.TheVariants as why;
 ghost use Rattle.dl_model.specs.Frames.{FrameSource};
 ghost use Rattle.dl_model.specs.Journal.{IsWellFormed};
-ghost use Rattle.dl_model.specs.RegistryExamples.{hex, defaults, small_buffer, control, query, store, version, logged, two_contexts};
+ghost use Rattle.dl_model.specs.RegistryExamples.{RepliesHave, defaults, injection_for, small_buffer, query, store, version, logged, two_contexts};
 
 /// A request that needs nobody is done. An injection is done, or its queue is full, and wants no memory; a Store may.
 pub fn answers_of_requests()
     ensures version { (source : FrameSource) (at : Moment) → IsWellFormed defaults source (two_contexts at ++ Request 1 (query version) Failed ∷ []) → ⊥ }
     ensures full_queue { (source : FrameSource) (at : Moment) →
-        IsWellFormed defaults source (two_contexts at ++ Request 1 (control (codes "LOG1") (codes "TEST") (hex (codes "FF 0F 00 00 01 00 00 00 AB"))) Failed ∷ []) }
+        IsWellFormed defaults source (two_contexts at ++ Request 1 (injection_for (codes "LOG1") (codes "TEST")) Failed ∷ []) }
     ensures queue { (source : FrameSource) (at : Moment) →
-        IsWellFormed defaults source (two_contexts at ++ Request 1 (control (codes "LOG1") (codes "TEST") (hex (codes "FF 0F 00 00 01 00 00 00 AB"))) NoMemory ∷ []) → ⊥ }
+        IsWellFormed defaults source (two_contexts at ++ Request 1 (injection_for (codes "LOG1") (codes "TEST")) NoMemory ∷ []) → ⊥ }
     ensures no_context { (source : FrameSource) (at : Moment) →
-        IsWellFormed defaults source (two_contexts at ++ Request 1 (control (codes "LOG1") (codes "NONE") (hex (codes "FF 0F 00 00 01 00 00 00 AB"))) Failed ∷ []) → ⊥ }
+        IsWellFormed defaults source (two_contexts at ++ Request 1 (injection_for (codes "LOG1") (codes "NONE")) Failed ∷ []) → ⊥ }
     ensures folder { (source : FrameSource) (at : Moment) → IsWellFormed defaults source (two_contexts at ++ Request 1 (query store) NoMemory ∷ []) }
 {}
 
@@ -36,11 +34,9 @@ pub fn slow_clients()
         IsWellFormed small_buffer source (Connect 1 ∷ logged at first ∷ Close 1 (why.Slow 71 100) ∷ logged at next ∷ []) → ⊥ }
     ensures room { (source : FrameSource) (at : Moment) (first next : List ℕ) →
         IsWellFormed small_buffer source (Connect 1 ∷ logged at first ∷ Close 1 (why.Slow 100 100) ∷ logged at next ∷ []) → ⊥ }
-    ensures other_need { (source : FrameSource) (at : Moment) (first next : List ℕ) → length next ≡ 100 →
-        ((before : List Event) (frame : List ℕ) (answer : Done) → length (source.reply before frame answer) ≡ 23) →
+    ensures other_need { (source : FrameSource) (at : Moment) (first next : List ℕ) → length next ≡ 100 → RepliesHave 23 source →
         IsWellFormed small_buffer source (Connect 1 ∷ logged at first ∷ Close 1 (why.Slow 72 101) ∷ logged at next ∷ []) → ⊥ }
-    ensures no_event { (source : FrameSource) (at : Moment) (first : List ℕ) →
-        ((before : List Event) (frame : List ℕ) (answer : Done) → length (source.reply before frame answer) ≡ 23) →
+    ensures no_event { (source : FrameSource) (at : Moment) (first : List ℕ) → RepliesHave 23 source →
         IsWellFormed small_buffer source (Connect 1 ∷ logged at first ∷ Close 1 (why.Slow 72 100) ∷ []) → ⊥ }
     ensures long_reply { (source : FrameSource) (at : Moment) (first : List ℕ) →
         IsWellFormed small_buffer source (Connect 1 ∷ logged at first ∷ Close 1 (why.Slow 72 65536) ∷ []) → ⊥ }

@@ -13,7 +13,7 @@ ghost use Rattle.dl_model.specs.declared.registry.RegistryFault.TheVariants as f
 ghost use Rattle.dl_model.specs.Frames.{FrameSource};
 ghost use Rattle.dl_model.specs.Journal.{IsWellFormed, registry_of, slots_of, owed, reply_after, accepted};
 ghost use Rattle.dl_model.specs.Registry.{applied, app_of, context_at, effective, level_at, owns_now};
-ghost use Rattle.dl_model.specs.RegistryExamples.{hex, defaults, nearly_worn, id, app_comes, app_goes, context_comes, context_goes, claims, control, query, asks, set_level, set_default, store, reset_all, two_contexts, one_context, two_places};
+ghost use Rattle.dl_model.specs.RegistryExamples.{hex, defaults, nearly_worn, id, app_comes, app_goes, context_comes, context_goes, claims, query, asks, asks_level, get_log_info, injection_for, set_level, set_default, store, reset_all, two_contexts, one_context, two_places};
 
 /// A default level that changes: the context that follows it is owed a Level event, and the one with a level of its own
 /// isn't. GetLogInfo tells own levels: 0xFF for none.
@@ -27,7 +27,7 @@ pub fn default_level_changes()
         ≡ hex (codes "25 00 00 17 45 43 55 31 26 01 44 41 31 00 44 43 31 00 11 00 00 00 02") }
     ensures info { (at : Moment) →
         reply_after defaults (two_contexts at ++ asks (set_default 2) ∷ Level 0 2 ∷ [])
-        (query (hex (codes "03 00 00 00 06 00 00 00 00 00 00 00 00 00 00 00 00"))) Yes
+        (query (get_log_info 6)) Yes
         ≡ hex (codes "25 00 00 2F 45 43 55 31 26 01 44 41 31 00 44 43 31 00 03 00 00 00 06 01 00 4C 4F 47 31 02 00 54 45 53 54 FF FF 46 55 4C 4C 06 FF 00 00 00 00") }
 {}
 
@@ -67,7 +67,7 @@ pub fn refused_info()
     ensures options { (at : Moment) →
         reply_after defaults (one_context at) (query (hex (codes "03 00 00 00 03 00 00 00 00 00 00 00 00 00 00 00 00"))) Yes
         ≡ hex (codes "25 00 00 17 45 43 55 31 26 01 44 41 31 00 44 43 31 00 03 00 00 00 01") }
-    ensures nobody_there { reply_after defaults [] (query (hex (codes "03 00 00 00 07 00 00 00 00 00 00 00 00 00 00 00 00"))) Yes
+    ensures nobody_there { reply_after defaults [] (query (get_log_info 7)) Yes
         ≡ hex (codes "25 00 00 17 45 43 55 31 26 01 44 41 31 00 44 43 31 00 03 00 00 00 08") }
 {}
 
@@ -96,7 +96,7 @@ pub fn stores_and_resets()
 pub fn comes_back_as_stored()
     ensures { (at : Moment) →
         level_at (registry_of defaults (one_context at
-        ++ asks (set_level (codes "LOG1") (codes "TEST") 3) ∷ Level 0 3 ∷ asks store ∷ asks (set_level (codes "LOG1") (codes "TEST") 5) ∷ Level 0 5
+        ++ asks_level 3 ∷ Level 0 3 ∷ asks store ∷ asks_level 5 ∷ Level 0 5
         ∷ context_goes at 0 (codes "LOG1") (codes "TEST") ∷ context_comes at 0 (codes "LOG1") (codes "TEST") (Some 1) ∷ [])) 0
         ≡ Some 3 }
 {}
@@ -168,15 +168,14 @@ pub fn worn_slots()
     ensures same { (at : Moment) → reply_after nearly_worn (one_context at) (query (set_level (codes "LOG1") (codes "TEST") 4)) Yes
         ≡ hex (codes "25 00 00 17 45 43 55 31 26 01 44 41 31 00 44 43 31 00 01 00 00 00 00") }
     ensures unchanged { (at : Moment) →
-        registry_of nearly_worn (one_context at ++ asks (set_level (codes "LOG1") (codes "TEST") 3) ∷ []) ≡ registry_of nearly_worn (one_context at) }
+        registry_of nearly_worn (one_context at ++ asks_level 3 ∷ []) ≡ registry_of nearly_worn (one_context at) }
     ensures other_default { (at : Moment) → reply_after nearly_worn (one_context at) (query (set_default 6)) Yes
         ≡ hex (codes "25 00 00 17 45 43 55 31 26 01 44 41 31 00 44 43 31 00 11 00 00 00 00") }
     ensures reset { (at : Moment) → reply_after (record nearly_worn { level = 5 }) (one_context at) (query reset_all) Yes
         ≡ hex (codes "25 00 00 17 45 43 55 31 26 01 44 41 31 00 44 43 31 00 06 00 00 00 02") }
     ensures no_other { (at : Moment) →
-        applied (slots_of nearly_worn (one_context at ++ context_goes at 0 (codes "LOG1") (codes "TEST") ∷ []))
-        (registry_of nearly_worn (one_context at ++ context_goes at 0 (codes "LOG1") (codes "TEST") ∷ []))
-        0 (RegisterContext (id (codes "LOG1")) (id (codes "TEST")) 0 (Some 4) (negsuc 0) 0 [])
+        let gone = one_context at ++ context_goes at 0 (codes "LOG1") (codes "TEST") ∷ [] in
+        applied (slots_of nearly_worn gone) (registry_of nearly_worn gone) 0 (RegisterContext (id (codes "LOG1")) (id (codes "TEST")) 0 (Some 4) (negsuc 0) 0 [])
         ≡ Err fault.Worn }
 {}
 
@@ -187,7 +186,7 @@ pub fn claimed_places()
     ensures further { (at : Moment) → level_at (registry_of defaults (two_places at)) 1 ≡ Some 4 }
     ensures settled { (at : Moment) → owed defaults (two_places at) ≡ None }
     ensures told_once { (at : Moment) →
-        reply_after defaults (two_places at) (query (hex (codes "03 00 00 00 06 00 00 00 00 00 00 00 00 00 00 00 00"))) Yes
+        reply_after defaults (two_places at) (query (get_log_info 6)) Yes
         ≡ hex (codes "25 00 00 29 45 43 55 31 26 01 44 41 31 00 44 43 31 00 03 00 00 00 06 01 00 4C 4F 47 31 01 00 53 41 4D 45 04 FF 00 00 00 00") }
     ensures both_set { (at : Moment) →
         owed defaults (two_places at ++ asks (set_level (codes "LOG1") (codes "SAME") 2) ∷ Level 0 2 ∷ []) ≡ Some (record { slot = 1; level = 2 }) }
@@ -218,19 +217,19 @@ pub fn void_claims()
 /// An injection reaches a context of this process that is named by both ids, where injections are let through and the
 /// application's queue took it.
 pub fn injections()
-    ensures done { (at : Moment) → reply_after defaults (one_context at) (control (codes "LOG1") (codes "TEST") (hex (codes "FF 0F 00 00 01 00 00 00 AB"))) Yes
+    ensures done { (at : Moment) → reply_after defaults (one_context at) (injection_for (codes "LOG1") (codes "TEST")) Yes
         ≡ hex (codes "25 00 00 17 45 43 55 31 26 01 44 41 31 00 44 43 31 00 FF 0F 00 00 00") }
-    ensures full_queue { (at : Moment) → reply_after defaults (one_context at) (control (codes "LOG1") (codes "TEST") (hex (codes "FF 0F 00 00 01 00 00 00 AB"))) Failed
+    ensures full_queue { (at : Moment) → reply_after defaults (one_context at) (injection_for (codes "LOG1") (codes "TEST")) Failed
         ≡ hex (codes "25 00 00 17 45 43 55 31 26 01 44 41 31 00 44 43 31 00 FF 0F 00 00 02") }
-    ensures no_context { (at : Moment) → reply_after defaults (one_context at) (control (codes "LOG1") (codes "NONE") (hex (codes "FF 0F 00 00 01 00 00 00 AB"))) Yes
+    ensures no_context { (at : Moment) → reply_after defaults (one_context at) (injection_for (codes "LOG1") (codes "NONE")) Yes
         ≡ hex (codes "25 00 00 17 45 43 55 31 26 01 44 41 31 00 44 43 31 00 FF 0F 00 00 02") }
-    ensures zero_ids { (at : Moment) → reply_after defaults (one_context at) (control [] [] (hex (codes "FF 0F 00 00 01 00 00 00 AB"))) Yes
+    ensures zero_ids { (at : Moment) → reply_after defaults (one_context at) (injection_for [] []) Yes
         ≡ hex (codes "25 00 00 17 45 43 55 31 26 01 44 41 31 00 44 43 31 00 FF 0F 00 00 02") }
-    ensures not_let_through { (at : Moment) → reply_after (record defaults { injection = false }) (one_context at) (control (codes "LOG1") (codes "TEST") (hex (codes "FF 0F 00 00 01 00 00 00 AB"))) Yes
+    ensures not_let_through { (at : Moment) → reply_after (record defaults { injection = false }) (one_context at) (injection_for (codes "LOG1") (codes "TEST")) Yes
         ≡ hex (codes "25 00 00 17 45 43 55 31 26 01 44 41 31 00 44 43 31 00 FF 0F 00 00 02") }
     ensures other_channel { (at : Moment) →
         reply_after defaults (app_comes at 1 (codes "LOG1") ∷ context_comes at 1 (codes "LOG1") (codes "TEST") (Some 4) ∷ Level 0 4 ∷ [])
-        (control (codes "LOG1") (codes "TEST") (hex (codes "FF 0F 00 00 01 00 00 00 AB"))) Yes
+        (injection_for (codes "LOG1") (codes "TEST")) Yes
         ≡ hex (codes "25 00 00 17 45 43 55 31 26 01 44 41 31 00 44 43 31 00 FF 0F 00 00 02") }
 {}
 

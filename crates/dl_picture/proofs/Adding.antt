@@ -1,23 +1,17 @@
 -- One mark more.
 use Rattle.std.proofs.Common.{◌≡◌, Bool, true, false, cond, eqb, List, [], ◌∷◌, ◌++◌, Option, Some, refl, sym, ap, ◌∙◌}
-use Rattle.std.specs.Prelude.{fold, unwrap_or, ◌&&◌}
+use Rattle.std.specs.Prelude.{unwrap_or}
 use Rattle.std.proofs.lemmas.Bool.{eqb-true}
+use Rattle.dl_lemmas.proofs.Lists.{fold-one}
+use Rattle.dl_lemmas.proofs.Bools.{both}
 use Rattle.dl_picture.specs.declared.chart.Bin.{Bin}
 use Rattle.dl_picture.specs.declared.tally.Cell.{Cell}
 use Rattle.dl_picture.specs.declared.tally.Mark.{Mark}
 use Rattle.dl_picture.specs.Tally.{bin_of, counted, joined, no_bin, same_cell}
 
-fold-one : {A B : Type 0} (f : A → B → A) (z : A) (xs : List B) (x : B) → fold f z (xs ++ x ∷ []) ≡ f (fold f z xs) x
-fold-one f z [] x = refl
-fold-one f z (y ∷ ys) x = fold-one f (f z y) ys x
-
-both_so : (a b : Bool) → (a && b) ≡ true → (a ≡ true) × (b ≡ true)
-both_so true b e = (refl, e)
-both_so false b e = absurd cc
-
 cell_is : (a b : Cell) → same_cell a b ≡ true → a ≡ b
 cell_is a b e =
-    let parts = both_so (eqb a.row b.row) (eqb a.column b.column) e in
+    let parts = both (eqb a.row b.row) (eqb a.column b.column) e in
     let p = eqb-true a.row b.row parts.0 in
     let q = eqb-true a.column b.column parts.1 in
     λ i. record { row = p i; column = q i }

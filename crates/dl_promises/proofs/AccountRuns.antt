@@ -7,6 +7,7 @@ use Rattle.std.proofs.lemmas.Bool.{eq-eqb, ne_eqb, cases_eq, cases_lt}
 use Rattle.std.proofs.lemmas.List.{map-append, length-map}
 use Rattle.std.proofs.lemmas.List.Elements.{filter-append, filter_map-append}
 use Rattle.std.proofs.lemmas.Option.{slice_get-map, slice_get_past}
+use Rattle.dl_lemmas.proofs.Lists.{all_map, by_end, front_empty}
 use Rattle.dl_bytes.specs.Claim.{Claimed}
 use Rattle.dl_events.specs.declared.record.Record.{Record}
 use Rattle.dl_events.specs.declared.record.Answer.TheVariants as answer
@@ -22,7 +23,7 @@ use Rattle.dl_laws.proofs.RunLaws.{losses_told, calls_in_order, queued_in_ring, 
 use Rattle.dl_laws.proofs.Calls.{calls_numbered}
 use Rattle.dl_model.specs.WholeAccounts.{records_by, claims_by, BelongsTo, IsOwnedSoFar, IsAccountedSoFar}
 use Rattle.dl_promises.specs.RunRecords.{refusals_of}
-use Rattle.dl_promises.proofs.Alls.{all_map, all_filter, by_end}
+use Rattle.dl_promises.proofs.Alls.{all_filter}
 use Rattle.dl_promises.proofs.Relations.{AreAll}
 use Rattle.dl_promises.proofs.WriterRuns.{Right}
 use Rattle.dl_promises.proofs.WriterLaws.{counted_records, never_falling, lost_refused}
@@ -111,10 +112,6 @@ none_in app other (r ∷ rs) all apart =
 
 -- ---- in order
 
-pub empty_front : {A : Type 0} (xs ys : List A) → xs ++ ys ≡ [] → xs ≡ []
-empty_front [] ys e = refl
-empty_front (x ∷ xs) ys e = absurd cc
-
 -- the calls of a writer that still wait in the ring
 pub waiting_of : ℕ → ℕ → List Mark → List (ℕ × ℕ)
 waiting_of writer app marks = filter (of_writer writer) (map nm (filter_map call_in (drop (taken app marks) (pushes app marks))))
@@ -160,7 +157,7 @@ belongs_to setting marks founded right writer = let all = owner_of setting marks
   alone = λ other apart.
       let none : ring_of writer other marks ≡ [] =
       ring_records writer other marks ∙ ap (map nr) (none_in (home writer marks) other (queued_records writer marks) (queued_in writer (home writer marks) marks all) (λ same. apart (sym same))) in
-      empty_front (filter (of_writer writer) (order other (journal marks))) (waiting_of writer other marks) (admitted_parts setting marks founded writer other ∙ none);
+      front_empty (filter (of_writer writer) (order other (journal marks))) (waiting_of writer other marks) (admitted_parts setting marks founded writer other ∙ none);
   claims_alone = claims_elsewhere setting marks founded writer;
 }
 

@@ -4,6 +4,7 @@ use Rattle.std.specs.Prelude.{map}
 use Rattle.std.specs.List.{filter, filter_map, AllByRecursion}
 use Rattle.std.proofs.lemmas.Bool.{ne_eqb, cases_lt}
 use Rattle.std.proofs.lemmas.List.{append-nil}
+use Rattle.dl_lemmas.proofs.Lists.{all_map, front_empty}
 use Rattle.dl_bytes.specs.Claim.{Claimed}
 use Rattle.dl_bytes.specs.declared.outcome.Done.{Done}
 use Rattle.dl_events.specs.declared.record.Record.{Record}
@@ -19,14 +20,13 @@ use Rattle.dl_model.specs.Steps.{run}
 use Rattle.dl_laws.proofs.Founded.{run_founded}
 use Rattle.dl_model.specs.WholeAccounts.{IsOwned, IsAccounted, claims_by}
 use Rattle.dl_promises.specs.RunRecords.{refusals_of}
-use Rattle.dl_promises.proofs.Alls.{all_map}
 use Rattle.dl_promises.proofs.Relations.{AreAll}
 use Rattle.dl_promises.proofs.WriterRuns.{Right}
 use Rattle.dl_promises.proofs.WriterLaws.{counted_records, never_falling, lost_refused}
 use Rattle.dl_promises.proofs.OwnApps.{IsOwnItem, own_records, number-within}
 use Rattle.dl_promises.proofs.RightRuns.{run_right}
 use Rattle.dl_promises.proofs.Drained.{Emptied, run_empties}
-use Rattle.dl_promises.proofs.AccountRuns.{nr, in_app, numbered, exact_of, owner_of, belongs_to, ring_in_order, waiting_of, none_waits, empty_front, by_number, told_so_far, lost_of_app, all_owned, claims_by_number}
+use Rattle.dl_promises.proofs.AccountRuns.{nr, in_app, numbered, exact_of, owner_of, belongs_to, ring_in_order, waiting_of, none_waits, by_number, told_so_far, lost_of_app, all_owned, claims_by_number}
 use Rattle.dl_promises.proofs.ClaimPlaces.{IsOwnClaim, home, own_announced, announced_at_home, claims_waiting, none_waiting, writer_claims, places_apart}
 
 module _ (setting : Setting) (marks : List Mark) (founded : AreFounded setting [] marks) (right : AreAll (Right setting) [] marks) (emptied : (app : ℕ) → app < length (apps marks) → Emptied app marks) where
@@ -34,7 +34,7 @@ module _ (setting : Setting) (marks : List Mark) (founded : AreFounded setting [
   in_order_by : (writer app : ℕ) (rs : List Record) → AllByRecursion (λ (r : Record). IsOwnItem writer marks r.item) rs → AllByRecursion (λ (r : Record). r.item.app ≡ app) rs →
       filter (of_writer writer) (order app (journal marks)) ++ waiting_of writer app marks ≡ map nr (with_answer answer.Queued rs) →
       filter (of_writer writer) (order app (journal marks)) ≡ map nr (with_answer answer.Queued rs)
-  in_order_by writer app [] own all is = empty_front (filter (of_writer writer) (order app (journal marks))) (waiting_of writer app marks) is
+  in_order_by writer app [] own all is = front_empty (filter (of_writer writer) (order app (journal marks))) (waiting_of writer app marks) is
   in_order_by writer app (r ∷ rs) own all is =
       let lt : app < length (apps marks) = omega (arith, number-within marks own.0.apid r.item.app own.0.number, all.0) in
       let none = none_waits writer app marks (emptied app lt).all_taken in
@@ -44,7 +44,7 @@ module _ (setting : Setting) (marks : List Mark) (founded : AreFounded setting [
   claimed_by_home : (writer : ℕ) (cs : List Claimed) → AllByRecursion (IsOwnClaim marks) cs → AllByRecursion (λ (c : Claimed). c.app ≡ home writer marks) cs →
       filter (claimed_by writer) (claims (home writer marks) (journal marks)) ++ filter (claimed_by writer) (claims_waiting (home writer marks) marks) ≡ cs →
       filter (claimed_by writer) (claims (home writer marks) (journal marks)) ≡ cs
-  claimed_by_home writer [] own all is = empty_front (filter (claimed_by writer) (claims (home writer marks) (journal marks))) (filter (claimed_by writer) (claims_waiting (home writer marks) marks)) is
+  claimed_by_home writer [] own all is = front_empty (filter (claimed_by writer) (claims (home writer marks) (journal marks))) (filter (claimed_by writer) (claims_waiting (home writer marks) marks)) is
   claimed_by_home writer (c ∷ cs) own all is =
       let lt : home writer marks < length (apps marks) = omega (arith, number-within marks own.0.apid c.app own.0.number, all.0) in
       let none = none_waiting (home writer marks) marks (emptied (home writer marks) lt).all_taken in

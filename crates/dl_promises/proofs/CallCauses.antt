@@ -6,6 +6,7 @@ use Rattle.std.proofs.lemmas.Bool.{eq-eqb, or_parts}
 use Rattle.std.proofs.lemmas.List.{append-nil}
 use Rattle.std.proofs.lemmas.List.Folds.{list_any-append}
 use Rattle.std.proofs.lemmas.List.Sums.{sum_by-cons}
+use Rattle.dl_lemmas.proofs.Lists.{all_here}
 use Rattle.dl_bytes.specs.Claim.{Claimed}
 use Rattle.dl_bytes.specs.Level.{passes}
 use Rattle.dl_bytes.specs.declared.outcome.Done.{Done}
@@ -43,10 +44,6 @@ use Rattle.dl_promises.proofs.RightRuns.{lines_right, run_right}
 use Rattle.dl_promises.proofs.WellFormed.{lines_well_formed, run_well_formed}
 
 -- ---- all of a list
-
-pub all_here : {A : Type 0} (P : A → Type 0) (front : List A) (x : A) (back : List A) → AllByRecursion P (front ++ x ∷ back) → P x
-all_here P [] x back all = all.0
-all_here P (y ∷ front) x back all = all_here P front x back all.1
 
 pub all_places : {A : Type 0} (P : A → Type 0) (front xs : List A) → ((before : List A) (x : A) (after : List A) → front ++ xs ≡ before ++ x ∷ after → P x) → AllByRecursion P xs
 all_places P front [] each = tt

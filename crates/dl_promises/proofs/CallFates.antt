@@ -1,9 +1,11 @@
 -- What each fate of a call says.
 use Rattle.std.proofs.Common.{◌≡◌, ℕ, Bool, true, false, cond, eqb, leb, List, [], ◌∷◌, ◌++◌, length, Option, Some, None, refl, sym, ap, subst, ◌∙◌, append_assoc, inl, inr}
-use Rattle.std.specs.Prelude.{slice_get, ◌⊎◌, ◌&&◌, ◌||◌}
+use Rattle.std.specs.Prelude.{slice_get, ◌⊎◌, ◌||◌}
 use Rattle.std.specs.List.{list_any}
 use Rattle.std.proofs.lemmas.Bool.{leb-false, eqb-true}
 use Rattle.std.proofs.lemmas.List.{append-nil}
+use Rattle.dl_lemmas.proofs.Lists.{get_more}
+use Rattle.dl_lemmas.proofs.Bools.{both}
 use Rattle.dl_bytes.specs.declared.moment.Moment.{Moment}
 use Rattle.dl_events.specs.declared.event.Event.{Event}
 use Rattle.dl_events.specs.declared.event.Event.TheVariants as event
@@ -26,7 +28,6 @@ use Rattle.dl_laws.proofs.Lists.{along_from-append, along-one}
 use Rattle.dl_laws.proofs.ClientStreams.{any_open, any_open-admit, waiting-admit, same_number}
 use Rattle.dl_promises.specs.Fates.{Fate, InRing, InStream, BufferFull, ForOthers, next_client, kept, of_frame, logs, of_queued, by_answer, what_became_of}
 use Rattle.dl_promises.specs.Causes.{IsRefused, IsElsewhere, Says}
-use Rattle.dl_promises.proofs.OwnApps.{slice_get-more}
 use Rattle.dl_promises.proofs.ClientStays.{AllSpeak, all_speak, first_speak, second_speak, true_not_false}
 use Rattle.dl_promises.proofs.FrameFates.{at_place, kept_at, fits_no_more, waits_on, comes, begins_due}
 use Rattle.dl_promises.proofs.LevelLaws.{filtered_above}
@@ -42,10 +43,6 @@ pub record IsLogged (writer call : ℕ) (events : List Event) : Type 0 where
   pub place : events ≡ before ++ event.Log app writer call moment ∷ after
   pub first : list_any (logs writer call) before ≡ false
 
-both_true : (a b : Bool) → (a && b) ≡ true → (a ≡ true) × (b ≡ true)
-both_true true b e = (refl, e)
-both_true false b e = absurd cc
-
 module _ (source : FrameSource) (buffer writer call : ℕ) where
   abbrev search : ℕ → List Event → List Event → Fate
   search client before events = of_queued source buffer client writer call before events
@@ -60,9 +57,9 @@ module _ (source : FrameSource) (buffer writer call : ℕ) where
 
   here : (before events : List Event) (e : Event) → logs writer call e ≡ true → Searched before (e ∷ events)
   here before events (event.Log app other number moment) is =
-      let both = both_true (eqb other writer) (eqb number call) is in
-      let w = eqb-true other writer both.0 in
-      let c = eqb-true number call both.1 in
+      let parts = both (eqb other writer) (eqb number call) is in
+      let w = eqb-true other writer parts.0 in
+      let c = eqb-true number call parts.1 in
       inl (record {
         logged = record {
           app = app;
@@ -180,8 +177,8 @@ module _ (setting : Setting) (source : FrameSource) (buffer : ℕ) (r : Record) 
         let waited = (waiting ts ++ frame ∷ []) ++ h.others in
         let told = overflow_frames source.ecu daemon_apid daemon_ctid (refused buffer waited) in
         ap (λ (l : List (List ℕ)). slice_get l (length (waiting ts))) h.is
-        ∙ slice_get-more (due_backlog source.ecu buffer waited) h.more (length (waiting ts)) frame
-        (slice_get-more (fitting buffer waited) told (length (waiting ts)) frame (kept_at buffer (waiting ts) frame h.others fits))
+        ∙ get_more (due_backlog source.ecu buffer waited) h.more (length (waiting ts)) frame
+        (get_more (fitting buffer waited) told (length (waiting ts)) frame (kept_at buffer (waiting ts) frame h.others fits))
 
     module _ (fates : (client : ℕ) → what_became_of source buffer client all r ≡ fate client) (client : ℕ) where
       says_heard : t.is_open client ts ≡ true → Says source buffer client all r (InStream (length (stream source buffer client before)))
@@ -230,7 +227,7 @@ module _ (setting : Setting) (source : FrameSource) (buffer : ℕ) (r : Record) 
           record {
             waited = (waiting ts ++ frame ∷ []) ++ w.0;
             place = length (waiting ts);
-            there = slice_get-more (waiting ts ++ frame ∷ []) w.0 (length (waiting ts)) frame (at_place (waiting ts) [] frame);
+            there = get_more (waiting ts ++ frame ∷ []) w.0 (length (waiting ts)) frame (at_place (waiting ts) [] frame);
             behind = fits_no_more buffer (waiting ts) frame w.0 (leb-false (size_of (waiting ts ++ frame ∷ [])) buffer none);
             told = ap (λ (es : List Event). waiting (traffic source es)) (sym (append_assoc before (log ∷ []) after)) ∙ w.1;
           }
@@ -239,7 +236,7 @@ module _ (setting : Setting) (source : FrameSource) (buffer : ℕ) (r : Record) 
           record {
             waited = (waiting ts ++ frame ∷ []) ++ h.others;
             place = length (waiting ts);
-            there = slice_get-more (waiting ts ++ frame ∷ []) h.others (length (waiting ts)) frame (at_place (waiting ts) [] frame);
+            there = get_more (waiting ts ++ frame ∷ []) h.others (length (waiting ts)) frame (at_place (waiting ts) [] frame);
             behind = fits_no_more buffer (waiting ts) frame h.others (leb-false (size_of (waiting ts ++ frame ∷ [])) buffer none);
             told = (h.more, h.is);
           }

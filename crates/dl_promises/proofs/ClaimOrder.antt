@@ -5,6 +5,7 @@ use Rattle.std.specs.Str.{bytes_eq}
 use Rattle.std.proofs.lemmas.Bool.{eqb-true}
 use Rattle.std.proofs.lemmas.List.{append-nil}
 use Rattle.std.proofs.lemmas.List.Elements.{filter-append, filter_map-append}
+use Rattle.dl_lemmas.proofs.Lists.{all_both, all_map}
 use Rattle.dl_bytes.specs.Claim.{Claimed}
 use Rattle.dl_events.specs.declared.event.Event.{Event}
 use Rattle.dl_events.specs.declared.event.Event.TheVariants as event
@@ -15,7 +16,6 @@ use Rattle.dl_model.specs.Marks.{Mark, HasContext, HasClaim, claim_of, context_o
 use Rattle.dl_model.specs.Runs.{IsClaimed, RestsOn, AreFounded}
 use Rattle.dl_model.proofs.Presence.{bytes_tell}
 use Rattle.dl_promises.specs.WaitingClaims.{ComesFirst, ContextsComeFirst}
-use Rattle.dl_promises.proofs.Alls.{all_more, all_map}
 use Rattle.dl_promises.proofs.ClaimPlaces.{same_id, noted_are}
 use Rattle.dl_promises.proofs.OwnApps.{number_more}
 use Rattle.dl_promises.proofs.Relations.{AreAll, with_founded, holds_on}
@@ -64,13 +64,13 @@ AllBehind done = AllByRecursion (IsBehind done) (filter_map claim_of done)
 abbrev FoundedFirst : Setting → List Mark → Mark → Type 0
 FoundedFirst setting done mark = RestsOn setting done mark × ComesFirst done mark
 
-all_both : {A : Type 0} (P Q R : A → Type 0) → ((x : A) → P x → Q x → R x) → (xs : List A) → AllByRecursion P xs → AllByRecursion Q xs → AllByRecursion R xs
-all_both P Q R f [] ps qs = tt
-all_both P Q R f (x ∷ xs) ps qs = (f x ps.0 qs.0, all_both P Q R f xs ps.1 qs.1)
+all_joined : {A : Type 0} (P Q R : A → Type 0) → ((x : A) → P x → Q x → R x) → (xs : List A) → AllByRecursion P xs → AllByRecursion Q xs → AllByRecursion R xs
+all_joined P Q R f [] ps qs = tt
+all_joined P Q R f (x ∷ xs) ps qs = (f x ps.0 qs.0, all_joined P Q R f xs ps.1 qs.1)
 
 behind_by : (setting : Setting) (done : List Mark) (mark : Mark) → AllBehind done → FoundedFirst setting done mark → AllByRecursion (IsBehind (done ++ mark ∷ [])) (filter_map claim_of done)
 behind_by setting done (HasContext context) all is =
-    all_both (λ (c : Claimed). number_of context.apid done ≡ Some c.app → ⊥) (IsBehind done) (IsBehind (done ++ HasContext context ∷ [])) (behind_context done context) (filter_map claim_of done) is.1 all
+    all_joined (λ (c : Claimed). number_of context.apid done ≡ Some c.app → ⊥) (IsBehind done) (IsBehind (done ++ HasContext context ∷ [])) (behind_context done context) (filter_map claim_of done) is.1 all
 behind_by setting done mark all is = all_map (IsBehind done) (IsBehind (done ++ mark ∷ [])) (λ c was. still_behind done mark c was refl) (filter_map claim_of done) all
 
 now_behind : (setting : Setting) (done : List Mark) (mark : Mark) → RestsOn setting done mark → AllByRecursion (IsBehind (done ++ mark ∷ [])) (filter_map claim_of (mark ∷ []))
@@ -80,7 +80,7 @@ now_behind setting done _ rests = tt
 behind_on : (setting : Setting) (done : List Mark) (mark : Mark) → AllBehind done → FoundedFirst setting done mark → AllBehind (done ++ mark ∷ [])
 behind_on setting done mark all is =
     subst (AllByRecursion (IsBehind (done ++ mark ∷ []))) (sym (filter_map-append claim_of done (mark ∷ [])))
-    (all_more (IsBehind (done ++ mark ∷ [])) (filter_map claim_of done) (filter_map claim_of (mark ∷ [])) (behind_by setting done mark all is) (now_behind setting done mark is.0))
+    (all_both (IsBehind (done ++ mark ∷ [])) (filter_map claim_of done) (filter_map claim_of (mark ∷ [])) (behind_by setting done mark all is) (now_behind setting done mark is.0))
 
 first_as_all : (before marks : List Mark) → ContextsComeFirst before marks → AreAll ComesFirst before marks
 first_as_all before [] first = tt
@@ -102,7 +102,7 @@ of_this_app app (_ ∷ events) = of_this_app app events
 pub claims_behind : (setting : Setting) (marks : List Mark) → AreFounded setting [] marks → ContextsComeFirst [] marks → (app : ℕ) (apid : List ℕ) → number_of apid marks ≡ Some app
     → AllByRecursion (λ (c : Claimed). length (contexts_of apid marks) ≤ c.place) (claims app (journal marks))
 claims_behind setting marks founded first app apid number =
-    all_both (λ (c : Claimed). c.app ≡ app) (IsBehind marks) (λ (c : Claimed). length (contexts_of apid marks) ≤ c.place) (λ c here is.
+    all_joined (λ (c : Claimed). c.app ≡ app) (IsBehind marks) (λ (c : Claimed). length (contexts_of apid marks) ≤ c.place) (λ c here is.
     let ids : is.apid ≡ apid = same_id is.apid apid app marks (is.number ∙ ap Some here) number in
     omega (arith, is.behind, ap (λ (id : List ℕ). length (contexts_of id marks)) ids))
     (claims app (journal marks)) (of_this_app app (journal marks)) (noted_are setting marks founded (IsBehind marks) (all_behind setting marks founded first) app)

@@ -10,6 +10,7 @@ use Rattle.std.proofs.lemmas.List.Elements.{filter-append, filter_map-append}
 use Rattle.std.proofs.lemmas.List.Quantifiers.{position-Some}
 use Rattle.std.proofs.lemmas.List.Sums.{sum_by-cons}
 use Rattle.std.proofs.lemmas.Map.Keys.{IsDistinct-head, IsDistinct-tail, IsDistinct-cons}
+use Rattle.dl_lemmas.proofs.Lists.{all_both, all_first, all_map, front_empty}
 use Rattle.dl_bytes.specs.Claim.{Claimed}
 use Rattle.dl_script_lines.specs.declared.line.AppLine.{AppLine}
 use Rattle.dl_script_lines.specs.declared.line.ContextLine.{ContextLine}
@@ -18,11 +19,11 @@ use Rattle.dl_model.specs.Marks.{Mark, HasClaim, Announced, Queued, journal, app
 use Rattle.dl_model.specs.Runs.{IsClaimed, RestsOn, AreFounded}
 use Rattle.dl_model.specs.Accounts.{claims, claimed_by}
 use Rattle.dl_model.specs.WholeAccounts.{ArePlacesApart}
-use Rattle.dl_model.proofs.Presence.{bytes_tell}
+use Rattle.dl_model.proofs.Presence.{same_bytes}
 use Rattle.dl_laws.proofs.Announcing.{announced_first}
 use Rattle.dl_laws.proofs.Lists.{count_by-append}
 use Rattle.dl_laws.proofs.RunLaws.{claims_in_order}
-use Rattle.dl_promises.proofs.Alls.{all_more, all_map, all_filter}
+use Rattle.dl_promises.proofs.Alls.{all_filter}
 use Rattle.dl_promises.proofs.OwnApps.{number_more, writer_more, in_range}
 use Rattle.dl_promises.proofs.Partition.{sums, split, all_owners}
 use Rattle.dl_promises.proofs.Relations.{as_all, holds_on}
@@ -33,17 +34,13 @@ distinct_snoc : (xs : List ℕ) (n : ℕ) → IsDistinct nat_eq xs → AllByRecu
 distinct_snoc [] n is below = IsDistinct-cons nat_eq n [] tt is
 distinct_snoc (x ∷ xs) n is below =
     IsDistinct-cons nat_eq x (xs ++ n ∷ [])
-    (all_more (λ y. nat_eq x y ≡ false) xs (n ∷ []) (IsDistinct-head nat_eq x xs is) (ne_eqb x n (λ same. omega (arith, same, below.0)), tt))
+    (all_both (λ y. nat_eq x y ≡ false) xs (n ∷ []) (IsDistinct-head nat_eq x xs is) (ne_eqb x n (λ same. omega (arith, same, below.0)), tt))
     (distinct_snoc xs n (IsDistinct-tail nat_eq x xs is) below.1)
-
-all_left : {A : Type 0} (P : A → Type 0) (xs ys : List A) → AllByRecursion P (xs ++ ys) → AllByRecursion P xs
-all_left P [] ys all = tt
-all_left P (x ∷ xs) ys all = (all.0, all_left P xs ys all.1)
 
 distinct_left : (xs ys : List ℕ) → IsDistinct nat_eq (xs ++ ys) → IsDistinct nat_eq xs
 unfolding IsDistinct
 distinct_left [] ys is = tt
-distinct_left (x ∷ xs) ys is = (all_left (λ y. nat_eq x y ≡ false) xs ys is.0, distinct_left xs ys is.1)
+distinct_left (x ∷ xs) ys is = (all_first (λ y. nat_eq x y ≡ false) xs ys is.0, distinct_left xs ys is.1)
 
 one_more : (x y : ℕ) (ys : List ℕ) → count_by (nat_eq x) (y ∷ ys) ≡ cond (nat_eq x y) 1 0 + count_by (nat_eq x) ys
 one_more x y ys = sum_by-cons (λ (z : ℕ). cond (nat_eq x z) 1 0) y ys
@@ -129,9 +126,6 @@ new_claim done c is =
       below = omega (arith, is.place, one, contexts_more is.apid done (HasClaim c), ap length (claims_more c.app done (HasClaim c)), length-append (claims_on c.app done) (filter (on_app c.app) (filter_map claim_of (HasClaim c ∷ []))));
     }
 
-same_bytes : (a b : List ℕ) → bytes_eq a b ≡ true → a ≡ b
-same_bytes a b e = elim (bytes_tell a b) as (λ _. a ≡ b) [ inl same ↦ same.1 | inr other ↦ absurd cc ]
-
 -- a number is that of one id
 pub same_id : (a b : List ℕ) (n : ℕ) (done : List Mark) → number_of a done ≡ Some n → number_of b done ≡ Some n → a ≡ b
 same_id a b n done first second =
@@ -173,7 +167,7 @@ new_own setting done _ rests = tt
 own_on : (setting : Setting) (done : List Mark) (mark : Mark) → AllOwn done → RestsOn setting done mark → AllOwn (done ++ mark ∷ [])
 own_on setting done mark all rests =
     subst (AllByRecursion (IsOwnClaim (done ++ mark ∷ []))) (sym (filter_map-append claim_of done (mark ∷ [])))
-    (all_more (IsOwnClaim (done ++ mark ∷ [])) (filter_map claim_of done) (filter_map claim_of (mark ∷ []))
+    (all_both (IsOwnClaim (done ++ mark ∷ [])) (filter_map claim_of done) (filter_map claim_of (mark ∷ []))
     (all_map (IsOwnClaim done) (IsOwnClaim (done ++ mark ∷ [])) (own_later done mark) (filter_map claim_of done) all) (new_own setting done mark rests))
 
 apart_by : (setting : Setting) (done : List Mark) (mark : Mark) (app : ℕ) → AllOwn done → AllApart done → RestsOn setting done mark
@@ -214,7 +208,7 @@ by_writer writer c = eqb c.writer writer
 announced_by_writer : (setting : Setting) (marks : List Mark) → AreFounded setting [] marks → (P : Claimed → Type 0) → AllByRecursion P (filter_map claim_of marks) → (writer : ℕ) → AllByRecursion P (announced_by writer marks)
 announced_by_writer setting marks founded P all writer =
     let leads = announced_first setting marks founded writer in
-    all_left P (announced_by writer marks) leads.0 (subst (AllByRecursion P) leads.1 (all_filter P (by_writer writer) (filter_map claim_of marks) all))
+    all_first P (announced_by writer marks) leads.0 (subst (AllByRecursion P) leads.1 (all_filter P (by_writer writer) (filter_map claim_of marks) all))
 
 announced_are : (setting : Setting) (marks : List Mark) → AreFounded setting [] marks → (P : Claimed → Type 0) → AllByRecursion P (filter_map claim_of marks) → AllByRecursion P (filter_map announced_of marks)
 announced_are setting marks founded P all = all_owners (λ (c : Claimed). c.writer) (λ (w : ℕ) (c : Claimed). P c) (filter_map announced_of marks) (announced_by_writer setting marks founded P all)
@@ -285,7 +279,7 @@ claims_parts setting marks founded app =
 -- what holds of all claims that were made holds of those that the daemon took
 pub noted_are : (setting : Setting) (marks : List Mark) → AreFounded setting [] marks → (P : Claimed → Type 0) → AllByRecursion P (filter_map claim_of marks) → (app : ℕ) → AllByRecursion P (claims app (journal marks))
 noted_are setting marks founded P all app =
-    all_left P (claims app (journal marks)) (claims_waiting app marks)
+    all_first P (claims app (journal marks)) (claims_waiting app marks)
     (subst (AllByRecursion P) (sym (claims_parts setting marks founded app)) (all_filter P (on_app app) (filter_map announced_of marks) (announced_are setting marks founded P all)))
 
 pub made_apart : (setting : Setting) (marks : List Mark) → AreFounded setting [] marks → (app : ℕ) → IsDistinct nat_eq (map place_in (claims_on app marks))
@@ -358,10 +352,6 @@ writer_claims setting marks founded writer =
     sym (filter-append (by_writer writer) (claims (home writer marks) (journal marks)) (claims_waiting (home writer marks) marks))
     ∙ ap (filter (by_writer writer)) (claims_parts setting marks founded (home writer marks))
     ∙ all_there writer marks (filter_map announced_of marks) (all_own_announced setting marks founded)
-
-front_empty : {A : Type 0} (xs ys : List A) → xs ++ ys ≡ [] → xs ≡ []
-front_empty [] ys e = refl
-front_empty (x ∷ xs) ys e = absurd cc
 
 pub claims_elsewhere : (setting : Setting) (marks : List Mark) → AreFounded setting [] marks → (writer other : ℕ) → (other ≡ home writer marks → ⊥) → filter (claimed_by writer) (claims other (journal marks)) ≡ []
 claims_elsewhere setting marks founded writer other apart =

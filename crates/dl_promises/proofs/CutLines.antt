@@ -21,10 +21,11 @@ use Rattle.dl_model.specs.Setting.{Setting}
 use Rattle.dl_model.specs.Journal.{is_connect, comes_or_goes}
 use Rattle.dl_model.specs.Marks.{Mark, Noted, Fed, Heard, journal, event_of, fed_of, fed, heard_of, heard}
 use Rattle.dl_model.specs.Steps.{in_sequence, just, when, is_open, close, ask, new_requests, close_malformed, receive, new_messages, tell, hear, act_of}
+use Rattle.dl_model.proofs.Marks.{in_sequence-one}
 use Rattle.dl_laws.proofs.Lists.{last_that-one, count_by-append}
 use Rattle.dl_promises.proofs.Relations.{AreAll, holds_on}
 use Rattle.dl_promises.proofs.Turns.{NoStop, Turn, line_in_turn}
-use Rattle.dl_promises.proofs.WellFormed.{in_sequence-one, plain}
+use Rattle.dl_promises.proofs.WellFormed.{plain}
 use Rattle.dl_promises.proofs.Unfed.{unfed, Blind, unfed-append, when_same, turns_blind, each_blind}
 use Rattle.dl_promises.proofs.BlindActs.{is_open_blind, close_blind, ask_blind, tell_blind, plain_blind}
 

@@ -1,14 +1,15 @@
 -- Scripts that differ in how their bytes are cut come to the same.
-use Rattle.std.proofs.Common.{◌≡◌, ℕ, ◌-◌, Bool, true, false, cond, eqb, List, [], ◌∷◌, ◌++◌, length, Some, None, refl, sym, ap, subst, ◌∙◌, append_assoc, arith, inl, inr}
+use Rattle.std.proofs.Common.{◌≡◌, ℕ, ◌-◌, Bool, true, false, cond, eqb, List, [], ◌∷◌, ◌++◌, length, Some, None, refl, sym, ap, subst, ◌∙◌, append_assoc, arith}
 use Rattle.std.specs.Prelude.{map, count_by, slice_get}
 use Rattle.std.specs.List.{filter, filter_map, find, concat, range_with_len, AllByRecursion}
 use Rattle.std.specs.Option.{option_map_or}
-use Rattle.std.proofs.lemmas.Bool.{cases_lt}
-use Rattle.std.proofs.lemmas.List.{append-nil, map-append, get_or_append_left, get_or-append_right}
+use Rattle.std.proofs.lemmas.List.{append-nil, map-append}
+use Rattle.dl_lemmas.proofs.Lists.{all_both}
 use Rattle.dl_bytes.specs.Bytes.{IsBytes}
 use Rattle.dl_bytes.specs.declared.outcome.Done.{Done}
 use Rattle.dl_bytes.specs.declared.outcome.LinkEnd.{LinkEnd}
 use Rattle.dl_bytes.specs.declared.outcome.TraceState.{TraceState}
+use Rattle.dl_bytes.proofs.Bytes.{IsBytes-append}
 use Rattle.dl_message.specs.Frames.{log_message}
 use Rattle.dl_events.specs.declared.event.Event.{Event}
 use Rattle.dl_events.specs.declared.record.Record.{Record}
@@ -25,11 +26,11 @@ use Rattle.dl_model.specs.Report.{report}
 use Rattle.dl_model.specs.Replay.{is_call, stream_of, trace_of, report_of}
 use Rattle.dl_model.specs.Steps.{Act, in_sequence, act_of, end_of, run}
 use Rattle.dl_model.specs.TraceFiles.{StoredFile, trace_files, trace_name}
+use Rattle.dl_model.proofs.Marks.{in_sequence-one}
 use Rattle.dl_promises.specs.SameRuns.{ComeToTheSame, HoldsBytes}
-use Rattle.dl_promises.proofs.Alls.{all_more}
 use Rattle.dl_promises.proofs.Relations.{AreAll, turns, each}
 use Rattle.dl_promises.proofs.Turns.{NoStop, Turn, line_in_turn}
-use Rattle.dl_promises.proofs.WellFormed.{in_sequence-append, in_sequence-one}
+use Rattle.dl_promises.proofs.WellFormed.{in_sequence-append}
 use Rattle.dl_promises.proofs.Unfed.{is_other, unfed, journal_blind, records_blind, calls_blind, apps_blind, writers_blind}
 use Rattle.dl_promises.proofs.BlindActs.{end_blind}
 use Rattle.dl_promises.proofs.OtherMarks.{HearsBytes, BytesSo, line_other}
@@ -185,18 +186,12 @@ two_bytes setting answers before after client xs ys =
 
 -- ---- bytes on channels
 
-bytes_append : (a b : List ℕ) → IsBytes a → IsBytes b → IsBytes (a ++ b)
-bytes_append a b are_a are_b i = elim (cases_lt i (length a)) [
-  | inl lt ↦ rw (get_or_append_left a b 0 i lt) (are_a i)
-  | inr le ↦ rw (get_or-append_right a b (length a) i 0 refl le) (are_b (i - length a))
-]
-
 no_bytes : IsBytes []
 no_bytes i = omega arith
 
 heard_bytes : (channel : ℕ) (before ms : List Mark) → AreAll HearsBytes before ms → IsBytes (heard channel ms)
 heard_bytes channel before [] all = no_bytes
-heard_bytes channel before (Heard other bytes ∷ ms) all = bytes_append (cond (eqb other channel) bytes []) (heard channel ms) (by_test (eqb other channel)) (heard_bytes channel (before ++ Heard other bytes ∷ []) ms all.1) where
+heard_bytes channel before (Heard other bytes ∷ ms) all = IsBytes-append (cond (eqb other channel) bytes []) (heard channel ms) (by_test (eqb other channel)) (heard_bytes channel (before ++ Heard other bytes ∷ []) ms all.1) where
   by_test : (b : Bool) → IsBytes (cond b bytes [])
   by_test true = all.0
   by_test false = no_bytes
@@ -226,7 +221,7 @@ two_messages setting answers before after channel xs ys are are_xs are_ys =
     let now = first ++ act xs first in
     let two : act xs first ++ (act ys now ++ []) ≡ act xs first ++ act ys now = ap (λ (ms : List Mark). act xs first ++ ms) (append-nil (act ys now)) in
     let are_heard : IsBytes (heard channel first) = heard_bytes channel [] first (begun_hears setting answers before are []) in
-    let cut = cut_messages setting channel xs ys first (bytes_append (heard channel first) (xs ++ ys) are_heard (bytes_append xs ys are_xs are_ys)) (bytes_append (heard channel first) xs are_heard are_xs) in
+    let cut = cut_messages setting channel xs ys first (IsBytes-append (heard channel first) (xs ++ ys) are_heard (IsBytes-append xs ys are_xs are_ys)) (IsBytes-append (heard channel first) xs are_heard are_xs) in
     alike_runs setting answers before (line.User channel (xs ++ ys) ∷ []) (line.User channel xs ∷ line.User channel ys ∷ []) after
     (subst (λ (ms : List Mark). Alike (first ++ ms) (first ++ (act xs first ++ (act ys now ++ [])))) (sym one)
     (subst (λ (ms : List Mark). Alike (first ++ act (xs ++ ys) first) (first ++ ms)) (sym two) cut))
@@ -250,14 +245,14 @@ any_bytes setting answers before after client first (second ∷ others) =
 
 all_bytes : (xss : List (List ℕ)) → AllByRecursion IsBytes xss → IsBytes (concat xss)
 all_bytes [] are = no_bytes
-all_bytes (xs ∷ xss) are = bytes_append xs (concat xss) are.0 (all_bytes xss are.1)
+all_bytes (xs ∷ xss) are = IsBytes-append xs (concat xss) are.0 (all_bytes xss are.1)
 
 any_messages : (setting : Setting) (answers : List Done) (before after : List Step) (channel : ℕ) (first : List ℕ) (others : List (List ℕ)) → AllByRecursion HoldsBytes before → AllByRecursion IsBytes (first ∷ others) →
     unfed (run setting answers (before ++ (line.User channel (concat (first ∷ others)) ∷ after))) ≡ unfed (run setting answers (before ++ (map (line.User channel) (first ∷ others) ++ after)))
 any_messages setting answers before after channel first [] are all = ap (λ (bytes : List ℕ). unfed (run setting answers (before ++ (line.User channel bytes ∷ after)))) (append-nil first)
 any_messages setting answers before after channel first (second ∷ others) are all =
     let now = before ++ line.User channel first ∷ [] in
-    let later = any_messages setting answers now after channel second others (all_more HoldsBytes before (line.User channel first ∷ []) are (all.0, tt)) all.1 in
+    let later = any_messages setting answers now after channel second others (all_both HoldsBytes before (line.User channel first ∷ []) are (all.0, tt)) all.1 in
     two_messages setting answers before after channel first (concat (second ∷ others)) are all.0 (all_bytes (second ∷ others) all.1)
     ∙ ap (λ (steps : List Step). unfed (run setting answers steps)) (sym (moved before (line.User channel (concat (second ∷ others)) ∷ after) (line.User channel first)))
     ∙ later

@@ -18,12 +18,13 @@ use Rattle.dl_model.specs.Journal.{is_connect}
 use Rattle.dl_model.specs.Marks.{Mark, Noted, journal, event_of, app_of, apps, Pushed, OfCall, OfClaim, pushes, pushed_of, taken, is_taken_of, held_by, pending, is_lost_of, is_counted_of, is_later, moment}
 use Rattle.dl_model.specs.Runs.{RestsOn, AreFounded}
 use Rattle.dl_model.specs.Steps.{Act, in_sequence, for_some, when, changes, level_noted, note_levels, note_levels_now, note, event_taken, take_log, take_losses, is_open, close, drain, act_of, run}
+use Rattle.dl_model.proofs.Marks.{in_sequence-one}
 use Rattle.dl_laws.proofs.Lists.{after_last-one, count_by-append}
 use Rattle.dl_laws.proofs.Founded.{IsOf, pushed-own, run_founded}
 use Rattle.dl_laws.proofs.RunLaws.{admitted_in_order}
 use Rattle.dl_promises.proofs.Relations.{AreAll, Keeps, as_all, both, first_part, second_part, holds_on, turns, each, repeated, asked_for, where_so}
 use Rattle.dl_promises.proofs.Turns.{ready, finishes, drains, stops, before_stop}
-use Rattle.dl_promises.proofs.WellFormed.{in_sequence-one, run_is}
+use Rattle.dl_promises.proofs.WellFormed.{run_is}
 use Rattle.dl_promises.proofs.CutInTwo.{note_parts}
 
 -- ---- words that Level events leave as they were

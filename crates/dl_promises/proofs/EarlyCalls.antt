@@ -3,6 +3,7 @@ use Rattle.std.proofs.Common.{◌≡◌, ℕ, true, false, eqb, List, [], ◌∷
 use Rattle.std.specs.Prelude.{not}
 use Rattle.std.specs.List.{AllByRecursion, filter_map}
 use Rattle.std.proofs.lemmas.List.Elements.{filter_map-append}
+use Rattle.dl_lemmas.proofs.Lists.{all_map}
 use Rattle.dl_bytes.specs.Level.{passes}
 use Rattle.dl_bytes.specs.declared.level.Severity.{Severity}
 use Rattle.dl_bytes.specs.declared.level.Severity.TheVariants as severity
@@ -21,7 +22,7 @@ use Rattle.dl_model.specs.Runs.{AreFounded}
 use Rattle.dl_model.specs.Setting.{Setting}
 use Rattle.dl_laws.proofs.RunLaws.{calls_exact}
 use Rattle.dl_promises.specs.WaitingClaims.{ComesEarly, IsFilteredFirst}
-use Rattle.dl_promises.proofs.Alls.{all_filter, all_map}
+use Rattle.dl_promises.proofs.Alls.{all_filter}
 use Rattle.dl_promises.proofs.FreePlaces.{AreOwed, IsOwed, first_owed, unused}
 use Rattle.dl_promises.proofs.Relations.{AreAll}
 use Rattle.dl_promises.proofs.WellFormed.{Stands, plain}

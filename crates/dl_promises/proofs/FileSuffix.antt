@@ -5,6 +5,7 @@ use Rattle.std.specs.List.{filter, flat_map, concat, AllByRecursion}
 use Rattle.std.proofs.lemmas.Bool.{lt-ltb, le-ltb}
 use Rattle.std.proofs.lemmas.List.Elements.{filter-append}
 use Rattle.std.proofs.lemmas.List.Concat.{flat_map-append}
+use Rattle.dl_lemmas.proofs.Lists.{all_second}
 use Rattle.dl_model.specs.TraceFiles.{StoredFile, greatest, numbered, segments, made, trace_files}
 use Rattle.dl_laws.proofs.Rotation.{made_bytes, suffix, within_size}
 use Rattle.dl_promises.specs.OwnFiles.{own_files}
@@ -52,10 +53,6 @@ bytes_suffix size max_size old frames =
       flat_map bytes parts.0,
       sym (made_bytes size old frames) ∙ ap (flat_map bytes) parts.1 ∙ flat_map-append bytes parts.0 (own_files old (trace_files size max_size old frames)),
     )
-
-all_second : {A : Type 0} (P : A → Type 0) (xs ys : List A) → AllByRecursion P (xs ++ ys) → AllByRecursion P ys
-all_second P [] ys all = all
-all_second P (x ∷ xs) ys all = all_second P xs ys all.1
 
 pub own_within : (size max_size : ℕ) (old : List StoredFile) (frames : List (List ℕ)) → AllByRecursion (λ (frame : List ℕ). length frame ≤ size) frames →
     AllByRecursion (λ (file : StoredFile). length file.bytes ≤ size) (own_files old (trace_files size max_size old frames))

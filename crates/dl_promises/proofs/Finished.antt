@@ -1,9 +1,9 @@
 -- At the end of a run no call is open.
 use Rattle.std.proofs.Common.{◌≡◌, ℕ, zero, suc, ◌+◌, ◌<◌, ◌≤◌, Bool, true, false, cond, List, [], ◌∷◌, ◌++◌, length, Option, Some, None, refl, sym, ap, subst, ◌∙◌, append_assoc, arith, inl, inr}
-use Rattle.std.specs.Prelude.{map, reverse, ◌⊎◌}
+use Rattle.std.specs.Prelude.{map, ◌⊎◌}
 use Rattle.std.specs.List.{range_with_len}
 use Rattle.std.specs.Option.{option_and_then}
-use Rattle.std.proofs.lemmas.Bool.{eq-eqb, ne_eqb, eqb-true, cases_eq}
+use Rattle.std.proofs.lemmas.Bool.{eq-eqb, ne_eqb, cases_eq}
 use Rattle.std.proofs.lemmas.List.{append-nil, length-map}
 use Rattle.dl_bytes.specs.declared.outcome.Done.{Done}
 use Rattle.dl_events.specs.declared.record.Record.{Record}
@@ -12,8 +12,8 @@ use Rattle.dl_model.specs.Along.{last_that}
 use Rattle.dl_model.specs.Setting.{Setting}
 use Rattle.dl_model.specs.Marks.{Call, Mark, Passed, Queued, Refused, Counted, Noted, is_step_of, passed, refused, to_push, to_count, is_full, writers, opened_call, calls_of, records_of}
 use Rattle.dl_model.specs.Steps.{in_sequence, for_some, just, push, count, finish, run}
-use Rattle.dl_laws.proofs.Lists.{last_that-one, find-passes}
-use Rattle.dl_laws.proofs.Founded.{run_founded, passed_is, refused_is, last_step}
+use Rattle.dl_laws.proofs.Lists.{last_that-one}
+use Rattle.dl_laws.proofs.Founded.{run_founded, pushes_own, counts_own, pushed}
 use Rattle.dl_laws.proofs.Calls.{calls_numbered}
 use Rattle.dl_promises.proofs.Relations.{AreAll}
 use Rattle.dl_promises.proofs.Turns.{drains}
@@ -30,31 +30,8 @@ pub record AtRest (writer : ℕ) (done : List Mark) : Type 0 where
 
 -- ---- one writer is finished
 
-pushes_own : (writer : ℕ) (done : List Mark) (c : Call) → to_push writer done ≡ Some c → c.item.writer ≡ writer
-pushes_own writer done c e =
-    let last = last_step passed (last_that (is_step_of writer) done) c e in
-    let is = find-passes (is_step_of writer) (reverse done) last.0 last.1 in
-    eqb-true c.item.writer writer (subst (λ m. is_step_of writer m ≡ true) (passed_is last.0 c last.2) is)
-
-counts_own : (writer : ℕ) (done : List Mark) (c : Call) → to_count writer done ≡ Some c → c.item.writer ≡ writer
-counts_own writer done c e =
-    let last = last_step refused (last_that (is_step_of writer) done) c e in
-    let is = find-passes (is_step_of writer) (reverse done) last.0 last.1 in
-    eqb-true c.item.writer writer (subst (λ m. is_step_of writer m ≡ true) (refused_is last.0 c last.2) is)
-
 step_one : (writer : ℕ) (done : List Mark) (mark : Mark) (b : Bool) → is_step_of writer mark ≡ b → last_that (is_step_of writer) (done ++ mark ∷ []) ≡ cond b (Some mark) (last_that (is_step_of writer) done)
 step_one writer done mark b is = last_that-one (is_step_of writer) done mark ∙ ap (λ (t : Bool). cond t (Some mark) (last_that (is_step_of writer) done)) is
-
--- the push of a writer leaves none of its calls to push
-pushed : (writer : ℕ) (done : List Mark) → to_push writer (done ++ push writer done) ≡ None
-pushed writer done = by_call (to_push writer done) refl where
-  by_full : (c : Call) (b : Bool) → c.item.writer ≡ writer → to_push writer (done ++ cond b (Refused c) (Queued c) ∷ []) ≡ None
-  by_full c true own = ap (option_and_then passed) (step_one writer done (Refused c) true (eq-eqb c.item.writer writer own))
-  by_full c false own = ap (option_and_then passed) (step_one writer done (Queued c) true (eq-eqb c.item.writer writer own))
-
-  by_call : (o : Option Call) → to_push writer done ≡ o → to_push writer (done ++ for_some o (λ c. just (cond (is_full c.item.app done) (Refused c) (Queued c))) done) ≡ None
-  by_call None e = ap (to_push writer) (append-nil done) ∙ e
-  by_call (Some c) e = by_full c (is_full c.item.app done) (pushes_own writer done c e)
 
 counted : (writer : ℕ) (done : List Mark) → to_push writer done ≡ None → AtRest writer (done ++ count writer done)
 counted writer done no_push = by_call (to_count writer done) refl where

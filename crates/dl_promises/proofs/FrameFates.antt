@@ -7,6 +7,7 @@ use Rattle.std.proofs.lemmas.Bool.Decides.{leb_tells}
 use Rattle.std.proofs.lemmas.List.{append-nil}
 use Rattle.std.proofs.lemmas.List.Sums.{sum_by-cons}
 use Rattle.std.proofs.lemmas.Option.{slice_get-get_or}
+use Rattle.dl_lemmas.proofs.Lists.{get_more}
 use Rattle.dl_events.specs.declared.event.Event.{Event}
 use Rattle.dl_events.specs.declared.event.Event.TheVariants as event
 use Rattle.dl_model.specs.Along.{along_from}
@@ -20,7 +21,6 @@ use Rattle.dl_model.specs.ClientStream.{put, sent, traffic_of, traffic, stream}
 use Rattle.dl_laws.proofs.Lists.{along_from-append, along-one}
 use Rattle.dl_laws.proofs.ClientStreams.{any_open, any_open-admit, any_open-reply, waiting-admit, waiting-reply, same_number, unbroken}
 use Rattle.dl_promises.specs.Fates.{next_client}
-use Rattle.dl_promises.proofs.OwnApps.{slice_get-more}
 use Rattle.dl_promises.proofs.ClientStays.{Speaks, AllSpeak, opened_is, quiet_before, true_not_false}
 use Rattle.dl_promises.proofs.JournalStreams.{open_same, quiet_traffic, traffic_parts}
 
@@ -43,7 +43,7 @@ fits_more limit (x ∷ xs) more le =
 pub kept_at : (limit : ℕ) (ws : List (List ℕ)) (frame : List ℕ) (more : List (List ℕ)) → leb (size_of (ws ++ frame ∷ [])) limit ≡ true → slice_get (fitting limit ((ws ++ frame ∷ []) ++ more)) (length ws) ≡ Some frame
 kept_at limit ws frame more fits =
     let rest = fits_more limit (ws ++ frame ∷ []) more (leb-true (size_of (ws ++ frame ∷ [])) limit fits) in
-    ap (λ (fs : List (List ℕ)). slice_get fs (length ws)) rest.1 ∙ slice_get-more (ws ++ frame ∷ []) rest.0 (length ws) frame (at_place ws [] frame)
+    ap (λ (fs : List (List ℕ)). slice_get fs (length ws)) rest.1 ∙ get_more (ws ++ frame ∷ []) rest.0 (length ws) frame (at_place ws [] frame)
 
 -- a frame that has no room stands behind all that are kept
 pub fits_no_more : (limit : ℕ) (ws : List (List ℕ)) (frame : List ℕ) (more : List (List ℕ)) → limit < size_of (ws ++ frame ∷ []) → length (fitting limit ((ws ++ frame ∷ []) ++ more)) ≤ length ws

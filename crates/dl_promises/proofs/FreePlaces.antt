@@ -8,6 +8,7 @@ use Rattle.std.specs.Str.{bytes_eq}
 use Rattle.std.proofs.lemmas.Bool.{cases_eq, eqb-true, ne_eqb, eq-eqb}
 use Rattle.std.proofs.lemmas.List.{append-nil}
 use Rattle.std.proofs.lemmas.List.Folds.{list_any-append}
+use Rattle.dl_lemmas.proofs.Bools.{neither}
 use Rattle.dl_bytes.specs.Claim.{Claimed}
 use Rattle.dl_bytes.specs.declared.conf.StoredLevel.{StoredLevel}
 use Rattle.dl_events.specs.declared.event.Event.{Event}
@@ -34,14 +35,10 @@ use Rattle.dl_promises.proofs.UniqueIds.{claim_makes, numbered, served_keeps, un
 or_none : (b c : Bool) → b ≡ false → c ≡ false → (b || c) ≡ false
 or_none b c first second = ap (λ (x : Bool). x || c) first ∙ second
 
-or_parts : (b c : Bool) → (b || c) ≡ false → (b ≡ false) × (c ≡ false)
-or_parts true c none = absurd cc
-or_parts false c none = (refl, none)
-
 -- a place that is not among the places, and is not the one more
 not_among : (place more : ℕ) (old new : List ℕ) → Among more old new → nat_eq place more ≡ false → list_any (nat_eq place) old ≡ false → list_any (nat_eq place) new ≡ false
 not_among place more old new among apart none =
-    let parts = or_parts (list_any (nat_eq place) among.before) (list_any (nat_eq place) among.behind) (sym (ap (list_any (nat_eq place)) among.was ∙ list_any-append (nat_eq place) among.before among.behind) ∙ none) in
+    let parts = neither (list_any (nat_eq place) among.before) (list_any (nat_eq place) among.behind) (sym (ap (list_any (nat_eq place)) among.was ∙ list_any-append (nat_eq place) among.before among.behind) ∙ none) in
     ap (list_any (nat_eq place)) among.is ∙ list_any-append (nat_eq place) among.before (more ∷ among.behind)
     ∙ or_none (list_any (nat_eq place) among.before) (nat_eq place more || list_any (nat_eq place) among.behind) parts.0 (or_none (nat_eq place more) (list_any (nat_eq place) among.behind) apart parts.1)
 

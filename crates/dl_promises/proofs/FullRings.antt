@@ -7,6 +7,7 @@ use Rattle.std.proofs.lemmas.Bool.{leb-true, leb-false, eqb-true}
 use Rattle.std.proofs.lemmas.List.{append-nil}
 use Rattle.std.proofs.lemmas.List.Elements.{filter-append, filter_map-append}
 use Rattle.std.proofs.lemmas.Option.{slice_get_cases}
+use Rattle.dl_lemmas.proofs.Lists.{all_both, all_map, get_more}
 use Rattle.dl_events.specs.declared.record.Record.{Record}
 use Rattle.dl_events.specs.declared.record.Answer.TheVariants as answer
 use Rattle.dl_script_lines.specs.declared.line.AppLine.{AppLine}
@@ -16,10 +17,9 @@ use Rattle.dl_model.specs.Report.{is_answer}
 use Rattle.dl_model.specs.Accounts.{with_answer}
 use Rattle.dl_laws.proofs.Lists.{count_by-append}
 use Rattle.dl_promises.specs.RunRecords.{MetFullRing}
-use Rattle.dl_promises.proofs.Alls.{all_more, all_map}
 use Rattle.dl_promises.proofs.Relations.{AreAll, holds_on}
 use Rattle.dl_promises.proofs.WriterRuns.{Open, Shut, ToPush, ToCount, IfOpen, Right, GoesOn, writer_holds}
-use Rattle.dl_promises.proofs.OwnApps.{number-within, slice_get-more}
+use Rattle.dl_promises.proofs.OwnApps.{number-within}
 use Rattle.dl_promises.proofs.AccountRuns.{in_app}
 use Rattle.dl_promises.proofs.Partition.{all_owners}
 
@@ -34,7 +34,7 @@ capacity_stays lines more app = by_option (slice_get lines app) refl where
   by_option : (o : Option AppLine) → slice_get lines app ≡ o → option_map_or (λ (line : AppLine). line.capacity) o 0 ≤ option_map_or (λ (line : AppLine). line.capacity) (slice_get (lines ++ more) app) 0
   by_option None is = omega arith
   by_option (Some line) is =
-      let same : option_map_or (λ (line : AppLine). line.capacity) (slice_get (lines ++ more) app) 0 ≡ line.capacity = ap (λ (o : Option AppLine). option_map_or (λ (line : AppLine). line.capacity) o 0) (slice_get-more lines more app line is) in
+      let same : option_map_or (λ (line : AppLine). line.capacity) (slice_get (lines ++ more) app) 0 ≡ line.capacity = ap (λ (o : Option AppLine). option_map_or (λ (line : AppLine). line.capacity) o 0) (get_more lines more app line is) in
       omega (arith, same)
 
 capacity_more : (done : List Mark) (mark : Mark) (app : ℕ) → capacity_of done app ≤ capacity_of (done ++ mark ∷ []) app
@@ -119,7 +119,7 @@ is_lost : (done : List Mark) (rs : List Record) (c : Call) → MetFullRing done 
     AllByRecursion (MetFullRing done) (with_answer answer.Lost (rs ++ recorded c answer.Lost ∷ []))
 is_lost done rs c met all =
     subst (AllByRecursion (MetFullRing done)) (sym (filter-append (λ (x : Record). is_answer answer.Lost x.answer) rs (recorded c answer.Lost ∷ [])))
-    (all_more (MetFullRing done) (with_answer answer.Lost rs) (recorded c answer.Lost ∷ []) all (met, tt))
+    (all_both (MetFullRing done) (with_answer answer.Lost rs) (recorded c answer.Lost ∷ []) all (met, tt))
 
 open_more : (done : List Mark) (mark : Mark) (o : Open) → IfCount o (IsRefusedIn done) → IfCount o (IsRefusedIn (done ++ mark ∷ []))
 open_more done mark (ToCount c) is = refused_more done mark c is
@@ -166,7 +166,7 @@ capacity_kept : (lines more : List AppLine) (app : ℕ) → app < length lines �
 capacity_kept lines more app lt = by_cases (slice_get_cases lines app).1 where
   by_cases : ((x : AppLine) × (app < length lines) × (slice_get lines app ≡ Some x) × (get_or lines app x ≡ x)) ⊎ ((length lines ≤ app) × (slice_get lines app ≡ None)) →
       option_map_or (λ (line : AppLine). line.capacity) (slice_get (lines ++ more) app) 0 ≡ option_map_or (λ (line : AppLine). line.capacity) (slice_get lines app) 0
-  by_cases (inl found) = ap (λ (o : Option AppLine). option_map_or (λ (line : AppLine). line.capacity) o 0) (slice_get-more lines more app found.0 found.2 ∙ sym found.2)
+  by_cases (inl found) = ap (λ (o : Option AppLine). option_map_or (λ (line : AppLine). line.capacity) o 0) (get_more lines more app found.0 found.2 ∙ sym found.2)
   by_cases (inr none) = absurd (omega (arith, lt, none.0))
 
 had_more : (done : List Mark) (mark : Mark) (app : ℕ) → HadPushed done app → HadPushed (done ++ mark ∷ []) app
@@ -193,7 +193,7 @@ lost_same done rs r e all =
 lost_one : (done : List Mark) (rs : List Record) (c : Call) → HadPushed done c.item.app → Lost done rs → Lost done (rs ++ recorded c answer.Lost ∷ [])
 lost_one done rs c is all =
     subst (AllByRecursion (λ r. HadPushed done r.item.app)) (sym (filter-append (λ (x : Record). is_answer answer.Lost x.answer) rs (recorded c answer.Lost ∷ [])))
-    (all_more (λ r. HadPushed done r.item.app) (with_answer answer.Lost rs) (recorded c answer.Lost ∷ []) all (is, tt))
+    (all_both (λ r. HadPushed done r.item.app) (with_answer answer.Lost rs) (recorded c answer.Lost ∷ []) all (is, tt))
 
 open_later : (done : List Mark) (mark : Mark) (o : Open) → IfOpen o (λ c. c.item.app < length (apps done)) → IfOpen o (λ c. c.item.app < length (apps (done ++ mark ∷ [])))
 open_later done mark Shut is = tt

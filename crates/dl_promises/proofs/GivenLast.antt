@@ -6,6 +6,7 @@ use Rattle.std.specs.Map.{lookup, set_value}
 use Rattle.std.specs.Option.{is_none, option_and_then, option_map, option_or}
 use Rattle.std.specs.Result.{is_ok, result_ok, result_unwrap_or}
 use Rattle.std.specs.Str.{bytes_eq}
+use Rattle.dl_lemmas.proofs.Options.{if_some, ifok_if, ifsome_if, some_ok}
 use Rattle.dl_bytes.specs.Claim.{Claimed}
 use Rattle.dl_bytes.specs.Id.{zero_id}
 use Rattle.dl_bytes.specs.Level.{own_level_of}
@@ -85,10 +86,6 @@ module _ {A : Type 0} (s : Setting) (W : Registry → Option A) (gives : List Ev
   pub given_last : (events : List Event) (given : List A) → Last (W (start s)) given → Last (W (registry_of s events)) (given ++ along gives events)
   given_last events given last = last_from [] events given last
 
-ifok_if : {A E : Type 0} (P : A → Type 0) (b : Bool) (e : E) (r : Result A E) → IfOk r P → IfOk (cond b (Err e) r) P
-ifok_if P true e r ok = tt
-ifok_if P false e r ok = ok
-
 -- ---- a message leaves the default level and the stored levels
 
 abbrev Keeps : Registry → Registry → Type 0
@@ -139,10 +136,6 @@ message_keeps r (Err fault) keeps = (refl, refl)
 
 -- ---- a claim leaves them too
 
-ifsome_if : {A : Type 0} (P : A → Type 0) (b : Bool) (o : Option A) → IfSome o P → IfSome (cond b None o) P
-ifsome_if P true o ok = tt
-ifsome_if P false o ok = ok
-
 -- a claim that changes something gives an application other contexts
 in_claimed : (P : Registry → Type 0) (slots : ℕ → Slot) (r : Registry) (claim : Claimed)
     → ((apid : List ℕ) (app : App) (o : Option Context) → lookup (bytes_eq apid) r.apps ≡ Some app → P (with_app r apid (with_claim r.stored apid claim app o))) → IfSome (claimed slots r claim) P
@@ -165,10 +158,6 @@ claimed-keeps slots r claim = in_claimed (Keeps r) slots r claim (λ apid app o 
 -- the levels of contexts set leave both
 set_keeps : (slots : ℕ → Slot) (r : Registry) (level : ℕ) (relevel : Relevel) → IfOk (unless_worn slots r level relevel) (λ new. (new.level ≡ level) × (new.stored ≡ r.stored))
 set_keeps slots r level relevel = ifok_if (λ new. (new.level ≡ level) × (new.stored ≡ r.stored)) (wears slots r level relevel) set.Worn _ (refl, refl)
-
-some_ok : {A E : Type 0} (P : A → Type 0) (r : Result A E) → IfOk r P → IfSome (result_ok r) P
-some_ok P (Ok x) is = is
-some_ok P (Err e) is = tt
 
 own_keeps : (slots : ℕ → Slot) (r : Registry) (apid ctid : List ℕ) (o : Option (Option ℕ)) → IfSome (option_and_then (λ own. result_ok (own_set slots r apid ctid own)) o) (Keeps r)
 own_keeps slots r apid ctid None = tt
@@ -204,19 +193,15 @@ gives_none : (r : Registry) (o : Option Registry) → IfSome o (λ new. new.stor
 gives_none r None is = inr (refl, refl)
 gives_none r (Some new) is = inl (ap (λ (l : List StoredLevel). l ∷ []) (sym is))
 
-weaker : {A : Type 0} (P Q : A → Type 0) (o : Option A) → ((x : A) → P x → Q x) → IfSome o P → IfSome o Q
-weaker P Q None f is = tt
-weaker P Q (Some x) f is = f x is
-
 request_level : (s : Setting) (slots : ℕ → Slot) (r : Registry) (request : Result Request RequestFault) (answer : Done) → Stepped (Some r.level) (default_by_request s slots r request answer) (Some (served s slots r request answer).level)
 request_level s slots r (Ok (SetLogLevel apid ctid level)) answer = kept_level r (own_requested slots r apid ctid level) (own_keeps slots r apid ctid (own_level_of level))
 request_level s slots r (Ok (SetDefault level)) answer =
-    gives_level r level (default_requested slots r level) (weaker (λ new. (new.level ≡ level) × (new.stored ≡ r.stored)) (λ new. new.level ≡ level) (default_requested slots r level) (λ new is. is.0) (default_sets slots r level))
+    gives_level r level (default_requested slots r level) (if_some (λ new. (new.level ≡ level) × (new.stored ≡ r.stored)) (λ new. new.level ≡ level) (default_requested slots r level) (λ new is. is.0) (default_sets slots r level))
 request_level s slots r (Ok Store) done.Yes = inr (refl, refl)
 request_level s slots r (Ok Store) done.Failed = inr (refl, refl)
 request_level s slots r (Ok Store) done.NoMemory = inr (refl, refl)
 request_level s slots r (Ok Reset) done.Yes =
-    gives_level r s.level (reset_requested s slots r) (weaker (λ new. (new.level ≡ s.level) × (new.stored ≡ [])) (λ new. new.level ≡ s.level) (reset_requested s slots r) (λ new is. is.0) (reset_sets s slots r))
+    gives_level r s.level (reset_requested s slots r) (if_some (λ new. (new.level ≡ s.level) × (new.stored ≡ [])) (λ new. new.level ≡ s.level) (reset_requested s slots r) (λ new is. is.0) (reset_sets s slots r))
 request_level s slots r (Ok Reset) done.Failed = inr (refl, refl)
 request_level s slots r (Ok Reset) done.NoMemory = inr (refl, refl)
 request_level s slots r (Ok (GetLogInfo options apid ctid)) answer = inr (refl, refl)
@@ -228,14 +213,14 @@ request_level s slots r (Err fault) answer = inr (refl, refl)
 
 request_stored : (s : Setting) (slots : ℕ → Slot) (r : Registry) (request : Result Request RequestFault) (answer : Done) → Stepped (Some r.stored) (stored_by_request s slots r request answer) (Some (served s slots r request answer).stored)
 request_stored s slots r (Ok (SetLogLevel apid ctid level)) answer =
-    kept_stored r (own_requested slots r apid ctid level) (weaker (Keeps r) (λ new. new.stored ≡ r.stored) (own_requested slots r apid ctid level) (λ new is. is.1) (own_keeps slots r apid ctid (own_level_of level)))
+    kept_stored r (own_requested slots r apid ctid level) (if_some (Keeps r) (λ new. new.stored ≡ r.stored) (own_requested slots r apid ctid level) (λ new is. is.1) (own_keeps slots r apid ctid (own_level_of level)))
 request_stored s slots r (Ok (SetDefault level)) answer =
-    kept_stored r (default_requested slots r level) (weaker (λ new. (new.level ≡ level) × (new.stored ≡ r.stored)) (λ new. new.stored ≡ r.stored) (default_requested slots r level) (λ new is. is.1) (default_sets slots r level))
+    kept_stored r (default_requested slots r level) (if_some (λ new. (new.level ≡ level) × (new.stored ≡ r.stored)) (λ new. new.stored ≡ r.stored) (default_requested slots r level) (λ new is. is.1) (default_sets slots r level))
 request_stored s slots r (Ok Store) done.Yes = inl refl
 request_stored s slots r (Ok Store) done.Failed = inr (refl, refl)
 request_stored s slots r (Ok Store) done.NoMemory = inr (refl, refl)
 request_stored s slots r (Ok Reset) done.Yes =
-    gives_none r (reset_requested s slots r) (weaker (λ new. (new.level ≡ s.level) × (new.stored ≡ [])) (λ new. new.stored ≡ []) (reset_requested s slots r) (λ new is. is.1) (reset_sets s slots r))
+    gives_none r (reset_requested s slots r) (if_some (λ new. (new.level ≡ s.level) × (new.stored ≡ [])) (λ new. new.stored ≡ []) (reset_requested s slots r) (λ new is. is.1) (reset_sets s slots r))
 request_stored s slots r (Ok Reset) done.Failed = inr (refl, refl)
 request_stored s slots r (Ok Reset) done.NoMemory = inr (refl, refl)
 request_stored s slots r (Ok (GetLogInfo options apid ctid)) answer = inr (refl, refl)
@@ -262,7 +247,7 @@ event_stored s before (event.User channel msg moment) =
 event_stored s before (event.Request client frame answer) = request_stored s (slots_of s before) (registry_of s before) (asked frame) answer
 event_stored s before (event.Claim claim moment) =
     let r = registry_of s before in
-    kept_stored r (claimed (slots_of s before) r claim) (weaker (Keeps r) (λ new. new.stored ≡ r.stored) (claimed (slots_of s before) r claim) (λ new is. is.1) (claimed-keeps (slots_of s before) r claim))
+    kept_stored r (claimed (slots_of s before) r claim) (if_some (Keeps r) (λ new. new.stored ≡ r.stored) (claimed (slots_of s before) r claim) (λ new is. is.1) (claimed-keeps (slots_of s before) r claim))
 event_stored s before (event.Log app writer call moment) = inr (refl, refl)
 event_stored s before (event.Lost app count moment) = inr (refl, refl)
 event_stored s before (event.Level slot level) = inr (refl, refl)

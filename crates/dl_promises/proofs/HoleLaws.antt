@@ -7,6 +7,7 @@ use Rattle.std.proofs.lemmas.Bool.{cases_lt, eqb-true, eq-eqb, or_parts}
 use Rattle.std.proofs.lemmas.List.{append-nil}
 use Rattle.std.proofs.lemmas.List.Folds.{list_any-append}
 use Rattle.std.proofs.lemmas.List.Sums.{sum_by-cons}
+use Rattle.dl_lemmas.proofs.Lists.{all_here}
 use Rattle.dl_bytes.specs.Claim.{Claimed}
 use Rattle.dl_bytes.specs.declared.moment.Moment.{Moment}
 use Rattle.dl_events.specs.declared.event.Event.{Event}
@@ -27,7 +28,7 @@ use Rattle.dl_model.specs.WholeAccounts.{IsOwnedSoFar}
 use Rattle.dl_laws.proofs.Lists.{count_by-append}
 use Rattle.dl_promises.specs.Fates.{Fate, InRing, InStream, BufferFull, ForOthers, next_client, kept, of_frame, logs, of_queued, by_answer, what_became_of}
 use Rattle.dl_promises.specs.Causes.{is_in_stream, IsMissing, passed, TellsHole}
-use Rattle.dl_promises.proofs.CallCauses.{all_here, all_places}
+use Rattle.dl_promises.proofs.CallCauses.{all_places}
 use Rattle.dl_promises.proofs.CallFates.{Finds, Searched, searched}
 use Rattle.dl_promises.proofs.CallPlaces.{Rising, has, alone, one_place, numbers_logged, logs_number, number_here, logged_at, queued_numbers, logged_queued, queued_rise, queued_here}
 use Rattle.dl_promises.proofs.ClientStays.{AllSpeak, all_speak, first_speak, second_speak, opened, is_open_in, none_above, none_open, closed_on, true_not_false}

@@ -7,6 +7,7 @@ use Rattle.std.proofs.lemmas.List.{append-nil}
 use Rattle.std.proofs.lemmas.List.Elements.{filter_map-append}
 use Rattle.std.proofs.lemmas.List.Concat.{flat_map-append}
 use Rattle.std.proofs.lemmas.List.Folds.{list_any-append}
+use Rattle.dl_lemmas.proofs.Lists.{by_end}
 use Rattle.dl_events.specs.declared.event.Event.{Event}
 use Rattle.dl_events.specs.declared.event.Event.TheVariants as event
 use Rattle.dl_events.specs.declared.event.Why.{Why}
@@ -19,10 +20,9 @@ use Rattle.dl_model.specs.Traffic.{Traffic, Connected, Admitted, Reply, Closed, 
 use Rattle.dl_model.specs.Backlog.{waiting, fitting, refused}
 use Rattle.dl_model.specs.ClientStream.{put, sent, traffic_of, traffic, stream}
 use Rattle.dl_laws.proofs.Lists.{along_from-append, along-one, after_last-one}
-use Rattle.dl_laws.proofs.ClientStreams.{unbroken, any_open, is_open-one}
+use Rattle.dl_laws.proofs.ClientStreams.{unbroken, any_open, is_open-one, admits_all, meant_admit}
 use Rattle.dl_laws.proofs.Backlogs.{counted}
 use Rattle.dl_promises.specs.ClientParts.{IsMerged, reply_to, replies_after, IsSent}
-use Rattle.dl_promises.proofs.Alls.{by_end}
 use Rattle.dl_promises.proofs.ClientStays.{opened, opened-one, opened_is, is_open_in, quiet_before, quiet_while, quiet_after}
 
 -- ---- one event and its traffic
@@ -55,10 +55,6 @@ merged_left (f ∷ fs) xs ys zs is = inl (fs ++ xs, refl, merged_left fs xs ys z
 merged_right : (fs xs ys zs : List (List ℕ)) → IsMerged xs ys zs → IsMerged xs (fs ++ ys) (fs ++ zs)
 merged_right [] xs ys zs is = is
 merged_right (f ∷ fs) xs ys zs is = inr (fs ++ ys, refl, merged_right fs xs ys zs is)
-
-meant_admit : (client : ℕ) (frames : List (List ℕ)) → filter_map (meant_for client) (map Admitted frames) ≡ frames
-meant_admit client [] = refl
-meant_admit client (frame ∷ frames) = ap (λ (fs : List (List ℕ)). frame ∷ fs) (meant_admit client frames)
 
 -- one event more at the front
 one_merged : (source : FrameSource) (client : ℕ) (before : List Event) (e : Event) (xs ys zs : List (List ℕ)) → IsMerged xs ys zs →
@@ -161,10 +157,6 @@ none_goes : (frames : List (List ℕ)) → list_any is_going (map Admitted frame
 none_goes [] = refl
 none_goes (frame ∷ frames) = none_goes frames
 
-admits : (frames : List (List ℕ)) → filter_map frame_of (map Admitted frames) ≡ frames
-admits [] = refl
-admits (frame ∷ frames) = ap (λ (fs : List (List ℕ)). frame ∷ fs) (admits frames)
-
 abbrev Since : FrameSource → List Event → Type 0
 Since source events = admitted_in (after_last is_going (traffic source events)) ≡ admitted source (after_last is_close events)
 
@@ -193,10 +185,10 @@ since_one source events (event.Level slot level) is = since_more source events (
 since_one source events (event.Log app writer call moment) is = since_more source events (event.Log app writer call moment) refl refl refl is
 since_one source events (event.Lost app count moment) is =
     let fs = frames_of source (event.Lost app count moment) in
-    since_more source events (event.Lost app count moment) refl (none_goes fs) (admits fs) is
+    since_more source events (event.Lost app count moment) refl (none_goes fs) (admits_all fs) is
 since_one source events (event.User channel msg moment) is =
     let fs = frames_of source (event.User channel msg moment) in
-    since_more source events (event.User channel msg moment) refl (none_goes fs) (admits fs) is
+    since_more source events (event.User channel msg moment) refl (none_goes fs) (admits_all fs) is
 
 since : (source : FrameSource) (events : List Event) → Since source events
 since source = by_end (Since source) refl (since_one source)

@@ -1,8 +1,6 @@
 -- How the ends of links read: whether a link took all of its client's stream, by why the client went.
-use Rattle.std.proofs.Common.{◌≡◌, ℕ, ◌+◌, true, false, List, [], ◌∷◌, length, refl, sym, ap, subst, ◌∙◌, length-append, arith}
-use Rattle.std.specs.List.{concat}
+use Rattle.std.proofs.Common.{◌≡◌, ℕ, ◌+◌, true, false, List, length, sym, ap, subst, ◌∙◌, length-append, arith}
 use Rattle.std.proofs.lemmas.Bool.{eq-eqb, eqb-true, ne_eqb}
-use Rattle.std.proofs.lemmas.List.Sums.{sum_by-cons}
 use Rattle.dl_events.specs.declared.event.Event.{Event}
 use Rattle.dl_events.specs.declared.event.Why.TheVariants as why
 use Rattle.dl_model.specs.Backlog.{outbox_limit, size_of}
@@ -10,14 +8,11 @@ use Rattle.dl_model.specs.ClientEnds.{HasGone, IsCause, LinkDid, end_of_link}
 use Rattle.dl_model.specs.ClientStream.{stream}
 use Rattle.dl_model.specs.Frames.{FrameSource}
 use Rattle.dl_model.specs.Setting.{Setting}
-
-concat_size : (frames : List (List ℕ)) → length (concat frames) ≡ size_of frames
-concat_size [] = refl
-concat_size (frame ∷ frames) = omega (arith, length-append frame (concat frames), sum_by-cons length frame frames, concat_size frames)
+use Rattle.dl_laws.proofs.Rotation.{length-concat}
 
 module _ (setting : Setting) (source : FrameSource) (events : List Event) (client : ℕ) (did : LinkDid) (gone : HasGone setting source events client did) where
   sizes : size_of (stream source setting.buffer client events) ≡ length did.taken + length gone.left
-  sizes = sym (concat_size (stream source setting.buffer client events)) ∙ ap length gone.took ∙ length-append did.taken gone.left
+  sizes = sym (length-concat (stream source setting.buffer client events)) ∙ ap length gone.took ∙ length-append did.taken gone.left
 
   pub stopped_is_complete : gone.cause ≡ why.Stopped → (end_of_link setting source events client did).complete ≡ true
   stopped_is_complete is =

@@ -7,6 +7,7 @@ use Rattle.std.proofs.lemmas.List.{length-map}
 use Rattle.std.proofs.lemmas.List.Elements.{filter-append}
 use Rattle.std.proofs.lemmas.List.Sums.{sum_by-cons}
 use Rattle.std.proofs.lemmas.Option.{slice_get_past}
+use Rattle.dl_lemmas.proofs.Lists.{empty_of}
 use Rattle.dl_bytes.specs.Claim.{Claimed}
 use Rattle.dl_events.specs.declared.event.Event.{Event}
 use Rattle.dl_events.specs.declared.event.Event.TheVariants as event
@@ -123,10 +124,6 @@ no_writer records writer = elim (cases_eq writer 0) [
   ]
 ]
 
-empty_by : {A : Type 0} (xs : List A) → length xs ≡ 0 → xs ≡ []
-empty_by [] e = refl
-empty_by (x ∷ xs) e = absurd (omega (arith, e))
-
 all_so : {A : Type 0} (P : Type 0) → P → (xs : List A) → AllByRecursion (λ (x : A). P) xs
 all_so P p [] = tt
 all_so P p (x ∷ xs) = (p, all_so P p xs)
@@ -139,7 +136,7 @@ module _ (first : ℕ) (events : List Event) (pending refusals : ℕ → ℕ) (p
   in_range app writer = elim (no_writer records writer) [
     | inl there ↦ all_so ((1 ≤ writer) × (writer < 1 + length records)) there (filter (of_writer writer) (order app events))
     | inr none ↦
-        let empty : filter (of_writer writer) (order app events) ≡ [] = empty_by (filter (of_writer writer) (order app events)) (one_writer app writer ∙ ap (queued_in app) none) in
+        let empty : filter (of_writer writer) (order app events) ≡ [] = empty_of (filter (of_writer writer) (order app events)) (one_writer app writer ∙ ap (queued_in app) none) in
         subst (AllByRecursion (λ (x : ℕ × ℕ). (1 ≤ writer) × (writer < 1 + length records))) (sym empty) tt
   ]
 

@@ -1,11 +1,13 @@
 -- A writer belongs to one application: so do all its calls.
-use Rattle.std.proofs.Common.{◌≡◌, ℕ, zero, suc, ◌+◌, ◌-◌, ◌<◌, ◌≤◌, Bool, true, false, cond, eqb, ltb, List, [], ◌∷◌, ◌++◌, length, Some, None, refl, sym, ap, subst, ◌∙◌, length-append, arith, inl, inr}
+use Rattle.std.proofs.Common.{◌≡◌, ℕ, ◌+◌, ◌-◌, ◌<◌, ◌≤◌, Bool, true, false, cond, eqb, ltb, List, [], ◌∷◌, ◌++◌, length, Some, None, sym, ap, subst, ◌∙◌, arith, inl, inr}
 use Rattle.std.specs.Prelude.{slice_get, position, not, ◌⊎◌}
 use Rattle.std.specs.List.{filter_map, prefix_len, AllByRecursion}
 use Rattle.std.specs.Str.{bytes_eq}
-use Rattle.std.proofs.lemmas.Bool.{eq-eqb, ltb-true, lt-ltb, ne_eqb, cases_eq}
+use Rattle.std.proofs.lemmas.Bool.{eq-eqb, ltb-true, ne_eqb, cases_eq}
 use Rattle.std.proofs.lemmas.List.Elements.{filter_map-append}
 use Rattle.std.proofs.lemmas.Option.{slice_get_within}
+use Rattle.dl_lemmas.proofs.Lists.{all_both, all_map, get_more, position-more}
+use Rattle.dl_lemmas.proofs.Options.{place_is}
 use Rattle.dl_bytes.specs.declared.item.Item.{Item}
 use Rattle.dl_events.specs.declared.record.Record.{Record}
 use Rattle.dl_events.specs.declared.record.Answer.TheVariants as answer
@@ -13,41 +15,15 @@ use Rattle.dl_script_lines.specs.declared.line.AppLine.{AppLine}
 use Rattle.dl_model.specs.Along.{last_that}
 use Rattle.dl_model.specs.Setting.{Setting}
 use Rattle.dl_model.specs.Marks.{Call, Mark, Filtered, Passed, Queued, Refused, Counted, app_of, apps, writer_of, writers, app_of_writer, number_of, recorded, records_of, is_step_of}
-use Rattle.dl_promises.proofs.Alls.{all_more, all_map}
 use Rattle.dl_promises.proofs.Relations.{AreAll}
 use Rattle.dl_promises.proofs.WriterRuns.{Open, Shut, ToPush, ToCount, open_of, IfOpen, IsOwn, Right, GoesOn, writer_holds}
 
 -- ---- what was declared stays
 
-pub slice_get-more : {A : Type 0} (xs ys : List A) (i : ℕ) (x : A) → slice_get xs i ≡ Some x → slice_get (xs ++ ys) i ≡ Some x
-slice_get-more [] ys i x e = absurd cc
-slice_get-more (y ∷ xs) ys zero x e = e
-slice_get-more (y ∷ xs) ys (suc i) x e = slice_get-more xs ys i x e
-
-place_stays : {A : Type 0} (p : A → Bool) (xs ys : List A) → prefix_len p xs < length xs → prefix_len p (xs ++ ys) ≡ prefix_len p xs
-place_stays p [] ys lt = absurd (omega arith)
-place_stays {A = A} p (x ∷ xs) ys lt = by_test (p x) lt (place_stays p xs ys) where
-  by_test : (b : Bool) → cond b (1 + prefix_len p xs) 0 < length (x ∷ xs) → (prefix_len p xs < length xs → prefix_len p (xs ++ ys) ≡ prefix_len p xs) → cond b (1 + prefix_len p (xs ++ ys)) 0 ≡ cond b (1 + prefix_len p xs) 0
-  by_test true le later = ap (λ (n : ℕ). 1 + n) (later (omega arith))
-  by_test false le later = refl
-
-position_is : (b : Bool) (k n : ℕ) → cond b (Some k) None ≡ Some n → (b ≡ true) × (k ≡ n)
-position_is true k n e = (refl, cc)
-position_is false k n e = absurd cc
-
-pub position-more : {A : Type 0} (p : A → Bool) (xs ys : List A) (n : ℕ) → position p xs ≡ Some n → position p (xs ++ ys) ≡ Some n
-position-more {A = A} p xs ys n e =
-    let q = λ (x : A). not (p x) in
-    let is = position_is (ltb (prefix_len q xs) (length xs)) (prefix_len q xs) n e in
-    let lt : prefix_len q xs < length xs = ltb-true (prefix_len q xs) (length xs) is.0 in
-    let stays : prefix_len q (xs ++ ys) ≡ prefix_len q xs = place_stays q xs ys lt in
-    let within : prefix_len q (xs ++ ys) < length (xs ++ ys) = omega (arith, stays, lt, length-append xs ys) in
-    ap (λ (b : Bool). cond b (Some (prefix_len q (xs ++ ys))) None) (lt-ltb (prefix_len q (xs ++ ys)) (length (xs ++ ys)) within) ∙ ap Some (stays ∙ is.1)
-
 pub position-within : {A : Type 0} (p : A → Bool) (xs : List A) (n : ℕ) → position p xs ≡ Some n → n < length xs
 position-within {A = A} p xs n e =
     let q = λ (x : A). not (p x) in
-    let is = position_is (ltb (prefix_len q xs) (length xs)) (prefix_len q xs) n e in
+    let is = place_is (ltb (prefix_len q xs) (length xs)) (prefix_len q xs) n e in
     let lt : prefix_len q xs < length xs = ltb-true (prefix_len q xs) (length xs) is.0 in
     omega (arith, lt, is.1)
 
@@ -65,7 +41,7 @@ writer_more done mark writer apid e = by_test (eqb writer 0) e where
   by_test true e = absurd cc
   by_test false e =
       ap (λ (ws : List (List ℕ)). slice_get ws (writer - 1)) (filter_map-append writer_of done (mark ∷ []))
-      ∙ slice_get-more (writers done) (filter_map writer_of (mark ∷ [])) (writer - 1) apid e
+      ∙ get_more (writers done) (filter_map writer_of (mark ∷ [])) (writer - 1) apid e
 
 -- a writer that has an application is one of those that were declared
 pub in_range : (marks : List Mark) (writer : ℕ) (apid : List ℕ) → app_of_writer writer marks ≡ Some apid → (1 ≤ writer) × (writer < 1 + length (writers marks))
@@ -108,7 +84,7 @@ records_more writer done mark rs = all_map (λ (r : Record). IsOwnItem writer do
 
 record-one : (writer : ℕ) (done : List Mark) (mark : Mark) (rs : List Record) (r : Record) → AllByRecursion (λ r. IsOwnItem writer done r.item) rs → IsOwnItem writer (done ++ mark ∷ []) r.item →
     AllByRecursion (λ r. IsOwnItem writer (done ++ mark ∷ []) r.item) (rs ++ r ∷ [])
-record-one writer done mark rs r all one = all_more (λ (r : Record). IsOwnItem writer (done ++ mark ∷ []) r.item) rs (r ∷ []) (records_more writer done mark rs all) (one, tt)
+record-one writer done mark rs r all one = all_both (λ (r : Record). IsOwnItem writer (done ++ mark ∷ []) r.item) rs (r ∷ []) (records_more writer done mark rs all) (one, tt)
 
 open_own : (writer : ℕ) (done : List Mark) (mark : Mark) (o : Open) → IfOpen o (λ c. IsOwnItem writer done c.item) → IfOpen o (λ c. IsOwnItem writer (done ++ mark ∷ []) c.item)
 open_own writer done mark Shut is = tt

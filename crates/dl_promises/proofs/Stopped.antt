@@ -6,6 +6,7 @@ use Rattle.std.proofs.lemmas.Bool.{cases_eq, eq-eqb, eqb-true}
 use Rattle.std.proofs.lemmas.List.{append-nil}
 use Rattle.std.proofs.lemmas.List.Elements.{filter_map-append}
 use Rattle.std.proofs.lemmas.List.Folds.{list_any-append}
+use Rattle.dl_lemmas.proofs.Lists.{by_end}
 use Rattle.dl_bytes.specs.declared.outcome.Done.{Done}
 use Rattle.dl_events.specs.declared.event.Event.{Event}
 use Rattle.dl_events.specs.declared.event.Event.TheVariants as event
@@ -18,7 +19,6 @@ use Rattle.dl_model.specs.Journal.{IsOpen, IsSettled, comes_or_goes, is_connect}
 use Rattle.dl_model.specs.Marks.{Mark, Noted, event_of, journal}
 use Rattle.dl_model.specs.Report.{closed_of, why_of}
 use Rattle.dl_model.specs.Steps.{close, in_sequence, is_open, level_noted, note, note_levels, run, when}
-use Rattle.dl_promises.proofs.Alls.{by_end}
 use Rattle.dl_promises.proofs.Relations.{AreAll, holds_on}
 use Rattle.dl_promises.proofs.ClientStays.{AllSpeak, came_more, first_speak, opened, opened-one, opened_is}
 use Rattle.dl_promises.proofs.Drained.{drained, levelled, whole_is, word_note}

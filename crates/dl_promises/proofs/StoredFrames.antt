@@ -3,6 +3,7 @@ use Rattle.std.proofs.Common.{◌≡◌, ℕ, ◌≤◌, List, [], ◌∷◌, �
 use Rattle.std.specs.List.{AllByRecursion}
 use Rattle.std.proofs.Math.Seq.{drop-append_seam}
 use Rattle.std.proofs.lemmas.List.{map-append}
+use Rattle.dl_lemmas.proofs.Lists.{all_both, all_map}
 use Rattle.dl_bytes.specs.Id.{zero_id}
 use Rattle.dl_bytes.specs.declared.moment.Moment.{Moment}
 use Rattle.dl_bytes.specs.declared.user.UserMsg.{UserMsg}
@@ -16,12 +17,11 @@ use Rattle.dl_model.specs.Overflow.{counters}
 use Rattle.dl_model.specs.TraceFiles.{StoredFile, trace_files}
 use Rattle.dl_promises.specs.OwnFiles.{own_files}
 use Rattle.dl_promises.specs.ShortFrames.{AreShort, IsShort}
-use Rattle.dl_promises.proofs.Alls.{all_map, all_more}
 use Rattle.dl_promises.proofs.FileSuffix.{own_within}
 
 -- ---- a storage header
 
-header_len : (ecu : List ℕ) (moment : Moment) → length ecu ≡ 4 → length (storage_header ecu moment) ≡ 16
+pub header_len : (ecu : List ℕ) (moment : Moment) → length ecu ≡ 4 → length (storage_header ecu moment) ≡ 16
 header_len [] moment four = absurd (omega (arith, four))
 header_len (a ∷ []) moment four = absurd (omega (arith, four))
 header_len (a ∷ b ∷ []) moment four = absurd (omega (arith, four))
@@ -106,7 +106,7 @@ event_len source (event.Close client cause) short = tt
 pub stored_short : (source : FrameSource) (events : List Event) → AreShort source events → AllByRecursion Short (stored_frames source events)
 stored_short source [] short = tt
 stored_short source (e ∷ events) short =
-    all_more Short (stored_of source e) (stored_frames source events)
+    all_both Short (stored_of source e) (stored_frames source events)
     (event_len source e (record { ecu = short.ecu; frames = short.frames; apids = short.apids; messages = (short.messages.0, tt) }))
     (stored_short source events (record { ecu = short.ecu; frames = short.frames; apids = short.apids; messages = short.messages.1 }))
 

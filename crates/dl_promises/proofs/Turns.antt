@@ -5,6 +5,7 @@ use Rattle.std.specs.List.{filter_map, cons_option, range_with_len}
 use Rattle.std.proofs.lemmas.Bool.{ltb-true, and_parts}
 use Rattle.std.proofs.lemmas.List.{append-nil}
 use Rattle.std.proofs.lemmas.List.Elements.{filter_map-append}
+use Rattle.dl_lemmas.proofs.Options.{same_thing}
 use Rattle.dl_bytes.specs.Claim.{Claimed}
 use Rattle.dl_bytes.specs.Limits.{message_limit}
 use Rattle.dl_bytes.specs.declared.outcome.Done.{Done}
@@ -253,9 +254,6 @@ hear_in_turn setting channel bytes done =
 
 -- ---- log calls
 
-some_call : (x y : Call) → ◌≡◌ {A = Option Call} (Some x) (Some y) → x ≡ y
-some_call x y e = cc
-
 -- a call that is loaded is of its writer's application
 loaded_own : (setting : Setting) (call : CallLine) (done : List Mark) (c : Call) → loaded setting call done ≡ Some c → IsOwn c done
 loaded_own setting call done c e = by_writer (app_of_writer call.writer done) refl e where
@@ -280,7 +278,7 @@ loaded_own setting call done c e = by_writer (app_of_writer call.writer done) re
   by_place : (apid : List ℕ) (app : ℕ) → app_of_writer call.writer done ≡ Some apid → number_of apid done ≡ Some app → (o : Option ℕ) → (o >>= λ place. Some (made apid app place)) ≡ Some c → IsOwn c done
   by_place apid app is_writer is_app None e = absurd cc
   by_place apid app is_writer is_app (Some place) e =
-      subst (λ x. IsOwn x done) (some_call (made apid app place) c e) (record { apid = apid; of_writer = is_writer; number = is_app })
+      subst (λ x. IsOwn x done) (same_thing (made apid app place) c e) (record { apid = apid; of_writer = is_writer; number = is_app })
 
   by_app : (apid : List ℕ) → app_of_writer call.writer done ≡ Some apid → (o : Option ℕ) → number_of apid done ≡ o → (o >>= λ app. named_place call.writer apid call.ctid done >>= λ place. Some (made apid app place)) ≡ Some c → IsOwn c done
   by_app apid is_writer None is e = absurd cc

@@ -6,6 +6,7 @@ use Rattle.std.specs.Option.{option_map, option_map_or, option_and_then, option_
 use Rattle.std.specs.Str.{bytes_eq}
 use Rattle.std.proofs.lemmas.List.{append-nil}
 use Rattle.std.proofs.lemmas.List.Elements.{filter-append}
+use Rattle.dl_lemmas.proofs.Lists.{by_end}
 use Rattle.dl_bytes.specs.Claim.{Claimed}
 use Rattle.dl_bytes.specs.declared.moment.Moment.{Moment}
 use Rattle.dl_script_lines.specs.declared.line.AppLine.{AppLine}
@@ -14,7 +15,6 @@ use Rattle.dl_model.specs.Along.{last_that}
 use Rattle.dl_model.specs.Marks.{Mark, Fed, Heard, event_of, journal, record_of, app_of, apps, number_of, context_of, contexts_of, place_of, claim_of, claims_of, claims_on, announced_of, announced_by, to_announce, unannounced, claimed_place, named_place, next_place, writer_of, writers, writer_numbers, app_of_writer, call_of, is_step_of, is_load, is_passed, calls_of, passed_of, passed, refused, to_push, to_count, Pushed, pushed_of, pushes, queued_of, queued, is_taken_of, taken, capacity_of, held_by, is_full, is_counted_of, is_lost_of, pending, clocked, moment_at, moment, waits_of, is_later, is_answer, is_injected, is_handed, injections}
 use Rattle.dl_model.specs.Steps.{Act, in_sequence, for_some, when}
 use Rattle.dl_laws.proofs.Lists.{last_that-one, after_last-one, count_by-append}
-use Rattle.dl_promises.proofs.Alls.{by_end}
 
 -- all but the bytes that came
 abbrev pub is_other : Mark → Bool

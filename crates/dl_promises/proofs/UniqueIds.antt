@@ -7,6 +7,7 @@ use Rattle.std.specs.Option.{option_and_then, option_map}
 use Rattle.std.specs.Result.{result_ok, result_unwrap_or}
 use Rattle.std.specs.Str.{bytes_eq}
 use Rattle.std.proofs.lemmas.Bool.{eqb-true}
+use Rattle.dl_lemmas.proofs.Options.{ifok_if, ifsome_unless}
 use Rattle.dl_bytes.specs.Claim.{Claimed}
 use Rattle.dl_bytes.specs.Id.{zero_id}
 use Rattle.dl_bytes.specs.Level.{own_level_of}
@@ -79,17 +80,13 @@ module _ (Q : List (List ℕ × App) → Type 0) (levels : (relevel : Relevel) (
 
 -- ---- what a claim makes of the applications
 
-ifsome_if : {A : Type 0} (P : A → Type 0) (b : Bool) (o : Option A) → (b ≡ false → IfSome o P) → IfSome (cond b None o) P
-ifsome_if P true o ok = tt
-ifsome_if P false o ok = ok refl
-
 pub claim_makes : (P : Registry → Type 0) (slots : ℕ → Slot) (r : Registry) (claim : Claimed)
     → ((apid : List ℕ) (app : App) → apid_numbered r claim.app ≡ Some apid → app_of r 0 apid ≡ Some app → P (with_app r apid (with_claim r.stored apid claim app (context_of app claim.ctid)))) → IfSome (claimed slots r claim) P
 claim_makes P slots r claim each = by (apid_numbered r claim.app) refl where
   in_app : (apid : List ℕ) → apid_numbered r claim.app ≡ Some apid → (o : Option App) → app_of r 0 apid ≡ o → IfSome (option_and_then (context_claimed slots r apid claim) o) P
   in_app apid numbered None found = tt
   in_app apid numbered (Some app) found =
-      ifsome_if P (not (is_free claim.place app.contexts)) _ (λ free. ifsome_if P ((slots (slot_of app.number claim.place)).version == last_version) _ (λ fresh. each apid app numbered found))
+      ifsome_unless P (not (is_free claim.place app.contexts)) _ (λ free. ifsome_unless P ((slots (slot_of app.number claim.place)).version == last_version) _ (λ fresh. each apid app numbered found))
 
   by : (o : Option (List ℕ)) → apid_numbered r claim.app ≡ o → IfSome (option_and_then (λ apid. option_and_then (context_claimed slots r apid claim) (app_of r 0 apid)) o) P
   by None numbered = tt
@@ -150,16 +147,12 @@ unique-releveled relevel (e ∷ es) is = (keys es is.0, unique-releveled relevel
 abbrev Unique : Registry → Type 0
 Unique r = AreUnique r.apps
 
-ok_if : {A E : Type 0} (P : A → Type 0) (b : Bool) (e : E) (r : Result A E) → IfOk r P → IfOk (cond b (Err e) r) P
-ok_if P true e r ok = tt
-ok_if P false e r ok = ok
-
 app_registered-unique : (r : Registry) (channel : ℕ) (apid : List ℕ) (pid : ℕ) (text : List ℕ) (o : Option App) → lookup (bytes_eq apid) r.apps ≡ o → Unique r → IfOk (app_registered r channel apid pid text o) Unique
 app_registered-unique r channel apid pid text (Some app) found is = by (app.channel == channel) where
   by : (b : Bool) → IfOk (if b then Ok (with_app r apid (record app { pid = pid; text = text })) else Err fault.Taken) Unique
   by true = unique-set_value (bytes_eq apid) r.apps (record app { pid = pid; text = text }) is
   by false = tt
-app_registered-unique r channel apid pid text None found is = ok_if Unique (nat_le 16 (length r.apps)) fault.AppsFull _ (unique-push apid _ r.apps is found)
+app_registered-unique r channel apid pid text None found is = ifok_if Unique (nat_le 16 (length r.apps)) fault.AppsFull _ (unique-push apid _ r.apps is found)
 
 app_unregistered-unique : (r : Registry) (apid : List ℕ) (o : Option App) → Unique r → IfOk (app_unregistered r apid o) Unique
 app_unregistered-unique r apid (Some app) is = unique-filter (λ e. not (bytes_eq apid e.0)) r.apps is
@@ -168,8 +161,8 @@ app_unregistered-unique r apid None is = tt
 context_registered-unique : (slots : ℕ → Slot) (r : Registry) (apid ctid : List ℕ) (position : ℕ) (own : Option ℕ) (text : List ℕ) (app : App) (o : Option Context) → Unique r → IfOk (context_registered slots r apid ctid position own text app o) Unique
 context_registered-unique slots r apid ctid position own text app (Some context) is = unique-set_value (bytes_eq apid) r.apps _ is
 context_registered-unique slots r apid ctid position own text app None is =
-    ok_if Unique (nat_le 64 (length (places app.contexts))) fault.ContextsFull _
-    (ok_if Unique ((slots (slot_of app.number (least_free (places app.contexts)))).version == last_version) fault.Worn _ (unique-set_value (bytes_eq apid) r.apps _ is))
+    ifok_if Unique (nat_le 64 (length (places app.contexts))) fault.ContextsFull _
+    (ifok_if Unique ((slots (slot_of app.number (least_free (places app.contexts)))).version == last_version) fault.Worn _ (unique-set_value (bytes_eq apid) r.apps _ is))
 
 context_unregistered-unique : (r : Registry) (apid ctid : List ℕ) (app : App) (o : Option Context) → Unique r → IfOk (context_unregistered r apid ctid app o) Unique
 context_unregistered-unique r apid ctid app (Some context) is = unique-set_value (bytes_eq apid) r.apps _ is
@@ -180,10 +173,10 @@ for_app-unique None next each = tt
 for_app-unique (Some app) next each = each app
 
 applied-unique : (slots : ℕ → Slot) (r : Registry) (channel : ℕ) (msg : UserMsg) → Unique r → IfOk (applied slots r channel msg) Unique
-applied-unique slots r channel (RegisterApp apid pid text) is = ok_if Unique (bytes_eq apid zero_id) fault.ZeroId _ (app_registered-unique r channel apid pid text (lookup (bytes_eq apid) r.apps) refl is)
+applied-unique slots r channel (RegisterApp apid pid text) is = ifok_if Unique (bytes_eq apid zero_id) fault.ZeroId _ (app_registered-unique r channel apid pid text (lookup (bytes_eq apid) r.apps) refl is)
 applied-unique slots r channel (UnregisterApp apid pid) is = app_unregistered-unique r apid (app_of r channel apid) is
 applied-unique slots r channel (RegisterContext apid ctid position level trace pid text) is =
-    ok_if Unique (bytes_eq apid zero_id || bytes_eq ctid zero_id) fault.ZeroId _
+    ifok_if Unique (bytes_eq apid zero_id || bytes_eq ctid zero_id) fault.ZeroId _
     (for_app-unique (app_of r channel apid) _ (λ app. context_registered-unique slots r apid ctid position level text app (context_of app ctid) is))
 applied-unique slots r channel (UnregisterContext apid ctid pid) is =
     for_app-unique (app_of r channel apid) _ (λ app. context_unregistered-unique r apid ctid app (context_of app ctid) is)

@@ -17,6 +17,7 @@ use Rattle.dl_model.specs.Frames.{FrameSource}
 use Rattle.dl_model.specs.Journal.{is_stop, is_slow, IsRunning, IsSlowAsTold, IsInTurn, AreInTurn, IsWellFormed}
 use Rattle.dl_model.specs.Marks.{Mark, Noted, journal, event_of}
 use Rattle.dl_model.specs.Steps.{Act, in_sequence, act_of, note_levels, end_of, after_lines, run}
+use Rattle.dl_model.proofs.Marks.{in_sequence-one}
 use Rattle.dl_promises.specs.PresentClaims.{IsThere, AreThere, ClaimsArePresent}
 use Rattle.dl_promises.proofs.ClientStays.{Speaks, AllSpeak}
 use Rattle.dl_promises.proofs.Relations.{AreAll, both, weaker}
@@ -31,9 +32,6 @@ in_sequence-append (act ∷ acts) others done =
     let later : in_sequence (acts ++ others) now ≡ in_sequence acts now ++ in_sequence others (done ++ (act done ++ in_sequence acts now)) =
     in_sequence-append acts others now ∙ ap (λ d. in_sequence acts now ++ in_sequence others d) (append_assoc done (act done) (in_sequence acts now)) in
     ap (λ (ms : List Mark). act done ++ ms) later ∙ sym (append_assoc (act done) (in_sequence acts now) (in_sequence others (done ++ (act done ++ in_sequence acts now))))
-
-pub in_sequence-one : (acts : List Act) (act : Act) (done : List Mark) → in_sequence (acts ++ act ∷ []) done ≡ in_sequence acts done ++ act (done ++ in_sequence acts done)
-in_sequence-one acts act done = in_sequence-append acts (act ∷ []) done ∙ ap (λ (ms : List Mark). in_sequence acts done ++ ms) (append-nil (act (done ++ in_sequence acts done)))
 
 -- a run, up to the stop of its clients and behind it
 pub run_is : (setting : Setting) (answers : List Done) (steps : List Step) → run setting answers steps ≡ before_stop setting answers steps [] ++ stops setting (before_stop setting answers steps [])

@@ -1,9 +1,9 @@
 -- The records of a writer: message counters, versions, loads, losses, and their application.
-use Rattle.std.proofs.Common.{◌≡◌, ℕ, ◌+◌, ◌%◌, ◌≤◌, Bool, true, false, cond, eqb, List, [], ◌∷◌, ◌++◌, length, Some, refl, sym, ap, ◌∙◌, append_assoc, length-append, arith}
+use Rattle.std.proofs.Common.{◌≡◌, ℕ, ◌+◌, ◌%◌, ◌≤◌, Bool, true, false, cond, List, [], ◌∷◌, ◌++◌, length, Some, refl, sym, ap, ◌∙◌, append_assoc, length-append, arith}
 use Rattle.std.specs.Prelude.{count_by}
 use Rattle.std.specs.List.{filter, filter_map, AllByRecursion}
-use Rattle.std.proofs.lemmas.Bool.{eq-eqb}
 use Rattle.std.proofs.lemmas.List.Elements.{filter-append, filter_map-append}
+use Rattle.dl_lemmas.proofs.Lists.{all_both, all_map}
 use Rattle.dl_events.specs.declared.record.Record.{Record}
 use Rattle.dl_events.specs.declared.record.Answer.{Answer}
 use Rattle.dl_events.specs.declared.record.Answer.TheVariants as answer
@@ -15,8 +15,8 @@ use Rattle.dl_model.specs.Runs.{IsLoaded}
 use Rattle.dl_model.specs.Report.{is_answer}
 use Rattle.dl_model.specs.Accounts.{AreCounted, IsNoOlder, NeverFall, with_answer}
 use Rattle.dl_laws.proofs.Lists.{count_by-append}
+use Rattle.dl_laws.proofs.Founded.{own_step}
 use Rattle.dl_promises.specs.RunRecords.{is_refusal_of, refusals_of, IsLoadedIn, IsSeen}
-use Rattle.dl_promises.proofs.Alls.{all_more, all_map}
 use Rattle.dl_promises.proofs.Relations.{AreAll}
 use Rattle.dl_promises.proofs.WriterRuns.{Open, Shut, ToPush, ToCount, IfOpen, Right, GoesOn, writer_holds}
 
@@ -48,9 +48,6 @@ passed-one : (writer : ℕ) (done : List Mark) (mark : Mark) (b : Bool) → is_s
 passed-one writer done mark b e =
     ap (count_by is_passed) (filter-append (is_step_of writer) done (mark ∷ [])) ∙ count_by-append is_passed (filter (is_step_of writer) done) (filter (is_step_of writer) (mark ∷ []))
     ∙ ap (λ (t : Bool). passed_of writer done + count_by is_passed (cond t (mark ∷ []) [])) e
-
-own_step : (writer : ℕ) (c : Call) → c.item.writer ≡ writer → eqb c.item.writer writer ≡ true
-own_step writer c e = eq-eqb c.item.writer writer e
 
 counts_go_on : (setting : Setting) (writer : ℕ) → GoesOn setting writer (Counts writer)
 counts_go_on setting writer = record {
@@ -109,7 +106,7 @@ Rises setting done rs o = NeverFall rs × AllByRecursion (Within setting done) r
 
 fall-one : (rs : List Record) (r : Record) → NeverFall rs → AllByRecursion (λ e. IsNoOlder e r) rs → NeverFall (rs ++ r ∷ [])
 fall-one [] r falls older = (tt, tt)
-fall-one (x ∷ rs) r falls older = (all_more (IsNoOlder x) rs (r ∷ []) falls.0 (older.0, tt), fall-one rs r falls.1 older.1)
+fall-one (x ∷ rs) r falls older = (all_both (IsNoOlder x) rs (r ∷ []) falls.0 (older.0, tt), fall-one rs r falls.1 older.1)
 
 within_more : (setting : Setting) (done : List Mark) (mark : Mark) (rs : List Record) → AllByRecursion (Within setting done) rs → AllByRecursion (Within setting (done ++ mark ∷ [])) rs
 within_more setting done mark rs = all_map (Within setting done) (Within setting (done ++ mark ∷ [])) (λ r le. omega (arith, le, version_grows setting done mark r.slot)) rs
@@ -130,7 +127,7 @@ rises-one : (setting : Setting) (done : List Mark) (mark : Mark) (rs : List Reco
     Rises setting (done ++ mark ∷ []) (rs ++ recorded c what ∷ []) Shut
 rises-one setting done mark rs c what falls all open_ = (
   fall-one rs (recorded c what) falls open_.0,
-  all_more (Within setting (done ++ mark ∷ [])) rs (recorded c what ∷ []) (within_more setting done mark rs all) (omega (arith, open_.1, version_grows setting done mark c.slot), tt),
+  all_both (Within setting (done ++ mark ∷ [])) rs (recorded c what ∷ []) (within_more setting done mark rs all) (omega (arith, open_.1, version_grows setting done mark c.slot), tt),
   tt,
 )
 
@@ -172,7 +169,7 @@ seen_more setting done mark rs =
 seen-one : (setting : Setting) (done : List Mark) (mark : Mark) (rs : List Record) (c : Call) (what : Answer) → AllByRecursion (IsSeen setting done) rs → IsLoadedIn setting (done ++ mark ∷ []) c →
     AllByRecursion (IsSeen setting (done ++ mark ∷ [])) (rs ++ recorded c what ∷ [])
 seen-one setting done mark rs c what all loaded =
-    all_more (IsSeen setting (done ++ mark ∷ [])) rs (recorded c what ∷ []) (seen_more setting done mark rs all) (record { call = c; is = refl; loaded = loaded }, tt)
+    all_both (IsSeen setting (done ++ mark ∷ [])) rs (recorded c what ∷ []) (seen_more setting done mark rs all) (record { call = c; is = refl; loaded = loaded }, tt)
 
 load_here : (setting : Setting) (done : List Mark) (mark : Mark) (c : Call) → is_load mark ≡ true → call_of mark ≡ Some c → IsLoaded setting c done → IsLoadedIn setting (done ++ mark ∷ []) c
 load_here setting done mark c load of_call loaded =

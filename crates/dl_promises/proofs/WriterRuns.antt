@@ -4,6 +4,7 @@ use Rattle.std.specs.List.{filter, filter_map}
 use Rattle.std.specs.Option.{option_and_then}
 use Rattle.std.proofs.lemmas.List.{append-nil}
 use Rattle.std.proofs.lemmas.List.Elements.{filter-append, filter_map-append}
+use Rattle.std.proofs.lemmas.Bool.{eqb-true}
 use Rattle.dl_bytes.specs.Level.{passes}
 use Rattle.dl_events.specs.declared.record.Record.{Record}
 use Rattle.dl_events.specs.declared.record.Answer.TheVariants as answer
@@ -13,7 +14,6 @@ use Rattle.dl_model.specs.Marks.{Call, Mark, Filtered, Passed, Queued, Refused, 
 use Rattle.dl_model.specs.Runs.{IsLoaded, RestsOn}
 use Rattle.dl_laws.proofs.Lists.{last_that-one}
 use Rattle.dl_laws.proofs.Founded.{passed_is, refused_is, last_step}
-use Rattle.dl_laws.proofs.RunLaws.{same_app}
 use Rattle.dl_promises.proofs.Relations.{AreAll, both, holds_on}
 
 -- what is open of a writer: nothing, a call before its push, or one before its count
@@ -98,26 +98,26 @@ module _ (setting : Setting) (writer : ℕ) (P : List Mark → List Record → O
   step_by done (Filtered c) all right is = by_test (eqb c.item.writer writer) refl where
     by_test : (b : Bool) → eqb c.item.writer writer ≡ b → P (done ++ Filtered c ∷ []) (records_of writer done ++ cond b (recorded c answer.Filtered ∷ []) []) (open_of (cond b (Some (Filtered c)) (last done)))
     by_test true e =
-        let same = same_app c.item.writer writer e in
+        let same = eqb-true c.item.writer writer e in
         goes_on.filtered done c (records_of writer done) (at_load done c is same right.0.0) same right.0.0 right.1 right.0.1
     by_test false e = passes_by done (Filtered c) is e
   step_by done (Passed c) all right is = by_test (eqb c.item.writer writer) refl where
     by_test : (b : Bool) → eqb c.item.writer writer ≡ b → P (done ++ Passed c ∷ []) (records_of writer done ++ []) (open_of (cond b (Some (Passed c)) (last done)))
     by_test true e =
-        let same = same_app c.item.writer writer e in
+        let same = eqb-true c.item.writer writer e in
         still done (Passed c) (ToPush c) (goes_on.passed done c (records_of writer done) (at_load done c is same right.0.0) same right.0.0 right.1 right.0.1)
     by_test false e = passes_by done (Passed c) is e
   step_by done (Queued c) all right is = by_test (eqb c.item.writer writer) refl where
     by_test : (b : Bool) → eqb c.item.writer writer ≡ b → P (done ++ Queued c ∷ []) (records_of writer done ++ cond b (recorded c answer.Queued ∷ []) []) (open_of (cond b (Some (Queued c)) (last done)))
-    by_test true e = let same = same_app c.item.writer writer e in goes_on.queued done c (records_of writer done) (at_push done c is same right.0.0) same
+    by_test true e = let same = eqb-true c.item.writer writer e in goes_on.queued done c (records_of writer done) (at_push done c is same right.0.0) same
     by_test false e = passes_by done (Queued c) is e
   step_by done (Refused c) all right is = by_test (eqb c.item.writer writer) refl where
     by_test : (b : Bool) → eqb c.item.writer writer ≡ b → P (done ++ Refused c ∷ []) (records_of writer done ++ []) (open_of (cond b (Some (Refused c)) (last done)))
-    by_test true e = let same = same_app c.item.writer writer e in still done (Refused c) (ToCount c) (goes_on.refused done c (records_of writer done) (at_push done c is same right.0.0) same right.0.1 all)
+    by_test true e = let same = eqb-true c.item.writer writer e in still done (Refused c) (ToCount c) (goes_on.refused done c (records_of writer done) (at_push done c is same right.0.0) same right.0.1 all)
     by_test false e = passes_by done (Refused c) is e
   step_by done (Counted c) all right is = by_test (eqb c.item.writer writer) refl where
     by_test : (b : Bool) → eqb c.item.writer writer ≡ b → P (done ++ Counted c ∷ []) (records_of writer done ++ cond b (recorded c answer.Lost ∷ []) []) (open_of (cond b (Some (Counted c)) (last done)))
-    by_test true e = let same = same_app c.item.writer writer e in goes_on.counted done c (records_of writer done) (at_count done c is same right.0) same
+    by_test true e = let same = eqb-true c.item.writer writer e in goes_on.counted done c (records_of writer done) (at_count done c is same right.0) same
     by_test false e = passes_by done (Counted c) is e
   step_by done mark all right is = passes_by done mark is refl
 

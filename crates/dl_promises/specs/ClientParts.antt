@@ -1,14 +1,44 @@
 -- What a client is sent, taken apart: what was due, what was admitted, and its replies.
-use Rattle.std.specs.Prelude.{◌≡◌, ℕ, ◌==◌, ◌⊎◌, List, [], ◌∷◌, ◌++◌, count_by, if◌then◌else◌}
-use Rattle.std.specs.List.{range_with_len}
+use Rattle.std.specs.Prelude.{◌≡◌, ℕ, ◌==◌, ◌⊎◌, true, false, List, [], ◌∷◌, ◌++◌, count_by, if◌then◌else◌}
+use Rattle.std.specs.List.{list_any, range_with_len}
 use Rattle.dl_events.specs.declared.event.Event.{Event}
-use Rattle.dl_events.specs.declared.event.Event.TheVariants.{Connect, Request}
+use Rattle.dl_events.specs.declared.event.Event.TheVariants.{Close, Connect, Request}
+use Rattle.dl_events.specs.declared.event.Why.{Why}
 use Rattle.dl_model.specs.Along.{along_from}
 use Rattle.dl_model.specs.Frames.{FrameSource, admitted}
 use Rattle.dl_model.specs.Backlog.{waiting, due_backlog}
+use Rattle.dl_model.specs.ClientEnds.{LinkDid, end_of_link}
 use Rattle.dl_model.specs.ClientStream.{traffic}
-use Rattle.dl_model.specs.Journal.{is_connect}
+use Rattle.dl_model.specs.Journal.{comes_or_goes, is_connect}
+use Rattle.dl_model.specs.Setting.{Setting}
 use Rattle.dl_model.specs.Traffic.{is_open}
+
+-- ---- a whole stay
+
+-- The stay of a client in a journal: the events before it came, those while it was there, why it was closed, and those after that.
+pub record Stay : Type 0 where
+  pub client : ℕ
+  pub cause : Why
+  pub before : List Event
+  pub middle : List Event
+  pub after : List Event
+
+-- the journal of a stay
+abbrev pub events_of : Stay → List Event
+events_of stay = stay.before ++ Connect stay.client ∷ (stay.middle ++ Close stay.client stay.cause ∷ stay.after)
+
+-- none of these events says of the client that it came or went
+abbrev pub NeitherComesNorGoes : ℕ → List Event → Type 0
+NeitherComesNorGoes client events = list_any (comes_or_goes client) events ≡ false
+
+-- the link of a client took all of its stream, or not all
+abbrev pub TookAll : Setting → FrameSource → List Event → ℕ → LinkDid → Type 0
+TookAll setting source events client did = (end_of_link setting source events client did).complete ≡ true
+
+abbrev pub WasCutOff : Setting → FrameSource → List Event → ℕ → LinkDid → Type 0
+WasCutOff setting source events client did = (end_of_link setting source events client did).complete ≡ false
+
+-- ---- what is sent
 
 -- how many clients are open, of those that came
 abbrev pub open_count : FrameSource → List Event → ℕ

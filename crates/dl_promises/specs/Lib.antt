@@ -1,3 +1,4 @@
+pub mod Gathered
 pub mod RunRecords
 pub mod SameRuns
 pub mod ClientParts

@@ -1,5 +1,6 @@
 -- Scripts that come to the same.
-use Rattle.std.specs.Prelude.{◌≡◌, ℕ, Bool, List}
+use Rattle.std.specs.Prelude.{◌≡◌, ℕ, Bool, List, ◌∷◌, ◌++◌, map}
+use Rattle.std.specs.List.{concat}
 use Rattle.dl_bytes.specs.Bytes.{IsBytes}
 use Rattle.dl_bytes.specs.declared.outcome.Done.{Done}
 use Rattle.dl_script_lines.specs.declared.step.Step.{Step}
@@ -22,3 +23,20 @@ pub record ComeToTheSame (setting : Setting) (answers : List Done) (steps others
 abbrev pub HoldsBytes : Step → Type 0
 HoldsBytes (User channel bytes) = IsBytes bytes
 HoldsBytes _ = Unit {0}
+
+-- pieces of bytes, of which there is a first one, with the lines of a script before them and those after
+pub record Cut : Type 0 where
+  pub before : List Step
+  pub first : List ℕ
+  pub others : List (List ℕ)
+  pub after : List Step
+
+abbrev pub pieces_of : Cut → List (List ℕ)
+pieces_of cut = cut.first ∷ cut.others
+
+-- the script in which they come in one line of this kind, and the one in which each has a line of its own
+abbrev pub in_one_line : (List ℕ → Step) → Cut → List Step
+in_one_line line cut = cut.before ++ line (concat (pieces_of cut)) ∷ cut.after
+
+abbrev pub in_lines : (List ℕ → Step) → Cut → List Step
+in_lines line cut = cut.before ++ (map line (pieces_of cut) ++ cut.after)

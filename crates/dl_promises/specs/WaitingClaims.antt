@@ -1,18 +1,20 @@
 -- Claims, and the places that they have: which wait for the daemon, and which are in the registry.
-use Rattle.std.specs.Prelude.{◌≡◌, ◌<◌, ℕ, ◌==◌, true, false, List, [], ◌∷◌, ◌++◌, Some}
+use Rattle.std.specs.Prelude.{◌≡◌, ◌≢◌, ◌<◌, ◌≤◌, ℕ, ◌==◌, true, false, List, [], ◌∷◌, ◌++◌, length, Some}
 use Rattle.std.specs.List.{AllByRecursion, filter_map, list_any}
 use Rattle.dl_bytes.specs.Claim.{Claimed}
-use Rattle.dl_bytes.specs.Limits.{context_limit}
+use Rattle.dl_bytes.specs.Limits.{context_limit, last_version}
+use Rattle.dl_bytes.specs.declared.moment.Moment.{Moment}
 use Rattle.dl_events.specs.declared.event.Event.{Event}
-use Rattle.dl_events.specs.declared.event.Event.TheVariants.{User}
+use Rattle.dl_events.specs.declared.event.Event.TheVariants.{Claim, User}
 use Rattle.dl_events.specs.declared.record.Record.{Record}
 use Rattle.dl_events.specs.declared.record.Answer.TheVariants as answer
 use Rattle.dl_model.specs.declared.context.Context.{Context}
 use Rattle.dl_model.specs.Accounts.{claims}
 use Rattle.dl_model.specs.Journal.{registry_of}
-use Rattle.dl_model.specs.Marks.{Mark, HasContext, claim_of, journal, number_of}
+use Rattle.dl_model.specs.Marks.{Mark, HasContext, claim_of, contexts_of, journal, number_of}
 use Rattle.dl_model.specs.Registry.{App, Registry, app_of, apid_numbered, context_of, has_place, places, slot_of}
 use Rattle.dl_model.specs.Setting.{Setting}
+use Rattle.dl_promises.specs.PresentClaims.{IsThere}
 use Rattle.dl_promises.specs.RunRecords.{IsSeen}
 
 -- ---- contexts come before claims
@@ -26,6 +28,10 @@ ComesFirst before _ = Unit {0}
 abbrev pub ContextsComeFirst : List Mark → List Mark → Type 0
 ContextsComeFirst before [] = Unit {0}
 ContextsComeFirst before (mark ∷ marks) = ComesFirst before mark × ContextsComeFirst (before ++ mark ∷ []) marks
+
+-- a claim stands behind the places of all contexts that lines declare of this application
+abbrev pub IsBehindContexts : List ℕ → List Mark → Claimed → Type 0
+IsBehindContexts apid done claim = length (contexts_of apid done) ≤ claim.place
 
 -- ---- a place that nobody has
 
@@ -70,6 +76,29 @@ pub record IsFilteredFirst (setting : Setting) (r : Record) : Type 0 where
   pub held : r.held ≡ 0
 
 -- ---- from then on
+
+-- a Claim event in a journal, with the events before it and those after
+pub record TakenClaim : Type 0 where
+  pub before : List Event
+  pub claim : Claimed
+  pub moment : Moment
+  pub after : List Event
+
+-- that journal
+abbrev pub events_with : TakenClaim → List Event
+events_with taken = taken.before ++ Claim taken.claim taken.moment ∷ taken.after
+
+-- the registry right after the Claim event
+abbrev pub registry_with : Setting → TakenClaim → Registry
+registry_with setting taken = registry_of setting (taken.before ++ Claim taken.claim taken.moment ∷ [])
+
+-- A claim has what it needs when the daemon takes it: its application is there, its place is one that contexts may have, its slot does not
+-- begin at the last version, and no message registered a context on its place.
+pub record CanRegister (setting : Setting) (taken : TakenClaim) : Type 0 where
+  pub there : IsThere setting taken.before (Claim taken.claim taken.moment)
+  pub below : taken.claim.place < context_limit
+  pub version : setting.first ≢ last_version
+  pub free : MessagesLeaveFree setting taken.claim.app taken.claim.place [] taken.before
 
 -- A claim is in the registry: the application of its number, which is one of this process, has a context of its id with its place.
 pub record IsRegistered (registry : Registry) (claim : Claimed) : Type 0 where

@@ -1,20 +1,19 @@
 //! Laws on well-formed journals: what a client is sent, and what waits for the next one.
 
-ghost use Rattle.std.specs.Prelude.{◌≡◌, ◌<◌, ◌≤◌, ◌+◌, ◌⊎◌, ◌↔◌, ℕ, true, false, List, ◌∷◌, ◌++◌, count_by, length, drop, map, IfSome};
-ghost use Rattle.std.specs.List.{after_last, list_any, AllByRecursion};
+ghost use Rattle.std.specs.Prelude.{◌≡◌, ◌<◌, ◌≤◌, ◌+◌, ◌⊎◌, ◌↔◌, ℕ, true, List, ◌∷◌, ◌++◌, count_by, length, drop, map, IfSome};
+ghost use Rattle.std.specs.List.{after_last, AllByRecursion};
 ghost use Rattle.dl_events.specs.declared.event.Event.{Event};
 ghost use Rattle.dl_events.specs.declared.event.Event.TheVariants.{Connect, Close};
-ghost use Rattle.dl_events.specs.declared.event.Why.{Why};
 ghost use Rattle.dl_events.specs.declared.event.Why.TheVariants as why;
 ghost use Rattle.dl_model.specs.Setting.{Setting};
-ghost use Rattle.dl_model.specs.Journal.{AreInTurn, IsFramesNeed, IsInTurn, IsOpen, IsReplyNeed, IsSettled, IsWellFormed, comes_or_goes, is_close, is_connect, registry_of, slots_of};
+ghost use Rattle.dl_model.specs.Journal.{AreInTurn, IsFramesNeed, IsInTurn, IsOpen, IsReplyNeed, IsSettled, IsWellFormed, is_close, is_connect, registry_of, slots_of};
 ghost use Rattle.dl_model.specs.Frames.{FrameSource, admitted, stored_frames};
 ghost use Rattle.dl_model.specs.Backlog.{outbox_limit, size_of, waiting, fitting, refused};
-ghost use Rattle.dl_model.specs.ClientEnds.{HasGone, LinkDid, end_of_link};
+ghost use Rattle.dl_model.specs.ClientEnds.{HasGone, LinkDid};
 ghost use Rattle.dl_model.specs.ClientStream.{traffic, stream};
 ghost use Rattle.dl_model.specs.Registry.{level_at};
 ghost use Rattle.dl_model.specs.Traffic.{is_open};
-ghost use Rattle.dl_promises.specs.ClientParts.{IsSent, open_count};
+ghost use Rattle.dl_promises.specs.ClientParts.{IsSent, NeitherComesNorGoes, Stay, TookAll, WasCutOff, events_of, open_count};
 ghost use Rattle.dl_promises.specs.ShortFrames.{AreShort};
 
 /// A well-formed journal goes on with events that stand in their turn behind it.
@@ -45,13 +44,13 @@ pub fn a_slow_client_was_behind()
 /// slow one did exactly where the room was a whole outbox.
 pub fn link_ends_tell_how_clients_went()
     ensures stopped { (setting : Setting) (source : FrameSource) (events : List Event) (client : ℕ) (did : LinkDid) (gone : HasGone setting source events client did) →
-        gone.cause ≡ why.Stopped → (end_of_link setting source events client did).complete ≡ true }
+        gone.cause ≡ why.Stopped → TookAll setting source events client did }
     ensures stuck { (setting : Setting) (source : FrameSource) (events : List Event) (client : ℕ) (did : LinkDid) (gone : HasGone setting source events client did) →
-        (left : ℕ) → gone.cause ≡ why.Stuck left → (end_of_link setting source events client did).complete ≡ false }
+        (left : ℕ) → gone.cause ≡ why.Stuck left → WasCutOff setting source events client did }
     ensures slow { (setting : Setting) (source : FrameSource) (events : List Event) (client : ℕ) (did : LinkDid) (gone : HasGone setting source events client did) →
-        (room need : ℕ) → gone.cause ≡ why.Slow room need → room ≡ outbox_limit setting.buffer → (end_of_link setting source events client did).complete ≡ true }
+        (room need : ℕ) → gone.cause ≡ why.Slow room need → room ≡ outbox_limit setting.buffer → TookAll setting source events client did }
     ensures room { (setting : Setting) (source : FrameSource) (events : List Event) (client : ℕ) (did : LinkDid) (gone : HasGone setting source events client did) →
-        (room need : ℕ) → gone.cause ≡ why.Slow room need → (end_of_link setting source events client did).complete ≡ true → room ≡ outbox_limit setting.buffer }
+        (room need : ℕ) → gone.cause ≡ why.Slow room need → TookAll setting source events client did → room ≡ outbox_limit setting.buffer }
 {}
 
 /// Where no Level event is owed, levels are in force: the last level of each context's slot is the one that filters its calls.
@@ -72,10 +71,8 @@ pub fn stored_frames_are_short()
 
 /// A client comes once and goes once: in a well-formed journal nothing else says of it that it came or went.
 pub fn a_client_comes_once()
-    ensures { (setting : Setting) (source : FrameSource) (client : ℕ) (cause : Why) (before middle after : List Event) →
-        IsWellFormed setting source (before ++ Connect client ∷ (middle ++ Close client cause ∷ after)) →
-        (list_any (comes_or_goes client) before ≡ false) × (list_any (comes_or_goes client) middle ≡ false)
-        × (list_any (comes_or_goes client) after ≡ false) }
+    ensures { (setting : Setting) (source : FrameSource) (stay : Stay) → IsWellFormed setting source (events_of stay) →
+        NeitherComesNorGoes stay.client stay.before × NeitherComesNorGoes stay.client stay.middle × NeitherComesNorGoes stay.client stay.after }
 {}
 
 /// A client is open in a journal exactly where it is in the traffic of it.
@@ -93,14 +90,13 @@ pub fn open_and_gone_are_all()
 /// its Close, in order, and its replies among them. These frames are one part of all that was admitted. The same holds of a
 /// client that is still there.
 pub fn streams_are_unbroken()
-    ensures closed { (setting : Setting) (source : FrameSource) (buffer client : ℕ) (cause : Why) (before middle after : List Event) →
-        IsWellFormed setting source (before ++ Connect client ∷ (middle ++ Close client cause ∷ after)) →
-        IsSent source buffer client before middle (stream source buffer client (before ++ Connect client ∷ (middle ++ Close client cause ∷ after))) }
+    ensures closed { (setting : Setting) (source : FrameSource) (buffer : ℕ) (stay : Stay) → IsWellFormed setting source (events_of stay) →
+        IsSent source buffer stay.client stay.before stay.middle (stream source buffer stay.client (events_of stay)) }
     ensures open_yet { (setting : Setting) (source : FrameSource) (buffer client : ℕ) (before middle : List Event) →
-        IsWellFormed setting source (before ++ Connect client ∷ middle) → IsOpen client (before ++ Connect client ∷ middle) →
-        IsSent source buffer client before middle (stream source buffer client (before ++ Connect client ∷ middle)) }
-    ensures one_part { (source : FrameSource) (client : ℕ) (cause : Why) (before middle after : List Event) →
-        admitted source (before ++ Connect client ∷ (middle ++ Close client cause ∷ after)) ≡ admitted source before ++ (admitted source middle ++ admitted source after) }
+        let events = before ++ Connect client ∷ middle in
+        IsWellFormed setting source events → IsOpen client events → IsSent source buffer client before middle (stream source buffer client events) }
+    ensures one_part { (source : FrameSource) (stay : Stay) →
+        admitted source (events_of stay) ≡ admitted source stay.before ++ (admitted source stay.middle ++ admitted source stay.after) }
     ensures last_part { (source : FrameSource) (client : ℕ) (before middle : List Event) →
         admitted source (before ++ Connect client ∷ middle) ≡ admitted source before ++ admitted source middle }
 {}
@@ -112,8 +108,8 @@ pub fn the_backlog_accounts_for_itself()
     ensures since { (source : FrameSource) (events : List Event) → ((client : ℕ) → IsOpen client events → ⊥) →
         waiting (traffic source events) ≡ admitted source (after_last is_close events) }
     ensures due { (source : FrameSource) (buffer : ℕ) (events : List Event) → ((client : ℕ) → IsOpen client events → ⊥) →
-        length (fitting buffer (waiting (traffic source events))) + refused buffer (waiting (traffic source events))
-        ≡ length (admitted source (after_last is_close events)) }
+        let waited = waiting (traffic source events) in
+        length (fitting buffer waited) + refused buffer waited ≡ length (admitted source (after_last is_close events)) }
     ensures refused_on { (buffer : ℕ) (frames more : List (List ℕ)) → 0 < refused buffer frames →
         (fitting buffer (frames ++ more) ≡ fitting buffer frames) × (refused buffer (frames ++ more) ≡ refused buffer frames + length more) }
 {}

@@ -1,19 +1,18 @@
 //! What a registry holds, by the last event that gave it, and examples on registries.
 
-ghost use Rattle.std.specs.Prelude.{◌≡◌, ℕ, ◌-◌, ◌^◌, List, [], ◌∷◌, ◌++◌, codes, negsuc, Some, None, IfSome};
+ghost use Rattle.std.specs.Prelude.{◌≡◌, ℕ, ◌-◌, ◌^◌, List, [], ◌∷◌, ◌++◌, codes, Some, None, IfSome};
 ghost use Rattle.std.specs.List.{last_or};
 ghost use Rattle.dl_bytes.specs.declared.moment.Moment.{Moment};
 ghost use Rattle.dl_bytes.specs.declared.outcome.Done.TheVariants.{Yes};
-ghost use Rattle.dl_bytes.specs.declared.user.UserMsg.TheVariants.{RegisterContext};
 ghost use Rattle.dl_events.specs.declared.event.Event.{Event};
-ghost use Rattle.dl_events.specs.declared.event.Event.TheVariants.{Level, User};
+ghost use Rattle.dl_events.specs.declared.event.Event.TheVariants.{Level};
 ghost use Rattle.dl_model.specs.Along.{along};
 ghost use Rattle.dl_model.specs.Journal.{registry_of, reply_after, slots_of, start};
 ghost use Rattle.dl_model.specs.Registry.{level_at, next_change};
-ghost use Rattle.dl_model.specs.RegistryExamples.{app_comes, context_comes, defaults, hex, id, nearly_worn, one_context, query};
+ghost use Rattle.dl_model.specs.RegistryExamples.{app_comes, context_comes, defaults, hex, nearly_worn, one_context};
 ghost use Rattle.dl_model.specs.Setting.{Setting};
 ghost use Rattle.dl_promises.specs.GivenLast.{default_at, number_at, number_of, stored_at, told_at, told_of};
-ghost use Rattle.dl_promises.specs.RegistryCases.{last_slots, twice_stored};
+ghost use Rattle.dl_promises.specs.RegistryCases.{comes_with_text, info_with_texts, last_slots, twice_stored};
 
 /// What a registry holds was given last. The default level: at the beginning, by SetDefaultLogLevel or by
 /// ResetToFactoryDefault. The stored levels: by the stored configuration that was read, by StoreConfiguration or by
@@ -34,8 +33,7 @@ pub fn what_a_registry_holds_was_given_last()
 #[tactic(auto, unfolding(dl_control::specs::Reading::request_of, dl_control::specs::Reading::log_info_at))]
 pub fn tells_itself_anew()
     ensures { (at : Moment) →
-        reply_after defaults (one_context at ++ User 0 (RegisterContext (id (codes "LOG1")) (id (codes "TEST")) 0 (Some 4) (negsuc 0) 0 (codes "new")) at ∷ [])
-        (query (hex (codes "03 00 00 00 07 00 00 00 00 00 00 00 00 00 00 00 00"))) Yes
+        reply_after defaults (one_context at ++ comes_with_text at (codes "new") ∷ []) info_with_texts Yes
         ≡ hex (codes "25 00 00 30 45 43 55 31 26 01 44 41 31 00 44 43 31 00 03 00 00 00 07 01 00 4C 4F 47 31 01 00 54 45 53 54 04 FF 03 00 6E 65 77 00 00 00 00 00 00") }
 {}
 

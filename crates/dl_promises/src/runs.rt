@@ -22,17 +22,17 @@ ghost use Rattle.dl_promises.specs.RunRecords.{IsSeen, MetFullRing, refusals_of}
 /// have it.
 pub fn runs_are_well_formed()
     ensures lines { (setting : Setting) (source : FrameSource) (answers : List Done) (steps : List Step) →
-        ClaimsArePresent setting (journal (after_lines setting answers steps)) → IsWellFormed setting source (journal (after_lines setting answers steps)) }
+        let events = journal (after_lines setting answers steps) in ClaimsArePresent setting events → IsWellFormed setting source events }
     ensures whole { (setting : Setting) (source : FrameSource) (answers : List Done) (steps : List Step) →
-        ClaimsArePresent setting (journal (run setting answers steps)) → IsWellFormed setting source (journal (run setting answers steps)) }
+        let events = journal (run setting answers steps) in ClaimsArePresent setting events → IsWellFormed setting source events }
 {}
 
 /// A finished run owes nothing: no Level event is owed, nobody is open, and every client that came has its Close.
 pub fn a_finished_run_owes_nothing()
     ensures levels { (setting : Setting) (answers : List Done) (steps : List Step) → IsSettled setting (journal (run setting answers steps)) }
     ensures nobody { (setting : Setting) (answers : List Done) (steps : List Step) (client : ℕ) → IsOpen client (journal (run setting answers steps)) → ⊥ }
-    ensures closed { (setting : Setting) (answers : List Done) (steps : List Step) (client : ℕ) → 1 ≤ client →
-        client ≤ count_by is_connect (journal (run setting answers steps)) → is_some (why_of client (journal (run setting answers steps))) ≡ true }
+    ensures closed { (setting : Setting) (answers : List Done) (steps : List Step) (client : ℕ) →
+        let events = journal (run setting answers steps) in 1 ≤ client → client ≤ count_by is_connect events → is_some (why_of client events) ≡ true }
 {}
 
 /// Every run is accounted. After any lines of a script each writer has its account, but for calls and claims that wait in a ring, and
@@ -41,37 +41,37 @@ pub fn a_finished_run_owes_nothing()
 /// was noted. No two claims of an application are on the same place.
 pub fn runs_are_accounted()
     ensures so_far { (setting : Setting) (answers : List Done) (steps : List Step) →
-        IsAccountedSoFar setting.first (journal (after_lines setting answers steps)) (λ app. pending app (after_lines setting answers steps))
-        (refusals_of (after_lines setting answers steps)) (claims (after_lines setting answers steps)) (records (after_lines setting answers steps)) }
+        let done = after_lines setting answers steps in
+        IsAccountedSoFar setting.first (journal done) (λ app. pending app done) (refusals_of done) (claims done) (records done) }
     ensures whole { (setting : Setting) (answers : List Done) (steps : List Step) →
-        IsAccounted setting.first (journal (run setting answers steps)) (λ app. 0) (refusals_of (run setting answers steps)) (claims (run setting answers steps)) (records (run setting answers steps)) }
+        let done = run setting answers steps in IsAccounted setting.first (journal done) (λ app. 0) (refusals_of done) (claims done) (records done) }
     ensures finished { (setting : Setting) (answers : List Done) (steps : List Step) (writer : ℕ) →
-        length (records_of writer (run setting answers steps)) ≡ calls_of writer (run setting answers steps) }
+        let done = run setting answers steps in length (records_of writer done) ≡ calls_of writer done }
 {}
 
 /// The numbers of a report add up. Of each application the calls are the queued, the filtered and the lost ones; there are as
 /// many Log events as queued calls, and the lost ones are those that Lost events tell.
 pub fn reports_add_up()
     ensures calls { (setting : Setting) (answers : List Done) (steps : List Step) (app : ℕ) →
-        answered Queued (records_of_app app (records (run setting answers steps))) + answered Filtered (records_of_app app (records (run setting answers steps)))
-        + answered Lost (records_of_app app (records (run setting answers steps))) ≡ length (records_of_app app (records (run setting answers steps))) }
+        let calls = records_of_app app (records (run setting answers steps)) in
+        answered Queued calls + answered Filtered calls + answered Lost calls ≡ length calls }
     ensures admitted { (setting : Setting) (answers : List Done) (steps : List Step) (app : ℕ) →
-        count_by (is_log_of app) (journal (run setting answers steps)) ≡ answered Queued (records_of_app app (records (run setting answers steps))) }
+        let done = run setting answers steps in count_by (is_log_of app) (journal done) ≡ answered Queued (records_of_app app (records done)) }
     ensures told { (setting : Setting) (answers : List Done) (steps : List Step) (app : ℕ) →
-        reported app (journal (run setting answers steps)) ≡ answered Lost (records_of_app app (records (run setting answers steps))) }
+        let done = run setting answers steps in reported app (journal done) ≡ answered Lost (records_of_app app (records done)) }
 {}
 
 /// No ring ever holds more calls and claims than it can, and a lost call met a full one: before the push that refused it, its ring
 /// held as many as it can. So an application with a lost call has at least as many queued ones and claims together as its ring holds.
 pub fn lost_calls_met_a_full_ring()
     ensures room { (setting : Setting) (answers : List Done) (steps : List Step) (app : ℕ) →
-        held_by app (after_lines setting answers steps) ≤ capacity_of (after_lines setting answers steps) app }
+        let done = after_lines setting answers steps in held_by app done ≤ capacity_of done app }
     ensures full { (setting : Setting) (answers : List Done) (steps : List Step) (writer : ℕ) →
-        AllByRecursion (MetFullRing (run setting answers steps)) (with_answer Lost (records_of writer (run setting answers steps))) }
+        let done = run setting answers steps in AllByRecursion (MetFullRing done) (with_answer Lost (records_of writer done)) }
     ensures queued { (setting : Setting) (answers : List Done) (steps : List Step) (app : ℕ) →
-        0 < answered Lost (records_of_app app (records (run setting answers steps))) →
-        capacity_of (run setting answers steps) app
-        ≤ answered Queued (records_of_app app (records (run setting answers steps))) + length (claims_noted app (journal (run setting answers steps))) }
+        let done = run setting answers steps in
+        let calls = records_of_app app (records done) in
+        0 < answered Lost calls → capacity_of done app ≤ answered Queued calls + length (claims_noted app (journal done)) }
 {}
 
 /// The message counter of a call is the number of its writer's earlier calls that passed their level, modulo 256.
@@ -86,9 +86,9 @@ pub fn calls_are_counted()
 /// call's own load. So for one slot no later call of a writer holds an older version than an earlier one.
 pub fn levels_are_seen_in_time()
     ensures lines { (setting : Setting) (answers : List Done) (steps : List Step) (writer : ℕ) →
-        AllByRecursion (IsSeen setting (after_lines setting answers steps)) (records_of writer (after_lines setting answers steps)) }
+        let done = after_lines setting answers steps in AllByRecursion (IsSeen setting done) (records_of writer done) }
     ensures whole { (setting : Setting) (answers : List Done) (steps : List Step) (writer : ℕ) →
-        AllByRecursion (IsSeen setting (run setting answers steps)) (records_of writer (run setting answers steps)) }
+        let done = run setting answers steps in AllByRecursion (IsSeen setting done) (records_of writer done) }
     ensures no_older { (setting : Setting) (answers : List Done) (steps : List Step) (writer : ℕ) →
         NeverFall (records_of writer (run setting answers steps)) }
 {}

@@ -3,40 +3,19 @@ use Rattle.std.proofs.Common.{◌≡◌, ℕ, ◌+◌, ◌<◌, ◌^◌, Bool, t
 use Rattle.std.specs.Prelude.{IfSome, slice_index}
 use Rattle.std.specs.Option.{option_map_or}
 use Rattle.std.proofs.lemmas.Bool.{cond-true, cond-false}
-use Rattle.std.proofs.lemmas.List.{take_at, drop_at}
+use Rattle.std.proofs.lemmas.List.{drop_at}
 use Rattle.byteorder.specs.Endian.{big_bytes, big_number}
 use Rattle.byteorder.specs.Numbers.{big_number-reads_back}
 use Rattle.dl_bytes.specs.Htyp.{htyp_of, len_of, has_extended, has_ecu, has_session, standard_len, header_len}
-use Rattle.dl_headers.specs.declared.header.Standard.{Standard}
 use Rattle.dl_headers.specs.declared.header.Extended.{Extended}
-use Rattle.dl_headers.specs.Header.{standard_header, extended_header, optional, IsStandard, IsExtended}
+use Rattle.dl_headers.specs.Header.{standard_header, extended_header, optional, IsExtended}
 use Rattle.dl_headers.specs.Message.{Message, IsMessage}
 use Rattle.dl_headers.specs.Reading.{mcnt_of}
+use Rattle.dl_headers.proofs.Lengths.{apid_at, ctid_at, standard_long}
 use Rattle.dl_receive.specs.declared.kind.Kind.TheVariants.{Other}
 use Rattle.dl_receive.specs.MessageKind.{session_of, behind_standard, payload_of, kind_by, kind_of, headed, kind_in}
 
 -- ---- the standard header
-
-id_long : (ecu : Option (List ℕ)) → IfSome ecu (λ id. length id ≡ 4) → length (optional (λ (id : List ℕ). id) ecu) ≡ cond (is_some ecu) 4 0
-id_long None four = refl
-id_long (Some id) four = four
-
-number_long : (n : Option ℕ) → length (optional (big_bytes 4) n) ≡ cond (is_some n) 4 0
-number_long None = refl
-number_long (Some n) = refl
-
-header_long : (htyp mcnt len : ℕ) (ecu session ticks : List ℕ)
-    → length ((htyp ∷ mcnt ∷ []) ++ big_bytes 2 len ++ ecu ++ session ++ ticks) ≡ 4 + length ecu + length session + length ticks
-header_long htyp mcnt len ecu session ticks = omega (arith, length-append ecu session, length-append (ecu ++ session) ticks)
-
-pub standard_long : (s : Standard) → IsStandard s → length (standard_header s) ≡ standard_len s.htyp
-standard_long s is =
-    let ecu = optional (λ (id : List ℕ). id) s.ecu in
-    let session = optional (big_bytes 4) s.session in
-    let ticks = optional (big_bytes 4) s.ticks in
-    let long = header_long s.htyp s.mcnt s.len ecu session ticks in
-    rw (← s.ecu_as_told, ← s.session_as_told, ← s.ticks_as_told)
-    (omega (arith, long, id_long s.ecu is.ecu, number_long s.session, number_long s.ticks))
 
 -- the session stands behind the ECU, where that is there
 session_at : (htyp mcnt len : ℕ) (ecu : Option (List ℕ)) (session : Option ℕ) (ticks more : List ℕ) → IfSome ecu (λ id. length id ≡ 4) → IfSome session (λ n. n < 2 ^ 32)
@@ -52,13 +31,6 @@ session_at htyp mcnt len (Some (a ∷ b ∷ c ∷ [])) (Some n) ticks more four 
 session_at htyp mcnt len (Some (a ∷ b ∷ c ∷ d ∷ e ∷ id)) (Some n) ticks more four small = absurd (omega arith)
 
 -- ---- the extended header
-
-apid_at : (msin noar : ℕ) (apid ctid payload : List ℕ) → length apid ≡ 4 → take 4 (drop 2 (((msin ∷ noar ∷ []) ++ apid ++ ctid) ++ payload)) ≡ apid
-apid_at msin noar apid ctid payload four = ap (take 4) (append_assoc apid ctid payload) ∙ take_at apid (ctid ++ payload) 4 four
-
-ctid_at : (msin noar : ℕ) (apid ctid payload : List ℕ) → length apid ≡ 4 → length ctid ≡ 4 → take 4 (drop 6 (((msin ∷ noar ∷ []) ++ apid ++ ctid) ++ payload)) ≡ ctid
-ctid_at msin noar apid ctid payload four four' =
-    ap (λ x. take 4 (drop 4 x)) (append_assoc apid ctid payload) ∙ ap (take 4) (drop_at apid (ctid ++ payload) 4 four) ∙ take_at ctid payload 4 four'
 
 pub extended_long : (head : Extended) → IsExtended head → length (extended_header head) ≡ 10
 extended_long head is = omega (arith, length-append head.apid head.ctid, is.apid, is.ctid)

@@ -16,7 +16,7 @@ use Rattle.dl_model.specs.Overflow.{overflow_frames}
 use Rattle.dl_model.specs.Traffic as ts
 use Rattle.dl_model.specs.Traffic.{Traffic, Connected, Admitted, Reply, Closed, meant_for, is_coming, is_open, is_any_open}
 use Rattle.dl_laws.proofs.Lists.{along_from-append}
-use Rattle.dl_laws.proofs.ClientStreams.{is_open-one, same_number, any_open-admit, any_open-reply, waiting-admit, waiting-reply}
+use Rattle.dl_laws.proofs.ClientStreams.{is_open-one, same_number, any_open-admit, any_open-reply, waiting-admit, waiting-reply, meant_admit}
 use Rattle.dl_receive.specs.Calls.{heard_frames, comes_or_goes, stirs}
 use Rattle.dl_lemmas.proofs.Bools.{neither}
 
@@ -138,14 +138,10 @@ abbrev Waits : ℕ → List Traffic → List Traffic → Type 0
 Waits client before more =
     (waiting (before ++ more) ≡ waiting before ++ filter_map (meant_for client) more) × (is_any_open (before ++ more) ≡ false)
 
-meant_all : (client : ℕ) (frames : List (List ℕ)) → filter_map (meant_for client) (map Admitted frames) ≡ frames
-meant_all client [] = refl
-meant_all client (frame ∷ frames) = ap (λ (fs : List (List ℕ)). frame ∷ fs) (meant_all client frames)
-
 frames_wait : (client : ℕ) (before : List Traffic) (frames : List (List ℕ)) → is_any_open before ≡ false → Waits client before (map Admitted frames)
 frames_wait client before frames shut =
     let w = waits_on before frames shut in
-    (w.0 ∙ ap (λ (x : List (List ℕ)). waiting before ++ x) (sym (meant_all client frames)), w.1)
+    (w.0 ∙ ap (λ (x : List (List ℕ)). waiting before ++ x) (sym (meant_admit client frames)), w.1)
 
 nothing_waits : (client : ℕ) (before : List Traffic) → is_any_open before ≡ false → Waits client before []
 nothing_waits client before shut = frames_wait client before [] shut

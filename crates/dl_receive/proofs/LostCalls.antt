@@ -9,6 +9,7 @@ use Rattle.dl_bytes.specs.declared.level.Severity.{Severity}
 use Rattle.dl_bytes.specs.declared.level.Severity.TheVariants as severity
 use Rattle.dl_bytes.specs.declared.moment.Moment.{Moment}
 use Rattle.dl_bytes.specs.Level.{severity_number}
+use Rattle.dl_headers.proofs.Lengths.{standard_long}
 use Rattle.dl_events.specs.declared.event.Event.{Event}
 use Rattle.dl_events.specs.declared.event.Event.TheVariants as event
 use Rattle.dl_events.specs.declared.record.Record.{Record}
@@ -31,7 +32,7 @@ use Rattle.dl_receive.specs.declared.kind.Kind.TheVariants.{Log}
 use Rattle.dl_receive.specs.Calls.{heard_frames, AreFramed, logged, AreInOrder, lost, Neighbours}
 use Rattle.dl_receive.specs.MessageKind.{kind_of, kind_by}
 use Rattle.dl_receive.specs.Text.{counter_of, last_counter, passed_over}
-use Rattle.dl_receive.proofs.Fields.{kind_read, standard_long, extended_long}
+use Rattle.dl_receive.proofs.Fields.{kind_read, extended_long}
 use Rattle.dl_lemmas.proofs.Options.{or_assoc}
 use Rattle.dl_lemmas.proofs.Lists.{all_here}
 

@@ -1,5 +1,5 @@
 -- The stream so far, its messages and its rest.
-use Rattle.std.proofs.Common.{◌≡◌, ℕ, ◌/◌, false, eqb, arith, List, [], ◌∷◌, ◌++◌, map, refl, sym, ap, subst, ◌∙◌, append_assoc}
+use Rattle.std.proofs.Common.{◌≡◌, ℕ, ◌/◌, false, eqb, arith, List, [], ◌∷◌, ◌++◌, map, refl, sym, ap, subst, ◌∙◌}
 use Rattle.std.specs.Prelude.{IsSome}
 use Rattle.std.specs.List.{concat, AllByRecursion}
 use Rattle.std.proofs.lemmas.List.{append-nil, map-append}
@@ -9,7 +9,7 @@ use Rattle.std.proofs.lemmas.Bool.Decides.{nat_tests}
 use Rattle.dl_headers.proofs.Fronts.{good_front}
 use Rattle.dl_message.specs.Cut.{IsWholeMessage, IsPiece, IsCut, NoPiece, IsOpen, without_serial, pieces, messages, rest_of, rest_fault}
 use Rattle.dl_message.specs.Cutting.{Begins}
-use Rattle.dl_message.proofs.Calls.{pieces_of}
+use Rattle.dl_message.proofs.Calls.{begins_more, pieces_of}
 use Rattle.dl_message.proofs.Cuts.{one_cut, its_cut, pieces-append}
 use Rattle.dl_message.proofs.Pieces.{bad_no_piece, bad_stays}
 use Rattle.dl_model.specs.Along.{along_from}
@@ -22,9 +22,6 @@ use Rattle.dl_receive.proofs.Counters.{text-append}
 use Rattle.dl_lemmas.proofs.Options.{some_of, is_some_of}
 
 -- ---- a cut, step by step
-
-begins_more : (limit : ℕ) (bytes after more message : List ℕ) → Begins limit bytes message after → Begins limit (bytes ++ more) message (after ++ more)
-begins_more limit bytes after more message b = (b.0, b.1, ap (λ (x : List ℕ). x ++ more) b.2 ∙ append_assoc b.0 after more, b.3)
 
 -- the stream goes on
 pub cut_fed : (limit : ℕ) (stream rest more : List ℕ) (given : List (List ℕ)) → AreCut (Begins limit) stream given rest → AreCut (Begins limit) (stream ++ more) given (rest ++ more)

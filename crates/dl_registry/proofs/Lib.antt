@@ -1,7 +1,5 @@
 pub mod Finding
-pub mod Numbers
 pub mod Waiting
-pub mod Entries
 pub mod Placing
 pub mod Giving
 pub mod Fitting

@@ -1,14 +1,13 @@
 -- Own levels for what an id names: where ids are apart, no entry but that one changes.
-use Rattle.std.proofs.Common.{◌≡◌, ◌≢◌, inl, inr, ℕ, suc, ◌/◌, ◌%◌, ◌<◌, ◌≤◌, Bool, true, false, not, cond, List, [], ◌∷◌, ◌++◌, length, map, Option, Some, None, is_some, Ok, Err, refl, sym, ap, subst, ◌∙◌}
+use Rattle.std.proofs.Common.{◌≡◌, ◌≢◌, inl, inr, ℕ, ◌/◌, ◌%◌, ◌<◌, ◌≤◌, Bool, true, false, not, cond, List, [], ◌∷◌, length, map, Option, Some, None, Ok, Err, refl, sym, ap, subst, ◌∙◌}
 use Rattle.std.specs.Prelude.{◌==◌, ◌||◌, ◌&&◌, if◌then◌else◌}
-use Rattle.std.specs.List.{AllByRecursion, IsDistinct, filter, flat_map, list_any}
+use Rattle.std.specs.List.{IsDistinct, filter, list_any}
 use Rattle.std.specs.Map.{keys_of, lookup, set_value}
 use Rattle.std.specs.Option.{option_and_then, option_map_or, option_or}
 use Rattle.std.specs.Str.{bytes_eq}
 use Rattle.std.proofs.lemmas.Bool.{cases_lt}
 use Rattle.std.proofs.lemmas.Bool.Decides.{eqb_tells}
-use Rattle.std.proofs.lemmas.Map.{NonePasses, none_passes_from_lookup}
-use Rattle.std.proofs.lemmas.Map.Keys.{IsDistinct-head, IsDistinct-tail}
+use Rattle.std.proofs.lemmas.Map.{none_passes_from_lookup}
 use Rattle.dl_bytes.specs.Id.{zero_id}
 use Rattle.dl_model.specs.declared.context.Context.{Context}
 use Rattle.dl_model.specs.declared.registry.SetFault.TheVariants as set
@@ -16,93 +15,15 @@ use Rattle.dl_model.specs.declared.registry.Slot.{Slot}
 use Rattle.dl_model.specs.Registry.{App, Registry, IsInOrder, IsNumbered, Relevel, context_of, effective, is_worn, level_at, matches, matching, matching_in, own_set, places, places_of, releveled, releveled_app, releveled_context, set_matching, unless_worn, wears, wears_app, wears_context, with_app, with_context}
 use Rattle.dl_model.proofs.Order.{in_order-releveled, in_order-with_app, placed_of_found}
 use Rattle.dl_model.proofs.Placed.{places-same, releveled_places}
-use Rattle.dl_model.proofs.Presence.{bytes_tell, bytes_same, bytes_differ, lookup-set_same}
-use Rattle.dl_registry.specs.Change.{changed_app, changed_context, leveled, releveled_in}
+use Rattle.dl_model.proofs.Presence.{lookup-set_same}
+use Rattle.dl_applications.specs.Change.{changed_app, changed_context, leveled, releveled_in}
+use Rattle.dl_applications.proofs.OneNamed.{any-absent, any-named, filter-absent, filter-named, gives-absent, gives-named, map-absent, map-named, matches-itself, matches-other}
 use Rattle.dl_registry.specs.Kept.{Fits}
 use Rattle.dl_registry.specs.Refresh.{has_slot, level_in_app, level_named}
 use Rattle.dl_slots.specs.Table.{Table, held_at, wanted_at}
 use Rattle.dl_registry.proofs.Fitting.{level_of, level_at-found, level_at-places, level_at-replaced, level_of-changed}
 use Rattle.dl_registry.proofs.Messages.{places_below}
 use Rattle.dl_registry.proofs.Releveling.{beyond, context_stays, fits-levels, level_in_app-is, or_old}
-
--- ---- entries of which one at most has an id
-
-module _ {A : Type 0} (id : List ℕ) (v : A) (P : List (List ℕ × A) → Type 0)
-    (here : (e : List ℕ × A) (es : List (List ℕ × A)) → id ≡ e.0 → e.1 ≡ v → NonePasses (bytes_eq id) es → P (e ∷ es))
-    (behind : (e : List ℕ × A) (es : List (List ℕ × A)) → bytes_eq id e.0 ≡ false → P es → P (e ∷ es)) where
-  others : (key : List ℕ) → id ≡ key → (es : List (List ℕ × A)) → AllByRecursion (λ y. bytes_eq key y ≡ false) (keys_of es) → NonePasses (bytes_eq id) es
-  others key same [] none = tt
-  others key same (e ∷ es) none = (ap (λ (k : List ℕ). bytes_eq k e.0) same ∙ none.0, others key same es none.1)
-
-  -- what holds where the entry of the id comes first, and goes on with another entry before it
-  by_named : (es : List (List ℕ × A)) → lookup (bytes_eq id) es ≡ Some v → IsDistinct bytes_eq (keys_of es) → P es
-  by_named [] found apart = absurd (cc found)
-  by_named (e ∷ es) found apart = elim (bytes_tell id e.0) [
-    | inl same ↦
-        let value : e.1 ≡ v = (let is : Some e.1 ≡ Some v = sym (ap (λ b. cond b (Some e.1) (lookup (bytes_eq id) es)) same.0) ∙ found in cc is) in
-        here e es same.1 value (others e.0 same.1 es (IsDistinct-head bytes_eq e.0 (keys_of es) apart))
-    | inr other ↦
-        behind e es other.0 (by_named es (sym (ap (λ b. cond b (Some e.1) (lookup (bytes_eq id) es)) other.0) ∙ found) (IsDistinct-tail bytes_eq e.0 (keys_of es) apart))
-  ]
-
-module _ {A : Type 0} (id : List ℕ) where
-  -- a change of what the id names alone
-  module _ (change : List ℕ × A → List ℕ × A) (there : (e : List ℕ × A) → bytes_eq id e.0 ≡ false → change e ≡ e) where
-    map-absent : (es : List (List ℕ × A)) → NonePasses (bytes_eq id) es → map change es ≡ es
-    map-absent [] none = refl
-    map-absent (e ∷ es) none = ap (λ x. x ∷ map change es) (there e none.0) ∙ ap (λ xs. e ∷ xs) (map-absent es none.1)
-
-    map-named : (v w : A) → change (id, v) ≡ (id, w) → (es : List (List ℕ × A)) → lookup (bytes_eq id) es ≡ Some v → IsDistinct bytes_eq (keys_of es) → map change es ≡ set_value (bytes_eq id) es w
-    map-named v w changed es found apart = by_named id v (λ xs. map change xs ≡ set_value (bytes_eq id) xs w)
-        (λ e xs same value none.
-        let first : change e ≡ (e.0, w) = (λ i. change (sym same i, value i)) ∙ (changed ∙ ap (λ (k : List ℕ). (k, w)) same) in
-        (λ i. first i ∷ map-absent xs none i)
-        ∙ sym (ap (λ b. cond b ((e.0, w) ∷ xs) (e ∷ set_value (bytes_eq id) xs w)) (ap (bytes_eq id) (sym same) ∙ bytes_same id)))
-        (λ e xs other rest. (λ i. there e other i ∷ rest i) ∙ sym (ap (λ b. cond b ((e.0, w) ∷ xs) (e ∷ set_value (bytes_eq id) xs w)) other))
-        es found apart
-
-  -- a test that no other entry passes
-  module _ (test : List ℕ × A → Bool) (there : (e : List ℕ × A) → bytes_eq id e.0 ≡ false → test e ≡ false) where
-    any-absent : (es : List (List ℕ × A)) → NonePasses (bytes_eq id) es → list_any test es ≡ false
-    any-absent [] none = refl
-    any-absent (e ∷ es) none = ap (λ b. b || list_any test es) (there e none.0) ∙ any-absent es none.1
-
-    any-named : (v : A) (es : List (List ℕ × A)) → lookup (bytes_eq id) es ≡ Some v → IsDistinct bytes_eq (keys_of es) → list_any test es ≡ test (id, v)
-    any-named v es found apart = by_named id v (λ xs. list_any test xs ≡ test (id, v))
-        (λ e xs same value none. (λ i. test (sym same i, value i) || any-absent xs none i) ∙ or_false (test (id, v)))
-        (λ e xs other rest. ap (λ b. b || list_any test xs) (there e other) ∙ rest)
-        es found apart
-      where
-        or_false : (b : Bool) → (b || false) ≡ b
-        or_false true = refl
-        or_false false = refl
-
-  -- a list of which no other entry gives anything
-  module _ {B : Type 0} (give : List ℕ × A → List B) (there : (e : List ℕ × A) → bytes_eq id e.0 ≡ false → give e ≡ []) where
-    gives-absent : (es : List (List ℕ × A)) → NonePasses (bytes_eq id) es → flat_map give es ≡ []
-    gives-absent [] none = refl
-    gives-absent (e ∷ es) none = ap (λ xs. xs ++ flat_map give es) (there e none.0) ∙ gives-absent es none.1
-
-    gives-named : (v : A) (es : List (List ℕ × A)) → lookup (bytes_eq id) es ≡ Some v → IsDistinct bytes_eq (keys_of es) → flat_map give es ≡ give (id, v)
-    gives-named v es found apart = by_named id v (λ xs. flat_map give xs ≡ give (id, v))
-        (λ e xs same value none. (λ i. give (sym same i, value i) ++ gives-absent xs none i) ∙ append_nil (give (id, v)))
-        (λ e xs other rest. ap (λ ys. ys ++ flat_map give xs) (there e other) ∙ rest)
-        es found apart
-      where
-        append_nil : (xs : List B) → xs ++ [] ≡ xs
-        append_nil [] = refl
-        append_nil (x ∷ xs) = ap (λ ys. x ∷ ys) (append_nil xs)
-
--- ---- an id that is not the zero id matches itself alone
-
-matches-itself : (id : List ℕ) → matches id id ≡ true
-matches-itself id = ap (λ b. bytes_eq id zero_id || b) (bytes_same id) ∙ or_true (bytes_eq id zero_id) where
-  or_true : (b : Bool) → (b || true) ≡ true
-  or_true true = refl
-  or_true false = refl
-
-matches-other : (id other : List ℕ) → id ≢ zero_id → bytes_eq id other ≡ false → matches id other ≡ false
-matches-other id other some apart = ap (λ b. b || bytes_eq id other) (bytes_differ id zero_id some) ∙ apart
 
 all_same : {X : Type 0} (f : X → X) → ((x : X) → f x ≡ x) → (xs : List X) → map f xs ≡ xs
 all_same f same [] = refl
@@ -145,19 +66,6 @@ module _ (apid ctid : List ℕ) (some : apid ≢ zero_id) where
 
 -- by the context's id
 module _ (ctid : List ℕ) (some : ctid ≢ zero_id) where
-  filter-absent : (xs : List (List ℕ × Context)) → NonePasses (bytes_eq ctid) xs → filter (λ x. matches ctid x.0) xs ≡ []
-  filter-absent [] none = refl
-  filter-absent (x ∷ xs) none =
-      ap (λ b. cond b (x ∷ filter (λ y. matches ctid y.0) xs) (filter (λ y. matches ctid y.0) xs)) (matches-other ctid x.0 some none.0) ∙ filter-absent xs none.1
-
-  filter-named : (context : Context) (xs : List (List ℕ × Context)) → lookup (bytes_eq ctid) xs ≡ Some context → IsDistinct bytes_eq (keys_of xs) → length (filter (λ x. matches ctid x.0) xs) ≡ 1
-  filter-named context xs found apart = by_named ctid context (λ ys. length (filter (λ x. matches ctid x.0) ys) ≡ 1)
-      (λ x ys same value none.
-      ap (λ b. length (cond b (x ∷ filter (λ y. matches ctid y.0) ys) (filter (λ y. matches ctid y.0) ys))) (ap (matches ctid) (sym same) ∙ matches-itself ctid)
-      ∙ ap (λ zs. length (x ∷ zs)) (filter-absent ys none))
-      (λ x ys other rest. ap (λ b. length (cond b (x ∷ filter (λ y. matches ctid y.0) ys) (filter (λ y. matches ctid y.0) ys))) (matches-other ctid x.0 some other) ∙ rest)
-      xs found apart
-
   module _ (apid : List ℕ) (own : Option ℕ) where
     own-beside : (context : List ℕ) (old : Option ℕ) → bytes_eq ctid context ≡ false → set_matching apid ctid own apid context old ≡ old
     own-beside context old apart = ap (λ b. if matches apid apid && b then own else old) (matches-other ctid context some apart) ∙ by (matches apid apid) where
@@ -181,20 +89,6 @@ module _ (ctid : List ℕ) (some : ctid ≢ zero_id) where
           any-named ctid (wears_context s level level (set_matching apid ctid own) (apid, app)) (λ x other. context-fresh s level (set_matching apid ctid own) (apid, app) x (own-beside x.0 x.1.own other))
           context app.contexts there alone
           ∙ ap (λ o. is_worn s app.number context && not (effective level context == effective level (leveled o context))) (own-here context.own)
-
--- how many contexts an id matches, the zero id matching all
-pub all-match : (ctid : List ℕ) → ctid ≡ zero_id → (xs : List (List ℕ × Context)) → length (filter (λ x. matches ctid x.0) xs) ≡ length xs
-all-match ctid zero [] = refl
-all-match ctid zero (x ∷ xs) =
-    let one : matches ctid x.0 ≡ true = ap (λ b. b || bytes_eq ctid x.0) (ap (λ (k : List ℕ). bytes_eq k zero_id) zero) in
-    ap (λ b. length (cond b (x ∷ filter (λ y. matches ctid y.0) xs) (filter (λ y. matches ctid y.0) xs))) one ∙ ap suc (all-match ctid zero xs)
-
-pub one-match : (ctid : List ℕ) → ctid ≢ zero_id → (xs : List (List ℕ × Context)) → IsDistinct bytes_eq (keys_of xs)
-    → length (filter (λ x. matches ctid x.0) xs) ≡ cond (is_some (lookup (bytes_eq ctid) xs)) 1 0
-one-match ctid some xs apart = by (lookup (bytes_eq ctid) xs) refl where
-  by : (o : Option Context) → lookup (bytes_eq ctid) xs ≡ o → length (filter (λ x. matches ctid x.0) xs) ≡ cond (is_some o) 1 0
-  by None none = ap length (filter-absent ctid some xs (none_passes_from_lookup (bytes_eq ctid) xs none))
-  by (Some context) found = filter-named ctid some context xs found apart
 
 -- ---- the registry, by the application's id
 

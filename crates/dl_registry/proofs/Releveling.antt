@@ -9,6 +9,8 @@ use Rattle.std.proofs.lemmas.Bool.Decides.{eqb_tells}
 use Rattle.std.proofs.lemmas.List.{reverse-append}
 use Rattle.std.proofs.lemmas.List.Folds.{find-append}
 use Rattle.std.proofs.lemmas.Map.Keys.{IsDistinct-head, IsDistinct-tail}
+use Rattle.dl_lemmas.proofs.Options.{or_none}
+use Rattle.dl_lemmas.proofs.Bools.{or_left, or_right}
 use Rattle.dl_model.specs.declared.context.Context.{Context}
 use Rattle.dl_model.specs.declared.registry.Slot.{Slot}
 use Rattle.dl_bytes.specs.Limits.{last_version}
@@ -80,10 +82,6 @@ level_in_apps-append level [] ys slot = refl
 level_in_apps-append level (x ∷ xs) ys slot =
     ap (option_or (level_in_app level x slot)) (level_in_apps-append level xs ys slot) ∙ sym (or_assoc (level_in_app level x slot) (level_in_apps level xs slot) (level_in_apps level ys slot))
 
-or_none : {A : Type 0} (o : Option A) → option_or o None ≡ o
-or_none None = refl
-or_none (Some x) = refl
-
 -- what is written of all applications is the level at each slot
 pub level_in_apps-is : (level : ℕ) (es : List (List ℕ × App)) (slot : ℕ) → IsDistinct nat_eq (numbers es) → ArePlaced es
     → level_in_apps level (reverse (values_of es)) slot ≡ level_of level (valued (λ (a : App). a.number) (slot / 64) es) slot
@@ -131,14 +129,6 @@ app_stays old new relevel slot (e ∷ es) = by (e.1.number == slot / 64) (app_st
 
 -- ---- no slot at its last version changes
 
-or_first : (a b : Bool) → (a || b) ≡ false → a ≡ false
-or_first false b is = refl
-or_first true b is = is
-
-or_second : (a b : Bool) → (a || b) ≡ false → b ≡ false
-or_second false b is = is
-or_second true b is = absurd (true≢false is)
-
 same_levels : (worn : Bool) (a b : ℕ) → worn ≡ true → (worn && not (a == b)) ≡ false → a ≡ b
 same_levels worn a b is none = elim (eqb_tells a b) [
   | inl same ↦ same.1
@@ -171,14 +161,14 @@ context_keeps : (slots : ℕ → Slot) (old new : ℕ) (relevel : Relevel) (app 
     → option_map (effective new) (placed places_of (slot % 64) (map (releveled_context relevel app.0) es)) ≡ option_map (effective old) (placed places_of (slot % 64) es)
 context_keeps slots old new relevel app slot number last [] none = refl
 context_keeps slots old new relevel app slot number last (e ∷ es) none =
-    by (has_place (slot % 64) e.1) refl (context_keeps slots old new relevel app slot number last es (or_second (wears_context slots old new relevel app e) (list_any (wears_context slots old new relevel app) es) none))
+    by (has_place (slot % 64) e.1) refl (context_keeps slots old new relevel app slot number last es (or_right (wears_context slots old new relevel app e) (list_any (wears_context slots old new relevel app) es) none))
   where
     by : (b : Bool) → has_place (slot % 64) e.1 ≡ b
         → option_map (effective new) (placed places_of (slot % 64) (map (releveled_context relevel app.0) es)) ≡ option_map (effective old) (placed places_of (slot % 64) es)
         → option_map (effective new) (cond b (Some (releveled_context relevel app.0 e).1) (placed places_of (slot % 64) (map (releveled_context relevel app.0) es))) ≡ option_map (effective old) (cond b (Some e.1) (placed places_of (slot % 64) es))
     by true here rest =
         ap Some (sym (same_levels (is_worn slots app.1.number e.1) (effective old e.1) (effective new (releveled_context relevel app.0 e).1) (worn_at slots app.1.number slot number last (places_of e.1) here)
-        (or_first (wears_context slots old new relevel app e) (list_any (wears_context slots old new relevel app) es) none)))
+        (or_left (wears_context slots old new relevel app e) (list_any (wears_context slots old new relevel app) es) none)))
     by false here rest = rest
 
 app_keeps : (slots : ℕ → Slot) (old new : ℕ) (relevel : Relevel) (slot : ℕ) → (slots slot).version ≡ last_version
@@ -188,11 +178,11 @@ app_keeps slots old new relevel slot last [] none = refl
 app_keeps slots old new relevel slot last (e ∷ es) none = elim (eqb_tells e.1.number (slot / 64)) [
   | inl here ↦
       ap (λ b. level_of new (cond b (Some (releveled_app relevel e).1) (valued (λ (a : App). a.number) (slot / 64) (map (releveled_app relevel) es))) slot) here.0
-      ∙ (context_keeps slots old new relevel e slot here.1 last e.1.contexts (or_first (wears_app slots old new relevel e) (list_any (wears_app slots old new relevel) es) none)
+      ∙ (context_keeps slots old new relevel e slot here.1 last e.1.contexts (or_left (wears_app slots old new relevel e) (list_any (wears_app slots old new relevel) es) none)
       ∙ sym (ap (λ b. level_of old (cond b (Some e.1) (valued (λ (a : App). a.number) (slot / 64) es)) slot) here.0))
   | inr other ↦
       ap (λ b. level_of new (cond b (Some (releveled_app relevel e).1) (valued (λ (a : App). a.number) (slot / 64) (map (releveled_app relevel) es))) slot) other.0
-      ∙ (app_keeps slots old new relevel slot last es (or_second (wears_app slots old new relevel e) (list_any (wears_app slots old new relevel) es) none)
+      ∙ (app_keeps slots old new relevel slot last es (or_right (wears_app slots old new relevel e) (list_any (wears_app slots old new relevel) es) none)
       ∙ sym (ap (λ b. level_of old (cond b (Some e.1) (valued (λ (a : App). a.number) (slot / 64) es)) slot) other.0))
 ]
 

@@ -3,8 +3,8 @@
 ghost use Rattle.std.specs.Prelude.{Some, None};
 ghost use Rattle.dl_registry.specs.Kept.{CanClaim, Claims, ClaimsIn};
 
-use crate::apps;
 use crate::registry::{LAST_VERSION, Registry, own_for};
+use dl_applications::apps;
 use dl_bytes::{Claim, Id, OwnLevel};
 use dl_model::{Context, Description, Places};
 use dl_slots::slot_of;

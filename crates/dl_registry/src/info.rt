@@ -7,9 +7,8 @@ ghost use Rattle.dl_model.specs.Registry.{matches, matching_in};
 ghost use Rattle.dl_model.specs.Reply.{described, context_info, app_info, info_body, listed};
 ghost use Rattle.dl_registry.specs.Info.{GivesInfo, info_of};
 
-use crate::application::Application;
 use crate::registry::Registry;
-use crate::relevel::is_match;
+use dl_applications::{Application, is_match};
 use dl_bytes::{Bytes, Id, OutOfMemory};
 use dl_model::Context;
 

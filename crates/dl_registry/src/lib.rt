@@ -4,15 +4,12 @@
 //! have, stand in a table beside them, so that the next level that is owed is found without a look at the others.
 #![tactic(auto)]
 
-mod application;
 mod apply;
-mod apps;
 mod claims;
 mod info;
 pub mod laws;
 mod levels;
 mod registry;
-mod relevel;
 
 pub use dl_bytes::Stored;
 pub use dl_model::{LevelChange, RegistryFault, SetFault};

@@ -8,8 +8,8 @@ ghost use Rattle.dl_bytes.specs.Limits.{last_version};
 ghost use Rattle.dl_model.specs.Registry.{IsInOrder, app_of, level_at, stored_level, owns_now, owns_of_app};
 ghost use Rattle.dl_registry.specs.Kept.{slots, made, owed_change, with_change, with_registry, slot_named, channel_at, first_app, position_at};
 
-use crate::application::Application;
-use crate::apps::{Apps, first_of_channel};
+use dl_applications::Application;
+use dl_applications::apps::{Apps, first_of_channel};
 use dl_bytes::{Bytes, Id, Level, OutOfMemory, OwnLevel, Sequence, Stored, StoredLevel};
 use dl_model::{Description, LevelChange, Slot};
 use dl_slots::{SlotTable, slot_of};

@@ -1,9 +1,10 @@
 -- How a run ends, by what its report's writing left; and that it began earlier.
 use Rattle.std.proofs.Common.{◌≡◌, ℕ, ◌+◌, ◌-◌, ◌^◌, ◌<◌, ◌≤◌, ◌⊎◌, inl, inr, min, Bool, true, false, List, [], ◌∷◌, ◌++◌, length, map, Option, Some, None, refl, sym, ap, subst, ◌∙◌, arith}
 use Rattle.std.specs.Prelude.{◌==◌, count_by, if◌then◌else◌, nat_lt, Err, IsSomeAnd}
-use Rattle.std.proofs.lemmas.Bool.{ltb-false, ltb-true, ne_eqb}
+use Rattle.std.proofs.lemmas.Bool.{ne_eqb}
 use Rattle.std.proofs.lemmas.List.{append-nil}
 use Rattle.dl_bytes.specs.declared.outcome.TraceState.{TraceState}
+use Rattle.dl_outside.proofs.Staying.{counted}
 use Rattle.dl_model.specs.Replay.{files_of, trace_of}
 use Rattle.dl_model.specs.Setting.{Setting}
 use Rattle.dl_model.specs.TraceFiles.{StoredFile}
@@ -12,9 +13,11 @@ use Rattle.dl_trace.specs.State.{listed}
 use Rattle.dl_bytes.specs.declared.outcome.TraceEnd.{TraceEnd}
 use Rattle.dl_bytes.specs.declared.outcome.TraceEnd.TheVariants as end
 use Rattle.dl_model.specs.Marks.{Mark, journal}
+use Rattle.dl_outside.specs.Folder.{Files}
 use Rattle.dl_outside.specs.Outside.{HasRisen}
 use Rattle.dl_folders.specs.Later.{trace_failures}
-use Rattle.dl_world.specs.Played.{IsTraced, failures, files_with, frames_in, is_failed}
+use Rattle.dl_folders.specs.Standing.{files_with}
+use Rattle.dl_world.specs.Played.{IsTraced, failures, frames_in, is_failed}
 use Rattle.dl_world.specs.declared.played.Played.{Played}
 use Rattle.dl_replay.specs.declared.begin.Start.{Start}
 use Rattle.dl_startup.specs.declared.status.Status.{Status}
@@ -29,7 +32,7 @@ use Rattle.dl_outside.specs.Written.{WroteAll, WroteFront}
 use Rattle.dl_startup.specs.Unchanged.{FolderWell, IsQuiet}
 use Rattle.dl_replay.proofs.Answering.{said_yes}
 use Rattle.dl_startup.proofs.Told.{known_before, unchanged_on}
-use Rattle.dl_replay.proofs.Folders.{stored_before}
+use Rattle.dl_replay.proofs.Folders.{stored_before, traced_before}
 
 -- nothing was played
 pub unplayed : (task : Task) (start : Start) (old new : FolderTold) (out : SinkTold) (status : Status) → Plays start old new (Err status) → Ends task start old new out out status
@@ -66,8 +69,9 @@ by_fields : (state other : TraceState) → state.files ≡ other.files → state
 by_fields state other files ended = λ i. record { files = files i; end = ended i }
 
 -- a trace that did not end tells of the files of the rotation rule
-goes_on : (setting : Setting) (stood : List StoredFile) (done : List Mark) (state : TraceState) → 0 < length setting.directory → IsTraced setting stood done state → state.end ≡ None → state ≡ trace_of setting stood done
-goes_on setting stood done state named traced ended =
+goes_on : (setting : Setting) (stood : List StoredFile) (done : List Mark) (state : TraceState) (told told_now : Option Files) → 0 < length setting.directory → IsTraced setting stood done state told told_now → state.end ≡ None
+    → state ≡ trace_of setting stood done
+goes_on setting stood done state told told_now named traced ended =
     let all : frames_in setting done ≡ traced.stored = traced.all ∙ ap (λ (later : List (List ℕ)). traced.stored ++ later) (traced.whole ended) ∙ append-nil traced.stored in
     let files : files_with setting stood traced.stored ≡ files_of setting stood done =
     ap (files_with setting stood) (sym all) ∙ sym (named_files setting.directory (files_with setting stood (frames_in setting done)) named) in
@@ -81,10 +85,10 @@ is_none setting stood done state unnamed none =
     (ap (λ (s : TraceState). s.end) none)
 
 whole : {start : Start} {old new : FolderTold} → (run : Run start old new) → run.trace.end ≡ None → IsWhole run
-whole {start = start} run ended =
+whole {start = start} {old = old} {new = new} run ended =
     elim (is_named start.conf.directory) [
       | inl unnamed ↦ is_none (setting start) run.stood (marks start run.answers) run.trace unnamed (run.untraced unnamed)
-      | inr named ↦ goes_on (setting start) run.stood (marks start run.answers) run.trace named (run.traced named) ended
+      | inr named ↦ goes_on (setting start) run.stood (marks start run.answers) run.trace old.files new.files named (run.traced named) ended
     ]
 
 spent : {start : Start} {old new : FolderTold} → (run : Run start old new) → run.trace.end ≡ Some end.Spent → IsSpent run
@@ -160,13 +164,6 @@ written_front task run out out_now false (Some end.Spent) short known front = (r
 written_front task run out out_now false (Some end.NoMemory) short known front = (run, front, known.well refl, has_names run (Some end.NoMemory) known.cause_is (λ e. cc))
 written_front task run out out_now false None short known front = (run, front, known.well refl, has_names run None known.cause_is (λ e. cc))
 
--- the folder's count tells whether it failed
-counted : (before now : ℕ) (failed : Bool) → before ≤ now → failed ≡ nat_lt before now → (failed ≡ true → HasRisen before now) × (failed ≡ false → now ≡ before)
-counted before now failed later is = (
-  λ risen. let up : before < now = ltb-true before now (sym is ∙ risen) in (later, omega (arith, up)),
-  λ still. let down : now ≤ before = ltb-false before now (sym is ∙ still) in omega (arith, down, later),
-)
-
 pub ended : {start : Start} {old new : FolderTold} → (task : Task) (run : Run start old new) (played : Played) (out out_now : SinkTold) (failed : Bool) (status : Status) → IsOf run played → old.faults ≤ new.faults
     → failed ≡ nat_lt old.faults new.faults → Finishes (report_for task played) failed played.ends.trace.end (unserved played.events.events) out out_now status → Ends task start old new out out_now status
 ended {start = start} {old = old} {new = new} task run played out out_now failed status of later failed_is finishes =
@@ -198,7 +195,7 @@ earlier_run start old mid new quiet run = record {
   trace = run.trace;
   stood_are = λ named. known_before old.files mid.files (λ files. HasFiles start.conf.directory files run.stood) quiet.unchanged.files (run.stood_are named);
   untraced = run.untraced;
-  traced = run.traced;
+  traced = λ named. traced_before (setting start) run.stood (marks start run.answers) run.trace old.files mid.files new.files quiet.unchanged.files (run.traced named);
   holds = λ named goes. known_before old.files mid.files (λ files. IsSomeAnd new.files (λ now. HasFiles start.conf.directory now (files_of (setting start) run.stood (marks start run.answers)))) quiet.unchanged.files (run.holds named goes);
   stored = λ none. stored_before start old.files mid.files new.files (marks start run.answers) quiet.unchanged.files (run.stored none);
   failed = subst (λ (n : ℕ). min (n + failures (marks start run.answers) run.trace) (2 ^ 64 - 1) ≤ new.faults) quiet.well run.failed;

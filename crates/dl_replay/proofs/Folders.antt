@@ -1,9 +1,12 @@
 -- What a folder tells, over calls in a row; and which of its files changed.
 use Rattle.std.proofs.Common.{◌≡◌, ◌≢◌, ℕ, ◌<◌, List, length, Option, Some, None, refl, sym, subst}
-use Rattle.std.specs.Prelude.{IfSome, IsOkAnd, Result, Ok}
+use Rattle.std.specs.Prelude.{IfSome, IsSomeAnd, IsOkAnd, Result, Ok}
 use Rattle.std.specs.FinMap as map
+use Rattle.dl_bytes.specs.declared.outcome.TraceState.{TraceState}
 use Rattle.dl_conf.specs.Outcome.{values_of}
 use Rattle.dl_model.specs.Marks.{Mark, journal}
+use Rattle.dl_model.specs.Setting.{Setting}
+use Rattle.dl_model.specs.TraceFiles.{StoredFile}
 use Rattle.dl_outside.specs.Folder.{Files}
 use Rattle.dl_outside.specs.Outside.{Stays}
 use Rattle.dl_startup.proofs.Told.{known_before}
@@ -14,7 +17,9 @@ use Rattle.dl_replay.specs.Playing.{OwnFiles}
 use Rattle.dl_replay.specs.Program.{ChangesOwnFiles}
 use Rattle.dl_replay.specs.Run.{HoldsItsStored, setting}
 use Rattle.dl_replay.specs.declared.task.Task.{Task}
-use Rattle.dl_trace.specs.Stands.{IsTraceName}
+use Rattle.dl_trace.specs.Stands.{HasFiles, IsTraceName}
+use Rattle.dl_folders.specs.Standing.{Stands}
+use Rattle.dl_world.specs.Played.{IsTraced}
 use Rattle.dl_world.specs.Stored.{HoldsStored}
 use Rattle.dl_lemmas.proofs.Options.{if_some_of}
 
@@ -34,6 +39,22 @@ each (Some x) P Q f h = f x h
 -- the stored configuration of a run over files that stayed before it
 pub stored_before : (start : Start) (old mid new : Option Files) (done : List Mark) → Stays old mid → HoldsItsStored start mid new done → HoldsItsStored start old new done
 stored_before start old mid new done = known_before old mid (λ files. HoldsStored (setting start) (map.get files stored_name) (journal done) new)
+
+-- what a trace tells of a run over files that stayed before it
+pub traced_before : (its : Setting) (stood : List StoredFile) (done : List Mark) (state : TraceState) (old mid new : Option Files) → Stays old mid → IsTraced its stood done state mid new → IsTraced its stood done state old new
+traced_before its stood done state old mid new same is = record {
+  stored = is.stored;
+  later = is.later;
+  all = is.all;
+  files_are = is.files_are;
+  whole = is.whole;
+  unspent = is.unspent;
+  spent = is.spent;
+  stands = by old same;
+} where
+  by : (o : Option Files) → Stays o mid → IsSomeAnd o (λ folder. HasFiles its.directory folder stood) → IsSomeAnd new (Stands state.end its stood is.stored is.later)
+  by None same held = absurd held
+  by (Some files) same held = is.stands (subst (λ (o : Option Files). IsSomeAnd o (λ folder. HasFiles its.directory folder stood)) (sym same) held)
 
 -- ---- files that change
 

@@ -1,8 +1,9 @@
 -- What was played is a run.
-use Rattle.std.proofs.Common.{◌≡◌, ◌≢◌, ℕ, ◌+◌, ◌-◌, ◌^◌, ◌<◌, ◌≤◌, min, List, [], length, map as mapped, get_or, Option, Some, None, refl, sym, ap, subst, ◌∙◌, arith}
+use Rattle.std.proofs.Common.{◌≡◌, ◌≢◌, ℕ, ◌+◌, ◌-◌, ◌^◌, ◌<◌, ◌≤◌, min, List, [], ◌++◌, length, map as mapped, get_or, Option, Some, None, refl, sym, ap, subst, ◌∙◌, arith}
 use Rattle.std.specs.Prelude.{◌==◌, count_by, if◌then◌else◌, IfSome, IsSomeAnd}
 use Rattle.std.specs.List.{All, range_with_len}
 use Rattle.std.proofs.lemmas.Bool.{ne_eqb}
+use Rattle.std.proofs.lemmas.List.{append-nil}
 use Rattle.std.proofs.lemmas.List.Elements.{All-map}
 use Rattle.std.proofs.lemmas.List.FromFn.{get_or-range_with_len, length-map-range_with_len, length-range_with_len}
 use Rattle.std.specs.FinMap as map
@@ -11,6 +12,7 @@ use Rattle.dl_bytes.specs.declared.conf.Conf.{Conf}
 use Rattle.dl_bytes.specs.declared.outcome.Backlog.{Backlog}
 use Rattle.dl_bytes.specs.declared.outcome.Ends.{Ends}
 use Rattle.dl_bytes.specs.declared.outcome.LinkEnd.{LinkEnd}
+use Rattle.dl_bytes.specs.declared.outcome.TraceEnd.{TraceEnd}
 use Rattle.dl_bytes.specs.declared.outcome.TraceState.{TraceState}
 use Rattle.dl_events.specs.declared.event.Event.{Event}
 use Rattle.dl_events.specs.declared.record.Record.{Record}
@@ -30,7 +32,8 @@ use Rattle.dl_trace.specs.Made.{IsMade}
 use Rattle.dl_trace.specs.Stands.{HasFiles, IsTraceName}
 use Rattle.dl_trace.specs.State.{Trace, IsAfter}
 use Rattle.dl_folders.specs.Files.{ChangesOwnFiles}
-use Rattle.dl_world.specs.Played.{Holds, IsPlayed, IsTraced, failures, files_with, frames_in, is_failed}
+use Rattle.dl_folders.specs.Standing.{Stands, files_with}
+use Rattle.dl_world.specs.Played.{IsPlayed, IsTraced, failures, frames_in, is_failed}
 use Rattle.dl_world.specs.declared.played.Played.{Played}
 use Rattle.dl_replay.specs.declared.begin.Start.{Start}
 use Rattle.dl_replay.specs.declared.task.Task.{Task}
@@ -40,7 +43,7 @@ use Rattle.dl_replay.specs.Playing.{IsOf, OwnFiles}
 use Rattle.dl_replay.specs.Run.{Run, HoldsItsStored, marks, setting}
 use Rattle.dl_replay.specs.Task.{shows_frames}
 use Rattle.dl_outside.specs.Told.{FolderTold}
-use Rattle.dl_replay.proofs.Folders.{stored_before}
+use Rattle.dl_replay.proofs.Folders.{stored_before, traced_before}
 use Rattle.dl_lemmas.proofs.Lists.{not_empty}
 use Rattle.dl_lemmas.proofs.Options.{if_some_of}
 
@@ -132,30 +135,34 @@ untraced_run start old mid new played unnamed told well p =
     } in
     (run, is_of start old new [] None played mid new p run refl refl)
 
--- what the folder holds, where it held the files that stood
-holding : (start : Start) (stood : List StoredFile) (done : List Mark) (trace : Trace) (state : TraceState) (old mid new : Option Files) → 0 < length start.conf.directory
-    → IfSome old (λ files. mid ≡ Some files) → IfSome old (λ files. HasFiles start.conf.directory files stood) → Holds (setting start) stood done (Some trace) state mid new → state.end ≡ None
+-- what the folder holds while the trace goes on, where it held the files that stood
+holding : (start : Start) (stood : List StoredFile) (done : List Mark) (state : TraceState) (old new : Option Files) → 0 < length start.conf.directory
+    → IfSome old (λ files. HasFiles start.conf.directory files stood) → IsTraced (setting start) stood done state old new → state.end ≡ None
     → IfSome old (λ files. IsSomeAnd new (λ now. HasFiles start.conf.directory now (files_of (setting start) stood done)))
-holding start stood done trace state None mid new named told had holds goes = tt
-holding start stood done trace state (Some files) mid new named told had holds goes =
-    let there : IsSomeAnd mid (λ folder. HasFiles start.conf.directory folder stood) = subst (λ (o : Option Files). IsSomeAnd o (λ folder. HasFiles start.conf.directory folder stood)) (sym told) had in
+holding start stood done state None new named had traced goes = tt
+holding start stood done state (Some files) new named had traced goes =
+    let all : traced.stored ≡ frames_in (setting start) done = sym (append-nil traced.stored) ∙ ap (λ (later : List (List ℕ)). traced.stored ++ later) (sym (traced.whole goes)) ∙ sym traced.all in
+    let stands : IsSomeAnd new (Stands None (setting start) stood traced.stored traced.later) =
+    subst (λ (e : Option TraceEnd). IsSomeAnd new (Stands e (setting start) stood traced.stored traced.later)) goes (traced.stands had) in
     subst (λ (fs : List StoredFile). IsSomeAnd new (λ now. HasFiles start.conf.directory now fs))
-    (named_files start.conf.directory (files_with (setting start) stood (frames_in (setting start) done)) named) (holds goes there)
+    (ap (files_with (setting start) stood) all ∙ named_files start.conf.directory (files_with (setting start) stood (frames_in (setting start) done)) named) stands
 
 -- a run with a trace
 traced_run : (start : Start) (old mid new : FolderTold) (stood : List StoredFile) (trace : Trace) (played : Played) → 0 < length start.conf.directory
     → Stays old.files mid.files → mid.faults ≡ old.faults → IfSome old.files (λ files. HasFiles start.conf.directory files stood)
     → IsPlayed (setting start) stood start.steps (Some trace) played mid new → (run : Run start old new) × IsOf run played
 traced_run start old mid new stood trace played named told well had p =
+    let traced : IsTraced (setting start) stood (marks start p.answers) played.ends.trace old.files new.files =
+    traced_before (setting start) stood (marks start p.answers) played.ends.trace old.files mid.files new.files told
+    (subst (λ (d : List Mark). IsTraced (setting start) stood d played.ends.trace mid.files new.files) p.run_is p.trace_is) in
     let run : Run start old new = record {
       stood = stood;
       answers = p.answers;
       trace = played.ends.trace;
       stood_are = λ _. had;
       untraced = λ unnamed. absurd (not_empty start.conf.directory unnamed named);
-      traced = λ _. subst (λ (d : List Mark). IsTraced (setting start) stood d played.ends.trace) p.run_is p.trace_is;
-      holds = λ _ goes. holding start stood (marks start p.answers) trace played.ends.trace old.files mid.files new.files named told had
-          (subst (λ (d : List Mark). Holds (setting start) stood d (Some trace) played.ends.trace mid.files new.files) p.run_is p.holds) goes;
+      traced = λ _. traced;
+      holds = λ _ goes. holding start stood (marks start p.answers) played.ends.trace old.files new.files named had traced goes;
       stored = stored_at_end start old.files mid.files new.files p.done (marks start p.answers) told p.run_is p.stored;
       failed =
           subst (λ (n : ℕ). min (n + failures (marks start p.answers) played.ends.trace) (2 ^ 64 - 1) ≤ new.faults) well

@@ -55,8 +55,9 @@ pub record Run (start : Start) (old new : FolderTold) : Type 0 where
   pub stood_are : IsTracing start → IfSome old.files (λ files. HasFiles start.conf.directory files stood)
   -- where no trace is kept, nothing is told of one
   pub untraced : start.conf.directory ≡ [] → trace ≡ no_trace
-  -- else it tells of the trace files of all frames that the run stores, or of some first ones where it ended before
-  pub traced : IsTracing start → IsTraced (setting start) stood (marks start answers) trace
+  -- else it tells of the trace files of all frames that the run stores, or of some first ones where it ended before; and the folder
+  -- holds what stands of these frames
+  pub traced : IsTracing start → IsTraced (setting start) stood (marks start answers) trace old.files new.files
   -- while it goes on, the folder holds the files of the rotation rule
   pub holds : IsTracing start → trace.end ≡ None
       → IfSome old.files (λ files. IsSomeAnd new.files (λ now. HasFiles start.conf.directory now (files_of (setting start) stood (marks start answers))))

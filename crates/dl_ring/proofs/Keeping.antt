@@ -7,6 +7,8 @@ use mathlib.Core.Option.{some}
 use lib.ListN.{get_elem?}
 use Rattle.crossbeam_queue.specs.Fifo.{Pushes, Pops, Forks, Merges, Learns}
 use Rattle.crossbeam_queue.proofs.Lists.{at_set}
+use Rattle.dl_thread_rules.proofs.Bits.{bit_none, bit_small}
+use Rattle.dl_injections.proofs.Keeping.{gives_else}
 use Rattle.dl_ring.specs.declared.item.RingItem.{RingItem}
 use Rattle.dl_thread_rules.specs.Views.{Each, total, bit, times}
 use Rattle.dl_thread_rules.proofs.Each.{each_set, each_snoc, each_end, each_one, set_there}
@@ -106,10 +108,6 @@ no_joined : (j : List Sent) → length j ≡ 0 → j ≡ []
 no_joined [] e = refl
 no_joined (x ∷ xs) e = absurd (omega arith)
 
-not_pushing : (b : Bool) → bit b ≡ 0 → b ≡ false
-not_pushing true e = absurd (omega arith)
-not_pushing false e = refl
-
 still_numbered : (n : ℕ) (v : View) → v.pushes ≡ false → numbered n v ≡ passes n v.joined
 still_numbered n v b = ap (λ (c : Bool). bit (c && v.number == n) + passes n v.joined) b ∙ zero-add (passes n v.joined)
 
@@ -117,10 +115,10 @@ still_pushes : (v : View) → v.pushes ≡ false → pushes_of v ≡ total (λ (
 still_pushes v b = ap (λ (c : Bool). cond c (length v.pushed) 0 + total (λ (s : Sent). length s.items) v.joined) b ∙ zero-add (total (λ (s : Sent). length s.items) v.joined)
 
 idle_numbered : (n : ℕ) (v : View) → pushers v ≡ 0 → numbered n v ≡ 0
-idle_numbered n v e = still_numbered n v (not_pushing v.pushes (omega arith)) ∙ ap (λ (j : List Sent). passes n j) (no_joined v.joined (omega arith))
+idle_numbered n v e = still_numbered n v (bit_none v.pushes (omega arith)) ∙ ap (λ (j : List Sent). passes n j) (no_joined v.joined (omega arith))
 
 idle_pushes : (v : View) → pushers v ≡ 0 → pushes_of v ≡ 0
-idle_pushes v e = still_pushes v (not_pushing v.pushes (omega arith)) ∙ ap (λ (j : List Sent). total (λ (s : Sent). length s.items) j) (no_joined v.joined (omega arith))
+idle_pushes v e = still_pushes v (bit_none v.pushes (omega arith)) ∙ ap (λ (j : List Sent). total (λ (s : Sent). length s.items) j) (no_joined v.joined (omega arith))
 
 -- what the pass that takes knows of what is left
 rest_of : (items : List RingItem) (views : List View) → Keeps items views → (id : ℕ) (v : View) → v.takes ≡ true → get_elem? views id ≡ some v → Rest v.gives v.given v.taken v.joined items
@@ -136,7 +134,7 @@ rest_of items views k id v may at =
           let g : length v.given ≡ length k.given = ap length given in
           let live = k.live in
           let one = total_at pushers views id v at in
-          let idle : v.pushes ≡ false = not_pushing v.pushes (omega arith) in
+          let idle : v.pushes ≡ false = bit_none v.pushes (omega arith) in
           let alone : total pushers views ≡ pushers v = omega arith in
           record {
             no_others = λ n none. k.numbers n (let t = total_alone pushers (numbered n) views id v at alone (λ _ u _ e. idle_numbered n u e) in let s = still_numbered n v idle in let o = k.once n in omega arith);
@@ -233,10 +231,6 @@ gives_now : (b c : Bool) (id other giver : ℕ) (mine theirs given : List ℕ) �
 gives_now true c id other giver mine theirs given t m e = (refl, (t refl).1)
 gives_now false c id other giver mine theirs given t m e = m e
 
-gives_else : (b : Bool) (id other giver j : ℕ) → (b ≡ true → other ≡ giver) → j ≢ other → j ≡ giver → j ≡ cond b id giver
-gives_else true id other giver j t apart e = absurd (apart (e ∙ sym (t refl)))
-gives_else false id other giver j t apart e = e
-
 -- what a pass that takes in none counts
 alone_pushers : (u : View) → u.pushes ≡ true → u.joined ≡ [] → pushers u ≡ 1
 alone_pushers u p a = ap (λ (b : Bool). bit b + length u.joined) p ∙ ap (λ (j : List Sent). 1 + length j) a
@@ -315,10 +309,6 @@ merges id v other u may not_takes pushing alone items views k at two at' =
           })
           (λ j y apart e. now j y e apart);
     }
-
-bit_small : (b : Bool) → bit b ≤ 1
-bit_small true = omega arith
-bit_small false = omega arith
 
 -- a new ring holds nothing, and its one pass has done nothing
 pub begins : Keeps [] (opener ∷ [])

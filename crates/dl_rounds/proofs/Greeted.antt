@@ -126,7 +126,7 @@ module _ (limit : ℕ) (r : Registry) (below : AllByRecursion (λ n. n < limit) 
 -- ---- the registry and the desk
 
 -- Level events leave who is registered
-levels_leave : (changes : List LevelChange) (old new : Side) → SetsLevels changes old new → new.core.registry.registry ≡ old.core.registry.registry
+pub levels_leave : (changes : List LevelChange) (old new : Side) → SetsLevels changes old new → new.core.registry.registry ≡ old.core.registry.registry
 levels_leave [] old new all = ap (λ (s : Side). s.core.registry.registry) all.0
 levels_leave (next ∷ others) old new all = levels_leave others all.0 new all.2 ∙ ap (λ (c : Core). c.registry.registry) all.1.core
 

@@ -6,11 +6,11 @@ use Rattle.std.proofs.Math.Seq.{take-length}
 use Rattle.std.proofs.lemmas.List.{append-nil}
 use Rattle.std.proofs.lemmas.List.Sums.{sum_by-cons}
 use Rattle.std.proofs.lemmas.Option.{get_or_from_slice_get, slice_get_within}
+use Rattle.dl_lemmas.proofs.Lists.{item_here}
 use Rattle.dl_bytes.specs.declared.moment.Moment.{Moment}
 use Rattle.dl_bytes.specs.declared.user.UserMsg.{UserMsg}
 use Rattle.dl_bytes.specs.declared.user.UserMsg.TheVariants.{Log, RegisterApp, UnregisterApp, RegisterContext, UnregisterContext, LogLevel, Injection, Overflow}
 use Rattle.dl_desk.specs.Apps.{AppState}
-use Rattle.dl_core.proofs.Gathered.{item_here}
 use Rattle.dl_turns.specs.State.{Side}
 use Rattle.dl_rounds.specs.Greetings.{Greets, GreetsEach, GreetsFirst, IsContext, IsIntroduced, IsRegistration, apps_in, hello_of}
 

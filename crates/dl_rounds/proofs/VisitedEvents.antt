@@ -5,6 +5,7 @@ use Rattle.std.specs.List.{AllByRecursion}
 use Rattle.std.proofs.lemmas.Bool.Decides.{eqb_tells}
 use Rattle.std.proofs.lemmas.List.{append-nil}
 use Rattle.std.proofs.lemmas.Option.{slice_get-get_or, slice_get_within}
+use Rattle.dl_outside.proofs.Staying.{grows_both}
 use Rattle.dl_events.specs.declared.event.Event.{Event}
 use Rattle.dl_events.specs.declared.event.Event.TheVariants as event
 use Rattle.dl_events.specs.declared.event.Why.{Why}
@@ -24,7 +25,7 @@ use Rattle.dl_turns.specs.State.{Side, Stage}
 use Rattle.dl_turns.specs.Stopping.{IsWoundUp}
 use Rattle.dl_turns.specs.Turns.{IsPump, IsTurn}
 use Rattle.dl_turns.proofs.AddedEvents.{each_both, each_none}
-use Rattle.dl_turns.proofs.GrownBytes.{grow_both, stays_grow, stays_same}
+use Rattle.dl_turns.proofs.GrownBytes.{stays_grow, stays_same}
 use Rattle.dl_turns.proofs.LaterSides.{desk_both, later_same}
 use Rattle.dl_turns.proofs.PostedSides.{posted_both}
 use Rattle.dl_rounds.specs.declared.listener.Listener.{Listener}
@@ -112,7 +113,7 @@ all_both a b c one two = record {
   sent = took_all one.sent two.sent;
   links_took = λ place link link_now was is.
       let between = linked_there a b one.many place link was in
-      grow_both link.taken between.0.taken link_now.taken (one.sent (place + 1)) (two.sent (place + 1)) (one.links_took place link between.0 was between.1) (two.links_took place between.0 link_now between.1 is);
+      grows_both link.taken between.0.taken link_now.taken (one.sent (place + 1)) (two.sent (place + 1)) (one.links_took place link between.0 was between.1) (two.links_took place between.0 link_now between.1 is);
   after = λ run past taken was.
       let here = one.after run past taken was in
       let there = two.after run (past ++ one.more) (took_all taken one.sent) here.0 in
@@ -137,7 +138,7 @@ module _ (number : ℕ) (clients : Clients) (was now : Client) (some : 1 ≤ num
   here_took : Grows was.link.taken now.link.taken visit.later.sent
   here_took =
       subst (λ (bytes : List ℕ). Grows was.link.taken now.link.taken bytes) (append-nil visit.later.sent)
-      (grow_both was.link.taken visit.link.taken now.link.taken visit.later.sent [] visit.later.link_took (shut_took visit.why visit.link now.link visit.shut))
+      (grows_both was.link.taken visit.link.taken now.link.taken visit.later.sent [] visit.later.link_took (shut_took visit.why visit.link now.link visit.shut))
 
   pub links_took_one : (place : ℕ) (link link_now : LinkTold) → slice_get clients.links place ≡ Some link → slice_get (slice_set clients.links (number - 1) now.link) place ≡ Some link_now
       → Grows link.taken link_now.taken (only number visit.later.sent (place + 1))

@@ -3,7 +3,7 @@ use Rattle.std.proofs.Common.{◌≡◌, ◌≢◌, ℕ, zero, suc, ◌+◌, ◌
 use Rattle.std.proofs.Math.Dec.{lit≤}
 use Rattle.dl_bytes.specs.Id.{zero_id}
 use Rattle.dl_script.specs.Earlier.{nothing}
-use Rattle.dl_script.specs.Generated.{app_id, turn, turns, started, generated}
+use Rattle.dl_script.specs.Generated.{app_id, context_id, turn, turns, started, generated}
 use Rattle.dl_script.specs.Playable.{IsPlayable}
 use Rattle.dl_script.proofs.GeneratedCalls.{declared_with, turn_goes}
 use Rattle.dl_script.proofs.ReadFields.{first_of}
@@ -14,14 +14,26 @@ unfolding started
 started_goes = record {
   follow = (refl, (refl, (refl, (refl, (refl, (refl, (refl, (refl, (refl, (refl, (refl, (refl, (refl, (refl, (refl, (refl, (refl, (refl, (refl, (refl, (refl, tt)))))))))))))))))))));
   leads = refl;
-  bounds = (app 1, (short, (short, (tt, (tt, (app 2, (short, (short, (tt, (tt, (app 3, (short, (short, (tt, (tt, (app 4, (short, (short, (tt, (tt, (tt, tt)))))))))))))))))))));
+  bounds = (app 1, (context 1 0 first_named, (context 1 1 second_named, (tt, (tt, (app 2, (context 2 0 first_named, (context 2 1 second_named, (tt, (tt, (app 3, (context 3 0 first_named, (context 3 1 second_named, (tt, (tt, (app 4, (context 4 0 first_named, (context 4 1 second_named, (tt, (tt, (tt, tt)))))))))))))))))))));
   few = lit≤ tt;
 } where
   short : 0 ≤ 255
   short = lit≤ tt
 
+  named : (k : ℕ) → app_id k ≢ zero_id
+  named k is = let none : 71 ≡ 0 = ap first_of is in omega (arith, none)
+
   app : (k : ℕ) → (app_id k ≢ zero_id) × (0 ≤ 255)
-  app k = (λ zero. (let none : 71 ≡ 0 = ap first_of zero in omega (arith, none)), short)
+  app k = (named k, short)
+
+  first_named : context_id 0 ≢ zero_id
+  first_named is = let none : 67 ≡ 0 = ap first_of is in omega (arith, none)
+
+  second_named : context_id 1 ≢ zero_id
+  second_named is = let none : 67 ≡ 0 = ap first_of is in omega (arith, none)
+
+  context : (k c : ℕ) → context_id c ≢ zero_id → (app_id k ≢ zero_id) × (context_id c ≢ zero_id) × (0 ≤ 255)
+  context k c is_named = (named k, is_named, short)
 
 turns_go : (calls i x n : ℕ) → n + calls ≤ 1000000 → Goes (declared_with n) (turns calls i x) (declared_with (n + calls)) (7 * calls)
 unfolding turns

@@ -66,7 +66,7 @@ called_read make makes call = by_payload call.payload where
 word_read : (w : StepWord) (fields : List (List ℕ)) → Gives IsRead (step_by_word w fields)
 unfolding step_by_word
 word_read word.App fields = then_so (app_in_range fields) (λ app is. given (refl, (is.0, is.3)))
-word_read word.Context fields = then_so (context_in_range fields) (λ context is. given (refl, is.2))
+word_read word.Context fields = then_so (context_in_range fields) (λ context is. given (refl, is))
 word_read word.Writer fields = then (id_line fields) (λ apid. given (refl, tt))
 word_read word.Clock fields = then_so (clock_has fields) (λ clock is. given is)
 word_read word.Load fields = then (call_line 0 4294967295 fields) (λ call. given (called_read step.Load (λ line. (refl, tt)) call))

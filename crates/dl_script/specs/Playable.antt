@@ -14,11 +14,11 @@ use Rattle.dl_script.specs.Spelled.{MayFollow, scenario_claim, step_claim}
 abbrev pub IsClaimInBounds : ClaimLine → Type 0
 IsClaimInBounds asked = (asked.ctid ≢ zero_id) × (length asked.text ≤ 48)
 
--- An application has a name, and other descriptions have at most 255 bytes. User messages come on channels from 1 on: channel 0 is
+-- Applications and contexts have names, and descriptions of at most 255 bytes. User messages come on channels from 1 on: channel 0 is
 -- this process's own.
 abbrev pub IsInBounds : Step → Type 0
 IsInBounds (step.App app) = (app.apid ≢ zero_id) × (length app.text ≤ 255)
-IsInBounds (step.Context context) = length context.text ≤ 255
+IsInBounds (step.Context context) = (context.apid ≢ zero_id) × (context.ctid ≢ zero_id) × (length context.text ≤ 255)
 IsInBounds (step.Claim asked) = IsClaimInBounds asked
 IsInBounds (step.Register asked) = IsClaimInBounds asked
 IsInBounds (step.User channel bytes) = 1 ≤ channel

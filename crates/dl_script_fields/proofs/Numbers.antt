@@ -9,17 +9,15 @@ use Rattle.std.specs.Result.{OkIff, result_ok}
 use Rattle.std.specs.Str.{all_ascii_digits}
 use Rattle.std.specs.Str.Parse.{digits_value, ParsesUnsigned, ParsesSigned, starts_with_minus}
 use Rattle.std.proofs.lemmas.Bool.{lt-ltb, le-ltb, le-leb, lt-leb, cases_Bool, ltb-true, leb-true, eqb-true, eqb-false}
-use Rattle.std.proofs.lemmas.Str.Parse.{IsNumeralModel, numerals_by_value, tells_all_ascii_digits, parse_plain, parse_signed_plain, parse_signed_minus}
+use Rattle.std.proofs.lemmas.Str.Parse.{parse_plain, parse_signed_plain, parse_signed_minus}
 use Rattle.dl_bytes.specs.Number.{◌>>=◌}
 use Rattle.std.specs.Int as int
 use Rattle.std.specs.Int.{w128}
+use Rattle.dl_text.proofs.Digits.{own}
 use Rattle.dl_args.specs.Width.{byte_count, int_type}
 use Rattle.dl_args.specs.declared.width.Width.{Width}
 use Rattle.dl_args.specs.declared.width.Width.TheVariants.{W8, W16, W32, W64, W128}
 use Rattle.dl_script_fields.specs.Value.{digits_field, unsigned_field, signed_field}
-
-pub own : IsNumeralModel (λ ds. all_ascii_digits ds ≡ true) (digits_value 10)
-own = numerals_by_value _ tells_all_ascii_digits
 
 -- a number where a test holds of it
 abbrev held : (ℕ → Bool) → {A : Type 0} → (ℕ → A) → ℕ → Option A

@@ -12,6 +12,7 @@ use Rattle.std.proofs.lemmas.List.Sums.{list_all-from_AllPass}
 use Rattle.std.proofs.lemmas.Str.{IsUtf8-append, IsUtf8-from_ascii}
 use Rattle.hex.specs.Hex.{encode_upper, is_hex_digit, IsBytes}
 use Rattle.hex.proofs.HexLemmas.{decode_of-ok, decode_of-encode_upper}
+use Rattle.dl_text.proofs.Digits.{own}
 use Rattle.dl_args.specs.Argument.{IsValue}
 use Rattle.dl_args.specs.Width.{byte_count, int_type}
 use Rattle.dl_args.specs.declared.arg.Arg.{Arg}
@@ -23,7 +24,7 @@ use Rattle.dl_script_fields.specs.Argument.{is_label}
 use Rattle.dl_script_fields.specs.Spelling.{with_colon, bits_of, escaped, value_spelling, names_of, spelling, HasBytes}
 use Rattle.dl_script_fields.specs.Spells.{is_letter, IsText, HoldsText, IsSaid, quoted}
 use Rattle.dl_script_fields.proofs.Letters.{no_blanks, ascii, is_whole, whole-append, digits_are, hex_are, label_are, letters-append, letters_whole, unquoted, IsGood}
-use Rattle.dl_script_fields.proofs.Numbers.{own, half_bits, all_bits, fits_negative}
+use Rattle.dl_script_fields.proofs.Numbers.{half_bits, all_bits, fits_negative}
 use Rattle.dl_script_fields.proofs.QuotedFields.{none_escaped, quoted_utf8, quoted_whole, quoted_good}
 use Rattle.dl_script_fields.proofs.Spellings.{widest, half_widest}
 

@@ -12,6 +12,7 @@ use Rattle.std.proofs.lemmas.Fmt.{decimal_is_IsNumeral_wide}
 use Rattle.std.proofs.lemmas.Str.Parse.{digit_at}
 use Rattle.hex.specs.Hex.{encode_upper, IsBytes, upper_digits}
 use Rattle.hex.proofs.HexLemmas.{decode_of-encode_upper, length-encode_with}
+use Rattle.dl_text.proofs.Digits.{own}
 use Rattle.dl_args.specs.Argument.{IsValue}
 use Rattle.dl_args.specs.Width.{byte_count, int_type}
 use Rattle.dl_args.specs.declared.arg.Arg.{Arg}
@@ -23,7 +24,7 @@ use Rattle.dl_script_fields.specs.Value.{digits_field, unsigned_field, signed_fi
 use Rattle.dl_script_fields.specs.Spelling.{with_colon, bits_of, escaped, value_spelling, names_of, spelling, HasBytes, IsSayable}
 use Rattle.dl_script_fields.specs.declared.argument.Kind.{Kind}
 use Rattle.dl_script_fields.specs.declared.argument.Kind.TheVariants as kind
-use Rattle.dl_script_fields.proofs.Numbers.{own, half_bits, all_bits, fits_negative}
+use Rattle.dl_script_fields.proofs.Numbers.{half_bits, all_bits, fits_negative}
 use Rattle.dl_script_fields.proofs.Quotes.{one_byte, or_parts}
 
 -- ---- what stands before a colon

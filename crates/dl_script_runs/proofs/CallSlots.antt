@@ -8,12 +8,13 @@ use Rattle.std.specs.Str.{bytes_eq}
 use Rattle.std.proofs.lemmas.Bool.{eq-eqb, eqb-true}
 use Rattle.std.proofs.lemmas.List.Elements.{filter_map-append}
 use Rattle.std.proofs.lemmas.Map.Keys.{IsDistinct-head, IsDistinct-tail}
-use Rattle.dl_lemmas.proofs.Lists.{all_first, all_second}
+use Rattle.dl_lemmas.proofs.Lists.{all_first, all_second, by_end}
 use Rattle.dl_bytes.specs.Claim.{Claimed}
 use Rattle.dl_bytes.specs.declared.outcome.Done.{Done}
 use Rattle.dl_events.specs.declared.event.Event.{Event}
 use Rattle.dl_events.specs.declared.event.Event.TheVariants as event
 use Rattle.dl_script_lines.specs.declared.step.Step.{Step}
+use Rattle.dl_model.proofs.StandingApps.{AreFirst, Who, channel_found, there, who}
 use Rattle.dl_script.specs.Playable.{IsPlayable}
 use Rattle.dl_model.specs.declared.context.Context.{Context}
 use Rattle.dl_model.specs.Along.{last_that}
@@ -23,21 +24,19 @@ use Rattle.dl_model.specs.Registry.{App, Registry, context_of, numbers, slot_of}
 use Rattle.dl_model.specs.Setting.{Setting}
 use Rattle.dl_model.specs.Steps.{run}
 use Rattle.dl_model.proofs.Order.{app_of_found, in_order-registry_of}
-use Rattle.dl_model.proofs.Presence.{bytes_same}
+use Rattle.dl_model.proofs.Presence.{bytes_same, same_bytes}
 use Rattle.dl_laws.proofs.Founded.{run_founded}
 use Rattle.dl_laws.proofs.Lists.{find-passes, last_that-one}
 use Rattle.dl_promises.specs.RunRecords.{IsLoadedIn}
 use Rattle.dl_promises.specs.WaitingClaims.{IsRegistered}
-use Rattle.dl_promises.proofs.Alls.{by_end}
 use Rattle.dl_promises.proofs.ClaimPlaces.{IsOwnClaim, all_own}
 use Rattle.dl_promises.proofs.OwnApps.{number_more, writer_more}
 use Rattle.dl_promises.proofs.Relations.{AreAll, holds_on, second_part}
 use Rattle.dl_promises.proofs.UniqueIds.{AreUnique, numbered, unique-registry_of}
 use Rattle.dl_script_runs.specs.OwnSlots.{IsInOwnSlot, IsTaken, claim_named}
 use Rattle.dl_script_runs.proofs.FairMarks.{Fair, StaysIn, events_stay, load_named, run_fair}
-use Rattle.dl_script_runs.proofs.LeftFree.{found_number, number_is, same_bytes}
+use Rattle.dl_script_runs.proofs.LeftFree.{found_number, number_is}
 use Rattle.dl_script_runs.proofs.PresentApps.{run_known}
-use Rattle.dl_script_runs.proofs.StandingApps.{AreFirst, Who, channel_found, there, who}
 use Rattle.dl_script_runs.proofs.StayingContexts.{Seated, seated_on}
 use Rattle.dl_script_runs.proofs.Walks.{IsNamed}
 

@@ -8,6 +8,7 @@ use Rattle.std.proofs.lemmas.Bool.{cases_lt, eqb-true}
 use Rattle.std.proofs.lemmas.List.{map-append}
 use Rattle.std.proofs.lemmas.List.Elements.{filter-append, filter_map-append}
 use Rattle.std.proofs.lemmas.Option.{slice_get_within}
+use Rattle.dl_lemmas.proofs.Lists.{all_map, get_more}
 use Rattle.dl_bytes.specs.Claim.{Claimed}
 use Rattle.dl_bytes.specs.declared.outcome.Done.{Done}
 use Rattle.dl_bytes.specs.declared.user.UserMsg.{UserMsg}
@@ -17,6 +18,8 @@ use Rattle.dl_events.specs.declared.event.Event.TheVariants as event
 use Rattle.dl_script_lines.specs.declared.line.ContextLine.{ContextLine}
 use Rattle.dl_script_lines.specs.declared.step.Step.{Step}
 use Rattle.dl_script_lines.specs.declared.step.Step.TheVariants as line
+use Rattle.dl_model.proofs.StandingApps.{channel_found, is_message}
+use Rattle.dl_model.proofs.Marks.{in_sequence-one}
 use Rattle.dl_script_fields.specs.declared.kind.ScriptKind.{ScriptKind}
 use Rattle.dl_script_fields.specs.declared.kind.ScriptKind.TheVariants.{Limit, Order, Twice}
 use Rattle.dl_script.specs.Earlier.{Declared, is_app, is_on, noted, nothing, refusal}
@@ -37,19 +40,16 @@ use Rattle.dl_model.proofs.Presence.{bytes_same}
 use Rattle.dl_model.specs.Runs.{AreFounded}
 use Rattle.dl_laws.proofs.Founded.{lines_founded}
 use Rattle.dl_promises.specs.WaitingClaims.{IsFreeIn, IsUntaken, LeavesFree, MessagesLeaveFree}
-use Rattle.dl_promises.proofs.Alls.{all_map}
 use Rattle.dl_promises.proofs.ClaimPlaces.{noted_are}
 use Rattle.dl_promises.proofs.EarlyCalls.{stand_and_owe}
 use Rattle.dl_promises.proofs.FreePlaces.{lack-lookup, unused}
-use Rattle.dl_promises.proofs.OwnApps.{slice_get-more}
 use Rattle.dl_promises.proofs.Relations.{AreAll, Keeps, both, holds_on, turns, weaker}
-use Rattle.dl_promises.proofs.WellFormed.{Stands, in_sequence-one, lines_stand, plain}
+use Rattle.dl_promises.proofs.WellFormed.{Stands, lines_stand, plain}
 use Rattle.dl_script_runs.proofs.ContextsFirst as first
 use Rattle.dl_script_runs.proofs.ContextsFirst.{context_admitted, none_tracked}
 use Rattle.dl_script_runs.proofs.LeftFree.{Spares, alone_at, number_is, own_channel, told_free}
 use Rattle.dl_script_runs.proofs.PresentApps as present
 use Rattle.dl_script_runs.proofs.PresentApps.{IsQuiet, Known, Quiet, Stand, nobody_yet, not_first, ok_or, place_apps, place_user, quiet_line, quietly, registry_noted, stand_still, tell_other}
-use Rattle.dl_script_runs.proofs.StandingApps.{channel_found, is_message}
 use Rattle.dl_script_runs.proofs.TrackedClaims.{IsPlaced, Tracked, context_more, goes_on, still_aside}
 use Rattle.dl_script_runs.proofs.Walks.{Without, ends, hands_out}
 
@@ -166,7 +166,7 @@ behind_before : (known : Declared) (claim : Claim) (done more : List Mark) (app 
 behind_before known claim done more app place admitted is = record {
   contexts = λ apid there.
       let grown = apps_more known claim in
-      let later = ap (λ (ids : List (List ℕ)). slice_get ids app) grown.1 ∙ slice_get-more known.apps grown.0 app apid there in
+      let later = ap (λ (ids : List (List ℕ)). slice_get ids app) grown.1 ∙ get_more known.apps grown.0 app apid there in
       omega (arith, is.contexts apid later, fewer_contexts apid done more);
   declared = λ came.
       let same = apps_stay known claim admitted came in

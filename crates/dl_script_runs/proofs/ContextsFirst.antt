@@ -3,7 +3,8 @@ use Rattle.std.proofs.Common.{◌≡◌, ℕ, ◌<◌, Bool, true, false, List, 
 use Rattle.std.specs.Prelude.{◌||◌, nat_le, not, negsuc}
 use Rattle.std.specs.List.{AllByRecursion, filter_map, list_any}
 use Rattle.std.specs.Option.{option_map_or}
-use Rattle.dl_lemmas.proofs.Bools.{not_false}
+use Rattle.dl_lemmas.proofs.Lists.{all_map}
+use Rattle.dl_lemmas.proofs.Bools.{neither, not_false}
 use Rattle.dl_bytes.specs.Claim.{Claimed}
 use Rattle.dl_bytes.specs.declared.outcome.Done.{Done}
 use Rattle.dl_bytes.specs.declared.user.UserMsg.TheVariants as user
@@ -11,6 +12,7 @@ use Rattle.dl_script_lines.specs.declared.line.ClaimLine.{ClaimLine}
 use Rattle.dl_script_lines.specs.declared.line.ContextLine.{ContextLine}
 use Rattle.dl_script_lines.specs.declared.step.Step.{Step}
 use Rattle.dl_script_lines.specs.declared.step.Step.TheVariants as line
+use Rattle.dl_model.proofs.Marks.{in_sequence-one}
 use Rattle.dl_script_fields.specs.declared.kind.ScriptKind.{ScriptKind}
 use Rattle.dl_script_fields.specs.declared.kind.ScriptKind.TheVariants.{Limit, Order, Twice, Unknown}
 use Rattle.dl_script.specs.Earlier.{Declared, first_of, is_app, is_claimed_on, is_context, is_on, noted, nothing, numbered, places_on, refusal}
@@ -21,11 +23,8 @@ use Rattle.dl_model.specs.Marks.{Mark, HasApp, HasContext, HasClaim, Heard, clai
 use Rattle.dl_model.specs.Setting.{Setting}
 use Rattle.dl_model.specs.Steps.{Act, act_of, announce_all, claim, claim_made, end_of, finish, in_sequence, just, new_messages, run, tell}
 use Rattle.dl_promises.specs.WaitingClaims.{ComesFirst, ContextsComeFirst}
-use Rattle.dl_promises.proofs.Alls.{all_map}
 use Rattle.dl_promises.proofs.ClaimPlaces.{same_id}
 use Rattle.dl_promises.proofs.Relations.{AreAll, Keeps, asked_for, both, each, turns, weaker}
-use Rattle.dl_promises.proofs.WellFormed.{in_sequence-one}
-use Rattle.dl_script_runs.proofs.StandingApps.{neither}
 use Rattle.dl_script_runs.proofs.Walks.{announces_all, ends, finishes, still_line}
 use Rattle.dl_script_runs.proofs.PresentApps.{not_first}
 use Rattle.dl_script_runs.proofs.TrackedClaims.{Aside, IsPlaced, Tracked, goes_claiming, goes_on, still_aside, tells, tracked_alike, tracked_context, tracked_writer}

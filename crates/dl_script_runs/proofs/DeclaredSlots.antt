@@ -13,7 +13,9 @@ use Rattle.std.proofs.lemmas.List.Folds.{list_any-append}
 use Rattle.std.proofs.lemmas.List.Quantifiers.{position-Some}
 use Rattle.std.proofs.lemmas.Option.{slice_get-get_or, slice_get_within}
 use Rattle.std.proofs.lemmas.Map.Keys.{IsDistinct-head, IsDistinct-tail}
-use Rattle.dl_lemmas.proofs.Lists.{all_at, all_first, all_second, last_or_before}
+use Rattle.std.proofs.Math.Bool.{or-true}
+use Rattle.dl_lemmas.proofs.Bools.{neither}
+use Rattle.dl_lemmas.proofs.Lists.{all_at, all_both, last_or_before}
 use Rattle.dl_lemmas.proofs.Options.{some_of}
 use Rattle.dl_bytes.specs.Claim.{Claimed}
 use Rattle.dl_bytes.specs.Id.{zero_id}
@@ -26,6 +28,8 @@ use Rattle.dl_events.specs.declared.event.Event.TheVariants as event
 use Rattle.dl_script_lines.specs.declared.line.ContextLine.{ContextLine}
 use Rattle.dl_script_lines.specs.declared.step.Step.{Step}
 use Rattle.dl_script_lines.specs.declared.step.Step.TheVariants as line
+use Rattle.dl_model.proofs.StandingApps.{channel_found, own_found}
+use Rattle.dl_model.proofs.Marks.{in_sequence-one}
 use Rattle.dl_script.specs.Earlier.{Declared, is_named, noted, nothing, numbered, refusal}
 use Rattle.dl_script.specs.declared.claim.Claim.TheVariants as claim_of_line
 use Rattle.dl_script.specs.declared.claim.ContextName.{ContextName}
@@ -45,21 +49,19 @@ use Rattle.dl_model.specs.Steps.{Act, act_of, after_lines, changes, end_of, in_s
 use Rattle.dl_model.proofs.Numbered.{IsNumbered-add, IsNumbered-length, below_least_free, least_free-is_free}
 use Rattle.dl_model.proofs.Order.{app_of_found, in_order-registry_of, placed_of_found}
 use Rattle.dl_model.proofs.Placed.{all-left, all-right, apart-right}
-use Rattle.dl_model.proofs.Presence.{bytes_differ, bytes_same, bytes_tell, lookup-push, lookup-set_same}
+use Rattle.dl_model.proofs.Presence.{bytes_differ, bytes_same, bytes_tell, lookup-push, lookup-set_same, same_bytes}
 use Rattle.dl_promises.specs.RunRecords.{IsLoadedIn}
-use Rattle.dl_promises.proofs.Alls.{all_more}
 use Rattle.dl_promises.proofs.EarlyCalls.{stand_and_owe}
 use Rattle.dl_promises.proofs.FreePlaces.{IsUnused, lack-lookup, unused}
 use Rattle.dl_promises.proofs.Relations.{AreAll, Keeps, both, first_part, holds_on, second_part, turns, weaker}
-use Rattle.dl_promises.proofs.WellFormed.{Stands, in_sequence-one, lines_stand, plain}
+use Rattle.dl_promises.proofs.WellFormed.{Stands, lines_stand, plain}
 use Rattle.dl_script_runs.specs.OwnSlots.{IsInOwnSlot, claim_named}
 use Rattle.dl_script_runs.proofs.CallSlots.{in_own_slot, its_number, named}
 use Rattle.dl_script_runs.proofs.ClaimedFree.{Comes, IsBehind, Leaves, are_left, begins, comes_on, none_of, none_taken, quietly_left}
 use Rattle.dl_script_runs.proofs.ContextsFirst.{IsAdmitted, context_admitted}
 use Rattle.dl_script_runs.proofs.FairMarks.{Calm, Fair, IsNoContext, calm_fair, calmly, events_stay, fairly, levels_calm, levels_now_calm, line_calm, line_fair}
-use Rattle.dl_script_runs.proofs.LeftFree.{alone_at, same_bytes}
+use Rattle.dl_script_runs.proofs.LeftFree.{alone_at}
 use Rattle.dl_script_runs.proofs.PresentApps.{Known, hands_out_quiet, place_apps, registry_noted, stand_still}
-use Rattle.dl_script_runs.proofs.StandingApps.{channel_found, neither, or_right, own_found}
 use Rattle.dl_script_runs.proofs.StayingContexts.{Has, Seated, seated_on}
 use Rattle.dl_script_runs.proofs.TrackedClaims.{Aside, tells}
 use Rattle.dl_script_runs.proofs.Walks.{ends}
@@ -85,7 +87,7 @@ lookup_place place test (e ∷ cs) c found has = list_any-append (nat_eq place) 
   by true here next =
       let same : e.1 ≡ c = cc in
       ap (λ (b : Bool). b || list_any (nat_eq place) (places cs)) (ap (λ (x : Context). has_place place x) same ∙ has)
-  by false past next = ap (λ (b : Bool). list_any (nat_eq place) (places_of e.1) || b) (next past) ∙ or_right (list_any (nat_eq place) (places_of e.1))
+  by false past next = ap (λ (b : Bool). list_any (nat_eq place) (places_of e.1) || b) (next past) ∙ or-true (list_any (nat_eq place) (places_of e.1))
 
 pub lookup_below : (test : List ℕ → Bool) (cs : List (List ℕ × Context)) (c : Context) → AllByRecursion (λ n. n < 64) (places cs) → lookup test cs ≡ Some c → c.place < 64
 lookup_below test [] c below found = absurd cc
@@ -163,10 +165,6 @@ none_named apid ctid (c ∷ cs) none =
       by true other rest = (other, rest)
       by false other rest = rest
 
--- no context of the application has the zero id, which registers none
-abbrev pub NoZero : List ℕ → List Mark → Type 0
-NoZero apid done = AllByRecursion (λ (c : ContextLine). c.ctid ≢ zero_id) (contexts_of apid done)
-
 levels_no_claims : (app : ℕ) (cs : List LevelChange) → claims app (journal (map level_noted cs)) ≡ []
 levels_no_claims app [] = refl
 levels_no_claims app (c ∷ cs) = levels_no_claims app cs
@@ -174,7 +172,7 @@ levels_no_claims app (c ∷ cs) = levels_no_claims app cs
 module _ (setting : Setting) where
   -- each context that lines declared is in the registry
   abbrev pub AreSeated : List Mark → Type 0
-  AreSeated done = (apid : List ℕ) → NoZero apid done → (place : ℕ) (context : ContextLine) → slice_get (contexts_of apid done) place ≡ Some context →
+  AreSeated done = (apid : List ℕ) (place : ℕ) (context : ContextLine) → slice_get (contexts_of apid done) place ≡ Some context →
       (n : ℕ) × Seated apid n context.ctid place (registry_of setting (journal done))
 
   -- one that is there stays there by fair marks
@@ -185,9 +183,9 @@ module _ (setting : Setting) where
 
   -- so do all, by marks that declare none
   pub calm_seated : (done marks : List Mark) → AreAll Calm done marks → AreSeated done → AreSeated (done ++ marks)
-  calm_seated done marks calm seated apid none place context at =
+  calm_seated done marks calm seated apid place context at =
       let same : contexts_of apid (done ++ marks) ≡ contexts_of apid done = ap (filter (of_app apid)) (along Calm calm_none done marks calm) in
-      let before = seated apid (subst (AllByRecursion (λ (c : ContextLine). c.ctid ≢ zero_id)) same none) place context (ap (λ (cs : List ContextLine). slice_get cs place) (sym same) ∙ at) in
+      let before = seated apid place context (ap (λ (cs : List ContextLine). slice_get cs place) (sym same) ∙ at) in
       (before.0, later apid before.0 context.ctid place done marks (weaker Calm Fair calm_fair done marks calm) before.1)
 
   -- at each load
@@ -307,123 +305,122 @@ module _ (setting : Setting) (answers : List Done) (begins_fresh : setting.first
 
     -- ---- each place before is taken
 
-    module _ (no_zero : NoZero context.apid done) where
-      fair_now : AreAll Fair done (HasContext context ∷ levels)
-      fair_now = (tt, fairly (note_levels setting) (levels_calm setting) declared)
+    fair_now : AreAll Fair done (HasContext context ∷ levels)
+    fair_now = (tt, fairly (note_levels setting) (levels_calm setting) declared)
 
-      taken_by : (k : ℕ) (c : ContextLine) → slice_get (contexts_of context.apid done) k ≡ Some c → (x : Context) × (lookup (bytes_eq c.ctid) app.contexts ≡ Some x) × Has k x
-      taken_by k c there =
-          let seat = seated context.apid no_zero k c there in
-          let still = subst (λ (ms : List Mark). Seated context.apid seat.0 c.ctid k (registry_of setting (journal ms))) (sym (append_assoc done (HasContext context ∷ []) levels))
-          (later setting context.apid seat.0 c.ctid k done (HasContext context ∷ levels) fair_now seat.1) in
-          let both_are : Some still.entry ≡ Some app = sym still.there ∙ looked in
-          let same : still.entry ≡ app = cc in
-          let one = still.is.context in
-          (one.entry, ap (λ (a : App). lookup (bytes_eq c.ctid) a.contexts) (sym same) ∙ one.there, one.is)
+    taken_by : (k : ℕ) (c : ContextLine) → slice_get (contexts_of context.apid done) k ≡ Some c → (x : Context) × (lookup (bytes_eq c.ctid) app.contexts ≡ Some x) × Has k x
+    taken_by k c there =
+        let seat = seated context.apid k c there in
+        let still = subst (λ (ms : List Mark). Seated context.apid seat.0 c.ctid k (registry_of setting (journal ms))) (sym (append_assoc done (HasContext context ∷ []) levels))
+        (later setting context.apid seat.0 c.ctid k done (HasContext context ∷ levels) fair_now seat.1) in
+        let both_are : Some still.entry ≡ Some app = sym still.there ∙ looked in
+        let same : still.entry ≡ app = cc in
+        let one = still.is.context in
+        (one.entry, ap (λ (a : App). lookup (bytes_eq c.ctid) a.contexts) (sym same) ∙ one.there, one.is)
 
-      line_at : (k : ℕ) → k < place → (c : ContextLine) × (slice_get (contexts_of context.apid done) k ≡ Some c)
-      line_at k lt = (get_or (contexts_of context.apid done) k context, slice_get-get_or (contexts_of context.apid done) k context lt)
+    line_at : (k : ℕ) → k < place → (c : ContextLine) × (slice_get (contexts_of context.apid done) k ≡ Some c)
+    line_at k lt = (get_or (contexts_of context.apid done) k context, slice_get-get_or (contexts_of context.apid done) k context lt)
 
-      least_is : least_free (places app.contexts) ≡ place
-      least_is =
-          let least = least_free (places app.contexts) in
-          elim (cases_lt place least) [
-            | inl more ↦ absurd (true≢false (sym (below_least_free (places app.contexts) place more) ∙ free_at place (omega arith) place_below))
-            | inr most ↦ elim (cases_lt least place) [
-              | inl less ↦
-                  let one = line_at least less in
-                  let by = taken_by least one.0 one.1 in
-                  absurd (true≢false (sym (lookup_place least (bytes_eq one.0.ctid) app.contexts by.0 by.1 by.2) ∙ least_free-is_free (places app.contexts)))
-              | inr same ↦ omega (arith, most, same)
-            ]
+    least_is : least_free (places app.contexts) ≡ place
+    least_is =
+        let least = least_free (places app.contexts) in
+        elim (cases_lt place least) [
+          | inl more ↦ absurd (true≢false (sym (below_least_free (places app.contexts) place more) ∙ free_at place (omega arith) place_below))
+          | inr most ↦ elim (cases_lt least place) [
+            | inl less ↦
+                let one = line_at least less in
+                let by = taken_by least one.0 one.1 in
+                absurd (true≢false (sym (lookup_place least (bytes_eq one.0.ctid) app.contexts by.0 by.1 by.2) ∙ least_free-is_free (places app.contexts)))
+            | inr same ↦ omega (arith, most, same)
+          ]
+        ]
+
+    in_order : IsNumbered 64 (places app.contexts)
+    in_order = placed_of_found here context.apid app (in_order-registry_of setting (journal now)) looked
+
+    fresh_names : AllByRecursion (λ (c : ContextLine). bytes_eq c.ctid context.ctid ≡ false) (contexts_of context.apid done)
+    fresh_names = none_named context.apid context.ctid (filter_map context_in done) (ap (list_any (is_named context.apid context.ctid)) same_names ∙ may.fresh)
+
+    -- the context isn't there yet
+    new_one : context_of app context.ctid ≡ None
+    new_one = by (context_of app context.ctid) refl where
+      none_there : (x : Context) → context_of app context.ctid ≡ Some x → ⊥
+      none_there x is =
+          let n = x.place in
+          let has : Has n x = ap (λ (b : Bool). b || list_any (nat_eq n) x.further) (eq-eqb n n refl) in
+          let below = lookup_below (bytes_eq context.ctid) app.contexts x in_order.below is in
+          elim (cases_lt n place) [
+            | inl less ↦
+                let one = line_at n less in
+                let by = taken_by n one.0 one.1 in
+                let same : one.0.ctid ≡ context.ctid = one_of_place n one.0.ctid context.ctid app.contexts by.0 x in_order.apart by.1 by.2 is has in
+                let other = all_at (λ (c : ContextLine). bytes_eq c.ctid context.ctid ≡ false) (contexts_of context.apid done) n one.0 fresh_names one.1 in
+                true≢false (sym (ap (λ (id : List ℕ). bytes_eq id context.ctid) same ∙ bytes_same context.ctid) ∙ other)
+            | inr more ↦ true≢false (sym (lookup_place n (bytes_eq context.ctid) app.contexts x is has) ∙ free_at n more below)
           ]
 
-      in_order : IsNumbered 64 (places app.contexts)
-      in_order = placed_of_found here context.apid app (in_order-registry_of setting (journal now)) looked
+      by : (o : Option Context) → context_of app context.ctid ≡ o → o ≡ None
+      by None is = refl
+      by (Some x) is = absurd (none_there x is)
 
-      fresh_names : AllByRecursion (λ (c : ContextLine). bytes_eq c.ctid context.ctid ≡ false) (contexts_of context.apid done)
-      fresh_names = none_named context.apid context.ctid (filter_map context_in done) (ap (list_any (is_named context.apid context.ctid)) same_names ∙ may.fresh)
+    room : nat_le 64 (length (places app.contexts)) ≡ false
+    room =
+        let more = IsNumbered-add 64 (places app.contexts) place in_order (free_at place (omega arith) place_below) place_below in
+        let count : length (places app.contexts) < 64 = omega (arith, IsNumbered-length 64 (places app.contexts ++ place ∷ []) more, length-append (places app.contexts) (place ∷ [])) in
+        grind (arith, count)
 
-      -- the context isn't there yet
-      new_one : context_of app context.ctid ≡ None
-      new_one = by (context_of app context.ctid) refl where
-        none_there : (x : Context) → context_of app context.ctid ≡ Some x → ⊥
-        none_there x is =
-            let n = x.place in
-            let has : Has n x = ap (λ (b : Bool). b || list_any (nat_eq n) x.further) (eq-eqb n n refl) in
-            let below = lookup_below (bytes_eq context.ctid) app.contexts x in_order.below is in
-            elim (cases_lt n place) [
-              | inl less ↦
-                  let one = line_at n less in
-                  let by = taken_by n one.0 one.1 in
-                  let same : one.0.ctid ≡ context.ctid = one_of_place n one.0.ctid context.ctid app.contexts by.0 x in_order.apart by.1 by.2 is has in
-                  let other = all_at (λ (c : ContextLine). bytes_eq c.ctid context.ctid ≡ false) (contexts_of context.apid done) n one.0 fresh_names one.1 in
-                  true≢false (sym (ap (λ (id : List ℕ). bytes_eq id context.ctid) same ∙ bytes_same context.ctid) ∙ other)
-              | inr more ↦ true≢false (sym (lookup_place n (bytes_eq context.ctid) app.contexts x is has) ∙ free_at n more below)
-            ]
+    slot_fresh : ((slots_of setting (journal now) (slot_of app.number (least_free (places app.contexts)))).version == last_version) ≡ false
+    slot_fresh =
+        ap (λ (k : ℕ). (slots_of setting (journal now) (slot_of app.number k)).version == last_version) least_is
+        ∙ ap (λ (s : Slot). s.version == last_version) (free_from place (omega arith) place_below).slot ∙ ne_eqb setting.first last_version begins_fresh
 
-        by : (o : Option Context) → context_of app context.ctid ≡ o → o ≡ None
-        by None is = refl
-        by (Some x) is = absurd (none_there x is)
+    module _ (zero_not : context.ctid ≢ zero_id) where
+      abbrev new : Context
+      new = record {
+        place = least_free (places app.contexts);
+        further = [];
+        own = option_or (stored_level here.stored context.apid context.ctid) context.level;
+        position = 0;
+        text = context.text;
+      }
 
-      room : nat_le 64 (length (places app.contexts)) ≡ false
-      room =
-          let more = IsNumbered-add 64 (places app.contexts) place in_order (free_at place (omega arith) place_below) place_below in
-          let count : length (places app.contexts) < 64 = omega (arith, IsNumbered-length 64 (places app.contexts ++ place ∷ []) more, length-append (places app.contexts) (place ∷ [])) in
-          grind (arith, count)
+      abbrev registered : Registry
+      registered = with_app here context.apid (with_new_context app context.ctid new)
 
-      slot_fresh : ((slots_of setting (journal now) (slot_of app.number (least_free (places app.contexts)))).version == last_version) ≡ false
-      slot_fresh =
-          ap (λ (k : ℕ). (slots_of setting (journal now) (slot_of app.number k)).version == last_version) least_is
-          ∙ ap (λ (s : Slot). s.version == last_version) (free_from place (omega arith) place_below).slot ∙ ne_eqb setting.first last_version begins_fresh
+      ids_named : (bytes_eq context.apid zero_id || bytes_eq context.ctid zero_id) ≡ false
+      ids_named =
+          ap (λ (b : Bool). b || bytes_eq context.ctid zero_id) (bytes_differ context.apid zero_id (all_at (λ id. id ≢ zero_id) known.apps app.number context.apid names at_number))
+          ∙ bytes_differ context.ctid zero_id zero_not
 
-      module _ (zero_not : context.ctid ≢ zero_id) where
-        abbrev new : Context
-        new = record {
-          place = least_free (places app.contexts);
-          further = [];
-          own = option_or (stored_level here.stored context.apid context.ctid) context.level;
-          position = 0;
-          text = context.text;
-        }
+      accepted : applied (slots_of setting (journal now)) here 0 msg ≡ Ok registered
+      accepted =
+          let slots = slots_of setting (journal now) in
+          let next : App → Result Registry RegistryFault = λ a. context_registered slots here context.apid context.ctid 0 context.level context.text a (context_of a context.ctid) in
+          ap (λ (b : Bool). cond b (Err fault.ZeroId) (for_app (app_of here 0 context.apid) next)) ids_named
+          ∙ ap (λ (o : Option App). for_app o next) found.1
+          ∙ ap (context_registered slots here context.apid context.ctid 0 context.level context.text app) new_one
+          ∙ ap (λ (b : Bool). cond b (Err fault.ContextsFull) (cond ((slots (slot_of app.number (least_free (places app.contexts)))).version == last_version) (Err fault.Worn) (Ok registered))) room
+          ∙ ap (λ (b : Bool). cond b (Err fault.Worn) (Ok registered)) slot_fresh
 
-        abbrev registered : Registry
-        registered = with_app here context.apid (with_new_context app context.ctid new)
-
-        ids_named : (bytes_eq context.apid zero_id || bytes_eq context.ctid zero_id) ≡ false
-        ids_named =
-            ap (λ (b : Bool). b || bytes_eq context.ctid zero_id) (bytes_differ context.apid zero_id (all_at (λ id. id ≢ zero_id) known.apps app.number context.apid names at_number))
-            ∙ bytes_differ context.ctid zero_id zero_not
-
-        accepted : applied (slots_of setting (journal now)) here 0 msg ≡ Ok registered
-        accepted =
-            let slots = slots_of setting (journal now) in
-            let next : App → Result Registry RegistryFault = λ a. context_registered slots here context.apid context.ctid 0 context.level context.text a (context_of a context.ctid) in
-            ap (λ (b : Bool). cond b (Err fault.ZeroId) (for_app (app_of here 0 context.apid) next)) ids_named
-            ∙ ap (λ (o : Option App). for_app o next) found.1
-            ∙ ap (context_registered slots here context.apid context.ctid 0 context.level context.text app) new_one
-            ∙ ap (λ (b : Bool). cond b (Err fault.ContextsFull) (cond ((slots (slot_of app.number (least_free (places app.contexts)))).version == last_version) (Err fault.Worn) (Ok registered))) room
-            ∙ ap (λ (b : Bool). cond b (Err fault.Worn) (Ok registered)) slot_fresh
-
-        -- so it is there right after its message
-        new_seated : Seated context.apid app.number context.ctid place (registry_of setting (journal (now ++ told ∷ [])))
-        new_seated =
-            let is : registry_of setting (journal (now ++ told ∷ [])) ≡ registered =
-            registry_noted setting now (event.User 0 msg (moment now)) ∙ ap (λ (result : Result Registry RegistryFault). result_unwrap_or result here) accepted in
-            subst (Seated context.apid app.number context.ctid place) (sym is) (record {
-              entry = with_new_context app context.ctid new;
-              there = lookup-set_same context.apid here.apps app (with_new_context app context.ctid new) looked;
-              is = record {
-                own = own;
-                number_is = refl;
-                context = record {
-                  entry = new;
-                  there = lookup-push (bytes_eq context.ctid) app.contexts context.ctid new ∙ ap (λ (o : Option Context). option_or o (cond (bytes_eq context.ctid context.ctid) (Some new) None)) new_one
-                      ∙ ap (λ (b : Bool). cond b (Some new) None) (bytes_same context.ctid);
-                  is = ap (λ (b : Bool). b || false) (eq-eqb place new.place (sym least_is));
-                };
+      -- so it is there right after its message
+      new_seated : Seated context.apid app.number context.ctid place (registry_of setting (journal (now ++ told ∷ [])))
+      new_seated =
+          let is : registry_of setting (journal (now ++ told ∷ [])) ≡ registered =
+          registry_noted setting now (event.User 0 msg (moment now)) ∙ ap (λ (result : Result Registry RegistryFault). result_unwrap_or result here) accepted in
+          subst (Seated context.apid app.number context.ctid place) (sym is) (record {
+            entry = with_new_context app context.ctid new;
+            there = lookup-set_same context.apid here.apps app (with_new_context app context.ctid new) looked;
+            is = record {
+              own = own;
+              number_is = refl;
+              context = record {
+                entry = new;
+                there = lookup-push (bytes_eq context.ctid) app.contexts context.ctid new ∙ ap (λ (o : Option Context). option_or o (cond (bytes_eq context.ctid context.ctid) (Some new) None)) new_one
+                    ∙ ap (λ (b : Bool). cond b (Some new) None) (bytes_same context.ctid);
+                is = ap (λ (b : Bool). b || false) (eq-eqb place new.place (sym least_is));
               };
-            })
+            };
+          })
 
     -- ---- what the line leaves
 
@@ -448,19 +445,18 @@ module _ (setting : Setting) (answers : List Done) (begins_fresh : setting.first
     Now apid c k = (n : ℕ) × Seated apid n c.ctid k (registry_of setting (journal (done ++ line_marks)))
 
     contexts_seated : IsInBounds (line.Context context) → AreSeated setting (done ++ line_marks)
-    contexts_seated bounds apid none k c there =
+    contexts_seated bounds apid k c there =
         let grown : contexts_of apid (done ++ line_marks) ≡ contexts_of apid done ++ filter (of_app apid) (context ∷ []) =
         ap (filter (of_app apid)) contexts_now ∙ filter-append (of_app apid) (filter_map context_in done) (context ∷ []) in
-        by (bytes_eq context.apid apid) refl (subst (AllByRecursion (λ (x : ContextLine). x.ctid ≢ zero_id)) grown none) (sym (ap (λ (cs : List ContextLine). slice_get cs k) grown) ∙ there) where
-          before : NoZero apid done → slice_get (contexts_of apid done) k ≡ Some c → Now apid c k
-          before some at =
-              let was = seated apid some k c at in
+        by (bytes_eq context.apid apid) refl (sym (ap (λ (cs : List ContextLine). slice_get cs k) grown) ∙ there) where
+          before : slice_get (contexts_of apid done) k ≡ Some c → Now apid c k
+          before at =
+              let was = seated apid k c at in
               (was.0, later setting apid was.0 c.ctid k done line_marks (line_fair setting answers (line.Context context) bounds done) was.1)
 
-          this_one : NoZero apid done → context.ctid ≢ zero_id → context.apid ≡ apid → k ≡ place → context ≡ c → Now apid c k
-          this_one some named mine at same =
-              let own_some = subst (λ (id : List ℕ). NoZero id done) (sym mine) some in
-              let new_one = later setting context.apid app.number context.ctid place (now ++ told ∷ []) behind behind_fair (new_seated own_some named) in
+          this_one : context.apid ≡ apid → k ≡ place → context ≡ c → Now apid c k
+          this_one mine at same =
+              let new_one = later setting context.apid app.number context.ctid place (now ++ told ∷ []) behind behind_fair (new_seated bounds.1) in
               let whole = subst (λ (ms : List Mark). Seated context.apid app.number context.ctid place (registry_of setting (journal ms))) (sym parts) new_one in
               let r = registry_of setting (journal (done ++ line_marks)) in (
                 app.number,
@@ -468,17 +464,15 @@ module _ (setting : Setting) (answers : List Done) (begins_fresh : setting.first
                     (subst (λ (n : ℕ). Seated context.apid app.number context.ctid n r) (sym at) whole)),
               )
 
-          by : (b : Bool) → bytes_eq context.apid apid ≡ b → AllByRecursion (λ (x : ContextLine). x.ctid ≢ zero_id) (contexts_of apid done ++ cond b (context ∷ []) [])
+          by : (b : Bool) → bytes_eq context.apid apid ≡ b
               → slice_get (contexts_of apid done ++ cond b (context ∷ []) []) k ≡ Some c → Now apid c k
-          by false other all at =
+          by false other at =
               let same = append-nil (contexts_of apid done) in
-              before (subst (AllByRecursion (λ (x : ContextLine). x.ctid ≢ zero_id)) same all) (sym (ap (λ (cs : List ContextLine). slice_get cs k) same) ∙ at)
-          by true mine all at =
-              let some = all_first (λ (x : ContextLine). x.ctid ≢ zero_id) (contexts_of apid done) (context ∷ []) all in
-              let here_too = all_second (λ (x : ContextLine). x.ctid ≢ zero_id) (contexts_of apid done) (context ∷ []) all in
+              before (sym (ap (λ (cs : List ContextLine). slice_get cs k) same) ∙ at)
+          by true mine at =
               let ids = same_bytes context.apid apid mine in
-              last_or_before (contexts_of apid done) context c k at (Now apid c k) (λ there. before some there) (λ end same.
-              this_one some here_too.0 ids (end ∙ ap (λ (id : List ℕ). length (contexts_of id done)) (sym ids)) same)
+              last_or_before (contexts_of apid done) context c k at (Now apid c k) (λ there. before there) (λ end same.
+              this_one ids (end ∙ ap (λ (id : List ℕ). length (contexts_of id done)) (sym ids)) same)
 
 -- ---- messages load no call
 
@@ -549,7 +543,7 @@ module _ (setting : Setting) (answers : List Done) (begins_fresh : setting.first
       }
 
   line_sits : (step : Step) → refusal known (step_claim step) ≡ None → IsInBounds step → LineSits setting answers known step done
-  line_sits (line.App app) admitted bounds = goes_calm (line.App app) tt admitted bounds (all_more (λ id. id ≢ zero_id) known.apps (app.apid ∷ []) is.names (bounds.0, tt)) refl
+  line_sits (line.App app) admitted bounds = goes_calm (line.App app) tt admitted bounds (all_both (λ id. id ≢ zero_id) known.apps (app.apid ∷ []) is.names (bounds.0, tt)) refl
   line_sits (line.Context context) admitted bounds = goes_context context admitted bounds
   line_sits (line.Claim asked) admitted bounds =
       goes_calm (line.Claim asked) tt admitted bounds (subst (AllByRecursion (λ id. id ≢ zero_id)) (sym (place_apps known asked.writer asked.ctid)) is.names) (place_contexts known asked.writer asked.ctid)
@@ -569,7 +563,7 @@ module _ (setting : Setting) (answers : List Done) (begins_fresh : setting.first
       (both (Sits setting) done more next one.sit rest.0, subst (AreSeated setting) (append_assoc done more next) rest.1)
 
   none_seated : AreSeated setting []
-  none_seated apid none place context at = absurd cc
+  none_seated apid place context at = absurd cc
 
   -- ---- runs
 
@@ -582,8 +576,8 @@ module _ (setting : Setting) (answers : List Done) (begins_fresh : setting.first
       (both (Sits setting) [] lines (end_of setting lines) go.0 (calm_sit setting lines (end_of setting lines) (calmly (end_of setting) (ends setting) lines) go.1))
 
   pub declared_in_slot : (steps : List Step) (call : Call) → IsPlayable steps → (loaded : IsLoadedIn setting (run setting answers steps) call) → claim_named call.item.writer call.item.ctid loaded.before ≡ None →
-      NoZero call.item.apid loaded.before → IsInOwnSlot (registry_of setting (journal loaded.before)) call
-  declared_in_slot steps call playable loaded none no_zero =
+      IsInOwnSlot (registry_of setting (journal loaded.before)) call
+  declared_in_slot steps call playable loaded none =
       let is = named setting answers steps playable call loaded in
       let r = registry_of setting (journal loaded.before) in
       let contexts = contexts_of call.item.apid loaded.before in
@@ -594,7 +588,7 @@ module _ (setting : Setting) (answers : List Done) (begins_fresh : setting.first
       let some : ContextLine = record { apid = []; ctid = []; level = None; text = [] } in
       let first = position-Some (λ (c : ContextLine). bytes_eq c.ctid call.item.ctid) contexts is.place some at in
       let context = get_or contexts is.place some in
-      let seat = all_seated call.item.apid no_zero is.place context (slice_get-get_or contexts is.place some first.0) in
+      let seat = all_seated call.item.apid is.place context (slice_get-get_or contexts is.place some first.0) in
       let mine : Seated call.item.apid seat.0 call.item.ctid is.place r =
       subst (λ (id : List ℕ). Seated call.item.apid seat.0 id is.place r) (same_bytes context.ctid call.item.ctid first.1) seat.1 in
       in_own_slot r call is.place (subst (λ (n : ℕ). Seated call.item.apid n call.item.ctid is.place r) {x = seat.0} (its_number setting answers steps playable call loaded seat.0 call.item.ctid is.place mine) mine) is.slot

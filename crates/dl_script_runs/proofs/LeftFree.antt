@@ -1,5 +1,5 @@
 -- What a message of an application leaves of a place that nobody has.
-use Rattle.std.proofs.Common.{◌≡◌, ℕ, suc, ◌+◌, ◌<◌, ◌≤◌, Bool, true, false, cond, get_or, List, [], ◌∷◌, length, map, not, Option, Some, None, Result, Ok, Err, refl, sym, ap, subst, ◌∙◌, arith, inl, inr, true≢false}
+use Rattle.std.proofs.Common.{◌≡◌, ℕ, suc, ◌+◌, ◌<◌, ◌≤◌, Bool, true, false, cond, get_or, List, [], ◌∷◌, length, map, not, Option, Some, None, Result, Ok, Err, refl, sym, ap, subst, ◌∙◌, arith, true≢false}
 use Rattle.std.specs.Prelude.{◌==◌, ◌||◌, nat_eq, nat_le, if◌then◌else◌, slice_get, IfOk}
 use Rattle.std.specs.List.{AllByRecursion, IsDistinct, filter, list_any}
 use Rattle.std.specs.Map.{lookup}
@@ -10,6 +10,9 @@ use Rattle.std.proofs.lemmas.List.Folds.{list_any-append}
 use Rattle.std.proofs.lemmas.List.Quantifiers.{position-Some}
 use Rattle.std.proofs.lemmas.Option.{slice_get-get_or, slice_get-map}
 use Rattle.std.proofs.lemmas.Map.Keys.{IsDistinct-head, IsDistinct-tail}
+use Rattle.dl_lemmas.proofs.Bools.{neither}
+use Rattle.dl_lemmas.proofs.Options.{ifok_if}
+use Rattle.dl_lemmas.proofs.Lists.{all_both}
 use Rattle.dl_bytes.specs.Id.{zero_id}
 use Rattle.dl_bytes.specs.Limits.{last_version}
 use Rattle.dl_bytes.specs.declared.user.UserMsg.{UserMsg}
@@ -23,11 +26,11 @@ use Rattle.dl_model.specs.Marks.{Mark, apps, number_of}
 use Rattle.dl_model.specs.Registry.{App, Registry, app_of, app_registered, app_unregistered, applied, context_of, context_registered, context_unregistered, for_app, least_free, numbers, places, places_of, slot_of, stored_level, with_app, with_context, with_new_context, without}
 use Rattle.dl_model.proofs.Order.{app_of_found}
 use Rattle.dl_model.proofs.Placed.{places-push, places-same}
-use Rattle.dl_model.proofs.Presence.{bytes_tell}
+use Rattle.dl_model.proofs.Presence.{same_bytes}
+use Rattle.dl_model.proofs.StandingApps.{AreFirst, Who, who}
 use Rattle.dl_promises.specs.WaitingClaims.{IsFreeIn}
-use Rattle.dl_promises.proofs.Alls.{all_filter, all_more}
+use Rattle.dl_promises.proofs.Alls.{all_filter}
 use Rattle.dl_promises.proofs.FreePlaces.{lack-lookup, lack-set_value}
-use Rattle.dl_script_runs.proofs.StandingApps.{AreFirst, Who, ifok_if, neither, who}
 
 module _ (app place : ℕ) where
   abbrev Free : Registry → Type 0
@@ -64,7 +67,7 @@ module _ (app place : ℕ) where
       by false = tt
     registered channel apid pid text None found =
         ifok_if Free (nat_le 16 (length r.apps)) fault.AppsFull _
-        (all_more (λ (e : List ℕ × App). e.1.number ≡ app → list_any (nat_eq place) (places e.1.contexts) ≡ false) r.apps
+        (all_both (λ (e : List ℕ × App). e.1.number ≡ app → list_any (nat_eq place) (places e.1.contexts) ≡ false) r.apps
         ((apid, record { channel = channel; number = least_free (numbers r.apps); pid = pid; text = text; contexts = [] }) ∷ []) free ((λ _. refl), tt))
 
     unregistered : (apid : List ℕ) (o : Option App) → IfOk (app_unregistered r apid o) Free
@@ -117,9 +120,6 @@ found_number P test (e ∷ es) a found all = by (test e.0) found (λ later. foun
   by : (b : Bool) → cond b (Some e.1) (lookup test es) ≡ Some a → (lookup test es ≡ Some a → P a.number) → P a.number
   by true here rest = let same : e.1 ≡ a = cc in subst (λ (x : App). P x.number) same all.0
   by false later rest = rest later
-
-pub same_bytes : (a b : List ℕ) → bytes_eq a b ≡ true → a ≡ b
-same_bytes a b is = elim (bytes_tell a b) as (λ _. a ≡ b) [ inl same ↦ same.1 | inr other ↦ absurd cc ]
 
 -- one that has the number of one of the first is of this process
 pub own_channel : (number : ℕ) (apids : List (List ℕ)) (es : List (List ℕ × App)) → AreFirst number apids (map who es) → IsDistinct nat_eq (numbers es) → (apid : List ℕ) (a : App) → lookup (bytes_eq apid) es ≡ Some a →

@@ -1,4 +1,3 @@
-pub mod StandingApps
 pub mod Walks
 pub mod LeftFree
 pub mod PresentApps

@@ -19,6 +19,8 @@ use Rattle.dl_script_lines.specs.declared.line.ClaimLine.{ClaimLine}
 use Rattle.dl_script_lines.specs.declared.line.ContextLine.{ContextLine}
 use Rattle.dl_script_lines.specs.declared.step.Step.{Step}
 use Rattle.dl_script_lines.specs.declared.step.Step.TheVariants as line
+use Rattle.dl_model.proofs.StandingApps.{AreFirst, app_comes, event_same, first_one, in_context, is_message, numbered_there, own, there, told_stay, who}
+use Rattle.dl_model.proofs.Marks.{in_sequence-one}
 use Rattle.dl_script_fields.specs.declared.kind.ScriptKind.{ScriptKind}
 use Rattle.dl_script_fields.specs.declared.kind.ScriptKind.TheVariants.{Limit, Order, Twice}
 use Rattle.dl_script.specs.Earlier.{Declared, first_of, noted, nothing, numbered, refusal}
@@ -39,8 +41,7 @@ use Rattle.dl_promises.proofs.Alls.{all_filter}
 use Rattle.dl_promises.proofs.ClaimPlaces.{IsOwnClaim, all_own_announced, announced_in_ring}
 use Rattle.dl_promises.proofs.OwnApps.{number-within}
 use Rattle.dl_promises.proofs.Relations.{AreAll, Keeps, asked_for, both, each, holds_on, turns, weaker}
-use Rattle.dl_promises.proofs.WellFormed.{in_sequence-one, plain}
-use Rattle.dl_script_runs.proofs.StandingApps.{AreFirst, app_comes, event_same, first_one, in_context, is_message, numbered_there, own, there, told_stay, who}
+use Rattle.dl_promises.proofs.WellFormed.{plain}
 use Rattle.dl_script_runs.proofs.Walks.{Goes, Still, Without, announces_all, ends, finishes, goes_none, goes_then, hands_out, hands_out_now, no_message, notes, still_line}
 
 -- ---- marks that declare no application, and tell no message

@@ -6,6 +6,7 @@ use Rattle.std.specs.Map.{lookup, set_value}
 use Rattle.std.specs.Option.{option_or}
 use Rattle.std.specs.Str.{bytes_eq}
 use Rattle.std.proofs.lemmas.List.Folds.{list_any-append}
+use Rattle.dl_lemmas.proofs.Options.{ifok_if}
 use Rattle.dl_bytes.specs.Claim.{Claimed}
 use Rattle.dl_bytes.specs.Id.{zero_id}
 use Rattle.dl_bytes.specs.Limits.{last_version}
@@ -25,10 +26,10 @@ use Rattle.dl_model.specs.Setting.{Setting}
 use Rattle.dl_model.proofs.OneMore.{registry-one}
 use Rattle.dl_model.proofs.Order.{app_of_found}
 use Rattle.dl_model.proofs.Presence.{bytes_tell, lookup-push, lookup-set_other, lookup-set_same, lookup-without_other}
+use Rattle.dl_model.proofs.StandingApps.{channel_found}
 use Rattle.dl_promises.proofs.UniqueIds.{claim_makes, served_keeps}
 use Rattle.dl_script_runs.proofs.FairMarks.{StaysIn, unregisters}
 use Rattle.dl_script_runs.proofs.PresentApps.{ok_or}
-use Rattle.dl_script_runs.proofs.StandingApps.{channel_found, ifok_if}
 
 -- ---- an entry of an id
 

@@ -6,6 +6,8 @@ use Rattle.std.specs.Str.{bytes_eq}
 use Rattle.std.proofs.lemmas.Bool.{eq-eqb, eqb-true}
 use Rattle.std.proofs.lemmas.List.Elements.{filter-append, filter_map-append}
 use Rattle.std.proofs.lemmas.List.Folds.{list_any-append}
+use Rattle.std.proofs.Math.Bool.{or-true}
+use Rattle.dl_lemmas.proofs.Lists.{all_both, all_map}
 use Rattle.dl_bytes.specs.Claim.{Claimed}
 use Rattle.dl_bytes.specs.Number.{◌>>=◌}
 use Rattle.dl_bytes.specs.declared.user.UserMsg.{UserMsg}
@@ -13,6 +15,8 @@ use Rattle.dl_events.specs.declared.event.Event.{Event}
 use Rattle.dl_events.specs.declared.event.Event.TheVariants as event
 use Rattle.dl_script_lines.specs.declared.line.ClaimLine.{ClaimLine}
 use Rattle.dl_script_lines.specs.declared.line.ContextLine.{ContextLine}
+use Rattle.dl_model.proofs.StandingApps.{is_message}
+use Rattle.dl_model.proofs.Marks.{contexts-same, writers-same}
 use Rattle.dl_script.specs.Earlier.{Declared, is_of, is_on, numbered, places_on}
 use Rattle.dl_script.specs.declared.claim.ContextName.{ContextName}
 use Rattle.dl_script.specs.declared.claim.PlaceName.{PlaceName}
@@ -21,11 +25,9 @@ use Rattle.dl_model.specs.Setting.{Setting}
 use Rattle.dl_model.specs.Steps.{Act, claim, claim_made, finish, for_some, in_sequence, just, tell}
 use Rattle.dl_model.proofs.Presence.{bytes_differ, bytes_same}
 use Rattle.dl_laws.proofs.Lists.{count_by-append}
-use Rattle.dl_promises.proofs.Alls.{all_map, all_more}
 use Rattle.dl_promises.proofs.ClaimPlaces.{same_id}
 use Rattle.dl_promises.proofs.OwnApps.{number_more}
 use Rattle.dl_promises.proofs.Relations.{Keeps, holds_on, turns, weaker}
-use Rattle.dl_script_runs.proofs.StandingApps.{is_message, or_right}
 use Rattle.dl_script_runs.proofs.Walks.{Goes, Still, Without, goes_then, notes}
 
 -- ---- marks that declare no context and no writer, and claim no place
@@ -53,18 +55,9 @@ tells setting channel msg = aside (λ _. false) (tell setting channel msg) (note
 
 -- ---- one mark more
 
-same_writers : (done : List Mark) (mark : Mark) → writer_of mark ≡ None → writers (done ++ mark ∷ []) ≡ writers done
-same_writers done mark none =
-    filter_map-append writer_of done (mark ∷ []) ∙ ap (λ (o : Option (List ℕ)). writers done ++ cons_option o []) none ∙ append-nil (writers done)
-
 same_claims : (done : List Mark) (mark : Mark) → claim_of mark ≡ None → filter_map claim_of (done ++ mark ∷ []) ≡ filter_map claim_of done
 same_claims done mark none =
     filter_map-append claim_of done (mark ∷ []) ∙ ap (λ (o : Option Claimed). filter_map claim_of done ++ cons_option o []) none ∙ append-nil (filter_map claim_of done)
-
-same_contexts : (apid : List ℕ) (done : List Mark) (mark : Mark) → context_of mark ≡ None → contexts_of apid (done ++ mark ∷ []) ≡ contexts_of apid done
-same_contexts apid done mark none =
-    ap (filter (λ (context : ContextLine). bytes_eq context.apid apid))
-    (filter_map-append context_of done (mark ∷ []) ∙ ap (λ (o : Option ContextLine). filter_map context_of done ++ cons_option o []) none ∙ append-nil (filter_map context_of done))
 
 abbrev one_if : Bool → ℕ
 one_if b = cond b 1 0
@@ -135,9 +128,9 @@ module _ (known : Declared) where
 
   tracked_on : (done : List Mark) (mark : Mark) → writer_of mark ≡ None → context_of mark ≡ None → claim_of mark ≡ None → Tracked known done → Tracked known (done ++ mark ∷ [])
   tracked_on done mark no_writer no_context no_claim is = record {
-    owners = same_writers done mark no_writer ∙ is.owners;
-    contexts = λ apid. omega (arith, is.contexts apid, ap length (same_contexts apid done mark no_context));
-    placed = placed_later done mark no_claim (λ c was. ap length (same_contexts was.apid done mark no_context)) is;
+    owners = writers-same done mark no_writer ∙ is.owners;
+    contexts = λ apid. omega (arith, is.contexts apid, ap length (contexts-same apid done mark no_context));
+    placed = placed_later done mark no_claim (λ c was. ap length (contexts-same was.apid done mark no_context)) is;
   }
 
   tracked_aside : (done : List Mark) (mark : Mark) → Tracked known done → Aside done mark → Tracked known (done ++ mark ∷ [])
@@ -152,8 +145,8 @@ module _ (known : Declared) where
   pub tracked_writer : (apid : List ℕ) (done : List Mark) → Tracked known done → Tracked (record known { writers = known.writers ++ apid ∷ [] }) (done ++ HasWriter apid ∷ [])
   tracked_writer apid done is = record {
     owners = filter_map-append writer_of done (HasWriter apid ∷ []) ∙ ap (λ (ws : List (List ℕ)). ws ++ apid ∷ []) is.owners;
-    contexts = λ id. omega (arith, is.contexts id, ap length (same_contexts id done (HasWriter apid) refl));
-    placed = placed_later done (HasWriter apid) refl (λ c was. ap length (same_contexts was.apid done (HasWriter apid) refl)) is;
+    contexts = λ id. omega (arith, is.contexts id, ap length (contexts-same id done (HasWriter apid) refl));
+    placed = placed_later done (HasWriter apid) refl (λ c was. ap length (contexts-same was.apid done (HasWriter apid) refl)) is;
   }
 
   -- a context of an application of which lines claim no place
@@ -162,7 +155,7 @@ module _ (known : Declared) where
   tracked_context context done none is =
       let name : ContextName = record { apid = context.apid; ctid = context.ctid } in
       record {
-        owners = same_writers done (HasContext context) refl ∙ is.owners;
+        owners = writers-same done (HasContext context) refl ∙ is.owners;
         contexts = λ apid. omega (arith, is.contexts apid, context_more apid done context, one_counted (is_of apid) known.contexts name);
         placed = placed_later done (HasContext context) refl (λ c was.
             let other : bytes_eq context.apid was.apid ≡ false = bytes_differ context.apid was.apid (λ same. true≢false (sym was.there ∙ ap (λ (id : List ℕ). list_any (is_on id) known.places) (sym same) ∙ none)) in
@@ -234,7 +227,7 @@ module _ (asked : ClaimLine) (apid : List ℕ) (known : Declared) (owner : numbe
       number = number_more done (HasClaim c) was.apid d.app was.number;
       there = there_still was.apid was.there;
       few = by (eqb c.app d.app) refl;
-      behind = omega (arith, was.behind, ap length (same_contexts was.apid done (HasClaim c) refl));
+      behind = omega (arith, was.behind, ap length (contexts-same was.apid done (HasClaim c) refl));
       below = was.below;
     }
       where
@@ -264,9 +257,9 @@ module _ (asked : ClaimLine) (apid : List ℕ) (known : Declared) (owner : numbe
     one_placed = record {
       apid = apid;
       number = number_more done (HasClaim c) apid c.app number;
-      there = list_any-append (is_on apid) known.places (place ∷ []) ∙ ap (λ (b : Bool). list_any (is_on apid) known.places || (b || false)) (bytes_same apid) ∙ or_right (list_any (is_on apid) known.places);
+      there = list_any-append (is_on apid) known.places (place ∷ []) ∙ ap (λ (b : Bool). list_any (is_on apid) known.places || (b || false)) (bytes_same apid) ∙ or-true (list_any (is_on apid) known.places);
       few = omega (arith, few_made, claim_more c.app done c, ap one_if (eq-eqb c.app c.app refl), one_counted (is_on apid) known.places place, ap one_if (bytes_same apid));
-      behind = omega (arith, next, ap length (same_contexts apid done (HasClaim c) refl));
+      behind = omega (arith, next, ap length (contexts-same apid done (HasClaim c) refl));
       below = omega (arith, next, few_made, is.contexts apid, room);
     }
 
@@ -274,10 +267,10 @@ module _ (asked : ClaimLine) (apid : List ℕ) (known : Declared) (owner : numbe
     one_made =
         let P = IsPlaced more (done ++ HasClaim c ∷ []) in
         record {
-          owners = same_writers done (HasClaim c) refl ∙ is.owners;
-          contexts = λ id. omega (arith, is.contexts id, ap length (same_contexts id done (HasClaim c) refl));
+          owners = writers-same done (HasClaim c) refl ∙ is.owners;
+          contexts = λ id. omega (arith, is.contexts id, ap length (contexts-same id done (HasClaim c) refl));
           placed = subst (AllByRecursion P) (sym (filter_map-append claim_of done (HasClaim c ∷ [])))
-              (all_more P (filter_map claim_of done) (c ∷ []) (all_map (IsPlaced known.places done) P beside (filter_map claim_of done) is.placed) (one_placed, tt));
+              (all_both P (filter_map claim_of done) (c ∷ []) (all_map (IsPlaced known.places done) P beside (filter_map claim_of done) is.placed) (one_placed, tt));
         }
 
   goes_claim : Goes (Tracked known) (claim asked) (Tracked with_place)

@@ -24,9 +24,9 @@ use Rattle.dl_model.specs.Registry.{slot_of}
 use Rattle.dl_model.specs.Reply.{Need, Nothing, Folder, Queue}
 use Rattle.dl_model.specs.Setting.{Setting}
 use Rattle.dl_model.specs.Steps.{Act, act_of, announce, announce_all, ask, begin_call, changes, claim, close, close_malformed, connect, count, drain, end_of, event_taken, finish, for_some, in_sequence, is_open, just, level_noted, load, loaded, new_requests, note, note_levels, note_levels_now, on_app, push, receive, request_now, served, take_injection, take_log, take_losses, when, whole_call}
+use Rattle.dl_model.proofs.StandingApps.{is_message}
 use Rattle.dl_promises.proofs.Relations.{AreAll, Keeps, and_one, announced, asked_for, each, repeated, turns, where_so}
 use Rattle.dl_promises.proofs.Turns as turn
-use Rattle.dl_script_runs.proofs.StandingApps.{is_message}
 
 -- ---- acts in turn
 

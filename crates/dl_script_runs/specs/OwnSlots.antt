@@ -1,19 +1,20 @@
 -- The slot that a call loads, and the context of the registry that has the call's ids.
-use Rattle.std.specs.Prelude.{◌≡◌, ℕ, true, List, [], ◌∷◌, ◌++◌, codes, Option, Some, None}
+use Rattle.std.specs.Prelude.{◌≡◌, ℕ, true, List, ◌∷◌, ◌++◌, Option, Some, None}
 use Rattle.std.specs.Option.{option_map}
 use Rattle.std.specs.Str.{bytes_eq}
 use Rattle.dl_bytes.specs.Claim.{Claimed}
-use Rattle.dl_bytes.specs.Id.{zero_id}
 use Rattle.dl_bytes.specs.declared.moment.Moment.{Moment}
 use Rattle.dl_events.specs.declared.event.Event.{Event}
 use Rattle.dl_events.specs.declared.event.Event.TheVariants.{Claim}
-use Rattle.dl_script_lines.specs.declared.step.Step.{Step}
-use Rattle.dl_script_lines.specs.declared.step.Step.TheVariants as line
+use Rattle.dl_events.specs.declared.record.Record.{Record}
 use Rattle.dl_model.specs.declared.context.Context.{Context}
 use Rattle.dl_model.specs.Along.{last_that}
-use Rattle.dl_model.specs.Marks.{Call, Mark, claims_of}
+use Rattle.dl_model.specs.Journal.{registry_of}
+use Rattle.dl_model.specs.Marks.{Call, Mark, claims_of, journal}
 use Rattle.dl_model.specs.Registry.{App, Registry, context_named, effective, has_place, slot_of}
-use Rattle.dl_model.specs.RegistryExamples.{id}
+use Rattle.dl_model.specs.Setting.{Setting}
+use Rattle.dl_promises.specs.RunRecords.{IsSeen}
+use Rattle.dl_promises.specs.WaitingClaims.{IsFilteredFirst, IsUntaken}
 
 -- The registry has a context under both ids of a call. Its application is one of this process and has the call's number, and one of its
 -- places has the call's slot.
@@ -42,10 +43,20 @@ pub record IsTaken (claim : Claimed) (events : List Event) : Type 0 where
   pub after : List Event
   pub place : events ≡ before ++ Claim claim moment ∷ after
 
--- lines of an application that declare a context of the zero id, and then another one
-abbrev pub zero_first : List Step
-zero_first =
-    line.App (record { apid = id (codes "LOG1"); capacity = 4; text = [] })
-    ∷ line.Context (record { apid = id (codes "LOG1"); ctid = zero_id; level = None; text = [] })
-    ∷ line.Context (record { apid = id (codes "LOG1"); ctid = id (codes "TEST"); level = None; text = [] })
-    ∷ []
+-- a call goes by what lines declare: its writer claimed no place for its id
+abbrev pub GoesByLines : Call → List Mark → Type 0
+GoesByLines call before = claim_named call.item.writer call.item.ctid before ≡ None
+
+-- A call goes by this claim of its writer, which the daemon took.
+pub record GoesByClaim (call : Call) (claim : Claimed) (before : List Mark) : Type 0 where
+  pub named : claim_named call.item.writer call.item.ctid before ≡ Some claim
+  pub taken : IsTaken claim (journal before)
+
+-- a call that loads a slot behind these marks loads one of the context that has its ids then
+abbrev pub LoadsOwnSlot : Setting → List Mark → Call → Type 0
+LoadsOwnSlot setting before call = IsInOwnSlot (registry_of setting (journal before)) call
+
+-- a recorded call of the slot of a claim is filtered by the slot's first level where the daemon had not taken that place at its load
+abbrev pub IsFilteredUntilTaken : Setting → List Mark → Claimed → Record → Type 0
+IsFilteredUntilTaken setting done claim r =
+    (seen : IsSeen setting done r) → r.slot ≡ slot_of claim.app claim.place → IsUntaken claim.app claim.place (journal seen.loaded.before) → IsFilteredFirst setting r

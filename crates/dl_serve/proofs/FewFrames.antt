@@ -19,13 +19,13 @@ use Rattle.dl_channel_turns.specs.State.{Side, Stage, part_of}
 use Rattle.dl_channel_turns.specs.Turns.{Heeds, IsTurn, ServesEach}
 use Rattle.dl_core.specs.Admission.{AddsEach, has_frames, message_frames}
 use Rattle.dl_core.specs.State.{Core}
-use Rattle.dl_core.proofs.Sizes.{lost_count}
 use Rattle.dl_events.specs.declared.event.Event.{Event}
 use Rattle.dl_events.specs.declared.event.Event.TheVariants as event
 use Rattle.dl_model.specs.Frames.{user_frames}
 use Rattle.dl_model.specs.declared.registry.LevelChange.{LevelChange}
 use Rattle.dl_outside.specs.declared.link.Gave.{Gave}
 use Rattle.dl_outside.specs.declared.link.Gave.TheVariants as gave
+use Rattle.dl_channel_turns.proofs.ServedMessages.{frames_few}
 use Rattle.dl_serving.specs.Visits.{Ends, EndsFor, Hears, HearsOpen, Pumps, side_of}
 use Rattle.dl_socket.specs.Channels.{Channels, inbox_of}
 use Rattle.dl_socket.specs.Closing.{UnregistersEach}
@@ -95,20 +95,10 @@ ranges_of : (bytes : List ℕ) (msgs : List UserMsg) (left : List ℕ) → AreCu
 ranges_of bytes [] left cut = tt
 ranges_of bytes (msg ∷ msgs) left cut = (cut.1.1.ranges, ranges_of cut.0 msgs left cut.2)
 
-one_frame : (ecu : List ℕ) (msg : UserMsg) → HasRanges msg → length (user_frames ecu msg) ≤ 1
-one_frame ecu (user.Log message) ranges = omega arith
-one_frame ecu (user.Overflow counter apid) ranges = (let below = ranges.0 in let count = lost_count ecu apid counter in omega (arith, below, count))
-one_frame ecu (user.RegisterApp apid pid text) ranges = omega arith
-one_frame ecu (user.UnregisterApp apid pid) ranges = omega arith
-one_frame ecu (user.RegisterContext apid ctid position level trace pid text) ranges = omega arith
-one_frame ecu (user.UnregisterContext apid ctid pid) ranges = omega arith
-one_frame ecu (user.LogLevel level trace position) ranges = omega arith
-one_frame ecu (user.Injection position service body) ranges = omega arith
-
-frames_few : (ecu : List ℕ) (msgs : List UserMsg) → AllByRecursion HasRanges msgs → length (message_frames ecu msgs) ≤ length msgs
-frames_few ecu [] ranges = omega arith
-frames_few ecu (msg ∷ msgs) ranges =
-    omega (arith, length-append (user_frames ecu msg) (message_frames ecu msgs), one_frame ecu msg ranges.0, frames_few ecu msgs ranges.1)
+all_few : (ecu : List ℕ) (msgs : List UserMsg) → AllByRecursion HasRanges msgs → length (message_frames ecu msgs) ≤ length msgs
+all_few ecu [] ranges = omega arith
+all_few ecu (msg ∷ msgs) ranges =
+    omega (arith, length-append (user_frames ecu msg) (message_frames ecu msgs), frames_few ecu msg ranges.0, all_few ecu msgs ranges.1)
 
 -- as many events were noted, or more
 noted_many : (entries : List Entry) (noted : List Event) → AreNoted entries noted → length entries ≤ length noted
@@ -172,12 +162,12 @@ module _ (channel : ℕ) (moment : Moment) where
   group_few (Together msgs) old new ranges serves =
       let forwards = serves.1 in
       let admitted = forwards.admitted in
-      let frames = frames_few old.core.ecu msgs ranges in
+      let frames = all_few old.core.ecu msgs ranges in
       let many = noted_many (map (message_entry old.core.ecu moment channel) msgs) forwards.more forwards.noted in
       let long = length-map msgs (message_entry old.core.ecu moment channel) in
       record { more = forwards.more; events = forwards.events; by_events = omega (arith, admitted, frames, many, long); by_most = omega (arith, admitted, frames) }
   group_few (Alone msg) old new ranges serves =
-      let one = one_frame old.core.ecu msg ranges.0 in
+      let one = frames_few old.core.ecu msg ranges.0 in
       few_more (length (user_frames old.core.ecu msg)) 1 (part_of old) (part_of new) one (one_few msg (has_frames msg) old new one serves)
 
   ranges_front : (xs ys : List UserMsg) → AllByRecursion HasRanges (xs ++ ys) → AllByRecursion HasRanges xs × AllByRecursion HasRanges ys

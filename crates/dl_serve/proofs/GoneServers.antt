@@ -4,6 +4,7 @@ use Rattle.std.specs.Prelude.{IfSome, IsSome, get_or}
 use Rattle.std.proofs.lemmas.List.{map-append}
 use Rattle.std.proofs.lemmas.Option.{slice_get-get_or, slice_get_within}
 use Rattle.dl_bytes.specs.declared.moment.Moment.{Moment}
+use Rattle.dl_outside.proofs.Staying.{some_stays}
 use Rattle.dl_core.specs.Admission.{AddsEach}
 use Rattle.dl_core.specs.Follows.{IsAfter, Run}
 use Rattle.dl_core.specs.State.{Core}
@@ -100,10 +101,6 @@ known_first Bytes Over run s kept none many after = record {
 }
 
 -- ---- links that tell
-
-some_stays : {A : Type 0} (old new : Option A) → Stays old new → IsSome old → IsSome new
-some_stays None new stays some = absurd (cc some)
-some_stays (Some x) new stays some = ap is_some stays
 
 some_grows : (old new : Option (List ℕ)) (more : List ℕ) → Grows old new more → IsSome old → IsSome new
 some_grows None new more grows some = absurd (cc some)

@@ -2,6 +2,7 @@
 use Rattle.std.proofs.Common.{◌≡◌, ◌<◌, ◌≤◌, ◌+◌, ◌-◌, ◌^◌, ℕ, zero, suc, min, Bool, true, false, inl, inr, List, [], ◌∷◌, drop, length, map, replicate, Option, Some, None, refl, sym, ap, subst, ◌∙◌, arith}
 use Rattle.std.specs.Prelude.{◌||◌, IfSome, IsSome}
 use Rattle.std.proofs.lemmas.List.{length-replicate}
+use Rattle.std.proofs.Math.Bool.{or-true}
 use Rattle.dl_bytes.specs.declared.moment.Moment.{Moment}
 use Rattle.dl_outside.specs.Links.{Links}
 use Rattle.dl_outside.specs.Outside.{HasRisen, Stays}
@@ -212,10 +213,6 @@ closing_keeps {Over} moment old new closes =
 
 -- ---- accepts
 
-short : (b : Bool) → (b || true) ≡ true
-short true = refl
-short false = refl
-
 sooner : (old more now : Bool) → now ≡ (old || more) → now ≡ false → old ≡ false
 sooner true more now is none = absurd (let bad : true ≡ false = sym is ∙ none in cc bad)
 sooner false more now is none = refl
@@ -285,7 +282,7 @@ module _ {L : Type 0} (told : L → LinkTold) where
         programs_come = no_programs ∙ h.programs_come;
       }
       by arrival.Failed a failed wanted = absurd (stood a.0)
-      by arrival.OutOfMemory a failed wanted = absurd (let bad : true ≡ false = sym (short old.wanted) ∙ sym wanted ∙ none in cc bad)
+      by arrival.OutOfMemory a failed wanted = absurd (let bad : true ≡ false = sym (or-true old.wanted) ∙ sym wanted ∙ none in cc bad)
 
     pub came : (moved : Bool) → AcceptsClientIfMay told moved net net_now old new → ¬ (HasRisen net.faults net_now.faults) → new.wanted ≡ false → Handed first first_users many later net users old
         → Handed first first_users (suc many) later net_now users new
@@ -328,7 +325,7 @@ module _ {L : Type 0} (told : L → LinkTold) where
         clients_come = no_clients ∙ h.clients_come;
         programs_come = failed;
       }
-      by entry.Unopened e failed wanted = absurd (let bad : true ≡ false = sym (short old.wanted) ∙ sym wanted ∙ none in cc bad)
+      by entry.Unopened e failed wanted = absurd (let bad : true ≡ false = sym (or-true old.wanted) ∙ sym wanted ∙ none in cc bad)
       by entry.Nobody e failed wanted = record {
         clients_dropped = h.clients_dropped;
         users_dropped = h.users_dropped;
@@ -340,7 +337,7 @@ module _ {L : Type 0} (told : L → LinkTold) where
         programs_come = failed;
       }
       by entry.Failed e failed wanted = absurd (stood e.0)
-      by entry.OutOfMemory e failed wanted = absurd (let bad : true ≡ false = sym (short old.wanted) ∙ sym wanted ∙ none in cc bad)
+      by entry.OutOfMemory e failed wanted = absurd (let bad : true ≡ false = sym (or-true old.wanted) ∙ sym wanted ∙ none in cc bad)
 
     pub entered : (moved : Bool) → AcceptsProgramIfMay told moved users users_now old new → ¬ (HasRisen users.faults users_now.faults) → new.wanted ≡ false → Handed first first_users many later net users old
         → Handed first first_users many (suc later) net users_now new

@@ -1,9 +1,10 @@
 -- Who was handed out and what their links gave, of a server that was opened, ran and closed.
-use Rattle.std.proofs.Common.{◌≡◌, ◌+◌, ◌-◌, ℕ, min, Bool, false, List, [], drop, length, map, Option, Some, None, is_some, refl, sym, ap, subst, ◌∙◌, arith, slice_get}
+use Rattle.std.proofs.Common.{◌≡◌, ◌+◌, ◌-◌, ℕ, min, Bool, false, List, [], drop, length, map, Option, Some, None, refl, sym, ap, subst, ◌∙◌, arith, slice_get}
 use Rattle.std.specs.Prelude.{◌↔◌, IfSome, IsSome, IsSomeAnd}
 use Rattle.std.proofs.lemmas.List.{length-map}
 use Rattle.dl_bytes.specs.declared.moment.Moment.{Moment}
 use Rattle.dl_bytes.specs.declared.outcome.Ends.{Ends as RunEnds}
+use Rattle.dl_outside.proofs.Staying.{some_stays}
 use Rattle.dl_channel.specs.declared.outcome.ChannelEnd.{ChannelEnd}
 use Rattle.dl_core.specs.Follows.{IsAfter, Run}
 use Rattle.dl_core.specs.State.{Core}
@@ -65,10 +66,6 @@ hands_first {L} first then now many came dropped stays hands = (let both = by fi
     subst (λ (o : Option (List L)). IfSome o (λ w. now.waiting ≡ Some (drop many w))) stays hands.waits,
     subst (λ (o : Option (List L)). IfSome o (λ w. came + dropped ≡ min many (length w))) stays hands.all,
   )
-
-some_stays : {A : Type 0} (old new : Option A) → Stays old new → IsSome old → IsSome new
-some_stays None new stays some = absurd (cc some)
-some_stays (Some x) new stays some = ap is_some stays
 
 -- ---- the closing
 

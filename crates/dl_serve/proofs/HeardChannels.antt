@@ -4,6 +4,7 @@ use Rattle.std.specs.List.{AllByRecursion}
 use Rattle.std.proofs.lemmas.List.Elements.{filter_map-append}
 use Rattle.dl_bytes.specs.declared.moment.Moment.{Moment}
 use Rattle.dl_bytes.specs.declared.user.UserMsg.{UserMsg}
+use Rattle.dl_outside.proofs.Staying.{stays_same}
 use Rattle.dl_channel.specs.Pumping.{PumpsBy}
 use Rattle.dl_channel.specs.State.{Outbox}
 use Rattle.dl_channel.specs.declared.outcome.ChannelEnd.{ChannelEnd}
@@ -79,10 +80,6 @@ stays_some before now x is stays = subst (λ (o : Option _). Stays o now) is sta
 
 pub adds_so : (before now : Option (List Event)) (past more : List Event) → before ≡ Some past → AddsEach before now more → now ≡ Some (past ++ more)
 adds_so before now past more is adds = subst (λ (o : Option (List Event)). AddsEach o now more) is adds
-
-stays_itself : {A : Type 0} (o : Option A) → Stays o o
-stays_itself None = tt
-stays_itself (Some x) = refl
 
 -- ---- one visit
 
@@ -326,7 +323,7 @@ module _ (channel : ℕ) (moment : Moment) where
   -- ---- a pump
 
   pumped_given : (b : Bool) (end : Option ChannelEnd) (outbox outbox_now : Outbox) (link link_now : LinkTold) → PumpsBy b end outbox outbox_now link link_now → Stays link.given link_now.given
-  pumped_given true end outbox outbox_now link link_now pumps = subst (λ (l : LinkTold). Stays link.given l.given) (sym pumps.2) (stays_itself link.given)
+  pumped_given true end outbox outbox_now link link_now pumps = subst (λ (l : LinkTold). Stays link.given l.given) (sym pumps.2) (stays_same link.given)
   pumped_given false end outbox outbox_now link link_now pumps = pumps.0.only_sent.given
 
   pumped_stops : (b : Bool) (cause : ChannelEnd) (left : List ℕ) (outbox outbox_now : Outbox) (link link_now : LinkTold) → PumpsBy b (Some cause) outbox outbox_now link link_now → Stops left stops.NeedMore

@@ -2,6 +2,7 @@
 use Rattle.std.proofs.Common.{◌≡◌, ◌⊎◌, ◌≤◌, ◌+◌, ◌-◌, ℕ, zero, suc, Bool, true, false, inl, inr, List, [], ◌∷◌, ◌++◌, length, Option, Some, None, refl, sym, ap, subst, ◌∙◌, arith, length-append, slice_get}
 use Rattle.std.specs.Prelude.{IsSome, IsSomeAnd, get_or, slice_set}
 use Rattle.std.proofs.lemmas.Option.{slice_get-get_or, slice_get_within}
+use Rattle.dl_outside.proofs.Staying.{grows_both, stays_same}
 use Rattle.dl_events.specs.declared.event.Why.{Why}
 use Rattle.dl_hub.specs.Pumping.{IsOnlySent}
 use Rattle.dl_hub.specs.State.{Hub, Waiting, outbox_of}
@@ -16,7 +17,7 @@ use Rattle.dl_rounds.proofs.ByPlace.{set_cases}
 use Rattle.dl_turns.specs.State.{Stage}
 use Rattle.dl_turns.specs.Stopping.{GoesOn, IsClosedIn, IsWoundUp, TurnsOn}
 use Rattle.dl_turns.specs.Turns.{HasGiven, Hears, heard}
-use Rattle.dl_turns.proofs.GrownBytes.{gives_heard, grow_both, stays_grow}
+use Rattle.dl_turns.proofs.GrownBytes.{gives_heard, stays_grow}
 use Rattle.dl_serve.specs.Handed.{GaveOrIdled}
 
 -- ---- one link
@@ -27,20 +28,16 @@ pub record IsLater (old new : LinkTold) : Type 0 where
   pub given : Grows old.given new.given more
   pub idles : old.idles ≤ new.idles
 
-stays_itself : (o : Option (List ℕ)) → Stays o o
-stays_itself None = tt
-stays_itself (Some bytes) = refl
-
 pub later_still : (old new : LinkTold) → Stays old.given new.given → new.idles ≡ old.idles → IsLater old new
 later_still old new given idles = record { more = []; given = stays_grow old.given new.given given; idles = omega (arith, idles) }
 
 pub later_same : (old new : LinkTold) → new ≡ old → IsLater old new
-later_same old new same = subst (IsLater old) (sym same) (later_still old old (stays_itself old.given) refl)
+later_same old new same = subst (IsLater old) (sym same) (later_still old old (stays_same old.given) refl)
 
 pub later_both : (old between new : LinkTold) → IsLater old between → IsLater between new → IsLater old new
 later_both old between new first second = record {
   more = first.more ++ second.more;
-  given = grow_both old.given between.given new.given first.more second.more first.given second.given;
+  given = grows_both old.given between.given new.given first.more second.more first.given second.given;
   idles = omega (arith, first.idles, second.idles);
 }
 

@@ -30,10 +30,6 @@ use Rattle.dl_serve.proofs.PutMessages.{Waits, all_wait, put_all, same_map}
 stays_so : (old new : Option (List ℕ)) (bytes : List ℕ) → Stays old new → old ≡ Some bytes → new ≡ Some bytes
 stays_so old new bytes stays is = subst (λ (o : Option (List ℕ)). Stays o new) is stays
 
-pub stays_itself : (o : Option (List ℕ)) → Stays o o
-stays_itself None = tt
-stays_itself (Some x) = refl
-
 grown_so : (old new : Option (List ℕ)) (bytes more : List ℕ) → Grows old new more → old ≡ Some bytes → new ≡ Some (bytes ++ more)
 grown_so old new bytes more grows is = subst (λ (o : Option (List ℕ)). Grows o new more) is grows
 

@@ -4,6 +4,7 @@ use Rattle.std.specs.Prelude.{IfSome, IsSome, slice_get, slice_set}
 use Rattle.std.proofs.lemmas.Bool.Decides.{eqb_tells}
 use Rattle.std.proofs.lemmas.List.{map-append}
 use Rattle.dl_bytes.specs.declared.moment.Moment.{Moment}
+use Rattle.dl_outside.proofs.Staying.{some_stays}
 use Rattle.dl_channel.specs.Pumping.{PumpsBy}
 use Rattle.dl_channel.specs.State.{Outbox}
 use Rattle.dl_channel.specs.declared.outcome.ChannelEnd.{ChannelEnd}
@@ -37,10 +38,6 @@ use Rattle.dl_serve.specs.Shown.{AllShowEnds, ShowsEnd}
 use Rattle.dl_serve.proofs.OtherEntries.{last_at, set_apart, set_here, set_long, taken_at, within}
 
 -- ---- options
-
-some_stays : {A : Type 0} (old new : Option A) → Stays old new → IsSome old → IsSome new
-some_stays None new stays some = absurd (cc some)
-some_stays (Some x) new stays some = ap is_some stays
 
 stays_as : {A : Type 0} (old new : Option A) (x : A) → Stays old new → old ≡ Some x → new ≡ Some x
 stays_as old new x stays is = subst (λ (o : Option _). Stays o new) is stays

@@ -4,6 +4,7 @@ use Rattle.std.specs.Prelude.{nat_eq}
 use Rattle.std.specs.Map.{set_value}
 use Rattle.std.specs.Option.{option_map_or}
 use Rattle.dl_bytes.specs.declared.moment.Moment.{Moment}
+use Rattle.dl_outside.proofs.Staying.{stays_same}
 use Rattle.dl_channel.specs.State.{Outbox}
 use Rattle.dl_channel.specs.declared.outcome.ChannelEnd.{ChannelEnd}
 use Rattle.dl_channel.specs.declared.outcome.ChannelEnd.TheVariants.{Slow}
@@ -14,7 +15,7 @@ use Rattle.dl_socket.specs.Channels.{Channels}
 use Rattle.dl_socket.specs.Turns.{Sight, stage_after, stage_before}
 use Rattle.dl_serve.proofs.OtherEntries.{gone_apart, value_apart, value_here}
 use Rattle.dl_serve.proofs.PutEvents.{puts_same, turn_puts, unregisters_put}
-use Rattle.dl_serve.proofs.PutVisits.{Moves, Takes, aside_moves, gone_here, gone_takes, moves_both, pump_takes, puts_move, stays_itself, turn_not_slow}
+use Rattle.dl_serve.proofs.PutVisits.{Moves, Takes, aside_moves, gone_here, gone_takes, moves_both, pump_takes, puts_move, turn_not_slow}
 
 module _ (Tells : Type 0) (channel : ℕ) (moment : Moment) where
   -- nothing has changed
@@ -23,7 +24,7 @@ module _ (Tells : Type 0) (channel : ℕ) (moment : Moment) where
   same_move end end_now before after old new sight channels slow =
       let same : side_of after new ≡ side_of before old = (λ i. side_of (sight i) (channels i)) in
       puts_move Tells channel end end_now before.link after.link (side_of before old) (side_of after new) (puts_same channel (side_of before old) (side_of after new) same)
-      (subst (λ (s : Sight). Stays before.link.taken s.link.taken) (sym sight) (stays_itself before.link.taken)) slow
+      (subst (λ (s : Sight). Stays before.link.taken s.link.taken) (sym sight) (stays_same before.link.taken)) slow
 
   -- the channel ends
   pub ends_move : (closed : Bool) (end : Option ChannelEnd) (before after : Sight) (old new : Channels) → Ends channel moment closed before after old new

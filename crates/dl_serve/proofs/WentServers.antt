@@ -5,6 +5,7 @@ use Rattle.std.specs.Option.{option_map_or}
 use Rattle.dl_bytes.specs.Limits.{request_limit}
 use Rattle.dl_bytes.specs.declared.outcome.Ends.{Ends}
 use Rattle.dl_bytes.specs.declared.outcome.LinkEnd.{LinkEnd}
+use Rattle.dl_laws.proofs.Rotation.{length-concat}
 use Rattle.dl_core.specs.Follows.{Run, source_of}
 use Rattle.dl_core.proofs.Answered.{replies_are}
 use Rattle.dl_events.specs.Journal.{Journaled}
@@ -12,7 +13,6 @@ use Rattle.dl_events.specs.declared.event.Event.{Event}
 use Rattle.dl_events.specs.declared.event.Why.{Why}
 use Rattle.dl_events.specs.declared.event.Why.TheVariants.{TooMany}
 use Rattle.dl_hub.specs.State.{Client as HubClient, Hub, client_of, outbox_of}
-use Rattle.dl_hub.proofs.Following.{bytes_of}
 use Rattle.dl_model.specs.Backlog.{outbox_limit, size_of}
 use Rattle.dl_model.specs.ClientEnds.{end_of_link}
 use Rattle.dl_model.specs.ClientStream.{stream}
@@ -86,7 +86,7 @@ module _ (Bytes Over : Type 0) (run : Run) (events : List Event) (s : State) (la
   sizes : (place : ℕ) (one : IsOne place) → size_of (frames_of (place + 1)) ≡ length (took (place + 1)) + one.client.left
   sizes place one =
       let left = left_of run events took s.core (place + 1) one.client last.stands.after one.at one.shut in
-      omega (arith, bytes_of (frames_of (place + 1)), ap length left.parts, length-append (took (place + 1)) left.left, left.size_is)
+      omega (arith, length-concat (frames_of (place + 1)), ap length left.parts, length-append (took (place + 1)) left.left, left.size_is)
 
   all_served : (number : ℕ) (c : HubClient) → client_of hub number ≡ Some c → WasServedAll number TooMany hub → c.replies ≡ request_limit
   all_served number c at served = subst (λ (o : Option HubClient). IsSomeAnd o (λ k. k.replies ≡ request_limit)) at served

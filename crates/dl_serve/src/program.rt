@@ -5,7 +5,7 @@ ghost use Rattle.dl_bytes.specs.Limits.{client_limit};
 ghost use Rattle.dl_server.specs.Server.{IsServer};
 ghost use Rattle.dl_trace.specs.Made.{IsMade};
 ghost use Rattle.dl_serve.specs.Program.{Ended, EndsBegun, EndsWith, HandsBack, HasServed};
-ghost use Rattle.dl_serve.specs.Told.{told};
+ghost use Rattle.dl_serve.specs.Told.{seen};
 
 use crate::beginning::{Begun, begin};
 use crate::closed::Closed;
@@ -57,8 +57,8 @@ where
     N::L: Drop,
     requires server { IsServer N.L.told opened.server }
     requires few { opened.server.core.hub.limit ≤ client_limit }
-    ensures { EndsWith N.L.told opened.server opened.rounds (told (F.told folder.old) (N.told net.old) (N.told users.old) (O.told out.old))
-        (told (F.told folder.new) (N.told net.new) (N.told users.new) (O.told out.new)) result.status result.closed }
+    ensures { let s = seen F.told N.told O.told in EndsWith N.L.told opened.server opened.rounds
+        (s folder.old net.old users.old out.old) (s folder.new net.new users.new out.new) result.status result.closed }
 {
     let Opened {
         mut server,
@@ -95,8 +95,8 @@ fn serve_begun<R: Wait, F: Folder, N: Net, C: Clock, O: Sink>(
 where
     N::L: Drop,
     requires { IfSome begun.trace (IsMade begun.conf) }
-    ensures { EndsBegun N.L.told begun (told (F.told folder.old) (N.told net.old) (N.told users.old) (O.told out.old))
-        (told (F.told folder.new) (N.told net.new) (N.told users.new) (O.told out.new)) result.status result.closed }
+    ensures { let s = seen F.told N.told O.told in EndsBegun N.L.told begun
+        (s folder.old net.old users.old out.old) (s folder.new net.new users.new out.new) result.status result.closed }
 {
     let opened = match open(alloc, begun) {
         Ok(opened) => opened,
@@ -121,8 +121,8 @@ fn serve_words<R: Wait, F: Folder, N: Net, C: Clock, O: Sink>(
 ) -> Outcome<N::L>
 where
     N::L: Drop,
-    ensures { Ended N.L.told (map string_bytes words.now) (told (F.told folder.old) (N.told net.old) (N.told users.old) (O.told out.old))
-        (told (F.told folder.new) (N.told net.new) (N.told users.new) (O.told out.new)) result.status result.closed }
+    ensures { let s = seen F.told N.told O.told in Ended N.L.told (map string_bytes words.now)
+        (s folder.old net.old users.old out.old) (s folder.new net.new users.new out.new) result.status result.closed }
 {
     what_was_served_is_its_journal::<N::L>();
     what_programs_sent_is_admitted::<N::L>();
@@ -176,8 +176,8 @@ pub fn serve<R: Wait, F: Folder, N: Net, C: Clock, O: Sink, E: Sink>(
 ) -> Served<N::L>
 where
     N::L: Drop,
-    ensures { HasServed N.L.told (map string_bytes words.now) (told (F.told folder.old) (N.told net.old) (N.told users.old) (O.told out.old))
-        (told (F.told folder.new) (N.told net.new) (N.told users.new) (O.told out.new)) (E.told err.old) (E.told err.new) result }
+    ensures { let s = seen F.told N.told O.told in HasServed N.L.told (map string_bytes words.now)
+        (s folder.old net.old users.old out.old) (s folder.new net.new users.new out.new) (E.told err.old) (E.told err.new) result }
 {
     an_end_is_a_serving::<N::L>();
     let Outcome { status, closed } = serve_words(rt, alloc, words, folder, net, users, clock, out);

@@ -1,10 +1,8 @@
 -- What visits to channels are to the journal.
 use Rattle.std.proofs.Common.{◌≡◌, ℕ, Bool, true, false, inl, inr, List, [], ◌∷◌, Option, Some, None, refl, sym, ap, subst, ◌∙◌}
-use Rattle.std.proofs.lemmas.List.{append-nil}
 use Rattle.dl_bytes.specs.declared.moment.Moment.{Moment}
 use Rattle.dl_bytes.specs.declared.user.UserMsg.{UserMsg}
 use Rattle.dl_bytes.specs.declared.user.UserMsg.TheVariants.{UnregisterApp}
-use Rattle.dl_admission.proofs.Added.{adds_each_none, adds_none}
 use Rattle.dl_channel.specs.State.{Outbox}
 use Rattle.dl_channel.specs.declared.outcome.ChannelEnd.{ChannelEnd}
 use Rattle.dl_channel_turns.specs.Later.{IsLater}
@@ -17,7 +15,6 @@ use Rattle.dl_core.specs.Follows.{source_of}
 use Rattle.dl_core.specs.State.{Core}
 use Rattle.dl_events.specs.declared.event.Event.{Event}
 use Rattle.dl_events.specs.declared.event.Event.TheVariants as event
-use Rattle.dl_model.specs.Journal.{IsWellFormed}
 use Rattle.dl_model.specs.declared.registry.LevelChange.{LevelChange}
 use Rattle.dl_outside.specs.declared.link.Gave.{Gave}
 use Rattle.dl_outside.specs.declared.link.Gave.TheVariants as gave
@@ -29,16 +26,7 @@ use Rattle.dl_socket.specs.Closing.{UnregistersEach}
 use Rattle.dl_socket.specs.Turns.{Sight}
 use Rattle.dl_user.specs.Channel as cutter
 use Rattle.dl_well_formed.proofs.InTurn.{user_in_turn}
-use Rattle.dl_channel_turns.proofs.LaterSides.{later_both, level_later}
-
-later_none : (side : Side) → IsLater side side
-later_none side = record {
-  more = [];
-  events = adds_each_none side.events;
-  running = refl;
-  after = adds_none side.core side.folder;
-  formed = λ run past taken is running well. subst (IsWellFormed run.setting (source_of run)) (sym (append-nil past)) well;
-}
+use Rattle.dl_channel_turns.proofs.LaterSides.{later_both, later_none, level_later}
 
 -- A side is later, and owes no level.
 abbrev pub IsOn : Side → Side → Type 0

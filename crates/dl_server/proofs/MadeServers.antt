@@ -1,6 +1,6 @@
 -- What is true of a server is true of one that was just made.
 use Rattle.std.proofs.Common.{◌≡◌, ◌≤◌, ℕ, true, List, length, map, replicate, Option, Some, None, refl, sym, ap, subst, ◌∙◌, arith, if◌then◌else◌}
-use Rattle.std.specs.Prelude.{slice_get, unwrap_or}
+use Rattle.std.specs.Prelude.{slice_get}
 use Rattle.std.proofs.lemmas.List.{length-replicate}
 use Rattle.dl_bytes.specs.Limits.{admitted_limit}
 use Rattle.dl_bytes.specs.declared.conf.Conf.{Conf}
@@ -9,10 +9,9 @@ use Rattle.dl_channel.specs.declared.outcome.ChannelEnd.{ChannelEnd}
 use Rattle.dl_core.specs.Settings.{begun_for}
 use Rattle.dl_core.specs.State.{Core}
 use Rattle.dl_hub.specs.State.{fresh, outbox_of}
-use Rattle.dl_model.specs.Registry.{all_slots}
 use Rattle.dl_outside.specs.Links.{Links}
 use Rattle.dl_outside.specs.Told.{LinkTold}
-use Rattle.dl_registry.specs.Kept.{made, owed_change, slots}
+use Rattle.dl_registry.specs.Kept.{made}
 use Rattle.dl_rounds.specs.Partings.{AreShut}
 use Rattle.dl_rounds.specs.Ready.{fresh_listener}
 use Rattle.dl_rounds.specs.Seats.{Seated}
@@ -23,12 +22,8 @@ use Rattle.dl_socket.specs.Listening.{HaveListeners}
 use Rattle.dl_trace.specs.State.{Trace}
 use Rattle.dl_server.specs.declared.server.Server.{Server}
 use Rattle.dl_server.specs.Server.{HaveLinks, IsMade, IsServer}
-use Rattle.dl_loop.proofs.MadeDaemons.{none_owed, each_fresh, nobody_open}
+use Rattle.dl_loop.proofs.MadeDaemons.{each_fresh, nobody_open, made_owes_none}
 use Rattle.dl_lemmas.proofs.Options.{not_some}
-
-made_owes_none : (level : ℕ) (stored : Stored) (first : ℕ) → owed_change (made level stored first) ≡ None
-unfolding owed_change
-made_owes_none level stored first = none_owed (slots (made level stored first)) (unwrap_or stored.level level) stored.own all_slots
 
 fresh_at : (seated : Seated) (clients place : ℕ) (listener : Listener) → seated.listeners ≡ replicate clients fresh_listener → slice_get seated.listeners place ≡ Some listener → listener ≡ fresh_listener
 fresh_at seated clients place listener are is = each_fresh clients place listener (sym (ap (λ (ls : List Listener). slice_get ls place) are) ∙ is)

@@ -1,5 +1,5 @@
 -- What is true of a server goes on with each step of a round.
-use Rattle.std.proofs.Common.{◌≡◌, ◌+◌, ◌-◌, ◌≤◌, ℕ, Bool, true, false, cond, List, length, Option, refl, ap, ◌∙◌, arith}
+use Rattle.std.proofs.Common.{◌≡◌, ◌+◌, ◌-◌, ◌≤◌, ℕ, Bool, List, length, Option, refl, ap, ◌∙◌, arith}
 use Rattle.dl_core.specs.State.{Core}
 use Rattle.dl_events.specs.declared.event.Event.{Event}
 use Rattle.dl_hub.specs.State.{Client}
@@ -26,10 +26,6 @@ use Rattle.dl_loop.proofs.GoneRounds.{open_few}
 
 pub links_of : {L : Type 0} (links : Links L) (core : Core) (spare : ℕ) → AreLinked links core spare → HaveLinks links core
 links_of links core spare linked = record { many = linked.many; few = linked.few; place = linked.place; settled = linked.settled }
-
-at_most_one : (b : Bool) → ◌≤◌ (cond b 1 0) 1
-at_most_one true = omega arith
-at_most_one false = omega arith
 
 pub linked_so : {L : Type 0} (links : Links L) (core : Core) (spare : ℕ) → HaveLinks links core → length links.links + 2 ≤ spare → AreLinked links core spare
 linked_so links core spare have room = record {

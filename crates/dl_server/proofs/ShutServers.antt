@@ -3,14 +3,14 @@ use Rattle.std.proofs.Common.{◌≡◌, ℕ, zero, suc, ◌+◌, ◌-◌, ◌<�
 use Rattle.std.specs.Prelude.{count_by, is_some, nat_lt, replicate, slice_get, IsSome, ◌||◌}
 use Rattle.std.specs.Option.{option_and_then}
 use Rattle.std.proofs.lemmas.List.{length-map, length-replicate, map-append}
-use Rattle.std.proofs.lemmas.List.Sums.{sum_by-cons}
+use Rattle.dl_lemmas.proofs.Bools.{neither}
+use Rattle.dl_outside.proofs.Staying.{stays_same}
 use Rattle.dl_core.specs.State.{Core}
 use Rattle.dl_events.specs.declared.event.Event.{Event}
 use Rattle.dl_hub.specs.State.{Client, Hub, is_open, outbox_of}
 use Rattle.dl_lemmas.proofs.Lists.{get_end, last_or_before, within_of}
 use Rattle.dl_loop.proofs.Accepted.{folder_none}
 use Rattle.dl_outside.specs.Links.{Links}
-use Rattle.dl_outside.specs.Outside.{Stays}
 use Rattle.dl_outside.specs.Told.{LinkTold, NetTold}
 use Rattle.dl_rounds.specs.Arrivals.{Arrives, ConnectsAs}
 use Rattle.dl_rounds.specs.Clients.{Clients, VisitsAll}
@@ -22,9 +22,10 @@ use Rattle.dl_rounds.specs.declared.accepting.Arrival.TheVariants as arrival
 use Rattle.dl_rounds.proofs.ByPlace.{get_before}
 use Rattle.dl_rounds.proofs.Connected.{at_next}
 use Rattle.dl_settling.proofs.Ready.{as_many, was_open}
+use Rattle.dl_channel_turns.proofs.OpenClients.{one}
 use Rattle.dl_server.proofs.HeldRounds.{no_desk}
 use Rattle.dl_server.proofs.ReadyListeners.{Keeps}
-use Rattle.dl_lemmas.proofs.Options.{none_of}
+use Rattle.dl_lemmas.proofs.Options.{none_of, same_thing}
 
 -- ---- where no client was closed
 
@@ -35,9 +36,6 @@ open_at clients place = is_some (option_and_then (λ (c : Client). c.outbox) (sl
 -- each that is open was so before
 abbrev WereOpen : List Client → List Client → Type 0
 WereOpen old new = (place : ℕ) → open_at new place ≡ true → open_at old place ≡ true
-
-one : (c : Client) (cs : List Client) → count_by is_open (c ∷ cs) ≡ cond (is_open c) 1 0 + count_by is_open cs
-one c cs = sum_by-cons (λ x. cond (is_open x) 1 0) c cs
 
 fewer : (b c : Bool) → (c ≡ true → b ≡ true) → ◌≤◌ (cond c 1 0) (cond b 1 0)
 fewer true true was = omega arith
@@ -83,10 +81,6 @@ still_shut old new links keeps all shut = λ number link some none there.
     shut number link some
     (subst (λ (n : ℕ). outbox_of old n ≡ None) back (still_gone old new (number - 1) keeps all (subst (λ (n : ℕ). outbox_of new n ≡ None) (sym back) none)))
     there
-
-neither : (b c : Bool) → (b || c) ≡ false → (b ≡ false) × (c ≡ false)
-neither true c so = absurd (cc so)
-neither false c so = (refl, so)
 
 -- Where it is noted whether fewer are open than before, the links of those that are gone are shut unless it is noted that one may not be.
 pub shut_noted : (old new : Hub) (links : List LinkTold) (unshut unshut_now : Bool) (before after : ℕ) → Keeps old new → before ≡ count_by is_open old.clients → after ≡ count_by is_open new.clients
@@ -150,20 +144,13 @@ pumped_shut pumped moved links links_now old new events events_now pumps shut =
 
 -- ---- where all are shut
 
-same_some : {A : Type 0} (x y : A) → Some x ≡ Some y → x ≡ y
-same_some x y so = cc so
-
-stays_so : {A : Type 0} (o : Option A) → Stays o o
-stays_so None = tt
-stays_so (Some x) = refl
-
 shut_so : (link : LinkTold) → link.is_shut ≡ true → IsShut link link
 shut_so link so = record {
   shut = so;
-  left = stays_so link.left;
+  left = stays_same link.left;
   over = λ over. over;
-  given = stays_so link.given;
-  taken = stays_so link.taken;
+  given = stays_same link.given;
+  taken = stays_same link.taken;
   faults = refl;
   idles = refl;
   waits = refl;
@@ -175,5 +162,5 @@ all_are_shut hub links shut = record {
   many = refl;
   others = λ number some which. refl;
   gone = λ number link link_now some within none was is.
-      subst (λ (l : LinkTold). IsShut link l) (same_some link link_now (sym was ∙ is)) (shut_so link (shut number link some none was));
+      subst (λ (l : LinkTold). IsShut link l) (same_thing link link_now (sym was ∙ is)) (shut_so link (shut number link some none was));
 }

@@ -2,23 +2,15 @@
 
 ghost use Rattle.std.specs.Prelude.{◌≡◌};
 ghost use Rattle.dl_outside.specs.Told.{FolderTold};
-ghost use Rattle.dl_server.specs.Round.{AcceptsAll, Hears, IsRound, Pumps};
+ghost use Rattle.dl_server.specs.Round.{AcceptsAll, Hears, IsRound, Pumps, has_come, has_heard, has_moved};
 ghost use Rattle.dl_server.specs.Server.{IsServer, SameLimits};
 ghost use Rattle.dl_server.specs.State.{seen};
 
 use crate::server::Server;
 use dl_events::Journal;
+use dl_loop::rest_if_idle;
 use dl_outside::{Clock, Folder, Link, Net};
 use std::sync::Wait;
-
-/// Rests where nothing moved.
-fn rest_if_idle<N: Net>(net: &mut N, moved: bool)
-    ensures { N.told net.new ≡ N.told net.old }
-{
-    if !moved {
-        net.rest();
-    }
-}
 
 impl<J: Journal, L: Link> Server<J, L> {
     /// One accept on each net that has not failed. Answers whether a link came.
@@ -26,8 +18,8 @@ impl<J: Journal, L: Link> Server<J, L> {
     where
         L: Drop,
         requires server { IsServer L.told self.old }
-        ensures accepts { (folder : FolderTold) → AcceptsAll L.told (N.told net.old) (N.told net.new) (N.told users.old) (N.told users.new)
-            (seen L.told J.events folder self.old) (seen L.told J.events folder self.new) }
+        ensures accepts { (folder : FolderTold) → (accepts : AcceptsAll L.told (N.told net.old) (N.told net.new) (N.told users.old) (N.told users.new)
+            (seen L.told J.events folder self.old) (seen L.told J.events folder self.new)) × (result ≡ has_come accepts) }
         ensures server { IsServer L.told self.new }
         ensures limits { SameLimits self.old self.new }
     {
@@ -39,7 +31,8 @@ impl<J: Journal, L: Link> Server<J, L> {
     /// Each open client is listened to, and each channel. Answers whether anything moved.
     fn hear<R: Wait, C: Clock, F: Folder>(&mut self, rt: &R, clock: &C, folder: &mut F) -> bool
         requires server { IsServer L.told self.old }
-        ensures hears { let s = seen L.told J.events in Hears (s (F.told folder.old) self.old) (s (F.told folder.new) self.new) }
+        ensures hears { let s = seen L.told J.events in
+            (hears : Hears (s (F.told folder.old) self.old) (s (F.told folder.new) self.new)) × (result ≡ has_heard hears) }
         ensures server { IsServer L.told self.new }
         ensures limits { SameLimits self.old self.new }
     {
@@ -51,7 +44,8 @@ impl<J: Journal, L: Link> Server<J, L> {
     /// Each open client is sent what waits for it, and each channel; the links of clients that are gone are shut. Answers whether anything moved.
     fn pump<C: Clock, F: Folder>(&mut self, clock: &C, folder: &mut F) -> bool
         requires server { IsServer L.told self.old }
-        ensures pumps { let s = seen L.told J.events in Pumps (s (F.told folder.old) self.old) (s (F.told folder.new) self.new) }
+        ensures pumps { let s = seen L.told J.events in
+            (pumps : Pumps (s (F.told folder.old) self.old) (s (F.told folder.new) self.new)) × (result ≡ pumps.moved) }
         ensures server { IsServer L.told self.new }
         ensures limits { SameLimits self.old self.new }
     {
@@ -63,7 +57,8 @@ impl<J: Journal, L: Link> Server<J, L> {
 
     /// One round: one accept on each net that has not failed; each open client is listened to, and each channel; each open client is sent what waits
     /// for it, and each channel. Where memory is wanting for the Closes of clients, these are left to the next round. The net of the clients rests
-    /// where nothing came, was said or went.
+    /// where nothing moved. Answers whether anything did: a link came, a client or a program said something or was closed, or a client's link took
+    /// a byte.
     pub fn round<R: Wait, N: Net<L = L>, C: Clock, F: Folder>(
         &mut self,
         rt: &R,
@@ -71,18 +66,19 @@ impl<J: Journal, L: Link> Server<J, L> {
         users: &mut N,
         clock: &C,
         folder: &mut F,
-    )
+    ) -> bool
     where
         L: Drop,
         requires server { IsServer L.told self.old }
-        ensures round { let s = seen L.told J.events in IsRound L.told (N.told net.old) (N.told net.new) (N.told users.old) (N.told users.new)
-            (s (F.told folder.old) self.old) (s (F.told folder.new) self.new) }
+        ensures round { let s = seen L.told J.events in
+            (round : IsRound L.told (N.told net.old) (N.told net.new) (N.told users.old) (N.told users.new)
+            (s (F.told folder.old) self.old) (s (F.told folder.new) self.new)) × (result ≡ has_moved round) }
         ensures server { IsServer L.told self.new }
         ensures limits { SameLimits self.old self.new }
     {
         let came = self.accept_all(net, users);
         let heard = self.hear(rt, clock, folder);
         let sent = self.pump(clock, folder);
-        rest_if_idle(net, came || heard || sent);
+        rest_if_idle(net, came | heard | sent)
     }
 }

@@ -1,23 +1,16 @@
 -- Which channel stands behind a visit to another one.
-use Rattle.std.proofs.Common.{◌≡◌, ◌≢◌, ◌⊎◌, inl, inr, ℕ, zero, suc, ◌+◌, ◌<◌, ◌≤◌, Bool, true, false, cond, not, List, [], ◌∷◌, length, map, filter, drop, Option, Some, None, slice_get, refl, sym, ap, subst, ◌∙◌, true≢false, arith}
+use Rattle.std.proofs.Common.{◌≡◌, ◌⊎◌, inl, inr, ℕ, zero, suc, ◌+◌, ◌<◌, ◌≤◌, Bool, true, false, cond, not, List, [], ◌∷◌, length, map, filter, drop, Option, Some, None, slice_get, refl, sym, ap, subst, ◌∙◌, arith}
 use Rattle.std.specs.Prelude.{nat_eq}
 use Rattle.std.specs.List.{AllByRecursion, IsDistinct}
 use Rattle.std.specs.Map.{keys_of}
 use Rattle.std.specs.Option.{option_map_or}
-use Rattle.std.proofs.lemmas.Bool.Decides.{eqb_tells}
 use Rattle.std.proofs.lemmas.Map.Keys.{IsDistinct-head, IsDistinct-tail}
 use Rattle.dl_serving.specs.Rounds.{is_at, place_behind}
-use Rattle.dl_lemmas.proofs.Numbers.{nat_eq_same}
+use Rattle.dl_lemmas.proofs.Numbers.{nat_eq_apart, nat_eq_same}
 
 -- those of other numbers
 abbrev pub others_than : ℕ → List ℕ → List ℕ
 others_than channel numbers = filter (λ other. not (nat_eq channel other)) numbers
-
-flipped : (a b : ℕ) → nat_eq a b ≡ false → nat_eq b a ≡ false
-flipped a b apart = elim (eqb_tells b a) [
-  | inl same ↦ absurd (true≢false (sym (ap (nat_eq a) same.1 ∙ nat_eq_same a) ∙ apart))
-  | inr other ↦ other.0
-]
 
 -- entries of other keys have other keys
 pub keys_filter : {A : Type 0} (channel : ℕ) (es : List (ℕ × A)) → keys_of (filter (λ (e : ℕ × A). not (nat_eq channel e.0)) es) ≡ others_than channel (keys_of es)
@@ -45,7 +38,7 @@ nowhere channel (x ∷ xs) place = by (nat_eq channel x) refl place (λ p. nowhe
   by : (b : Bool) → nat_eq channel x ≡ b → (p : ℕ) → ((q : ℕ) → is_at (others_than channel xs) q channel ≡ false)
       → is_at (cond (not b) (x ∷ others_than channel xs) (others_than channel xs)) p channel ≡ false
   by true is p rest = rest p
-  by false is zero rest = flipped channel x is
+  by false is zero rest = nat_eq_apart channel x is
   by false is (suc p) rest = rest p
 
 -- what stands from its place on
@@ -63,7 +56,7 @@ moved_up channel (x ∷ xs) zero apart there =
     ap (λ (b : Bool). cond (not b) (x ∷ others_than channel xs) (others_than channel xs)) here
     ∙ all_others channel xs (subst (λ (n : ℕ). AllByRecursion (λ y. nat_eq n y ≡ false) xs) same (IsDistinct-head nat_eq x xs apart))
 moved_up channel (x ∷ xs) (suc place) apart there =
-    let other : nat_eq channel x ≡ false = flipped x channel (among x channel xs place (IsDistinct-head nat_eq x xs apart) there) in
+    let other : nat_eq channel x ≡ false = nat_eq_apart x channel (among x channel xs place (IsDistinct-head nat_eq x xs apart) there) in
     ap (λ (b : Bool). drop (suc place) (cond (not b) (x ∷ others_than channel xs) (others_than channel xs))) other
     ∙ moved_up channel xs place (IsDistinct-tail nat_eq x xs apart) there
 

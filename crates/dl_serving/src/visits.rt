@@ -4,7 +4,7 @@ ghost use Rattle.std.specs.Prelude.{◌≡◌, ◌≤◌, ◌||◌, ◌==◌, No
 ghost use Rattle.dl_bytes.specs.Limits.{admitted_limit};
 ghost use Rattle.dl_registry.specs.Kept.{owed_change};
 ghost use Rattle.dl_socket.specs.Channels.{IsOpen};
-ghost use Rattle.dl_socket.specs.Turns.{sight};
+ghost use Rattle.dl_socket.specs.Turns.{seen};
 ghost use Rattle.dl_serving.specs.Visits.{Ends, Hears, HearsOpen, Pumps, PumpsOpen};
 
 use dl_bytes::Moment;
@@ -31,8 +31,8 @@ pub fn end_channel<J: Journal, L: Link, F: Folder>(
     requires open { IsOpen channel channels.old }
     requires settled { owed_change core.old.registry ≡ None }
     requires few { core.old.hub.admitted ≤ admitted_limit }
-    ensures ends { Ends channel moment result (sight (L.told link.old) core.old (J.events journal.old) (F.told folder.old))
-        (sight (L.told link.new) core.new (J.events journal.new) (F.told folder.new)) channels.old channels.new }
+    ensures ends { let s = seen L.told J.events F.told in Ends channel moment result
+        (s link.old core.old journal.old folder.old) (s link.new core.new journal.new folder.new) channels.old channels.new }
     ensures settled { owed_change core.new.registry ≡ None }
     ensures few { core.new.hub.admitted ≤ admitted_limit }
 {
@@ -56,8 +56,8 @@ fn hear_open<J: Journal, L: Link, F: Folder>(
     requires open { IsOpen channel channels.old }
     requires settled { owed_change core.old.registry ≡ None }
     requires few { core.old.hub.admitted ≤ admitted_limit }
-    ensures hears { HearsOpen channel moment result (sight (L.told link.old) core.old (J.events journal.old) (F.told folder.old))
-        (sight (L.told link.new) core.new (J.events journal.new) (F.told folder.new)) channels.old channels.new }
+    ensures hears { let s = seen L.told J.events F.told in HearsOpen channel moment result
+        (s link.old core.old journal.old folder.old) (s link.new core.new journal.new folder.new) channels.old channels.new }
     ensures settled { owed_change core.new.registry ≡ None }
     ensures few { core.new.hub.admitted ≤ admitted_limit }
 {
@@ -88,8 +88,8 @@ pub fn hear_channel<J: Journal, L: Link, F: Folder>(
     requires open { IsOpen channel channels.old }
     requires settled { owed_change core.old.registry ≡ None }
     requires few { core.old.hub.admitted ≤ admitted_limit }
-    ensures hears { Hears channel moment end.old end.new (sight (L.told link.old) core.old (J.events journal.old) (F.told folder.old))
-        (sight (L.told link.new) core.new (J.events journal.new) (F.told folder.new)) channels.old channels.new }
+    ensures hears { let s = seen L.told J.events F.told in Hears channel moment end.old end.new
+        (s link.old core.old journal.old folder.old) (s link.new core.new journal.new folder.new) channels.old channels.new }
     ensures moves { result ≡ (is_some end.new || ((L.told link.new).idles == (L.told link.old).idles)) }
     ensures settled { owed_change core.new.registry ≡ None }
     ensures few { core.new.hub.admitted ≤ admitted_limit }
@@ -121,8 +121,8 @@ fn pump_open<J: Journal, L: Link, F: Folder>(
     requires open { IsOpen channel channels.old }
     requires settled { owed_change core.old.registry ≡ None }
     requires few { core.old.hub.admitted ≤ admitted_limit }
-    ensures pumps { PumpsOpen channel moment result (sight (L.told link.old) core.old (J.events journal.old) (F.told folder.old))
-        (sight (L.told link.new) core.new (J.events journal.new) (F.told folder.new)) channels.old channels.new }
+    ensures pumps { let s = seen L.told J.events F.told in PumpsOpen channel moment result
+        (s link.old core.old journal.old folder.old) (s link.new core.new journal.new folder.new) channels.old channels.new }
     ensures settled { owed_change core.new.registry ≡ None }
     ensures few { core.new.hub.admitted ≤ admitted_limit }
 {
@@ -149,8 +149,8 @@ pub fn pump_channel<J: Journal, L: Link, F: Folder>(
     requires open { IsOpen channel channels.old }
     requires settled { owed_change core.old.registry ≡ None }
     requires few { core.old.hub.admitted ≤ admitted_limit }
-    ensures pumps { Pumps channel moment end.old end.new (sight (L.told link.old) core.old (J.events journal.old) (F.told folder.old))
-        (sight (L.told link.new) core.new (J.events journal.new) (F.told folder.new)) channels.old channels.new }
+    ensures pumps { let s = seen L.told J.events F.told in Pumps channel moment end.old end.new
+        (s link.old core.old journal.old folder.old) (s link.new core.new journal.new folder.new) channels.old channels.new }
     ensures settled { owed_change core.new.registry ≡ None }
     ensures few { core.new.hub.admitted ≤ admitted_limit }
 {

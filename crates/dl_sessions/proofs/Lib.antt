@@ -3,4 +3,3 @@ pub mod Accounts
 pub mod ToldFields
 pub mod Readings
 pub mod Lines
-pub mod Items

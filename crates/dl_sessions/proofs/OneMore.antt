@@ -6,6 +6,7 @@ use Rattle.std.specs.Str.{bytes_eq}
 use Rattle.std.proofs.lemmas.Bool.{eq-eqb, eqb-true}
 use Rattle.std.proofs.lemmas.List.Folds.{find-append}
 use Rattle.std.proofs.lemmas.List.Sums.{sum_by-append}
+use Rattle.dl_lemmas.proofs.Bools.{both, both_true}
 use Rattle.dl_model.specs.Along.{last_that}
 use Rattle.dl_laws.proofs.Lists.{along-one, count_by-append, last_that-one}
 use Rattle.dl_sessions.specs.declared.session.Context.{Context}
@@ -67,17 +68,10 @@ bytes_same xs ys e = search rules
 bytes_self : (xs : List ℕ) → bytes_eq xs xs ≡ true
 bytes_self xs = search rules
 
-both_so : (a b : Bool) → (a && b) ≡ true → (a ≡ true) × (b ≡ true)
-both_so true b e = (refl, e)
-both_so false b e = absurd cc
-
-all_so : (a b : Bool) → a ≡ true → b ≡ true → (a && b) ≡ true
-all_so a b ea eb = ap (λ (x : Bool). x && b) ea ∙ eb
-
 pub session_is : (a b : Session) → same_session a b ≡ true → a ≡ b
 session_is a b e =
-    let first = both_so (bytes_eq a.ecu b.ecu) (bytes_eq a.apid b.apid && eqb a.seid b.seid) e in
-    let rest = both_so (bytes_eq a.apid b.apid) (eqb a.seid b.seid) first.1 in
+    let first = both (bytes_eq a.ecu b.ecu) (bytes_eq a.apid b.apid && eqb a.seid b.seid) e in
+    let rest = both (bytes_eq a.apid b.apid) (eqb a.seid b.seid) first.1 in
     let p = bytes_same a.ecu b.ecu first.0 in
     let q = bytes_same a.apid b.apid rest.0 in
     let r = eqb-true a.seid b.seid rest.1 in
@@ -85,7 +79,7 @@ session_is a b e =
 
 pub session_self : (a : Session) → same_session a a ≡ true
 session_self a =
-    all_so (bytes_eq a.ecu a.ecu) (bytes_eq a.apid a.apid && eqb a.seid a.seid) (bytes_self a.ecu) (all_so (bytes_eq a.apid a.apid) (eqb a.seid a.seid) (bytes_self a.apid) (eq-eqb a.seid a.seid refl))
+    both_true (bytes_eq a.ecu a.ecu) (bytes_eq a.apid a.apid && eqb a.seid a.seid) (bytes_self a.ecu) (both_true (bytes_eq a.apid a.apid) (eqb a.seid a.seid) (bytes_self a.apid) (eq-eqb a.seid a.seid refl))
 
 -- ---- totals
 
@@ -146,7 +140,7 @@ totals_kept old new es e now noted_so is keeps s =
 
 pub source_is : (a b : Source) → same_source a b ≡ true → a ≡ b
 source_is a b e =
-    let parts = both_so (bytes_eq a.ecu b.ecu) (bytes_eq a.apid b.apid) e in
+    let parts = both (bytes_eq a.ecu b.ecu) (bytes_eq a.apid b.apid) e in
     let p = bytes_same a.ecu b.ecu parts.0 in
     let q = bytes_same a.apid b.apid parts.1 in
     λ i. record { ecu = p i; apid = q i }

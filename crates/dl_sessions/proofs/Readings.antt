@@ -3,6 +3,7 @@ use Rattle.std.proofs.Common.{◌≡◌, ℕ, ◌<◌, ◌≤◌, Bool, true, fa
 use Rattle.std.specs.Prelude.{not, is_none, ◌&&◌}
 use Rattle.std.proofs.lemmas.Bool.{leb-true, ltb-false}
 use Rattle.std.proofs.lemmas.List.{length-take, length-drop}
+use Rattle.dl_lemmas.proofs.Bools.{both}
 use Rattle.dl_bytes.specs.Htyp.{htyp_of, len_of, version, header_len}
 use Rattle.dl_headers.specs.declared.fault.HeaderFault.{HeaderFault}
 use Rattle.dl_headers.specs.declared.fault.HeaderFault.TheVariants.{Short, Version, Length}
@@ -49,10 +50,6 @@ none_is : {A : Type 0} (o : Option A) → is_none o ≡ true → o ≡ None
 none_is None e = refl
 none_is (Some x) e = absurd cc
 
-both_true : (a b : Bool) → (a && b) ≡ true → (a ≡ true) × (b ≡ true)
-both_true true b e = (refl, e)
-both_true false b e = absurd cc
-
 pub place_is : (bytes : List ℕ) (place : Place) → first_place bytes ≡ Some place → IsPlace bytes place
 place_is bytes place is = by_test (is_none (front_fault behind) && leb (len_of behind) (length behind)) refl is where
   behind : List ℕ
@@ -64,7 +61,7 @@ place_is bytes place is = by_test (is_none (front_fault behind) && leb (len_of b
       let now = drop (before_len bytes) bytes in
       let found : Place = record { ecu = stored_ecu bytes; before = before_len bytes; len = len_of now } in
       let same : found ≡ place = cc in
-      let parts = both_true (is_none (front_fault now)) (leb (len_of now) (length now)) test in
+      let parts = both (is_none (front_fault now)) (leb (len_of now) (length now)) test in
       subst (IsPlace bytes) same (record { front = none_is (front_fault now) parts.0; len = refl; within = leb-true (len_of now) (length now) parts.1 })
   by_test false test some = absurd cc
 

@@ -7,6 +7,7 @@ use Rattle.byteorder.specs.Numbers.{big_number-reads_back}
 use Rattle.dl_bytes.specs.Htyp.{htyp_of, has_ecu, has_ticks, standard_len}
 use Rattle.dl_headers.specs.Header.{standard_header, extended_header, optional}
 use Rattle.dl_headers.specs.Message.{Message, IsMessage}
+use Rattle.dl_headers.proofs.Lengths.{number_long}
 use Rattle.dl_sessions.specs.Stream.{ecu_of, ticks_of}
 
 ecu_at : (htyp mcnt len : ℕ) (ecu : Option (List ℕ)) (other more : List ℕ) → IfSome ecu (λ id. length id ≡ 4)
@@ -17,10 +18,6 @@ ecu_at htyp mcnt len (Some id) other more four = take_at id more 4 four
 four_of : (id : Option (List ℕ)) → IfSome id (λ x. length x ≡ 4) → length (optional (λ (x : List ℕ). x) id) ≡ cond (is_some id) 4 0
 four_of None four = refl
 four_of (Some id) four = four
-
-number_of : (n : Option ℕ) → length (optional (big_bytes 4) n) ≡ cond (is_some n) 4 0
-number_of None = refl
-number_of (Some n) = refl
 
 ticks_at : (front : List ℕ) (ticks : Option ℕ) (more : List ℕ) (n : ℕ) → (is_some ticks ≡ true → length front ≡ n) → IfSome ticks (λ t. t < 2 ^ 32)
     → cond (is_some ticks) (big_number 4 (drop n ((front ++ optional (big_bytes 4) ticks) ++ more))) 0 ≡ unwrap_or ticks 0
@@ -61,7 +58,7 @@ module _ (m : Message) (bytes : List ℕ) (is : IsMessage m bytes) where
       let size : length front ≡ 4 + length (optional (λ (id : List ℕ). id) s.ecu) + length (optional (big_bytes 4) s.session) =
       front_long s.htyp s.mcnt s.len (optional (λ (id : List ℕ). id) s.ecu) (optional (big_bytes 4) s.session) in
       let long : is_some s.ticks ≡ true → length front ≡ standard_len s.htyp - 4 = λ there.
-      omega (arith, size, ids, number_of s.session, four_same s.ecu_as_told, four_same s.session_as_told, four_same s.ticks_as_told, four_same there) in
+      omega (arith, size, ids, number_long s.session, four_same s.ecu_as_told, four_same s.session_as_told, four_same s.ticks_as_told, four_same there) in
       ap (λ (h : ℕ). cond (has_ticks h) (big_number 4 (drop (standard_len h - 4) bytes)) 0) htyp_read
       ∙ ap (λ (there : Bool). cond there (big_number 4 (drop (standard_len s.htyp - 4) bytes)) 0) (sym s.ticks_as_told)
       ∙ ap (λ (b : List ℕ). cond (is_some s.ticks) (big_number 4 (drop (standard_len s.htyp - 4) b)) 0) parts

@@ -16,9 +16,9 @@ use Rattle.dl_model.specs.ClientStream.{stream}
 use Rattle.dl_model.specs.Setting.{Setting}
 use Rattle.dl_outside.specs.Links.{Links}
 use Rattle.dl_outside.specs.Told.{FolderTold, LinkTold}
+use Rattle.dl_laws.proofs.Rotation.{length-concat}
 use Rattle.dl_lib.specs.State.{AccountState, ClosingState}
 use Rattle.dl_hub.specs.State.{Client as HubClient, Hub, client_of}
-use Rattle.dl_hub.proofs.Following.{bytes_of}
 use Rattle.dl_core.specs.Follows.{IsAfter, Run, source_of}
 use Rattle.dl_core.proofs.Answered.{replies_are}
 use Rattle.dl_taking.specs.Drained.{GivesTook, IsDrain}
@@ -105,7 +105,7 @@ module _ {L : Type 0} (told : L → LinkTold) (dropped : ℕ) (old : Stopping L)
       let left = left_of run closed.journal.events taken_now closed.core number c after_closed at shut in
       let has = stream_of run closed.journal.events taken_now closed.core number c after_closed at in
       let frames : List (List ℕ) = stream (source_of run) run.setting.buffer number closed.journal.events in
-      omega (arith, has.bytes, bytes_of frames, ap length left.parts, length-append (taken_now number) left.left, left.size_is)
+      omega (arith, has.bytes, length-concat frames, ap length left.parts, length-append (taken_now number) left.left, left.size_is)
 
   -- and once the links were shut
   ended_one : (place : ℕ) (link : LinkTold) (end : LinkEnd) → slice_get (map told links.links) place ≡ Some link → slice_get (ends_in closed.core.hub) place ≡ Some end

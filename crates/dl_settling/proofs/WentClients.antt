@@ -15,9 +15,9 @@ use Rattle.dl_model.specs.ClientStream.{sent, stream, traffic}
 use Rattle.dl_outside.specs.Links.{Links}
 use Rattle.dl_outside.specs.Outside.{Stays}
 use Rattle.dl_outside.specs.Told.{FolderTold, LinkTold}
+use Rattle.dl_laws.proofs.Rotation.{length-concat}
 use Rattle.dl_lib.specs.State.{AccountState, ClosingState}
 use Rattle.dl_hub.specs.State.{Client as HubClient, Hub, client_of}
-use Rattle.dl_hub.proofs.Following.{bytes_of}
 use Rattle.dl_core.specs.Follows.{IsAfter, Run, source_of}
 use Rattle.dl_core.specs.State.{Core}
 use Rattle.dl_well_formed.proofs.OpenClients.{its_stream}
@@ -210,7 +210,7 @@ module _ {L : Type 0} (told : L → LinkTold) (dropped : ℕ) (old : Stopping L)
         let left = left_of run events (took_all taken stays.later.sent) settles.closed.core (place + 1) last.client final.after last.there last.shut in
         let frames : List (List ℕ) = stream (source_of run) run.setting.buffer (place + 1) events in
         let size : size_of frames ≡ length did.taken + last.client.left =
-        omega (arith, bytes_of frames, ap length left.parts, length-append (took_all taken stays.later.sent (place + 1)) left.left, left.size_is, ap length last.took) in
+        omega (arith, length-concat frames, ap length left.parts, length-append (took_all taken stays.later.sent (place + 1)) left.left, left.size_is, ap length last.took) in
         let within = within_of (map told links.links) place link at in
         let below : place < length settles.closed.core.hub.clients =
         omega (arith, within, settles.shuts.many, length-map settles.closed.links.links told, settles.closes.linked.many) in

@@ -1,17 +1,13 @@
 -- The versions of slots, by the levels that were set in them.
 use Rattle.std.proofs.Common.{◌≡◌, ◌≢◌, ℕ, zero, suc, ◌+◌, ◌-◌, ◌<◌, ◌^◌, Bool, true, false, List, [], ◌∷◌, ◌++◌, length, map, filter, cond, not, replicate, sym, refl, ap, ◌∙◌, subst, arith, eqb, eq-eqb, eqb-true, ne_eqb, append-nil, get_or, set, min, get_or-set_same, get_or-set_other}
-use Rattle.std.proofs.lemmas.List.Elements.{filter-append}
-use Rattle.std.proofs.lemmas.List.{map-append, get_or-replicate}
+use Rattle.std.proofs.lemmas.List.{get_or-replicate}
 use mathlib.Core.Logic.{dite}
 use native.Mathlib.Decide.{ℕ_discrete}
 use Rattle.dl_levels.specs.declared.history.Change.{Change}
 use Rattle.dl_levels.specs.History.{change, levels_set, current_version}
+use Rattle.dl_levels.proofs.Histories.{levels_set-append}
 use Rattle.dl_socket.specs.History.{with_version}
 use Rattle.dl_socket.specs.Messenger.{AreCounted}
-
-levels_set-append : (slot : ℕ) (sets more : List Change) → levels_set slot (sets ++ more) ≡ levels_set slot sets ++ levels_set slot more
-levels_set-append slot sets more = ap (λ (cs : List Change). map (λ c. c.level) cs) (filter-append (λ c. eqb c.slot slot) sets more)
-    ∙ map-append (λ (c : Change). c.level) (filter (λ c. eqb c.slot slot) sets) (filter (λ c. eqb c.slot slot) more)
 
 -- the levels that were set in other slots
 abbrev elsewhere : ℕ → List Change → List Change

@@ -1,11 +1,15 @@
 -- What visits to the daemon's clients come to, beside programs outside.
-use Rattle.std.specs.Prelude.{◌≡◌, ℕ, List, ◌++◌}
+use Rattle.std.specs.Prelude.{◌≡◌, ℕ, List, ◌++◌, Option}
 use Rattle.dl_core.specs.State.{Core}
 use Rattle.dl_desk.specs.Told.{PostTold}
+use Rattle.dl_events.specs.declared.event.Event.{Event}
 use Rattle.dl_levels.specs.declared.history.Change.{Change}
+use Rattle.dl_outside.specs.Links.{Links}
+use Rattle.dl_outside.specs.Told.{FolderTold, LinkTold}
 use Rattle.dl_registry.specs.Kept.{Kept}
 use Rattle.dl_rounds.specs.Clients.{Clients}
 use Rattle.dl_rounds.specs.Ready.{AreHeard}
+use Rattle.dl_rounds.specs.Rounds.{seen}
 use Rattle.dl_rounds.specs.Seats.{Seated}
 use Rattle.dl_turns.specs.Events.{IsDeskOf}
 use Rattle.dl_socket.specs.Channels.{Channels}
@@ -15,6 +19,10 @@ use Rattle.dl_socket.specs.Turns.{told_each}
 -- Each client that may come has a listener, whatever sets levels for the registry.
 abbrev pub HaveListeners : Seated → Core → Type 0
 HaveListeners seated core = (desk : PostTold) → IsDeskOf core.registry desk → AreHeard seated core desk
+
+-- links, the seats of clients, a core, a journal and a folder, as a visit sees them, whatever sets levels
+abbrev pub clients_of : {L J F : Type 0} → (L → LinkTold) → (J → Option (List Event)) → (F → FolderTold) → Links L → Seated → Core → J → F → PostTold → Clients
+clients_of link_told events folder_told links seats core journal folder desk = seen link_told (λ (d : PostTold). d) events folder_told links seats.listeners core desk journal folder
 
 -- Clients were visited so: the levels that their requests set are told the programs that have their contexts, in order. What sets the levels has the
 -- versions of the registry before it, and no queue took an injection.

@@ -5,7 +5,7 @@ use Rattle.dl_channel.specs.State.{Outbox}
 use Rattle.dl_channel.specs.declared.outcome.ChannelEnd.{ChannelEnd}
 use Rattle.dl_channel_turns.specs.Levels.{told}
 use Rattle.dl_channel_turns.specs.Pumping.{PumpsOne}
-use Rattle.dl_channel_turns.specs.State.{Stage, side}
+use Rattle.dl_channel_turns.specs.State.{Side, Stage, side}
 use Rattle.dl_channel_turns.specs.Turns as one
 use Rattle.dl_core.specs.State.{Core}
 use Rattle.dl_desk.specs.Told.{PostTold}
@@ -31,6 +31,14 @@ pub record Sight : Type 0 where
 
 abbrev pub sight : LinkTold → Core → Option (List Event) → FolderTold → Sight
 sight link core events folder = record { link = link; core = core; events = events; folder = folder }
+
+-- the same of a link, a journal and a folder, by what these tell
+abbrev pub seen : {L J F : Type 0} → (L → LinkTold) → (J → Option (List Event)) → (F → FolderTold) → L → Core → J → F → Sight
+seen link_told events folder_told link core journal folder = sight (link_told link) core (events journal) (folder_told folder)
+
+-- the daemon's side with what waits for channels, by what a journal and a folder tell
+abbrev pub side_of : {J F : Type 0} → (J → Option (List Event)) → (F → FolderTold) → Core → Channels → J → F → Side
+side_of events folder_told core channels journal folder = side core channels.outboxes (events journal) (folder_told folder)
 
 -- what a channel's turn sees before it, and after it
 abbrev pub stage_before : Sight → cutter.Channel → Channels → Stage

@@ -6,16 +6,14 @@ ghost use Rattle.dl_bytes.specs.Limits.{admitted_limit, message_limit};
 ghost use Rattle.dl_channel_turns.specs.Turns.{Stays};
 ghost use Rattle.dl_hub.specs.State.{outbox_of};
 ghost use Rattle.dl_rounds.specs.Ready.{AreLinked, KeepsRoom};
-ghost use Rattle.dl_rounds.specs.Rounds.{seen};
 ghost use Rattle.dl_rounds.specs.Visits.{ClosesAll, HearsAll};
 ghost use Rattle.dl_registry.specs.Kept.{owed_change};
 ghost use Rattle.dl_turns.specs.Events.{HasServed};
 ghost use Rattle.dl_turns.specs.Gone.{TellOver};
 ghost use Rattle.dl_socket.specs.Channels.{IsOpen, Opens, Refuses, channel_limit, none_opened, open_channel_limit, open_in, with_channel};
-ghost use Rattle.dl_channel_turns.specs.State.{side};
 ghost use Rattle.dl_socket.specs.Closing.{HasBegunToClose, HasClosed};
-ghost use Rattle.dl_socket.specs.Listening.{HaveListeners, HaveServed};
-ghost use Rattle.dl_socket.specs.Turns.{HasAsked, HasPumped, HasTurned, sight};
+ghost use Rattle.dl_socket.specs.Listening.{HaveListeners, HaveServed, clients_of};
+ghost use Rattle.dl_socket.specs.Turns.{HasAsked, HasPumped, HasTurned, seen, side_of};
 
 use crate::closing::unregister_all;
 use crate::fault::ChannelFault;
@@ -167,8 +165,8 @@ impl Channels {
         requires open { IsOpen channel self.old }
         requires settled { owed_change core.old.registry ≡ None }
         requires few { core.old.hub.admitted + 4096 ≤ admitted_limit }
-        ensures turn { HasTurned channel moment result (sight (L.told link.old) core.old (J.events journal.old) (F.told folder.old))
-            (sight (L.told link.new) core.new (J.events journal.new) (F.told folder.new)) self.old self.new }
+        ensures turn { let s = seen L.told J.events F.told in HasTurned channel moment result
+            (s link.old core.old journal.old folder.old) (s link.new core.new journal.new folder.new) self.old self.new }
         ensures stays { IfNone result (Stays (L.told link.old) (L.told link.new)) }
         ensures settled { owed_change core.new.registry ≡ None }
         ensures few { core.new.hub.admitted ≤ admitted_limit }
@@ -203,10 +201,10 @@ impl Channels {
         requires open { IsOpen channel self.old }
         requires settled { owed_change core.old.registry ≡ None }
         requires few { core.old.hub.admitted ≤ admitted_limit }
-        ensures closed { OnOk result (HasClosed channel moment (side core.old self.old.outboxes (J.events journal.old) (F.told folder.old))
-            (side core.new self.new.outboxes (J.events journal.new) (F.told folder.new)) self.old self.new) }
-        ensures unclosed { OnErr result (HasBegunToClose channel moment (side core.old self.old.outboxes (J.events journal.old) (F.told folder.old))
-            (side core.new self.new.outboxes (J.events journal.new) (F.told folder.new)) self.old self.new) }
+        ensures closed { let s = side_of J.events F.told in OnOk result (HasClosed channel moment
+            (s core.old self.old journal.old folder.old) (s core.new self.new journal.new folder.new) self.old self.new) }
+        ensures unclosed { let s = side_of J.events F.told in OnErr result (HasBegunToClose channel moment
+            (s core.old self.old journal.old folder.old) (s core.new self.new journal.new folder.new) self.old self.new) }
         ensures settled { owed_change core.new.registry ≡ None }
         ensures few { core.new.hub.admitted ≤ admitted_limit }
     {
@@ -236,8 +234,8 @@ impl Channels {
         requires served { HasServed client served.old core.old }
         requires settled { owed_change core.old.registry ≡ None }
         requires spare { 1 ≤ J.spare journal.old }
-        ensures turn { HasAsked client result cutter.old cutter.new (sight (L.told link.old) core.old (J.events journal.old) (F.told folder.old))
-            (sight (L.told link.new) core.new (J.events journal.new) (F.told folder.new)) self.old self.new }
+        ensures turn { let s = seen L.told J.events F.told in HasAsked client result cutter.old cutter.new
+            (s link.old core.old journal.old folder.old) (s link.new core.new journal.new folder.new) self.old self.new }
         ensures limit { cutter.new.limit ≡ message_limit }
         ensures open { IfNone result (IsSome (outbox_of core.new.hub client)) }
         ensures served { HasServed client served.new core.new }
@@ -273,9 +271,8 @@ impl Channels {
     ) -> bool
         requires linked { AreLinked links.old core.old (J.spare journal.old) }
         requires heard { HaveListeners seats.old core.old }
-        ensures serves { HaveServed (HearsAll result) core.old.registry
-            (λ desk. seen L.told (λ d. d) J.events F.told links.old seats.old.listeners core.old desk journal.old folder.old)
-            (λ desk. seen L.told (λ d. d) J.events F.told links.new seats.new.listeners core.new desk journal.new folder.new) self.old self.new }
+        ensures serves { let s = clients_of L.told J.events F.told in HaveServed (HearsAll result) core.old.registry
+            (s links.old seats.old core.old journal.old folder.old) (s links.new seats.new core.new journal.new folder.new) self.old self.new }
         ensures linked { AreLinked links.new core.new (J.spare journal.new) }
         ensures heard { HaveListeners seats.new core.new }
         ensures room { KeepsRoom core.old core.new (J.spare journal.old) (J.spare journal.new) }
@@ -307,9 +304,8 @@ impl Channels {
     )
         requires linked { AreLinked links.old core.old (J.spare journal.old) }
         requires heard { HaveListeners seats.old core.old }
-        ensures serves { HaveServed (ClosesAll (TellOver L.told)) core.old.registry
-            (λ desk. seen L.told (λ d. d) J.events F.told links.old seats.old.listeners core.old desk journal.old folder.old)
-            (λ desk. seen L.told (λ d. d) J.events F.told links.new seats.new.listeners core.new desk journal.new folder.new) self.old self.new }
+        ensures serves { let s = clients_of L.told J.events F.told in HaveServed (ClosesAll (TellOver L.told)) core.old.registry
+            (s links.old seats.old core.old journal.old folder.old) (s links.new seats.new core.new journal.new folder.new) self.old self.new }
         ensures none { (number : ℕ) → outbox_of core.new.hub number ≡ None }
         ensures linked { AreLinked links.new core.new (J.spare journal.new) }
         ensures heard { HaveListeners seats.new core.new }

@@ -1,6 +1,7 @@
 -- What a folder tells, over calls in a row.
 use Rattle.std.proofs.Common.{◌≡◌, ℕ, List, Option, Some, None, ap, ◌∙◌}
 use Rattle.std.specs.Prelude.{IfSome, IsOk, Ok, Err, is_ok}
+use Rattle.dl_outside.proofs.Staying.{stays_both}
 use Rattle.dl_conf.specs.Conf.{Values}
 use Rattle.dl_conf.specs.Outcome.{values_of}
 use Rattle.dl_conf.specs.declared.stored.StoredKind.{StoredKind}
@@ -13,18 +14,13 @@ use Rattle.dl_startup.specs.Unchanged.{IsQuiet, IsUnchanged}
 use Rattle.dl_startup.specs.declared.configuration.Setup.{Setup}
 use Rattle.dl_lemmas.proofs.Options.{if_some_of}
 
--- it stays over two calls
-pub stays_on : {A : Type 0} → (old mid new : Option A) → Stays old mid → Stays mid new → Stays old new
-stays_on None mid new a b = tt
-stays_on (Some x) mid new a b = if_some_of mid x (λ told. new ≡ Some told) a b
-
 -- what is known of what was told later is known of what was told before
 pub known_before : {A : Type 0} → (old mid : Option A) (P : A → Type 0) → Stays old mid → IfSome mid P → IfSome old P
 known_before None mid P a h = tt
 known_before (Some x) mid P a h = if_some_of mid x P a h
 
 pub unchanged_on : (old mid new : FolderTold) → IsUnchanged old mid → IsUnchanged mid new → IsUnchanged old new
-unchanged_on old mid new a b = record { files = stays_on old.files mid.files new.files a.files b.files; changes = b.changes ∙ a.changes }
+unchanged_on old mid new a b = record { files = stays_both old.files mid.files new.files a.files b.files; changes = b.changes ∙ a.changes }
 
 pub quiet_on : (old mid new : FolderTold) → IsQuiet old mid → IsQuiet mid new → IsQuiet old new
 quiet_on old mid new a b = record { unchanged = unchanged_on old mid new a.unchanged b.unchanged; well = b.well ∙ a.well }

@@ -1,4 +1,3 @@
-mod Numbering
 mod Letters
 mod Changes
 mod Writes

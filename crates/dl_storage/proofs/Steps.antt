@@ -1,6 +1,6 @@
 -- One frame more of a filter.
-use Rattle.std.proofs.Common.{◌≡◌, ℕ, ◌+◌, ◌-◌, ◌<◌, ◌≤◌, Bool, true, false, cond, leb, List, [], ◌∷◌, ◌++◌, length, Option, Some, None, Err, refl, sym, ap, subst, ◌∙◌, append_assoc, arith}
-use Rattle.std.specs.Prelude.{◌^◌, nat_lt, min, IfSome, IsSomeAnd}
+use Rattle.std.proofs.Common.{◌≡◌, ℕ, ◌+◌, ◌-◌, ◌<◌, Bool, true, false, cond, leb, List, [], ◌∷◌, ◌++◌, length, Option, Some, None, Err, refl, sym, ap, subst, ◌∙◌, append_assoc, arith}
+use Rattle.std.specs.Prelude.{◌^◌, min, IfSome, IsSomeAnd}
 use Rattle.std.specs.List.{AllByRecursion, cons_option}
 use Rattle.std.specs.List.{concat}
 use Rattle.std.specs.Option.{option_to_list}
@@ -14,13 +14,14 @@ use Rattle.dl_outside.specs.Folder.{Files}
 use Rattle.dl_outside.specs.Outside.{Stays}
 use Rattle.dl_outside.specs.Told.{FolderTold}
 use Rattle.dl_model.specs.Backlog.{size_of}
-use Rattle.dl_model.specs.TraceFiles.{StoredFile, greatest, is_spent, number_limit, segments, segments_from, trace_files}
+use Rattle.dl_model.specs.TraceFiles.{StoredFile, is_spent, trace_files}
 use Rattle.dl_trace.specs.Pieces.{pieces, frames_in, room_of}
 use Rattle.dl_trace.specs.Stands.{ChangesTraceFiles, HasFiles}
 use Rattle.dl_trace.specs.State.{IsAfter, IsSameTrace, Trace, files_after, number_after}
 use Rattle.dl_trace.specs.Storing.{HasCause, IsStored, Leaves, Stops}
 use Rattle.dl_events.specs.declared.event.Event.{Event}
 use Rattle.dl_events.specs.declared.record.Record.{Record}
+use Rattle.dl_trace.proofs.Spent.{spent_later}
 use Rattle.dl_storage_text.specs.declared.filter.Filter.{Filter}
 use Rattle.dl_storage.specs.Passing.{frame_for, frames_for}
 use Rattle.dl_storage.specs.Ended.{EndHasCause}
@@ -54,37 +55,6 @@ one_piece size room frame = by_test (leb (length frame) room) where
   by_test false = refl
 
 -- ---- more frames need no fewer files
-
-least_segments : (size : ℕ) (segment frames : List (List ℕ)) → 1 ≤ length (segments_from size segment frames)
-least_segments size segment [] = omega arith
-least_segments size segment (x ∷ frames) = by_test (leb (size_of segment + length x) size) (least_segments size (segment ++ x ∷ []) frames) where
-  by_test : (b : Bool) → 1 ≤ length (segments_from size (segment ++ x ∷ []) frames)
-      → 1 ≤ length (cond b (segments_from size (segment ++ x ∷ []) frames) (segment ∷ segments_from size (x ∷ []) frames))
-  by_test true goes_on = goes_on
-  by_test false goes_on = omega arith
-
-more_segments_from : (size : ℕ) (segment frames more : List (List ℕ)) → length (segments_from size segment frames) ≤ length (segments_from size segment (frames ++ more))
-more_segments_from size segment [] more = least_segments size segment more
-more_segments_from size segment (x ∷ frames) more =
-    by_test (leb (size_of segment + length x) size) (more_segments_from size (segment ++ x ∷ []) frames more) (more_segments_from size (x ∷ []) frames more) where
-      by_test : (b : Bool) → length (segments_from size (segment ++ x ∷ []) frames) ≤ length (segments_from size (segment ++ x ∷ []) (frames ++ more))
-          → length (segments_from size (x ∷ []) frames) ≤ length (segments_from size (x ∷ []) (frames ++ more))
-          → length (cond b (segments_from size (segment ++ x ∷ []) frames) (segment ∷ segments_from size (x ∷ []) frames))
-          ≤ length (cond b (segments_from size (segment ++ x ∷ []) (frames ++ more)) (segment ∷ segments_from size (x ∷ []) (frames ++ more)))
-      by_test true goes_on begins = goes_on
-      by_test false goes_on begins = omega (arith, begins)
-
-more_segments : (size : ℕ) (frames more : List (List ℕ)) → length (segments size frames) ≤ length (segments size (frames ++ more))
-more_segments size [] more = omega arith
-more_segments size (x ∷ frames) more = more_segments_from size (x ∷ []) frames more
-
-above_limit : (m n : ℕ) → m ≤ n → nat_lt number_limit m ≡ true → nat_lt number_limit n ≡ true
-above_limit m n below is = grind (arith, nat_tests)
-
-spent_later : (size : ℕ) (stood : List StoredFile) (frames more : List (List ℕ)) → is_spent size stood frames ≡ true → is_spent size stood (frames ++ more) ≡ true
-spent_later size stood frames more is =
-    let grows = more_segments size frames more in
-    above_limit (greatest stood + length (segments size frames)) (greatest stood + length (segments size (frames ++ more))) (omega (arith, grows)) is
 
 -- ---- counts
 

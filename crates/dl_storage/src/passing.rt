@@ -39,12 +39,12 @@ fn passes(filter: &Filter, item: &Item) -> bool
 }
 
 /// The call of a record, where it passes.
-fn passing<'r>(filter: &Filter, record: &'r Record, moment: Moment) -> Option<PassingCall<'r>>
-    ensures { (ecu : List ℕ) → option_map (λ c. stored ecu c.moment (log_message ecu c.item.now)) result ≡ passing ecu filter.now moment record.now }
+fn passing<'r>(filter: &Filter, call: &'r Record, moment: Moment) -> Option<PassingCall<'r>>
+    ensures { (ecu : List ℕ) → option_map (λ c. stored ecu c.moment (log_message ecu c.item.now)) result ≡ passing ecu filter.now moment call.now }
 {
-    if passes(filter, &record.item) {
+    if passes(filter, &call.item) {
         Some(PassingCall {
-            item: &record.item,
+            item: &call.item,
             moment,
         })
     } else {

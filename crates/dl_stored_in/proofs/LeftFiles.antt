@@ -1,5 +1,5 @@
 -- Which of the files that were made are left.
-use Rattle.std.proofs.Common.{◌≡◌, ℕ, zero, suc, ◌+◌, ◌-◌, ◌≤◌, ◌<◌, Bool, true, false, cond, leb, eqb, not, List, [], ◌∷◌, ◌++◌, length, map, take, drop, refl, sym, ap, ◌∙◌, length-append, arith, inl, inr}
+use Rattle.std.proofs.Common.{◌≡◌, ℕ, zero, suc, ◌+◌, ◌-◌, ◌≤◌, ◌<◌, Bool, true, false, cond, leb, eqb, not, List, [], ◌∷◌, ◌++◌, length, map, take, drop, refl, sym, ap, ◌∙◌, arith, inl, inr}
 use Rattle.std.specs.Prelude.{◌⊎◌, ◌≢◌, ◌||◌, sum, fold, max}
 use Rattle.std.specs.List.{concat, list_any}
 use Rattle.std.proofs.Math.Bool.{or-true}
@@ -7,8 +7,10 @@ use Rattle.std.proofs.lemmas.Bool.Decides.{eqb_tells, leb_tells}
 use Rattle.std.proofs.lemmas.List.{length-drop, length-map, length-take, length-take-le}
 use Rattle.std.proofs.lemmas.List.Folds.{list_any-append}
 use Rattle.std.proofs.lemmas.List.Sums.{sum_by-cons, sum_by-append}
+use Rattle.dl_lemmas.proofs.Bools.{or_right}
 use Rattle.dl_model.specs.Backlog.{size_of}
 use Rattle.dl_model.specs.TraceFiles.{StoredFile, greatest, kept, numbered, rotated, total_size}
+use Rattle.dl_laws.proofs.Rotation.{length-concat}
 use Rattle.dl_stored_in.specs.FilePlaces.{has_number}
 use Rattle.dl_stored_in.specs.Sizes.{going}
 
@@ -27,10 +29,6 @@ pub numbered-drop : (n g : ℕ) (segs : List (List (List ℕ))) → drop n (numb
 numbered-drop zero g segs = ap (λ (m : ℕ). numbered m segs) {x = g} {y = g + 0} (omega arith)
 numbered-drop (suc n) g [] = refl
 numbered-drop (suc n) g (s ∷ segs) = numbered-drop n (g + 1) segs ∙ ap (λ (m : ℕ). numbered m (drop n segs)) {x = g + 1 + n} {y = g + suc n} (omega arith)
-
-length-concat : (frames : List (List ℕ)) → length (concat frames) ≡ size_of frames
-length-concat [] = refl
-length-concat (frame ∷ frames) = length-append frame (concat frames) ∙ ap (λ (n : ℕ). length frame + n) (length-concat frames) ∙ sym (sum_by-cons length frame frames)
 
 total_numbered : (g : ℕ) (segs : List (List (List ℕ))) → total_size (numbered g segs) ≡ sum (map size_of segs)
 total_numbered g [] = refl
@@ -109,13 +107,9 @@ record KeepsBoth (limit n : ℕ) (old files : List StoredFile) : Type 0 where
   pub is : kept limit (old ++ files) ≡ part ++ kept limit files
   pub none : list_any (has_number n) part ≡ false
 
-second : (a b : Bool) → (a || b) ≡ false → b ≡ false
-second true b e = absurd cc
-second false b e = e
-
 keeps_both : (limit n : ℕ) (old files : List StoredFile) → list_any (has_number n) old ≡ false → KeepsBoth limit n old files
 keeps_both limit n [] files none = record { part = []; is = refl; none = refl }
-keeps_both limit n (o ∷ old) files none = by_test (leb_tells (total_size (o ∷ (old ++ files))) limit) (keeps_both limit n old files (second (eqb o.number n) (list_any (has_number n) old) none)) where
+keeps_both limit n (o ∷ old) files none = by_test (leb_tells (total_size (o ∷ (old ++ files))) limit) (keeps_both limit n old files (or_right (eqb o.number n) (list_any (has_number n) old) none)) where
   by_test : ((leb (total_size (o ∷ (old ++ files))) limit ≡ true) × (total_size (o ∷ (old ++ files)) ≤ limit)) ⊎ ((leb (total_size (o ∷ (old ++ files))) limit ≡ false) × (limit < total_size (o ∷ (old ++ files)))) →
       KeepsBoth limit n old files → KeepsBoth limit n (o ∷ old) files
   by_test (inl fits) later =

@@ -8,14 +8,7 @@ use Rattle.dl_headers.specs.Header.{storage_header}
 use Rattle.dl_events.specs.declared.event.Event.{Event}
 use Rattle.dl_events.specs.declared.event.Event.TheVariants as event
 use Rattle.dl_model.specs.Frames.{FrameSource, frames_of, stored, stored_frames, stored_of}
-
-header_len : (ecu : List ℕ) (moment : Moment) → length ecu ≡ 4 → length (storage_header ecu moment) ≡ 16
-header_len [] moment four = absurd (omega (arith, four))
-header_len (a ∷ []) moment four = absurd (omega (arith, four))
-header_len (a ∷ b ∷ []) moment four = absurd (omega (arith, four))
-header_len (a ∷ b ∷ c ∷ []) moment four = absurd (omega (arith, four))
-header_len (a ∷ b ∷ c ∷ d ∷ []) moment four = refl
-header_len (a ∷ b ∷ c ∷ d ∷ e ∷ more) moment four = absurd (omega (arith, four))
+use Rattle.dl_promises.proofs.StoredFrames.{header_len}
 
 lengths : (ecu : List ℕ) (moment : Moment) (frames : List (List ℕ)) (n size : ℕ) → length ecu ≡ 4 → map length frames ≡ replicate n size → map length (map (stored ecu moment) frames) ≡ replicate n (size + 16)
 lengths ecu moment [] zero size four are = refl

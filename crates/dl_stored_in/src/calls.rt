@@ -153,14 +153,14 @@ impl StoredCalls {
     }
 
     /// Where the frame of a recorded call is in the end; none where nothing of the call is stored.
-    pub fn place(&self, record: &Record) -> Option<StoredPlace>
-        ensures { result ≡ stored_by self.now record.now }
+    pub fn place(&self, call: &Record) -> Option<StoredPlace>
+        ensures { result ≡ stored_by self.now call.now }
     {
-        match record.answer {
+        match call.answer {
             Answer::Queued => {
                 let name = CallName {
-                    writer: record.item.writer,
-                    call: record.item.call,
+                    writer: call.item.writer,
+                    call: call.item.call,
                 };
                 let file = self.files.get(&name)?;
                 Some(self.place_by(*file))

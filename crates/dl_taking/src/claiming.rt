@@ -26,8 +26,8 @@ pub fn note_claim<D: Post, J: Journal>(
     requires spare { 2 ≤ J.spare journal.old }
     requires settled { owed_change core.old.registry ≡ None }
     requires desk { IsDeskOf core.old.registry (D.told desk.old) }
-    ensures notes { (folder : FolderTold) → NotesWithLevels moment (owned_claim app claim.now)
-        (side core.old (D.told desk.old) (J.events journal.old) folder) (side core.new (D.told desk.new) (J.events journal.new) folder) }
+    ensures notes { (told : FolderTold) → NotesWithLevels moment (owned_claim app claim.now)
+        (side core.old (D.told desk.old) (J.events journal.old) told) (side core.new (D.told desk.new) (J.events journal.new) told) }
     ensures few { owed_by (owned_claim app claim.now) core.old.registry ≤ 1 }
     ensures noted { J.noted journal.new ≡ more_noted (owed_by (owned_claim app claim.now) core.old.registry + 1) (J.noted journal.old) }
     ensures spare { J.spare journal.new + owed_by (owned_claim app claim.now) core.old.registry + 1 ≡ J.spare journal.old }

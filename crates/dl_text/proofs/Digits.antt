@@ -12,7 +12,7 @@ use Rattle.std.proofs.lemmas.Str.Parse.{IsNumeralModel, numerals_by_value, tells
 use Rattle.dl_text.specs.Decimal.{number_of}
 
 -- a test of digits and their value, as lemmas on `parse` take them
-own : IsNumeralModel (λ ds. all_ascii_digits ds ≡ true) (digits_value 10)
+pub own : IsNumeralModel (λ ds. all_ascii_digits ds ≡ true) (digits_value 10)
 own = numerals_by_value _ tells_all_ascii_digits
 
 pub all_digits : (text : List ℕ) → list_all is_ascii_digit text ≡ all_ascii_digits text

@@ -1,7 +1,9 @@
 -- What is kept of marks and of reports, with one more.
 use Rattle.std.proofs.Common.{◌≡◌, ◌+◌, Bool, true, false, cond, eqb, List, [], ◌∷◌, ◌++◌, Option, Some, refl, sym, ap, ◌∙◌}
-use Rattle.std.specs.Prelude.{fold, unwrap_or, ◌&&◌}
+use Rattle.std.specs.Prelude.{unwrap_or}
 use Rattle.std.proofs.lemmas.Bool.{eqb-true}
+use Rattle.dl_lemmas.proofs.Lists.{fold-one}
+use Rattle.dl_lemmas.proofs.Bools.{both}
 use Rattle.dl_picture.specs.declared.chart.Bin.{Bin}
 use Rattle.dl_picture.specs.Tally.{joined, no_bin}
 use Rattle.dl_sessions.specs.Account.{same_session, same_source}
@@ -12,24 +14,16 @@ use Rattle.dl_timeline.specs.declared.timeline.Spot.{Spot}
 use Rattle.dl_timeline.specs.declared.timeline.SpotMark.{SpotMark}
 use Rattle.dl_timeline.specs.Timeline.{marked, reported, same_report, same_spot, with_mark, with_report}
 
-fold-one : {A B : Type 0} (f : A → B → A) (z : A) (xs : List B) (x : B) → fold f z (xs ++ x ∷ []) ≡ f (fold f z xs) x
-fold-one f z [] x = refl
-fold-one f z (y ∷ ys) x = fold-one f (f z y) ys x
-
-both_so : (a b : Bool) → (a && b) ≡ true → (a ≡ true) × (b ≡ true)
-both_so true b e = (refl, e)
-both_so false b e = absurd cc
-
 spot_is : (a b : Spot) → same_spot a b ≡ true → a ≡ b
 spot_is a b e =
-    let parts = both_so (same_session a.session b.session) (eqb a.column b.column) e in
+    let parts = both (same_session a.session b.session) (eqb a.column b.column) e in
     let p = session_is a.session b.session parts.0 in
     let q = eqb-true a.column b.column parts.1 in
     λ i. record { session = p i; column = q i }
 
 report_is : (a b : ReportSpot) → same_report a b ≡ true → a ≡ b
 report_is a b e =
-    let parts = both_so (same_source a.source b.source) (eqb a.column b.column) e in
+    let parts = both (same_source a.source b.source) (eqb a.column b.column) e in
     let p = source_is a.source b.source parts.0 in
     let q = eqb-true a.column b.column parts.1 in
     λ i. record { source = p i; column = q i }

@@ -1,14 +1,15 @@
 -- A folder holds one list of trace files.
 use Rattle.std.proofs.Common.{◌≡◌, ℕ, ◌+◌, ◌≤◌, ◌<◌, Bool, cond, List, [], ◌∷◌, Some, None, refl, sym, ap, subst, ◌∙◌, arith, inl, inr}
 use Rattle.std.proofs.lemmas.Bool.Decides.{leb_tells}
+use Rattle.std.proofs.lemmas.Bool.{eq-eqb}
 use Rattle.dl_outside.specs.Folder.{Files}
 use Rattle.dl_model.specs.TraceFiles.{StoredFile, number_limit}
 use Rattle.dl_trace.specs.Stands.{bytes_of, AreRising, HasFiles}
-use Rattle.dl_trace.proofs.Holding.{below_none, test_same, test_other}
+use Rattle.dl_trace.proofs.Holding.{below_none, test_other}
 use Rattle.dl_trace.proofs.Trail.{file_of}
 
 first_bytes : (file : StoredFile) (files : List StoredFile) → bytes_of file.number (file ∷ files) ≡ Some file.bytes
-first_bytes file files = ap (λ (b : Bool). cond b (Some file.bytes) (bytes_of file.number files)) (test_same file.number file.number refl)
+first_bytes file files = ap (λ (b : Bool). cond b (Some file.bytes) (bytes_of file.number files)) (eq-eqb file.number file.number refl)
 
 -- a file that one list has and that is before all of the other
 left_out : (x : StoredFile) (xs ys : List StoredFile) (least : ℕ) → AreRising least ys → x.number ≤ least → bytes_of x.number (x ∷ xs) ≡ bytes_of x.number ys → ⊥

@@ -10,6 +10,7 @@ use Rattle.std.specs.FinMap as map
 use Rattle.std.specs.FinMap.{slice_cmp-IsAntisymmetric, nat_cmp-IsAntisymmetric, get-insert, get-remove}
 use Rattle.std.proofs.lemmas.List.{drop_at}
 use Rattle.std.proofs.lemmas.Bool.Decides.{eqb_tells}
+use Rattle.std.proofs.lemmas.Bool.{eq-eqb}
 use Rattle.dl_outside.specs.Folder.{Files, with_more}
 use Rattle.dl_model.specs.TraceFiles.{StoredFile, number_limit, six_digits, trace_name}
 use Rattle.dl_trace.specs.Stands.{bytes_of, AreRising, HasFiles, HasFilesBut}
@@ -112,9 +113,6 @@ last_within least (file ∷ files) newest rising = last_within file.number files
 
 -- ---- bytes by number
 
-pub test_same : (a b : ℕ) → a ≡ b → eqb a b ≡ true
-test_same a b e = elim (eqb_tells a b) as (λ _. eqb a b ≡ true) [ inl same ↦ same.0 | inr other ↦ absurd (other.1 e) ]
-
 pub test_other : (a b : ℕ) → a ≢ b → eqb a b ≡ false
 test_other a b h = elim (eqb_tells a b) as (λ _. eqb a b ≡ false) [ inl same ↦ absurd (h same.1) | inr other ↦ other.0 ]
 
@@ -127,7 +125,7 @@ below_none n least [] rising h = refl
 below_none n least (file ∷ files) rising h = rw (test_other file.number n (λ e. absurd (omega (arith, rising.0, e, h)))) (below_none n file.number files rising.2 (omega (arith, rising.0, h)))
 
 last_found : (n : ℕ) (bytes : List ℕ) (files : List StoredFile) → AreBelow n files → bytes_of n (files ++ file_of n bytes ∷ []) ≡ Some bytes
-last_found n bytes [] below = rw (test_same n n refl) refl
+last_found n bytes [] below = rw (eq-eqb n n refl) refl
 last_found n bytes (file ∷ files) below = rw (test_other file.number n (λ e. absurd (omega (arith, below.0, e)))) (last_found n bytes files below.1)
 
 others_found : (n k : ℕ) (bytes : List ℕ) (files : List StoredFile) → n ≢ k → bytes_of k (files ++ file_of n bytes ∷ []) ≡ bytes_of k files

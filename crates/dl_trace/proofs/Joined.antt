@@ -65,7 +65,7 @@ joins xs ys a b c told between now first second = record {
       (append_assoc done xs ys) (second.folder stood (done ++ xs) (first.state stood done after))));
 }
 
-frames_in-append : (xs ys : List (List (List ℕ))) → frames_in (xs ++ ys) ≡ frames_in xs ++ frames_in ys
+pub frames_in-append : (xs ys : List (List (List ℕ))) → frames_in (xs ++ ys) ≡ frames_in xs ++ frames_in ys
 frames_in-append [] ys = refl
 frames_in-append (x ∷ xs) ys = ap (λ (fs : List (List ℕ)). x ++ fs) (frames_in-append xs ys) ∙ sym (append_assoc x (frames_in xs) (frames_in ys))
 

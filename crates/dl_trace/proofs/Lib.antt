@@ -15,3 +15,4 @@ pub mod Running
 pub mod Finding
 pub mod Making
 pub mod Alike
+pub mod Spent

@@ -1,5 +1,5 @@
 -- The next piece of frames of these sizes, wherever it goes.
-use Rattle.std.proofs.Common.{◌≡◌, ℕ, suc, ◌+◌, ◌-◌, ◌≤◌, ◌<◌, Bool, true, false, cond, List, [], ◌∷◌, length, take, drop, map, Option, None, Ok, Err, refl, sym, ap, subst, ◌∙◌, length-append, arith, inl, inr}
+use Rattle.std.proofs.Common.{◌≡◌, ℕ, suc, ◌+◌, ◌-◌, ◌≤◌, ◌<◌, Bool, true, false, cond, List, [], ◌∷◌, length, take, drop, map, Option, None, Ok, Err, refl, sym, ap, subst, ◌∙◌, arith, inl, inr}
 use Rattle.std.specs.Prelude.{sum, slice_index}
 use Rattle.std.specs.List.{concat}
 use Rattle.std.proofs.lemmas.List.{length-take-le}
@@ -11,6 +11,7 @@ use Rattle.dl_bytes.specs.declared.outcome.TraceFile.{TraceFile}
 use Rattle.dl_outside.specs.Folder.{Files}
 use Rattle.dl_model.specs.Backlog.{size_of}
 use Rattle.dl_model.specs.TraceFiles.{number_limit}
+use Rattle.dl_laws.proofs.Rotation.{length-concat}
 use Rattle.dl_trace.specs.State.{Trace}
 use Rattle.dl_trace.specs.Batch.{parted, AreSizes, fit}
 use Rattle.dl_trace.specs.Pieces.{pieces, pieces_of, last_size, room_of, room_for}
@@ -22,11 +23,6 @@ use Rattle.dl_trace.proofs.Trail.{fits}
 use Rattle.dl_trace.proofs.Cuts.{later_pieces, sizes_of, parted-concat, next_open, next_new, stops_there}
 use Rattle.dl_trace.proofs.Placing.{stored_open}
 use Rattle.dl_trace.proofs.Placed.{stored_new, ended_with, stops_open, stops_new, stops_spent}
-
--- the frames of a piece have the bytes of their sizes
-length_concat : (frames : List (List ℕ)) → length (concat frames) ≡ size_of frames
-length_concat [] = refl
-length_concat (frame ∷ frames) = length-append frame (concat frames) ∙ ap (λ n. length frame + n) (length_concat frames) ∙ sym (sum_by-cons length frame frames)
 
 -- what is known of the next piece: its first frame, and the others
 pub record IsPiece (size room : ℕ) (sizes bytes : List ℕ) : Type 0 where
@@ -52,7 +48,7 @@ piece_at size room s sizes bytes are within =
       others = take k (parted sizes (drop s bytes));
       frames_are = frames;
       bytes_are = all;
-      total = sym (length_concat (take s bytes ∷ take k (parted sizes (drop s bytes)))) ∙ ap (λ (b : List ℕ). length b) all ∙ length-take-le n bytes most;
+      total = sym (length-concat (take s bytes ∷ take k (parted sizes (drop s bytes)))) ∙ ap (λ (b : List ℕ). length b) all ∙ length-take-le n bytes most;
       first_is = length-take-le s bytes (omega (arith, sums, are.whole));
       some = omega (arith, count);
     }
@@ -95,7 +91,7 @@ placed_open trace new s sizes bytes told now are sound goes_on within most does 
     let begun = room_begun trace (omega (arith, least.0, within)) in
     let stored = stored_open trace piece told now sound goes_on begun (omega (arith, p.total, most)) (subst (λ (b : List ℕ). Extends told now (Ok tt) (last_name trace.state.files) b) (sym p.bytes_are) does.1) in
     let same : extended (length (concat piece)) trace ≡ new = ap (λ (b : List ℕ). extended (length b) trace) p.bytes_are ∙ sym does.0 in
-    let size : length (take n bytes) ≡ n = sym (ap (λ (b : List ℕ). length b) p.bytes_are) ∙ length_concat piece ∙ p.total in
+    let size : length (take n bytes) ≡ n = sym (ap (λ (b : List ℕ). length b) p.bytes_are) ∙ length-concat piece ∙ p.total in
     let left : room_of new ≡ trace.file_size - (last_size trace.state.files + n) =
     ap room_of does.0 ∙ room_open (extended (length (take n bytes)) trace) begun
     ∙ ap (λ (m : ℕ). trace.file_size - m) (size-grown (length (take n bytes)) trace.state.files (sound.some begun) ∙ ap (λ (m : ℕ). last_size trace.state.files + m) size) in
@@ -121,7 +117,7 @@ placed_new trace new s sizes bytes told now are sound goes_on over few most does
     let stored = stored_new trace p.first p.others told now sound goes_on few (omega (arith, p.first_is, over)) (omega (arith, p.total, most, sum_by-cons length p.first p.others))
     (subst (λ (b : List ℕ). Begins told now (Ok tt) (next_name trace) b (names_of (take (going_of trace) trace.state.files))) (sym p.bytes_are) does.1) in
     let same : with_file (length (concat piece)) trace ≡ new = ap (λ (b : List ℕ). with_file (length b) trace) p.bytes_are ∙ sym does.0 in
-    let size : length (take n bytes) ≡ n = sym (ap (λ (b : List ℕ). length b) p.bytes_are) ∙ length_concat piece ∙ p.total in
+    let size : length (take n bytes) ≡ n = sym (ap (λ (b : List ℕ). length b) p.bytes_are) ∙ length-concat piece ∙ p.total in
     let entry : TraceFile = record { name = next_name trace; bytes = length (take n bytes) } in
     let left : room_of new ≡ trace.file_size - n =
     ap room_of does.0 ∙ room_open (with_file (length (take n bytes)) trace) refl

@@ -6,6 +6,7 @@ use Rattle.std.proofs.lemmas.Bool.{false≢true}
 use Rattle.std.proofs.lemmas.Bool.Decides.{nat_tests}
 use Rattle.std.proofs.lemmas.List.{map-append}
 use Rattle.std.proofs.lemmas.List.Sums.{sum_by-cons}
+use Rattle.dl_lemmas.proofs.Numbers.{above_zero}
 use Rattle.dl_bytes.specs.declared.outcome.TraceFile.{TraceFile}
 use Rattle.dl_outside.specs.Folder.{Files, with_more}
 use Rattle.dl_model.specs.Backlog.{size_of}
@@ -61,9 +62,6 @@ names_taken zero directory files = refl
 names_taken (suc k) directory [] = refl
 names_taken (suc k) directory (f ∷ files) = ap (λ (ns : List (List ℕ)). trace_name directory f.number ∷ ns) (names_taken k directory files)
 
-some_frames : (n : ℕ) → 0 < n → nat_lt 0 n ≡ true
-some_frames n h = grind (arith, nat_tests)
-
 pub small_number : (n : ℕ) → n ≤ number_limit → nat_lt number_limit n ≡ false
 small_number n h = grind (arith, nat_tests)
 
@@ -100,7 +98,7 @@ grown_at trace stood (first ∷ frames) piece after sound begun room =
       named = ap last_name files ∙ last_named trace.directory before newest;
       number = number;
       same_number = sym (newest_number trace.file_size trace.max_size stood before (file_of newest.number (newest.bytes ++ concat piece)) first (frames ++ piece) more) ∙ number;
-      some = some_frames (length (first ∷ (frames ++ piece))) (omega arith);
+      some = above_zero (length (first ∷ (frames ++ piece))) (omega arith);
     }
 
 pub stored_open : (trace : Trace) (piece : List (List ℕ)) (told now : Option Files) → IsSound trace → trace.state.end ≡ None → trace.begun ≡ true → size_of piece ≤ room_of trace →
@@ -152,13 +150,13 @@ begun_at trace stood [] x piece after sound over room =
       begun = begins;
       number = sym (newest_number trace.file_size trace.max_size stood (kept (closed_limit trace) stood) (file_of (trace.last + 1) (x ++ concat piece)) x piece begins);
       below = λ _. below_more (greatest stood + 1) (trace.last + 1) stood (omega (arith, last)) (below_greatest 0 stood).1;
-      some = some_frames (length (x ∷ piece)) (omega arith);
+      some = above_zero (length (x ∷ piece)) (omega arith);
     }
 begun_at trace stood (first ∷ frames) x piece after sound over room =
     let is = newest_stands trace.file_size trace.max_size stood first frames in
     let before = is.0 in
     let newest = is.1 in
-    let begun : trace.begun ≡ true = after.begun ∙ some_frames (length (first ∷ frames)) (omega arith) in
+    let begun : trace.begun ≡ true = after.begun ∙ above_zero (length (first ∷ frames)) (omega arith) in
     let files : trace.state.files ≡ map (listed trace.directory) (before ++ newest ∷ []) = after.files ∙ ap (map (listed trace.directory)) is.2 in
     let size : last_size trace.state.files ≡ length newest.bytes = ap last_size files ∙ last_sized trace.directory before newest in
     let number : newest.number ≡ trace.last = newest_number trace.file_size trace.max_size stood before newest first frames is.2 ∙ sym after.last in
@@ -169,7 +167,7 @@ begun_at trace stood (first ∷ frames) x piece after sound over room =
       begun = begins;
       number = sym (newest_number trace.file_size trace.max_size stood (kept (closed_limit trace) (files_after trace stood (first ∷ frames))) (file_of (trace.last + 1) (x ++ concat piece)) first (frames ++ x ∷ piece) begins);
       below = λ rising. subst (AreBelow (trace.last + 1)) (sym is.2) (below_whole (trace.last + 1) before newest (omega (arith, number)) (below_last 0 before newest (subst (AreRising 0) is.2 rising)));
-      some = some_frames (length (first ∷ (frames ++ x ∷ piece))) (omega arith);
+      some = above_zero (length (first ∷ (frames ++ x ∷ piece))) (omega arith);
     } where
       below_whole : (n : ℕ) (files : List StoredFile) (newest : StoredFile) → newest.number < n → AreBelow newest.number files → AreBelow n (files ++ newest ∷ [])
       below_whole n [] newest h below = (h, tt)

@@ -5,6 +5,7 @@ use Rattle.dl_outside.specs.Folder.{Answers, Files, HasCause}
 use Rattle.dl_outside.specs.Outside.{Stays}
 use Rattle.dl_outside.specs.Told.{FolderTold}
 use Rattle.dl_outside.specs.declared.folder.FolderFault.{FolderFault}
+use Rattle.dl_outside.proofs.Staying.{stays_same}
 use Rattle.dl_trace_files.specs.Left.{IsLeft, Looks}
 
 -- an answer of the same files, later
@@ -13,10 +14,6 @@ later None mid (Ok a) of stays answers = tt
 later (Some files) mid (Ok a) of stays answers = subst (λ (m : Option Files). Answers m (Ok a) of) stays answers
 later None mid (Err fault) of stays answers = tt
 later (Some files) mid (Err fault) of stays answers = tt
-
-pub stays_same : (told : Option Files) → Stays told told
-stays_same None = tt
-stays_same (Some files) = refl
 
 pub stays_on : (old mid new : Option Files) → Stays old mid → Stays mid new → Stays old new
 stays_on None mid new first second = tt

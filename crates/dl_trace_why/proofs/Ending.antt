@@ -6,11 +6,12 @@ use Rattle.dl_outside.specs.Folder.{Files}
 use Rattle.dl_outside.specs.Outside.{HasRisen, Stays, one_more}
 use Rattle.dl_outside.specs.Told.{FolderTold, SinkTold}
 use Rattle.dl_outside.specs.Written.{WroteAll, WroteFront}
+use Rattle.dl_outside.proofs.Staying.{stays_same}
 use Rattle.dl_picture.specs.Picture.{picture}
 use Rattle.dl_sessions.specs.declared.session.Told.{Told}
 use Rattle.dl_timeline.specs.Timeline.{timeline}
 use Rattle.dl_trace_files.specs.Left.{IsLeft}
-use Rattle.dl_trace_files.proofs.Looking.{left_on, left_same, stays_on, stays_same}
+use Rattle.dl_trace_files.proofs.Looking.{left_on, left_same, stays_on}
 use Rattle.dl_trace_why.specs.Account.{Draws, Ends, Keeps, Spares, sides, text_of}
 use Rattle.dl_trace_why.specs.Reads.{Reads, Stops}
 use Rattle.dl_trace_why.specs.Says.{Says, SaysLine}

@@ -24,6 +24,10 @@ pub record Sides : Type 0 where
 abbrev pub sides : FolderTold → SinkTold → Sides
 sides folder out = record { folder = folder; out = out }
 
+-- the same of a folder and an output, by what these tell
+abbrev pub seen : {F O : Type 0} → (F → FolderTold) → (O → SinkTold) → F → O → Sides
+seen folder_told out_told folder out = sides (folder_told folder) (out_told out)
+
 -- what is written of what files tell: the account, and what is said of their ends
 abbrev pub text_of : List Told → List ℕ → List ℕ
 text_of stream ends = printed stream ++ ends

@@ -4,8 +4,8 @@ ghost use Rattle.std.specs.Prelude.{◌≡◌, IfOk, Some, option_map};
 ghost use Rattle.dl_picture.specs.Picture.{picture};
 ghost use Rattle.dl_sessions.specs.Account.{IsAfter};
 ghost use Rattle.dl_timeline.specs.Timeline.{timeline};
-ghost use Rattle.dl_trace_why.specs.Account.{Ends, Runs, sides, text_of};
-ghost use Rattle.dl_trace_why.specs.Wanted.{files_wanted};
+ghost use Rattle.dl_trace_why.specs.Account.{Ends, Runs, seen, sides, text_of};
+ghost use Rattle.dl_trace_why.specs.Wanted.{files_wanted, picture_wanted};
 ghost use Rattle.dl_trace_why.specs.Writes.{Prints, PutsPicture, TriesToDraw, Writes};
 
 use crate::reading::{Reading, read_wanted};
@@ -136,7 +136,8 @@ fn write_account<F: Folder, O: Sink>(
     folder: &mut F,
     out: &mut O,
 ) -> Status
-    ensures { Ends (files_wanted wanted.entry.files) (option_map (λ name. name.now) wanted.entry.picture) (sides (F.told folder.old) (O.told out.old)) (sides (F.told folder.new) (O.told out.new)) result }
+    ensures { let s = seen F.told O.told in Ends (files_wanted wanted.entry.files) (picture_wanted wanted.entry)
+        (s folder.old out.old) (s folder.new out.new) result }
 {
     match read_wanted(alloc, folder, wanted.files) {
         Ok(reading) => write_reading(alloc, &reading, wanted.picture, folder, out),
@@ -154,8 +155,8 @@ pub fn account<F: Folder, O: Sink, E: Sink>(
     out: &mut O,
     err: &mut E,
 ) -> u8
-    ensures { Runs (files_wanted wanted.entry.files) (option_map (λ name. name.now) wanted.entry.picture)
-        (sides (F.told folder.old) (O.told out.old)) (sides (F.told folder.new) (O.told out.new)) (E.told err.old) (E.told err.new) result }
+    ensures { let s = seen F.told O.told in Runs (files_wanted wanted.entry.files) (picture_wanted wanted.entry)
+        (s folder.old out.old) (s folder.new out.new) (E.told err.old) (E.told err.new) result }
 {
     let status = write_account(alloc, wanted, folder, out);
     status.say(alloc, err);

@@ -1,5 +1,5 @@
 -- The desk has each application of the registry, also after a request.
-use Rattle.std.proofs.Common.{◌≡◌, ℕ, ◌<◌, Bool, true, false, cond, length, List, [], ◌∷◌, map, Option, Some, None, Result, Ok, Err, refl, sym, ap, subst}
+use Rattle.std.proofs.Common.{◌≡◌, ℕ, ◌<◌, Bool, true, false, cond, length, List, [], ◌∷◌, Option, Some, None, Result, Ok, Err, refl, sym, subst}
 use Rattle.std.specs.Prelude.{◌==◌, nat_le, unwrap_or, IfSome, if◌then◌else◌}
 use Rattle.std.specs.List.{AllByRecursion}
 use Rattle.std.specs.Map.{lookup}
@@ -13,14 +13,14 @@ use Rattle.dl_bytes.specs.declared.outcome.Done.TheVariants as done
 use Rattle.dl_control.specs.declared.request.Request.{Request}
 use Rattle.dl_control.specs.declared.request.Request.TheVariants.{SetLogLevel, GetLogInfo, GetDefault, Store, Reset, SetDefault, Version, Inject, Other}
 use Rattle.dl_control.specs.declared.request.RequestFault.{RequestFault}
-use Rattle.dl_model.specs.Registry.{App, Registry, Relevel, app_of, context_of, default_set, keep_own, matching, no_own, nothing_stored, numbers, own_set, releveled, releveled_app, set_matching, unless_worn, wears}
+use Rattle.dl_model.specs.Registry.{App, Registry, app_of, context_of, default_set, keep_own, matching, no_own, nothing_stored, numbers, own_set, releveled, set_matching, unless_worn, wears}
 use Rattle.dl_model.specs.Reply.{apid_of, asked, ctid_of, default_requested, now_stored, own_requested, reset_requested, served, where_done}
 use Rattle.dl_model.specs.Setting.{Setting}
 use Rattle.dl_model.specs.declared.context.Context.{Context}
 use Rattle.dl_model.specs.declared.registry.SetFault.{SetFault}
 use Rattle.dl_model.specs.declared.registry.SetFault.TheVariants as set
 use Rattle.dl_model.specs.declared.registry.Slot.{Slot}
-use Rattle.dl_model.proofs.Order.{app_of_found}
+use Rattle.dl_model.proofs.Order.{app_of_found, releveled_numbers}
 use Rattle.dl_desk.specs.Told.{PostTold}
 use Rattle.dl_registry.specs.Kept.{slots}
 use Rattle.dl_services.specs.Wish.{removes, sends, wanted}
@@ -34,10 +34,6 @@ use Rattle.dl_turns.specs.Events.{IsDeskOf}
 
 abbrev KeepsNumbers : Registry → Registry → Type 0
 KeepsNumbers old new = numbers new.apps ≡ numbers old.apps
-
-releveled_numbers : (relevel : Relevel) (es : List (List ℕ × App)) → numbers (map (releveled_app relevel) es) ≡ numbers es
-releveled_numbers relevel [] = refl
-releveled_numbers relevel (e ∷ es) = ap (λ (ns : List ℕ). e.1.number ∷ ns) (releveled_numbers relevel es)
 
 ok_or_nothing : (b : Bool) (e : SetFault) (old new : Registry) → KeepsNumbers old new → IfSome (result_ok (cond b (Err e) (Ok new))) (KeepsNumbers old)
 ok_or_nothing true e old new is = tt

@@ -53,7 +53,7 @@ asked_next client frame old new one =
     (ap (λ (fs : List (List ℕ)). asks.ready.frame ∷ fs) (asked_levels client one.2.0 one.0 new one.2.1) ∙ ap (λ (f : List ℕ). f ∷ []) asks.of_frame)
 
 -- how many they are
-one_asked : (b : Bool) (frame : List ℕ) (others : List (List ℕ)) → length (cons_option (cond b (Some frame) None) others) ≡ cond b 1 0 + length others
+pub one_asked : (b : Bool) (frame : List ℕ) (others : List (List ℕ)) → length (cons_option (cond b (Some frame) None) others) ≡ cond b 1 0 + length others
 one_asked true frame others = omega arith
 one_asked false frame others = omega arith
 

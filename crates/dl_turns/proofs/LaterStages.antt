@@ -2,6 +2,7 @@
 use Rattle.std.proofs.Common.{◌≡◌, ℕ, zero, suc, List, [], ◌++◌, Option, Some, None, inl, inr, refl, sym, ap, subst, ◌∙◌, append_assoc}
 use Rattle.std.specs.Prelude.{◌≤◌, length, take, IsSomeAnd}
 use Rattle.std.proofs.lemmas.List.{append-nil}
+use Rattle.dl_outside.proofs.Staying.{grows_both}
 use Rattle.dl_events.specs.declared.event.Event.{Event}
 use Rattle.dl_events.specs.declared.event.Why.{Why}
 use Rattle.dl_events.specs.declared.event.Why.TheVariants.{Left, Broken, Slow, Malformed, TooMany, NoMemory, Stuck, Stopped}
@@ -22,7 +23,7 @@ use Rattle.dl_turns.specs.State.{Side, Stage}
 use Rattle.dl_turns.specs.Stopping.{IsClosedIn, IsStop, IsWoundUp, TurnsOn}
 use Rattle.dl_turns.specs.Turns.{IsPump, IsTurn, Listens, SendsRightly, heard}
 use Rattle.dl_turns.proofs.ClosesInTurn.{comes, heeds_end, sends_end, stop_ends}
-use Rattle.dl_turns.proofs.GrownBytes.{gives_heard, grow_both, stays_grow, stays_same}
+use Rattle.dl_turns.proofs.GrownBytes.{gives_heard, stays_grow, stays_same}
 use Rattle.dl_turns.proofs.HeardSides.{AsksAll, heard_heeds, heard_nothing}
 use Rattle.dl_turns.proofs.LaterSides.{closed_calm, later_both, later_closed, later_closes, later_heeds, later_same, others_by}
 
@@ -40,9 +41,9 @@ stages_both client why old between new one two =
     let calm : one.side.more ≡ one.side.calm = one.side.ends ∙ append-nil one.side.calm in
     record {
       given = one.given ++ two.given;
-      link_gave = grow_both old.link.given between.link.given new.link.given one.given two.given one.link_gave two.link_gave;
+      link_gave = grows_both old.link.given between.link.given new.link.given one.given two.given one.link_gave two.link_gave;
       sent = one.sent ++ two.sent;
-      link_took = grow_both old.link.taken between.link.taken new.link.taken one.sent two.sent one.link_took two.link_took;
+      link_took = grows_both old.link.taken between.link.taken new.link.taken one.sent two.sent one.link_took two.link_took;
       side = side;
       cut = λ stream stays was.
           subst (λ (bytes : List ℕ). HasCut bytes new.cutter) (append_assoc stream one.given two.given) (two.cut (stream ++ one.given) stays (one.cut stream refl was));

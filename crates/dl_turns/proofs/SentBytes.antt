@@ -8,10 +8,10 @@ use Rattle.dl_headers.specs.declared.fault.HeaderFault.{HeaderFault}
 use Rattle.dl_message.specs.Cut.{IsCut, IsOpen, IsWholeMessage, NoPiece, messages, pieces, rest_fault, rest_of, without_serial}
 use Rattle.dl_message.specs.Cutting.{Begins, Cuts, Cutting, Feeds}
 use Rattle.dl_message.specs.Requests.{asks, requests}
-use Rattle.dl_message.specs.declared.cutter.Cut.{Cut}
 use Rattle.dl_message.specs.declared.cutter.Cut.TheVariants.{Bad, Message, NeedMore}
 use Rattle.dl_message.proofs.Cuts.{its_cut, one_cut}
 use Rattle.dl_message.proofs.Pieces.{bad_no_piece, bad_stays, piece_long}
+use Rattle.dl_message.proofs.Calls.{cuts_limit}
 use Rattle.dl_turns.specs.Sent.{Finds}
 use Rattle.dl_turns.specs.declared.cutting.Next.TheVariants as next
 
@@ -57,11 +57,6 @@ pub record IsLooking (bytes piece : List ℕ) (taken : ℕ) (cutter : Cutting) :
   pub asked : requests bytes ≡ requests (cutter.unread ++ drop taken piece)
   pub rest : rest_of message_limit bytes ≡ rest_of message_limit (cutter.unread ++ drop taken piece)
 
-pub limit_stays : (old new : Cutting) (cut : Cut) → Cuts old cut new → new.limit ≡ old.limit
-limit_stays old new Message cuts = ap (λ (c : Cutting). c.limit) cuts.1
-limit_stays old new NeedMore cuts = ap (λ (c : Cutting). c.limit) cuts.2
-limit_stays old new (Bad fault) cuts = ap (λ (c : Cutting). c.limit) cuts.1
-
 pub sets_out : (piece : List ℕ) (cutter : Cutting) → cutter.limit ≡ message_limit → IsLooking (cutter.unread ++ piece) piece 0 cutter
 sets_out piece cutter limit = record { limit = limit; within = omega arith; asked = refl; rest = refl }
 
@@ -81,14 +76,14 @@ module _ (bytes piece : List ℕ) (taken : ℕ) (old new : Cutting) (so : IsLook
 
     pub passes_over : asks new.message ≡ false → IsLooking bytes piece taken new
     passes_over other = record {
-      limit = limit_stays old new Message cuts ∙ so.limit;
+      limit = cuts_limit old new Message cuts ∙ so.limit;
       within = so.within;
       asked = so.asked ∙ behind_other (old.unread ++ more) new.message (new.unread ++ more) begins other;
       rest = so.rest ∙ (behind_first (old.unread ++ more) new.message (new.unread ++ more) begins).1;
     }
 
     pub whole_now : IsWholeMessage new.limit new.message → IsWholeMessage message_limit new.message
-    whole_now whole = subst (λ (n : ℕ). IsWholeMessage n new.message) (limit_stays old new Message cuts ∙ so.limit) whole
+    whole_now whole = subst (λ (n : ℕ). IsWholeMessage n new.message) (cuts_limit old new Message cuts ∙ so.limit) whole
 
     pub finds_request : asks new.message ≡ true → IsWholeMessage new.limit new.message → Finds bytes piece (next.Request taken) new
     finds_request asking whole = (
@@ -118,7 +113,7 @@ module _ (bytes piece : List ℕ) (taken : ℕ) (old new : Cutting) (so : IsLook
         let none = nothing_whole new.unread open_now.ends in (
           so.asked ∙ ap requests none_left ∙ none.0,
           record {
-            limit = limit_stays old new NeedMore cuts ∙ so.limit;
+            limit = cuts_limit old new NeedMore cuts ∙ so.limit;
             rest = sym (so.rest ∙ ap (rest_of message_limit) none_left ∙ none.1);
             good = open_now;
           },
@@ -143,7 +138,7 @@ module _ (bytes piece : List ℕ) (taken : ℕ) (old new : Cutting) (so : IsLook
 
       pub goes_on : IsLooking bytes piece (taken + count) then
       goes_on = record {
-        limit = ap (λ (c : Cutting). c.limit) feeds.taken ∙ limit_stays old new NeedMore cuts ∙ so.limit;
+        limit = ap (λ (c : Cutting). c.limit) feeds.taken ∙ cuts_limit old new NeedMore cuts ∙ so.limit;
         within = omega (arith, feeds.count_is, so.within, ap length is_fed, length-drop taken piece);
         asked = so.asked ∙ ap requests (sym joined);
         rest = so.rest ∙ ap (rest_of message_limit) (sym joined);

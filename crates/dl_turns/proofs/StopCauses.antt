@@ -1,6 +1,7 @@
 -- Why a client is stopped, or is stuck.
 use Rattle.std.proofs.Common.{◌≡◌, ℕ, zero, suc, ◌+◌, ◌<◌, ◌≤◌, Bool, true, false, cond, List, [], ◌∷◌, ◌++◌, length, Option, Some, None, inl, inr, ◌⊎◌, sym, ap, subst, ◌∙◌, length-append, arith}
 use Rattle.std.specs.Prelude.{IsSomeAnd}
+use Rattle.dl_outside.proofs.Staying.{grows_both}
 use Rattle.dl_events.specs.declared.event.Why.{Why}
 use Rattle.dl_events.specs.declared.event.Why.TheVariants.{Left, Broken, Malformed, Stuck, Stopped}
 use Rattle.dl_outside.specs.Link.{HasReceiveCause}
@@ -13,7 +14,7 @@ use Rattle.dl_core.specs.State.{Core}
 use Rattle.dl_turns.specs.State.{Side, Stage}
 use Rattle.dl_turns.specs.Stopping.{GoesOn, HasStopCause, HasTried, IsClosedIn, IsEmpty, IsStop, IsWoundUp, TurnsOn}
 use Rattle.dl_turns.specs.Turns.{HasSent, Heeds, Refuses, SendsRightly, ServesEach, heard}
-use Rattle.dl_turns.proofs.GrownBytes.{gives_heard, grow_both, stays_grow, stays_same}
+use Rattle.dl_turns.proofs.GrownBytes.{gives_heard, stays_grow, stays_same}
 
 -- ---- what a link tells grows
 
@@ -41,7 +42,7 @@ tried_one client old new goes =
         busy = 0;
         bytes = some.0 ++ [];
         waited = omega (arith, hears.waits, later);
-        gave = grow_both old.link.given goes.heard.link.given new.link.given some.0 [] some.1 ungiven;
+        gave = grows_both old.link.given goes.heard.link.given new.link.given some.0 [] some.1 ungiven;
         enough = omega (arith, some.2, length-append some.0 []);
       }
       | inr risen ↦
@@ -51,7 +52,7 @@ tried_one client old new goes =
             busy = 1;
             bytes = given ++ [];
             waited = omega (arith, hears.waits, risen.1);
-            gave = grow_both old.link.given goes.heard.link.given new.link.given given [] gives ungiven;
+            gave = grows_both old.link.given goes.heard.link.given new.link.given given [] gives ungiven;
             enough = omega arith;
           }
     ]
@@ -61,7 +62,7 @@ tried_both first second a b c one two = record {
   busy = one.busy + two.busy;
   bytes = one.bytes ++ two.bytes;
   waited = omega (arith, one.waited, two.waited);
-  gave = grow_both a.given b.given c.given one.bytes two.bytes one.gave two.gave;
+  gave = grows_both a.given b.given c.given one.bytes two.bytes one.gave two.gave;
   enough = omega (arith, one.enough, two.enough, length-append one.bytes two.bytes);
 }
 

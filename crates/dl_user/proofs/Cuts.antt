@@ -98,7 +98,7 @@ cases_reading : {A : Type 0} (r : Reading A) → ((x : A) × (r ≡ Ok x)) ⊎ (
 cases_reading (Ok x) = inl (x, refl)
 cases_reading (Err stop) = inr (stop, refl)
 
-spelled_some : (text : List ℕ) (msg : UserMsg) → IsSpelled text msg → 0 < length text
+pub spelled_some : (text : List ℕ) (msg : UserMsg) → IsSpelled text msg → 0 < length text
 spelled_some text msg h = elim h.spelled [ inl e ↦ omega (arith, ap length e) | inr e ↦ omega (arith, ap length e) ]
 
 stop_shows : (bytes : List ℕ) (stop : Stop) → IsBytes bytes → message_at (little bytes) ≡ Err stop → Stops bytes stop
@@ -111,7 +111,7 @@ IsCutTo bytes msgs rest = (stop : Stop) × IsCut bytes msgs rest stop
 abbrev CutsAs : ℕ → List ℕ → Reading (UserMsg × At) → Type 0
 CutsAs n bytes r = IsCutTo bytes (with_others r (λ rest. messages_within n rest)) (behind r bytes (λ rest. rest_within n rest))
 
-nothing_read : message_at (little []) ≡ Err NeedMore
+pub nothing_read : message_at (little []) ≡ Err NeedMore
 unfolding message_at kind_at
 nothing_read = refl
 
@@ -137,7 +137,7 @@ cut_is_there bytes fits = cut_within (length bytes) bytes (omega arith) fits
 
 -- ---- the calls of a cutter
 
-begins_more : (bytes after more : List ℕ) (msg : UserMsg) → Begins bytes msg after → Begins (bytes ++ more) msg (after ++ more)
+pub begins_more : (bytes after more : List ℕ) (msg : UserMsg) → Begins bytes msg after → Begins (bytes ++ more) msg (after ++ more)
 begins_more bytes after more msg b = (b.0, b.1, ap (λ (x : List ℕ). x ++ more) b.2 ∙ append_assoc b.0 after more)
 
 answers : (old new : Channel) (cut : UserCut) → Cuts old cut new → AreCut Begins old.unread (messages_in cut) new.unread

@@ -1,6 +1,7 @@
 -- Readers of fields of a known length, and the texts that they read.
 use Rattle.std.proofs.Common.{◌≡◌, ℕ, List, [], ◌++◌, Option, Some, None, Ok, Err, refl, sym, ap, subst, ◌∙◌, append_assoc}
 use Rattle.dl_bytes.specs.Number.{At, ◌>>=◌}
+use Rattle.dl_bytes.proofs.Number.{bind_some}
 use Rattle.dl_user.specs.declared.fault.UserFault.{UserFault}
 use Rattle.dl_user.specs.declared.fault.Stop.TheVariants.{Bad}
 use Rattle.dl_user.specs.Reading.{little, wait}
@@ -10,10 +11,6 @@ use Rattle.dl_user.proofs.Readers.{IsBytes-rest, TakesSpelled, Then, Reads}
 pub record Fields {A : Type 0} (r : At → Option (A × At)) (P : List ℕ → A → Type 0) : Type 0 where
   pub again : (text rest : List ℕ) (x : A) → P text x → r (little (text ++ rest)) ≡ Some (x, little rest)
   pub found : (bytes : List ℕ) (x : A) (c : At) → IsBytes bytes → r (little bytes) ≡ Some (x, c) → TakesSpelled P bytes x c
-
-bind_some : {A B : Type 0} (o : Option A) (f : A → Option B) (y : B) → (o >>= f) ≡ Some y → (x : A) × (o ≡ Some x) × (f x ≡ Some y)
-bind_some (Some x) f y e = (x, refl, e)
-bind_some None f y e = absurd cc
 
 module _ {A B : Type 0} (r : At → Option (A × At)) (k : A × At → Option (B × At)) (P : List ℕ → A → Type 0) (Q : A → List ℕ → B → Type 0)
     (first : Fields r P) (second : (a : A) → Fields (λ c. k (a, c)) (Q a)) where

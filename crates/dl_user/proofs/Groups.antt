@@ -17,7 +17,7 @@ use Rattle.dl_user.proofs.Numbers.{AreBytes, IsNumber, IsSigned, bytes_field, lo
 abbrev pub Ends : {A : Type 0} → A → List ℕ → A → Type 0
 Ends value text x = (text ≡ []) × (x ≡ value)
 
-flat3 : (a b c : List ℕ) → a ++ (b ++ (c ++ [])) ≡ a ++ b ++ c
+pub flat3 : (a b c : List ℕ) → a ++ (b ++ (c ++ [])) ≡ a ++ b ++ c
 flat3 a b c = simp (append_assoc, append-nil)
 
 flat7 : (a b c d e f g : List ℕ) → a ++ (b ++ (c ++ (d ++ (e ++ (f ++ (g ++ [])))))) ≡ a ++ b ++ c ++ d ++ e ++ f ++ g

@@ -1,5 +1,5 @@
 -- The readers of each kind's fields, and the spellings that they read.
-use Rattle.std.proofs.Common.{◌≡◌, ℕ, ◌≤◌, negsuc, ltb, List, [], ◌++◌, length, Err, ◌⊎◌, refl, sym, ap, subst, ◌∙◌, append_assoc, arith, inl, inr}
+use Rattle.std.proofs.Common.{◌≡◌, ℕ, ◌≤◌, negsuc, ltb, List, [], ◌++◌, length, Err, ◌⊎◌, refl, sym, ap, subst, ◌∙◌, arith, inl, inr}
 use Rattle.std.proofs.lemmas.Bool.{ltb-false, ltb-true}
 use Rattle.std.proofs.lemmas.List.{append-nil}
 use Rattle.byteorder.specs.Endian.{little_bytes}
@@ -17,7 +17,7 @@ use Rattle.dl_user.proofs.Readers.{Then, Reads, reads_then, reads_as, reads_end,
 use Rattle.dl_user.proofs.FieldReaders.{fields_then, fields_as, fields_end, reads_wait}
 use Rattle.dl_user.proofs.Numbers.{AreBytes, IsNumber, bytes_field, long_field}
 use Rattle.dl_user.specs.Fronts.{IsApp, IsService}
-use Rattle.dl_user.proofs.Groups.{Ends, app_field, injection_field}
+use Rattle.dl_user.proofs.Groups.{Ends, app_field, flat3, injection_field}
 
 -- the fields of a message of this kind, which is within the limits
 pub record IsKind (kind : ℕ) (text : List ℕ) (msg : UserMsg) : Type 0 where
@@ -32,9 +32,6 @@ either (inr x) = x
 
 flat2 : (a b : List ℕ) → a ++ (b ++ []) ≡ a ++ b
 flat2 a b = simp append-nil
-
-flat3 : (a b c : List ℕ) → a ++ (b ++ (c ++ [])) ≡ a ++ b ++ c
-flat3 a b c = simp (append_assoc, append-nil)
 
 -- ---- kind 3
 

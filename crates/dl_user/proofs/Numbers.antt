@@ -1,32 +1,22 @@
 -- The readers of single fields: bytes, numbers and signed numbers.
-use Rattle.std.proofs.Common.{◌≡◌, ℕ, ◌^◌, ◌<◌, ◌≤◌, ℤ, pos, negsuc, Bool, true, false, cond, ltb, List, [], ◌∷◌, ◌++◌, length, take, drop, Option, Some, None, FitsSigned, refl, sym, ap, ◌∙◌, arith, rules, inl, inr}
+use Rattle.std.proofs.Common.{◌≡◌, ℕ, ◌^◌, ◌<◌, ◌≤◌, ℤ, pos, negsuc, false, ltb, List, [], ◌∷◌, ◌++◌, length, take, drop, Option, Some, FitsSigned, refl, sym, ap, ◌∙◌, arith, rules}
 use Rattle.std.specs.Int.{w8, cast_signed, cast_unsigned}
-use Rattle.std.proofs.lemmas.Bool.{cases_lt, ltb-false, le-ltb}
+use Rattle.std.proofs.lemmas.Bool.{ltb-false, le-ltb}
 use Rattle.std.proofs.lemmas.Int.{to_z-of_z, of_z-to_z}
 use Rattle.std.proofs.Math.Facts.{sfits_to_z}
-use Rattle.std.proofs.lemmas.List.{take_at, drop_at, take-append-drop, length-append, length-take, get_or-take, get_or_past}
+use Rattle.std.proofs.lemmas.List.{take_at, drop_at, take-append-drop, length-append, length-take}
 use Rattle.std.proofs.lemmas.Nat.{le_bytes_4}
 use Rattle.byteorder.specs.Endian.{little_bytes, little_number}
 use Rattle.byteorder.specs.Numbers.{little_number-reads_back, little_from-take, little_from-lt, length-bytes_low_first}
+use Rattle.dl_lemmas.proofs.Options.{guard_some}
 use Rattle.dl_bytes.specs.Number.{At, bytes_at, number_at}
+use Rattle.dl_bytes.proofs.Bytes.{IsBytes-take}
 use Rattle.dl_user.specs.Layout.{signed}
 use Rattle.dl_user.specs.Fields.{signed_at}
 use Rattle.dl_bytes.specs.Bytes.{IsBytes}
 use Rattle.dl_user.specs.Reading.{little}
 use Rattle.dl_user.proofs.Readers.{Then}
 use Rattle.dl_user.proofs.FieldReaders.{Fields, fields_then, fields_as, fields_end}
-
-IsBytes-take : (n : ℕ) (bytes : List ℕ) → IsBytes bytes → IsBytes (take n bytes)
-IsBytes-take n bytes h i =
-    elim (cases_lt i n) [
-      | inl lt ↦ rw (get_or-take n bytes i 0 lt) (h i)
-      | inr le ↦ rw (get_or_past (take n bytes) i 0 (omega (arith, length-take n bytes))) (omega arith)
-    ]
-
--- a read that did not want more bytes
-guard_some : {A : Type 0} (b : Bool) (x y : A) → cond b None (Some x) ≡ Some y → (b ≡ false) × (x ≡ y)
-guard_some true x y e = absurd cc
-guard_some false x y e = (refl, cc)
 
 -- n bytes as they are
 abbrev pub AreBytes : ℕ → List ℕ → List ℕ → Type 0

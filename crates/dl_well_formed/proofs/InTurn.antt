@@ -17,10 +17,10 @@ use Rattle.dl_model.specs.Frames.{FrameSource}
 use Rattle.dl_model.specs.Registry.{Registry, apid_numbered, app_of}
 use Rattle.dl_model.specs.Journal.{is_slow, IsFramesNeed, IsInTurn, IsReplyNeed, IsSettled, IsSlowAsTold}
 use Rattle.dl_model.specs.Setting.{Setting}
+use Rattle.dl_laws.proofs.Rotation.{length-concat}
 use Rattle.dl_registry.specs.Kept.{owed_change}
 use Rattle.dl_registry.proofs.Following.{change_is_owed}
 use Rattle.dl_hub.specs.State.{Client, Waiting, client_of, outbox_of}
-use Rattle.dl_hub.proofs.Following.{bytes_of}
 use Rattle.dl_core.specs.State.{Core}
 use Rattle.dl_core.specs.Follows.{IsAfter, Run, source_of}
 use Rattle.dl_core.specs.Registering.{HasAppOf}
@@ -79,7 +79,7 @@ module _ (core : Core) (client room need : ℕ) (end : CanEnd core client (why.S
       let its = its_stream run past taken core is client found.0 found.1 in
       let frames = sent core.hub.ecu core.hub.buffer client (traffic (source_of run) past) in
       let left : concat frames ≡ taken client ++ outbox.bytes = subst (λ (o : Option Waiting). IfSome o (λ w. concat frames ≡ taken client ++ w.bytes)) found.2 its.left in
-      let sizes : size_of frames ≡ length (taken client) + length outbox.bytes = sym (bytes_of frames) ∙ ap length left ∙ length-append (taken client) outbox.bytes in
+      let sizes : size_of frames ≡ length (taken client) + length outbox.bytes = sym (length-concat frames) ∙ ap length left ∙ length-append (taken client) outbox.bytes in
       let room_is : length outbox.bytes + room ≡ outbox_limit core.hub.buffer = fills ∙ limit in
       let here : outbox_limit core.hub.buffer ≤ room + size_of frames = omega (arith, room_is, sizes) in
       subst (λ (buffer : ℕ). outbox_limit buffer ≤ room + size_of (sent run.setting.ecu buffer client (traffic (source_of run) past))) is.set_to.buffer

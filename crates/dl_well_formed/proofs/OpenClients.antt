@@ -8,21 +8,20 @@ use Rattle.std.proofs.lemmas.Bool.Decides.{eqb_tells}
 use Rattle.std.proofs.lemmas.List.Elements.{filter_map-append}
 use Rattle.std.proofs.lemmas.List.Folds.{list_any-append}
 use Rattle.std.proofs.lemmas.Option.{slice_get_cases}
+use Rattle.dl_lemmas.proofs.Options.{some_is}
 use Rattle.dl_events.specs.declared.event.Event.{Event}
 use Rattle.dl_model.specs.Traffic.{Traffic, Connected, Admitted, Reply, Closed, is_coming, comes_or_goes, comer_of, clients, is_open}
 use Rattle.dl_model.specs.ClientStream.{traffic}
 use Rattle.dl_model.specs.Journal.{IsOpen}
 use Rattle.dl_laws.proofs.ClientStreams.{is_open-one}
-use Rattle.dl_promises.proofs.Alls.{by_end}
 use Rattle.dl_promises.proofs.ClientStays.{is_open_in, opened_is}
 use Rattle.dl_promises.proofs.JournalStreams.{open_same}
 use Rattle.dl_hub.specs.State.{Client, Hub, client_of, outbox_of}
 use Rattle.dl_hub.specs.Follows.{IsStream}
-use Rattle.dl_hub.proofs.Following.{one_of}
 use Rattle.dl_core.specs.State.{Core}
 use Rattle.dl_core.specs.Follows.{IsAfter, Run, source_of}
 use Rattle.dl_lemmas.proofs.Bools.{choice_same}
-use Rattle.dl_lemmas.proofs.Lists.{not_in_range}
+use Rattle.dl_lemmas.proofs.Lists.{by_end, not_in_range}
 
 -- ---- who never came
 
@@ -84,7 +83,7 @@ module _ (run : Run) (events : List Event) (taken : ℕ → List ℕ) (core : Co
   pub its_stream : (number : ℕ) (client : Client) → client_of core.hub number ≡ Some client → IsStream core.hub.ecu core.hub.buffer talk (taken number) number client
   its_stream number client there = elim (client_cases core.hub number) [
     | inl stands ↦
-        let same : stands.client ≡ client = one_of (sym stands.is_client ∙ there) in
+        let same : stands.client ≡ client = some_is (sym stands.is_client ∙ there) in
         let here = is.hub.streams stands.place stands.client stands.at_place in
         let moved = subst (λ (n : ℕ). IsStream core.hub.ecu core.hub.buffer talk (taken n) n stands.client) stands.number_is here in
         subst (IsStream core.hub.ecu core.hub.buffer talk (taken number) number) same moved

@@ -2,6 +2,7 @@
 use Rattle.std.proofs.Common.{◌≡◌, ◌≢◌, ◌∙◌, ℕ, true, false, cond, List, [], Option, Some, None, ap, refl, subst, sym}
 use Rattle.std.specs.Prelude.{IfSome, Result, Ok, Err, is_some, option_map, unwrap_or}
 use Rattle.std.specs.FinMap as map
+use Rattle.dl_outside.proofs.Staying.{stays_same}
 use Rattle.dl_model.specs.TraceFiles.{StoredFile}
 use Rattle.dl_outside.specs.Folder.{Files}
 use Rattle.dl_outside.specs.Outside.{HasRisen, Stays, one_more}
@@ -47,10 +48,6 @@ keeps_on (Some name) old mid new left keeps = stays_on old.files mid.files new.f
 left_kept : (drawn : Option (List ℕ)) (old new : FolderTold) → IsUnchanged old new → Keeps drawn old new
 left_kept None old new left = left
 left_kept (Some name) old new left = left.files
-
-stays_same : (told : Option Files) → Stays told told
-stays_same None = tt
-stays_same (Some files) = refl
 
 module _ {N V : Type 0} (now : N → List ℕ) (items : V → List ℕ) (names : Option N) (shown : Option V) (text : List ℕ) (is : option_map items shown ≡ cond (is_some names) (Some text) None) where
   -- no picture is wanted

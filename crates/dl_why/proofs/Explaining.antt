@@ -24,9 +24,9 @@ use Rattle.dl_world.specs.Played.{IsPlayed, failures, is_failed}
 use Rattle.dl_world.specs.declared.played.Played.{Played}
 use Rattle.dl_replay.proofs.Answering.{said_yes}
 use Rattle.dl_picture.specs.Picture.{picture}
-use Rattle.dl_why.specs.Cases.{cases_of}
+use Rattle.dl_call_fates.specs.Cases.{cases_of}
 use Rattle.dl_why.specs.Explained.{drawn, drawn_of, explained, explained_of, no_trace}
-use Rattle.dl_why.specs.Rows.{more_words, rows_of}
+use Rattle.dl_call_fates.specs.Rows.{more_words, rows_of}
 
 -- the text of what a run left
 abbrev pub text_by : Setting → List StoredFile → List ℕ → List Step → List (List Record) → List Event → List AppSpec → Ends → Backlog → List ℕ

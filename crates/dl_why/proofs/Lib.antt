@@ -1,10 +1,3 @@
-pub mod Following
-pub mod Finding
-pub mod Counts
-pub mod RowLines
-pub mod CaseLists
-pub mod Lawful
-pub mod Scripts
 pub mod Explaining
 pub mod Standings
 pub mod Ending

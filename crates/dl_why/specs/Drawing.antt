@@ -1,5 +1,5 @@
 -- What becomes of the folder where the picture of a script is put into a file.
-use Rattle.std.specs.Prelude.{◌≡◌, ℕ, List, Option, Some, None, IfSome, Result, Ok, Err}
+use Rattle.std.specs.Prelude.{◌≡◌, ℕ, List, Option, Some, None, if◌then◌else◌, is_some, IfSome, Result, Ok, Err}
 use Rattle.std.specs.FinMap as map
 use Rattle.dl_outside.specs.Outside.{HasRisen, Stays, one_more}
 use Rattle.dl_outside.specs.Told.{FolderTold}
@@ -18,6 +18,10 @@ Draws (Some name) text old new = (new.changes ≡ one_more old.changes) × IfSom
 abbrev pub Keeps : Option (List ℕ) → FolderTold → FolderTold → Type 0
 Keeps None old new = IsUnchanged old new
 Keeps (Some name) old new = Stays old.files new.files
+
+-- what is drawn: a text where a file is wanted for it, and nothing else
+abbrev pub drawn_for : {A : Type 0} → Option A → List ℕ → Option (List ℕ)
+drawn_for name text = if is_some name then Some text else None
 
 -- the picture was drawn, where one is wanted; or why not (of the code alone)
 abbrev pub TriesToDraw : Option (List ℕ) → List ℕ → FolderTold → FolderTold → Result (Unit {0}) StepsStatus → Type 0

@@ -13,8 +13,8 @@ use Rattle.dl_model.specs.Steps.{run}
 use Rattle.dl_model.specs.TraceFiles.{StoredFile}
 use Rattle.dl_model.specs.WholeAccounts.{source_of_records}
 use Rattle.dl_picture.specs.Picture.{picture}
-use Rattle.dl_why.specs.Cases.{cases_of}
-use Rattle.dl_why.specs.Rows.{rows_of_run}
+use Rattle.dl_call_fates.specs.Cases.{cases_of}
+use Rattle.dl_call_fates.specs.Rows.{rows_of_run}
 
 -- the run stores nothing itself, so its report tells nothing of a trace
 abbrev pub no_trace : TraceState

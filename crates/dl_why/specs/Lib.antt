@@ -1,9 +1,3 @@
-pub mod Claims
-pub mod Rows
-pub mod Followed
-pub mod Found
-pub mod Written
-pub mod Cases
 pub mod Explained
 pub mod StepsStatus
 pub mod Drawing

@@ -30,7 +30,7 @@ use Rattle.dl_why_words.specs.declared.words.WhyWords.{WhyWords}
 use Rattle.dl_why.specs.Drawing.{Draws, Keeps}
 use Rattle.dl_why.specs.Explained.{drawn, explained}
 use Rattle.dl_why.specs.StepsStatus.{number}
-use Rattle.dl_why.specs.Written.{IsRotating}
+use Rattle.dl_call_fates.specs.Written.{IsRotating}
 use Rattle.dl_why.specs.declared.program.Start.{Start}
 use Rattle.dl_why.specs.declared.script.Script.{Script}
 use Rattle.dl_why.specs.declared.steps_status.StepsStatus.{StepsStatus}

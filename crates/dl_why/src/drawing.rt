@@ -1,7 +1,7 @@
 //! The picture of a script goes into its file, where one is wanted.
 
-ghost use Rattle.std.specs.Prelude.{◌≡◌, ℕ, List, Some, None, is_some, option_map, if◌then◌else◌};
-ghost use Rattle.dl_why.specs.Drawing.{TriesToDraw};
+ghost use Rattle.std.specs.Prelude.{◌≡◌, ℕ, List, Some, option_map};
+ghost use Rattle.dl_why.specs.Drawing.{TriesToDraw, drawn_for};
 
 use crate::steps_status::StepsStatus;
 use dl_outside::{Folder, FolderFault};
@@ -24,7 +24,7 @@ pub fn put_where_wanted<F: Folder>(
     name: Option<&str>,
     drawn: &Option<Vec<u8>>,
 ) -> Result<(), StepsStatus>
-    ensures { (text : List ℕ) → option_map (λ shown. shown.items) drawn.now ≡ (if is_some name.entry then Some text else None)
+    ensures { (text : List ℕ) → option_map (λ shown. shown.items) drawn.now ≡ drawn_for name.entry text
         → TriesToDraw (option_map (λ n. n.now) name.entry) text (F.told folder.old) (F.told folder.new) result }
 {
     let Some(name) = name else {

@@ -12,7 +12,7 @@ ghost use Rattle.dl_trace_files.specs.Files.{files_asked};
 ghost use Rattle.dl_trace_why.specs.Account.{Runs, sides};
 ghost use Rattle.dl_why_words.specs.Words.{said};
 ghost use Rattle.dl_why.specs.Program.{AnswersFault, Begins, Ends, Helps, LooksAt, Prints, RunsAsked, RunsNot, RunsSteps, SaysSteps, Standing, TellsWhy, Writes, help, told};
-ghost use Rattle.dl_why.specs.Written.{IsRotating};
+ghost use Rattle.dl_call_fates.specs.Written.{IsRotating};
 
 use crate::drawing::put_where_wanted;
 use crate::explanation::explain;

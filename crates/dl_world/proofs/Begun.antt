@@ -1,14 +1,13 @@
 -- A world before the first line of a script.
 use Rattle.std.proofs.Common.{◌≡◌, ℕ, ◌-◌, ◌<◌, Bool, true, false, cond, eqb, List, [], length, Option, None, refl, sym, ap, subst, ◌∙◌, inl, arith}
-use Rattle.std.specs.Prelude.{slice_get, IfSome, Err}
+use Rattle.std.specs.Prelude.{slice_get, IfSome}
 use Rattle.std.specs.List.{concat}
 use Rattle.std.specs.Option.{option_map_or}
 use Rattle.std.proofs.Math.Bridge.{le_prop}
 use Rattle.dl_bytes.specs.Limits.{client_limit}
 use Rattle.dl_bytes.specs.declared.moment.Moment.{Moment}
+use Rattle.dl_user.proofs.Cuts.{nothing_read}
 use Rattle.dl_model.specs.Marks.{moment_at}
-use Rattle.dl_user.specs.declared.fault.Stop.TheVariants.{NeedMore}
-use Rattle.dl_user.specs.Reading.{little, kind_at, message_at}
 use Rattle.dl_user.proofs.FrontLemmas.{open_is}
 use Rattle.dl_world_calls.specs.Follows as calls
 use Rattle.dl_world_calls.specs.Injections.{AreAfter}
@@ -30,10 +29,6 @@ nobody number = by_test (eqb number 0) where
 
 nothing_taken : (λ (number : ℕ). []) ≡ taken_by []
 nothing_taken i number = sym (ap (λ (o : Option Client). option_map_or (λ (client : Client). concat client.frames) o []) (nobody number)) i
-
-nothing_read : message_at (little []) ≡ Err NeedMore
-unfolding message_at kind_at
-nothing_read = refl
 
 -- nothing came on a channel
 unheard : (channel : ℕ) → IsHeardBy [] (channel_at [] channel)

@@ -16,6 +16,7 @@ use Rattle.dl_world_calls.specs.Injections.{AreAfter, is_no_injection}
 use Rattle.dl_world_calls.specs.State.{Calls}
 use Rattle.dl_world_calls.proofs.InjectionCounts.{no-injection-stays}
 use Rattle.dl_core.specs.Follows.{Run, HoldsTrace}
+use Rattle.dl_folders.specs.Standing.{KeepsTrace}
 use Rattle.dl_world.specs.Follows.{IsAfter, Doing, Loads}
 use Rattle.dl_world.specs.declared.world.World.{World}
 use Rattle.dl_world.proofs.Doings.{ComesTo, doing_by}
@@ -149,6 +150,7 @@ module _ (run : Run) (done more : List Mark) (old : World) (now : Calls) (steps 
   steps_come = record {
     after = steps_after;
     holds = λ told (held : HoldsTrace run (journal done) old.core told). rw (journal_same done more (none_given event_of (λ mark is. is.no_event) more steps)) held;
+    stands = λ told first (kept : KeepsTrace run first (journal done) old.core told). rw (journal_same done more (none_given event_of (λ mark is. is.no_event) more steps)) kept;
     unasked = none_given asked_by (λ mark is. is.no_request) more steps;
   }
 
@@ -178,5 +180,6 @@ begins_call call old mid new finishes core_same loads =
     subst (λ (more : List Mark). ComesTo run done more old new) (sym all) (record {
       after = subst (λ (ms : List Mark). IsAfter run ms new) (append_assoc done first second) last;
       holds = λ told (held : HoldsTrace run (journal done) old.core told). rw (journal_same done (first ++ second) none, core_same) held;
+      stands = λ told before (kept : KeepsTrace run before (journal done) old.core told). rw (journal_same done (first ++ second) none, core_same) kept;
       unasked = none_given asked_by (λ mark is. is.no_request) (first ++ second) steps;
     }))

@@ -3,6 +3,7 @@ use Rattle.std.proofs.Common.{◌≡◌, ℕ, ◌<◌, List, [], ◌∷◌, ◌+
 use Rattle.std.specs.Prelude.{slice_get}
 use Rattle.std.specs.Option.{option_and_then, option_map}
 use Rattle.std.proofs.lemmas.List.{append-nil}
+use Rattle.dl_lemmas.proofs.Options.{some_is}
 use Rattle.dl_bytes.specs.Claim.{Claimed}
 use Rattle.dl_bytes.specs.declared.moment.Moment.{Moment}
 use Rattle.dl_events.specs.declared.event.Event.{Event}
@@ -16,10 +17,11 @@ use Rattle.dl_world_calls.specs.State.{Calls, as_held, claim_held, next_claim}
 use Rattle.dl_world_calls.specs.Follows as calls
 use Rattle.dl_world_calls.proofs.Changing.{next_tells}
 use Rattle.dl_frames.proofs.FramesBehind.{traffic-append}
-use Rattle.dl_hub.proofs.Following.{one_of}
 use Rattle.dl_core.specs.Follows.{Run, AddsAlone, HoldsTrace, source_of}
 use Rattle.dl_core.specs.State.{Core}
 use Rattle.dl_outside.specs.Told.{FolderTold}
+use Rattle.dl_folders.specs.Standing.{KeepsTrace}
+use Rattle.dl_folders.proofs.StandingFiles.{keeps_quiet, kept_same}
 use Rattle.dl_world.specs.Follows.{IsAfter, Doing, noting}
 use Rattle.dl_world.specs.State.{taken_by}
 use Rattle.dl_world.specs.declared.world.World.{World}
@@ -44,7 +46,7 @@ next_is_own done kept app claim below after next =
       by : (o : Option Pushed) → slice_get (pushes app done) (taken app done) ≡ o → option_and_then claim_held (option_map as_held o) ≡ Some claim → claim.app ≡ app
       by None at is = absurd cc
       by (Some (OfCall call)) at is = absurd cc
-      by (Some (OfClaim first)) at is = ap (λ (c : Claimed). c.app) (sym (one_of is)) ∙ pushed_at app done (taken app done) (OfClaim first) at
+      by (Some (OfClaim first)) at is = ap (λ (c : Claimed). c.app) (sym (some_is is)) ∙ pushed_at app done (taken app done) (OfClaim first) at
 
 module _ (old : World) (app : ℕ) (claim : Claimed) (core_now : Core) (made kept : Journaled) (calls_now : Calls)
     (below : app < length old.calls.apps) (next : next_claim old.calls app ≡ Some claim) (made_is : made.events ≡ old.journal.events)
@@ -72,10 +74,12 @@ module _ (old : World) (app : ℕ) (claim : Claimed) (core_now : Core) (made kep
         after = after_quiet_event run done e old new refl after (claim_stream run (journal done) claim (moment done)) before.so_far;
         holds = λ told held. subst (λ (es : List Event). HoldsTrace run es core_now told) (sym (journal_noted done e))
             (subst (λ (x : Event). HoldsTrace run (journal done ++ x ∷ []) core_now told) same ((core_noted told).1 held));
+        stands = λ told first kept. subst (λ (es : List Event). KeepsTrace run first es core_now told) (sym (journal_noted done e))
+            (keeps_quiet run first (journal done) e old.core core_now told told still refl (kept_same told.files) kept);
         unasked = refl;
       }
 
   pub claim_does : (other : Claimed) → next_claim old.calls app ≡ Some other → Doing (noting (λ now. event.Claim other (moment now))) old new
   claim_does other is =
-      subst (λ (c : Claimed). Doing (noting (λ now. event.Claim c (moment now))) old new) (one_of (sym next ∙ is))
+      subst (λ (c : Claimed). Doing (noting (λ now. event.Claim c (moment now))) old new) (some_is (sym next ∙ is))
       (doing_by (noting (λ now. event.Claim claim (moment now))) old new still (λ run done after is_run. comes_claim run done after))

@@ -12,6 +12,7 @@ use Rattle.dl_script_lines.specs.declared.line.ContextLine.{ContextLine}
 use Rattle.dl_script_lines.specs.declared.step.Step.TheVariants as line
 use Rattle.dl_model.specs.Marks.{Mark, app_of, claim_of, context_of, writer_of as writer_marked, apps, writers, number_of, contexts_of}
 use Rattle.dl_model.specs.Steps.{finish, claim, announce, announce_all, act_of}
+use Rattle.dl_model.proofs.Marks.{in_sequence-one}
 use Rattle.dl_world_calls.specs.Follows as calls
 use Rattle.dl_world_calls.specs.Follows.{no_app, is_named}
 use Rattle.dl_world_calls.specs.State.{App, Calls, Writer, owner_of, writer_of}
@@ -25,7 +26,6 @@ use Rattle.dl_world.proofs.Composing.{both, does_both, doing_two}
 use Rattle.dl_world.proofs.Deeds.{does_as}
 use Rattle.dl_world.proofs.Drains.{writer_ids, owned_at}
 use Rattle.dl_world.proofs.Knowing.{ArePlain, finishes}
-use Rattle.dl_world.proofs.Turning.{turns-one}
 
 -- ---- a place for one claim more
 
@@ -90,6 +90,6 @@ pub registers : (asked : ClaimLine) (old mid : World) (now : Calls) → Doing (�
 registers asked old mid now first second told =
     does_as (both (λ setting answers. act_of setting [] (line.Claim asked)) (λ setting answers. announce_all asked.writer)) (λ setting answers. act_of setting [] (line.Register asked))
     old (record mid { calls = now }) told told
-    (λ run done answers after. turns-one (finish asked.writer ∷ claim asked ∷ []) (announce_all asked.writer) done)
+    (λ run done answers after. in_sequence-one (finish asked.writer ∷ claim asked ∷ []) (announce_all asked.writer) done)
     (does_both (λ setting answers. act_of setting [] (line.Claim asked)) (λ setting answers. announce_all asked.writer) old mid (record mid { calls = now }) told told told (first told)
     (steps_doing (announce_all asked.writer) mid now (announce_all_steps asked.writer) second told))

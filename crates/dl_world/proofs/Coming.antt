@@ -28,6 +28,8 @@ use Rattle.dl_core.specs.State.{Core}
 use Rattle.dl_world.specs.Fed.{IsFedBy}
 use Rattle.dl_outside.specs.Told.{FolderTold}
 use Rattle.dl_core.specs.Follows.{stored_by, HoldsFiles}
+use Rattle.dl_folders.specs.Standing.{KeepsTrace}
+use Rattle.dl_folders.proofs.StandingFiles.{keeps_by, keeps_quiet, kept_same}
 use Rattle.dl_world.specs.Follows.{IsAfter, IsBefore, Doing, noting, stream_in}
 use Rattle.dl_world.specs.State.{Client, new_client, client_at, taken_by}
 use Rattle.dl_world.specs.declared.world.World.{World}
@@ -170,5 +172,8 @@ connect_does old new core_now made kept client links number number_is fresh link
             after = takes run (done ++ Noted (event.Connect number) ∷ []) (subst (λ (ls : List Client). IsBefore run (done ++ Noted (event.Connect number) ∷ []) (record old { core = core_now; journal = kept; clients = ls })) (sym links_are) before);
             holds = λ told held. holds_by run (done ++ Noted (event.Connect number) ∷ []) core_now new.core told still
                 (subst (λ (es : List Event). HoldsTrace run es core_now told) (sym (journal_noted done (event.Connect number))) ((core_noted told).1 held));
+            stands = λ told first kept. keeps_by run first (journal (done ++ Noted (event.Connect number) ∷ [])) core_now new.core told still
+                (subst (λ (es : List Event). KeepsTrace run first es core_now told) (sym (journal_noted done (event.Connect number)))
+                (keeps_quiet run first (journal done) (event.Connect number) old.core core_now told told same refl (kept_same told.files) kept));
             unasked = refl;
           }

@@ -12,6 +12,7 @@ use Rattle.dl_laws.proofs.Lists.{count_by-append}
 use Rattle.dl_core.specs.Follows.{Run, HoldsTrace}
 use Rattle.dl_frames.proofs.KeptIds.{kept_id}
 use Rattle.dl_outside.specs.Told.{FolderTold}
+use Rattle.dl_folders.specs.Standing.{KeepsTrace}
 use Rattle.dl_world.specs.Follows.{GivesCall, IsRunOf, IsAfter, BeginWith, answers_in, is_failure, Deed, Goes, Does, Doing}
 use Rattle.dl_world.specs.Stored.{HoldsStored}
 use Rattle.dl_world.specs.declared.world.World.{World}
@@ -55,6 +56,7 @@ module _ (first second : Deed) (old mid new : World) (told told_mid told_now : F
       record {
         after = subst (λ (ms : List Mark). IsAfter run ms new) apart rest.after;
         holds = λ holds. subst (λ (ms : List Mark). HoldsTrace run (journal ms) new.core told_now) apart (rest.holds (so_far.holds holds));
+        stands = λ before kept. subst (λ (ms : List Mark). KeepsTrace run before (journal ms) new.core told_now) apart (rest.stands before (so_far.stands before kept));
         stored = λ first fine holds.
             let none = none_failed fine in
             subst (λ (ms : List Mark). HoldsStored run.setting first (journal ms) told_now.files) apart (rest.stored first none.1 (so_far.stored first none.0 holds));

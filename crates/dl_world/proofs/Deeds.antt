@@ -13,6 +13,7 @@ use Rattle.dl_world_calls.specs.Injections.{AreAfter}
 use Rattle.dl_core.specs.Follows as core
 use Rattle.dl_core.specs.Follows.{Run, HoldsTrace}
 use Rattle.dl_outside.specs.Told.{FolderTold}
+use Rattle.dl_folders.specs.Standing.{KeepsTrace}
 use Rattle.dl_world.specs.Follows.{IsRunOf, IsSoFar, IsAfter, answer_of, answers_in, Deed, Goes, Does, Doing}
 use Rattle.dl_world.specs.Stored.{HoldsStored}
 use Rattle.dl_world.specs.State.{Client, client_at, taken_by}
@@ -44,6 +45,7 @@ does_nothing world told = record {
       record {
         after = subst (λ (ms : List Mark). IsAfter run ms world) same after;
         holds = λ holds. subst (λ (ms : List Mark). HoldsTrace run (journal ms) world.core told) same holds;
+        stands = λ first kept. subst (λ (ms : List Mark). KeepsTrace run first (journal ms) world.core told) same kept;
         stored = λ first fine holds. subst (λ (ms : List Mark). HoldsStored run.setting first (journal ms) told.files) same holds;
         answers = ap answers_in (append-nil done) ∙ sym (append-nil (answers_in done));
       };
@@ -144,6 +146,7 @@ quiet_does act old new stays alone turns told = record {
       record {
         after = quiet_after run done more old new left stays (turns run done after) after;
         holds = λ (held : HoldsTrace run (journal done) old.core told). rw (events_same, stays.core_is) held;
+        stands = λ first (kept : KeepsTrace run first (journal done) old.core told). rw (events_same, stays.core_is) kept;
         stored = λ first fine holds. subst (λ (es : List Event). HoldsStored run.setting first es told.files) (sym events_same) holds;
         answers = same_answers done more left.quiet ∙ sym (append-nil (answers_in done));
       };

@@ -8,6 +8,7 @@ use Rattle.dl_events.specs.declared.event.Event.{Event}
 use Rattle.dl_events.specs.declared.event.Event.TheVariants as event
 use Rattle.dl_events.specs.Journal as notes
 use Rattle.dl_events.specs.Journal.{Journaled}
+use Rattle.dl_outside.specs.Folder.{Files}
 use Rattle.dl_outside.specs.Told.{FolderTold}
 use Rattle.dl_model.specs.declared.registry.LevelChange.{LevelChange}
 use Rattle.dl_model.specs.Setting.{Setting}
@@ -22,6 +23,8 @@ use Rattle.dl_frames.proofs.FramesBehind.{traffic-append}
 use Rattle.dl_trace.specs.State.{Trace}
 use Rattle.dl_core.specs.Follows.{Run, HoldsTrace, HoldsFiles, AddsAlone, source_of, stored_by}
 use Rattle.dl_core.specs.State.{Core}
+use Rattle.dl_folders.specs.Standing.{KeepsTrace}
+use Rattle.dl_folders.proofs.StandingFiles.{keeps_quiet, kept_same}
 use Rattle.dl_world.specs.Follows.{IsRunOf, IsSoFar, IsAfter, answer_of, answers_in, Doing, next_level, stream_in}
 use Rattle.dl_world.specs.State.{Client, client_at, taken_by}
 use Rattle.dl_world.specs.declared.world.World.{World}
@@ -40,6 +43,7 @@ nothing_told = record { files = None; faults = 0; changes = 0; appends = 0 }
 pub record ComesTo (run : Run) (done more : List Mark) (old new : World) : Type 0 where
   pub after : IsAfter run (done ++ more) new
   pub holds : (told : FolderTold) → HoldsTrace run (journal done) old.core told → HoldsTrace run (journal (done ++ more)) new.core told
+  pub stands : (told : FolderTold) (first : Option Files) → KeepsTrace run first (journal done) old.core told → KeepsTrace run first (journal (done ++ more)) new.core told
   pub unasked : asked_in more ≡ []
 
 pub no_answers : (done more : List Mark) → answers_in more ≡ [] → answers_in (done ++ more) ≡ answers_in done ++ []
@@ -56,6 +60,7 @@ doing_by act old new same comes told = record {
       record {
         after = to.after;
         holds = to.holds told;
+        stands = to.stands told;
         stored = λ first fine. holds_same run.setting first (journal done) (journal (done ++ more)) told.files (stored_unasked run.setting first done more to.unasked);
         answers = no_answers done more (unanswered more to.unasked);
       };
@@ -91,6 +96,7 @@ comes_to_nothing run done old new core_is events_are clients_are calls_are injec
         later_held = later_is ∙ after.so_far.later_so;
       })) core_is events_are clients_are;
       holds = λ told (held : HoldsTrace run (journal done) old.core told). rw (all, core_is) held;
+      stands = λ told first (kept : KeepsTrace run first (journal done) old.core told). rw (all, core_is) kept;
       unasked = refl;
     }
 
@@ -138,9 +144,9 @@ module _ (old : World) (now : Core) (kept kept_now : Journaled) (events_kept : k
   abbrev new : World
   new = record old { core = now; journal = kept_now }
 
-  comes_level : (slot level : ℕ) → AddsAlone (event.Level slot level ∷ []) old.core now → notes.Adds (Some kept.events) (Some kept_now.events) (event.Level slot level)
+  comes_level : (slot level : ℕ) → now.trace ≡ old.core.trace → AddsAlone (event.Level slot level ∷ []) old.core now → notes.Adds (Some kept.events) (Some kept_now.events) (event.Level slot level)
       → (run : Run) (done : List Mark) → IsAfter run done old → ComesTo run done (Noted (event.Level slot level) ∷ []) old new
-  comes_level slot level adds noted run done after =
+  comes_level slot level still adds noted run done after =
       let e = event.Level slot level in
       let core_noted = λ (told : FolderTold). adds told run (journal done) (taken_by old.clients) tt after.so_far.core_so in
       let events_noted : kept_now.events ≡ old.journal.events ++ e ∷ [] = the_events kept.events kept_now.events old.journal.events e events_kept noted in
@@ -154,6 +160,8 @@ module _ (old : World) (now : Core) (kept kept_now : Journaled) (events_kept : k
       record {
         after = after_quiet_event run done e old new refl after (level_stream run (journal done) slot level) before.so_far;
         holds = λ told held. subst (λ (es : List Event). HoldsTrace run es now told) (sym (journal_noted done e)) ((core_noted told).1 held);
+        stands = λ told first kept. subst (λ (es : List Event). KeepsTrace run first es now told) (sym (journal_noted done e))
+            (keeps_quiet run first (journal done) e old.core now told told still refl (kept_same told.files) kept);
         unasked = refl;
       }
 
@@ -171,4 +179,4 @@ module _ (old : World) (now : Core) (kept kept_now : Journaled) (events_kept : k
             → (run : Run) (done : List Mark) → IsAfter run done old → ComesTo run done (next_mark o) old new
         by_change None none adds noted run done after =
             comes_to_nothing run done old new none.0 (ap (λ (k : Journaled). k.events) none.1 ∙ events_kept) refl refl refl refl refl refl after
-        by_change (Some c) none adds noted run done after = comes_level c.slot c.level adds noted run done after
+        by_change (Some c) none adds noted run done after = comes_level c.slot c.level same adds noted run done after

@@ -4,11 +4,11 @@ use Rattle.std.specs.Prelude.{IsSome, IsSomeAnd, ◌==◌}
 use Rattle.std.specs.Option.{option_map_or}
 use Rattle.std.proofs.lemmas.List.{take_all}
 use Rattle.std.proofs.lemmas.Bool.Decides.{eqb_tells}
+use Rattle.dl_lemmas.proofs.Options.{some_is}
 use Rattle.dl_hub.specs.State.{Hub, outbox_of, changed, without, consumed}
 use Rattle.dl_outside.specs.Told.{LinkTold}
 use Rattle.dl_hub.specs.Pumping.{Pumps}
 use Rattle.dl_hub.proofs.Calls.{some_and}
-use Rattle.dl_hub.proofs.Following.{one_of}
 use Rattle.dl_hub.proofs.Keeping.{found}
 use Rattle.dl_hub.proofs.Pumping.{nothing-sent, more-sent, outbox-after}
 use Rattle.dl_core.specs.State.{Core}
@@ -73,7 +73,7 @@ emptied_where client first now bytes piece is there none empty =
     let zero_piece : length piece ≡ 0 = zero_of (length piece) empty in
     let nothing : length (drop k it.1.bytes) ≡ 0 = some_and (λ w. length piece ≡ 0 → length w.bytes ≡ 0) (outbox_of now.hub client) (consumed k it.1) after none zero_piece in
     let whole : k ≡ length it.1.bytes = omega (arith, length-drop k it.1.bytes, nothing, part.0) in
-    let bytes_are : bytes ≡ it.1.bytes = one_of part.1 ∙ take_whole k it.1.bytes whole in
+    let bytes_are : bytes ≡ it.1.bytes = some_is part.1 ∙ take_whole k it.1.bytes whole in
     let count : k ≡ length bytes = whole ∙ ap length (sym bytes_are) in
     record {
       all = rw it.5 bytes_are;

@@ -64,6 +64,7 @@ comes_of act old new doing run done after is_run none =
     record {
       after = (goes (record { files = None; faults = 0; changes = 0; appends = 0 })).after;
       holds = λ told held. (goes told).holds held;
+      stands = λ told first kept. (goes told).stands first kept;
       unasked = none;
     }
 

@@ -12,17 +12,12 @@ use Rattle.dl_message.specs.Requests.{asks, requests}
 use Rattle.dl_message.specs.declared.cutter.Cut.{Cut}
 use Rattle.dl_message.specs.declared.cutter.Cut.TheVariants.{Message, NeedMore, Bad}
 use Rattle.dl_message.proofs.Pieces.{piece_long}
+use Rattle.dl_message.proofs.Calls.{cuts_limit}
 use Rattle.dl_core.specs.Serving.{IsRequest}
 use Rattle.dl_world.specs.Fed.{Stands}
 use Rattle.dl_lemmas.proofs.Options.{is_some_of}
 
 -- ---- one message more
-
--- a message is given
-pub limit_stays : (old new : Cutting) (cut : Cut) → Cuts old cut new → new.limit ≡ old.limit
-limit_stays old new Message cuts = ap (λ (c : Cutting). c.limit) cuts.1
-limit_stays old new NeedMore cuts = ap (λ (c : Cutting). c.limit) cuts.2
-limit_stays old new (Bad fault) cuts = ap (λ (c : Cutting). c.limit) cuts.1
 
 -- what is unread gets shorter with each message
 pub shorter : (old new : Cutting) → Cuts old Message new → length new.unread < length old.unread
@@ -76,7 +71,7 @@ stands_now old new (Bad fault) other limit cuts =
 
 -- what is given is a whole message within the limit of clients
 pub whole_now : (old new : Cutting) → Cuts old Message new → old.limit ≡ message_limit → IsWholeMessage new.limit new.message → IsWholeMessage message_limit new.message
-whole_now old new cuts limit whole = subst (λ (n : ℕ). IsWholeMessage n new.message) (limit_stays old new Message cuts ∙ limit) whole
+whole_now old new cuts limit whole = subst (λ (n : ℕ). IsWholeMessage n new.message) (cuts_limit old new Message cuts ∙ limit) whole
 
 -- a whole message that asks is a request
 pub is_request_too : (requests : List (List ℕ)) (message : List ℕ) → IsWholeMessage message_limit message → asks message ≡ true → All IsRequest requests → All IsRequest (requests ++ message ∷ [])

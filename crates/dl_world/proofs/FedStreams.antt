@@ -14,9 +14,9 @@ use Rattle.dl_message.specs.declared.cutter.Cut.{Cut}
 use Rattle.dl_message.specs.declared.cutter.Cut.TheVariants.{Message, NeedMore, Bad}
 use Rattle.dl_message.proofs.Cuts.{one_cut, its_cut, requests-bad}
 use Rattle.dl_message.proofs.Pieces.{bad_no_piece, bad_stays}
+use Rattle.dl_message.proofs.Calls.{cuts_limit}
 use Rattle.dl_core.specs.Serving.{IsRequest}
 use Rattle.dl_world.specs.Fed.{Waits, IsShut, IsFedBy, Stands, made_whole}
-use Rattle.dl_world.proofs.FedClients.{limit_stays}
 use Rattle.dl_lemmas.proofs.Options.{is_some_of, some_of}
 
 -- ---- the one cut of a stream
@@ -225,7 +225,7 @@ shut_next stream old new (Bad fault) limit shut cuts =
 module _ (stream : List ℕ) (old new : Cutting) (cut : Cut) (fed : IsFedBy stream old) (cuts : Cuts old cut new) where
   pub fed_next : IsFedBy stream new
   fed_next = record {
-    limit = limit_stays old new cut cuts ∙ fed.limit;
+    limit = cuts_limit old new cut cuts ∙ fed.limit;
     stands = elim fed.stands [
       | inl waits ↦ inl (waits_next stream old new cut fed.limit waits cuts).1
       | inr shut ↦ inr (shut_next stream old new cut fed.limit shut cuts).1

@@ -26,7 +26,6 @@ use Rattle.dl_laws.proofs.ClientStreams.{is_open-one}
 use Rattle.dl_world_calls.proofs.Changing.{no-call-stays}
 use Rattle.dl_frames.specs.FramesPut.{IsPut}
 use Rattle.dl_frames.specs.FrameLengths.{CarriesLen}
-use Rattle.dl_frames.proofs.Entries.{by_end}
 use Rattle.dl_frames.proofs.FramesBehind.{put_by_events}
 use Rattle.dl_frames.proofs.Quiet.{open_in_journal, closes_quietly}
 use Rattle.dl_hub.specs.State as hub
@@ -37,6 +36,8 @@ use Rattle.dl_core.specs.Closing.{MayEnd}
 use Rattle.dl_core.specs.Follows as core
 use Rattle.dl_core.specs.Follows.{Run, AddsAlone, HoldsTrace, source_of}
 use Rattle.dl_core.specs.State.{Core}
+use Rattle.dl_folders.specs.Standing.{KeepsTrace}
+use Rattle.dl_folders.proofs.StandingFiles.{keeps_quiet, kept_same}
 use Rattle.dl_world.specs.Follows.{IsAfter, IsBefore, IsBehind, HasTaken, IsPlain, Doing, noting, stream_in}
 use Rattle.dl_world.specs.State.{Client, client_at, taken_by}
 use Rattle.dl_world.specs.declared.world.World.{World}
@@ -44,7 +45,7 @@ use Rattle.dl_world.proofs.ByNumber.{at_place, at_zero, at_past}
 use Rattle.dl_world.proofs.Noting.{journal_noted, noted_where, missing}
 use Rattle.dl_world.proofs.Doings.{doing_by, holds_by, the_events, after_quiet_event, nothing_told}
 use Rattle.dl_lemmas.proofs.Bools.{neither, choice_same}
-use Rattle.dl_lemmas.proofs.Lists.{not_in_range}
+use Rattle.dl_lemmas.proofs.Lists.{by_end, not_in_range}
 
 -- ---- a client's stream, by its link
 
@@ -227,5 +228,8 @@ close_does old mid new core_now made kept client cause there takes keeps same ma
           (close_after run done mid core_now kept client cause now there value (core_noted nothing_told).0 (the_events made.events kept.events mid.journal.events e made_is noted));
       holds = λ told held. subst (λ (w : World). HoldsTrace run (journal (done ++ Noted e ∷ [])) w.core told) (sym new_is)
           (subst (λ (es : List Event). HoldsTrace run es core_now told) (sym (journal_noted done e)) ((core_noted told).1 (holds_by run done old.core mid.core told same held)));
+      stands = λ told first kept. subst (λ (w : World). KeepsTrace run first (journal (done ++ Noted e ∷ [])) w.core told) (sym new_is)
+          (subst (λ (es : List Event). KeepsTrace run first es core_now told) (sym (journal_noted done e))
+          (keeps_quiet run first (journal done) e old.core core_now told told trace_is refl (kept_same told.files) kept));
       unasked = refl;
     })

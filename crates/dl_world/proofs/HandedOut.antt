@@ -4,6 +4,7 @@ use Rattle.std.specs.Prelude.{slice_index, nat_lt}
 use Rattle.dl_model.specs.Marks.{Mark, Handed, injections, journal}
 use Rattle.dl_model.specs.Steps.{just, when, take_injection}
 use Rattle.dl_core.specs.Follows.{Run, HoldsTrace}
+use Rattle.dl_folders.specs.Standing.{KeepsTrace}
 use Rattle.dl_world_calls.specs.Injections.{Counts}
 use Rattle.dl_world.specs.Follows.{IsAfter, Doing}
 use Rattle.dl_world.specs.declared.world.World.{World}
@@ -30,6 +31,7 @@ takes_one app old waiting below some counts =
     (record {
       after = handed_after run done old after app waiting (counts done after.so_far.injections_so);
       holds = λ told (held : HoldsTrace run (journal done) old.core told). rw (journal_same done (Handed app ∷ []) refl) held;
+      stands = λ told first (kept : KeepsTrace run first (journal done) old.core told). rw (journal_same done (Handed app ∷ []) refl) kept;
       unasked = refl;
     }))
 

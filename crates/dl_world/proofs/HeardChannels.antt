@@ -9,10 +9,10 @@ use Rattle.dl_bytes.proofs.Cutting.{cut_on, cut_more}
 use Rattle.dl_bytes.specs.UserMessage.{IsFit}
 use Rattle.dl_bytes.specs.declared.user.UserMsg.{UserMsg}
 use Rattle.dl_bytes.specs.declared.user.UserMsg.TheVariants as of
-use Rattle.dl_control.proofs.Fields.{IsBytes-append, IsBytes-take, IsBytes-drop}
+use Rattle.dl_bytes.proofs.Bytes.{IsBytes-append, IsBytes-drop, IsBytes-take}
 use Rattle.dl_user.specs.Channel.{Channel, unfed}
 use Rattle.dl_user.specs.Reading.{little, kind_at, message_at}
-use Rattle.dl_user.specs.Cut.{IsSpelled, Begins, HasRanges, IsOpen, Stops, messages_of, rest_of}
+use Rattle.dl_user.specs.Cut.{Begins, HasRanges, IsOpen, Stops, messages_of, rest_of}
 use Rattle.dl_user.specs.Cutter.{Cuts, Feeds}
 use Rattle.dl_user.specs.Faults.{Shows}
 use Rattle.dl_user.specs.declared.cutter.UserCut.TheVariants.{NeedMore, Bad}
@@ -20,7 +20,7 @@ use Rattle.dl_user.specs.declared.fault.Stop.{Stop}
 use Rattle.dl_user.specs.declared.fault.Stop.TheVariants as stops
 use Rattle.dl_user.specs.declared.fault.UserFault.{UserFault}
 use Rattle.dl_user.proofs.FrontLemmas.{open_is}
-use Rattle.dl_user.proofs.Cuts.{cut_once, cut_is_there, cut_ended}
+use Rattle.dl_user.proofs.Cuts.{cut_once, cut_is_there, cut_ended, begins_more, spelled_some}
 use Rattle.dl_world.specs.Fed.{CanBeTold, Listens, IsIgnored, IsHeardBy, StandsStill, told_by}
 
 -- ---- one message more
@@ -38,9 +38,6 @@ can_be_told (of.Overflow counter apid) fit ranges = (fit, ranges.1)
 -- what a cutter gives can be told
 pub told_too : (messages : List UserMsg) (msg : UserMsg) (bytes after : List ℕ) → Begins bytes msg after → All CanBeTold messages → All CanBeTold (messages ++ msg ∷ [])
 told_too messages msg bytes after begins each = All-push CanBeTold messages msg each (can_be_told msg begins.1.fit begins.1.ranges)
-
-spelled_some : (text : List ℕ) (msg : UserMsg) → IsSpelled text msg → 0 < length text
-spelled_some text msg is = elim is.spelled [ inl e ↦ omega (arith, ap length e) | inr e ↦ omega (arith, ap length e) ]
 
 -- what is unread gets shorter with each message
 pub shorter : (bytes after : List ℕ) (msg : UserMsg) → Begins bytes msg after → length after < length bytes
@@ -69,9 +66,6 @@ pub still_bad : (old new : Channel) (fault : UserFault) → Cuts old (Bad fault)
 still_bad old new fault cuts = inr ((fault, subst (λ (bytes : List ℕ). Shows bytes fault) (sym cuts.1) cuts.0), cuts.2)
 
 -- ---- a channel's bytes go on
-
-begins_more : (bytes after more : List ℕ) (msg : UserMsg) → Begins bytes msg after → Begins (bytes ++ more) msg (after ++ more)
-begins_more bytes after more msg b = (b.0, b.1, ap (λ (x : List ℕ). x ++ more) b.2 ∙ append_assoc b.0 after more)
 
 stop_of : (new : Channel) → StandsStill new → (stop : Stop) × Stops new.unread stop
 stop_of new (inl waits) = (stops.NeedMore, waits.0)

@@ -25,6 +25,7 @@ use Rattle.dl_script_lines.specs.declared.line.ContextLine.{ContextLine}
 use Rattle.dl_script_lines.specs.declared.step.Step.{Step}
 use Rattle.dl_script_lines.specs.declared.step.Step.TheVariants as line
 use Rattle.dl_script_lines.specs.declared.step.LevelEvents.TheVariants as levels
+use Rattle.dl_model.proofs.Marks.{in_sequence-one}
 use Rattle.dl_script.specs.Earlier.{Declared, nothing, noted, numbered, refusal}
 use Rattle.dl_script.specs.Spelled.{MayFollow, step_claim}
 use Rattle.dl_script.specs.declared.claim.Claim.TheVariants as claims
@@ -38,7 +39,6 @@ use Rattle.dl_model.specs.Reply.{Need, Nothing, Folder, Queue}
 use Rattle.dl_model.specs.Steps.{Act, in_sequence, just, for_some, when, changes, level_noted, note_levels, note_levels_now, note, loaded, load, push, count, finish, begin_call, whole_call, claim, announce, announce_upto, announce_all, is_held_back, event_taken, take_log, take_losses, is_open, close, connect, served, request_now, ask, new_requests, close_malformed, receive, new_messages, tell, hear, take_injection, on_app, act_of}
 use Rattle.dl_world.specs.Known.{IsKnown, name_of}
 use Rattle.dl_world.proofs.ClaimedPlaces.{Covers, covers_nothing, covers_same, covers_app, covers_name, covers_claim}
-use Rattle.dl_world.proofs.Turning.{turns-one}
 
 -- ---- marks that declare nothing
 
@@ -390,7 +390,7 @@ one_known setting answers (line.Register asked) known done is =
     let before = in_sequence (finish asked.writer ∷ claim asked ∷ []) done in
     let behind = announce_all asked.writer (done ++ before) in
     subst (λ (ms : List Mark). IsKnown now ms)
-    (append_assoc done before behind ∙ ap (λ (ms : List Mark). done ++ ms) (sym (turns-one (finish asked.writer ∷ claim asked ∷ []) (announce_all asked.writer) done)))
+    (append_assoc done before behind ∙ ap (λ (ms : List Mark). done ++ ms) (sym (in_sequence-one (finish asked.writer ∷ claim asked ∷ []) (announce_all asked.writer) done)))
     (stays_known now now (done ++ before) behind refl refl refl refl (announces_all asked.writer (done ++ before)) (claim_line_known known done asked is))
 one_known setting answers (line.Take apid) known done is = stays_known known known done _ refl refl refl refl (asked (number_of apid done) (take_log setting) done (takes setting)) is
 one_known setting answers (line.Losses apid) known done is = stays_known known known done _ refl refl refl refl (asked (number_of apid done) (take_losses setting) done (loses setting)) is

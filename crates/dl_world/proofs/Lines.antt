@@ -6,11 +6,11 @@ use Rattle.std.proofs.lemmas.Option.{slice_get-get_or}
 use Rattle.dl_script_lines.specs.declared.step.Step.{Step}
 use Rattle.dl_model.specs.Steps.{Act, in_sequence, act_of, end_of}
 use Rattle.dl_outside.specs.Told.{FolderTold}
+use Rattle.dl_model.proofs.Marks.{in_sequence-one}
 use Rattle.dl_world.specs.Follows.{Deed, Does}
 use Rattle.dl_world.specs.declared.world.World.{World}
 use Rattle.dl_world.proofs.Composing.{both, does_both}
 use Rattle.dl_world.proofs.Deeds.{does_as, does_nothing}
-use Rattle.dl_world.proofs.Turning.{turns-one}
 
 -- what lines come to
 abbrev pub lines : List Step → Deed
@@ -26,7 +26,7 @@ one_line steps step old mid new told told_mid told_now before one =
     does_as (both (lines steps) (λ setting answers. act_of setting answers step)) (lines (steps ++ step ∷ [])) old new told told_now
     (λ run done answers after.
     ap (λ (acts : List Act). in_sequence acts done) (map-append (act_of run.setting answers) steps (step ∷ []))
-    ∙ turns-one (map (act_of run.setting answers) steps) (act_of run.setting answers step) done)
+    ∙ in_sequence-one (map (act_of run.setting answers) steps) (act_of run.setting answers step) done)
     (does_both (lines steps) (λ setting answers. act_of setting answers step) old mid new told told_mid told_now before one)
 
 -- all lines, and the end
@@ -37,7 +37,7 @@ pub and_end : (steps : List Step) (old mid new : World) (told told_mid told_now 
     → Does (lines steps) old mid told told_mid → Does (λ setting answers. end_of setting) mid new told_mid told_now → Does (whole steps) old new told told_now
 and_end steps old mid new told told_mid told_now before one =
     does_as (both (lines steps) (λ setting answers. end_of setting)) (whole steps) old new told told_now
-    (λ run done answers after. turns-one (map (act_of run.setting answers) steps) (end_of run.setting) done)
+    (λ run done answers after. in_sequence-one (map (act_of run.setting answers) steps) (end_of run.setting) done)
     (does_both (lines steps) (λ setting answers. end_of setting) old mid new told told_mid told_now before one)
 
 -- ---- the line at a place

@@ -1,11 +1,12 @@
 -- Events that store frames: log calls, reports of lost ones, and user messages.
-use Rattle.std.proofs.Common.{◌≡◌, ◌≢◌, ◌⊎◌, inl, inr, ℕ, zero, suc, ◌<◌, ◌≤◌, Bool, true, false, cond, eqb, get_or, List, [], ◌∷◌, ◌++◌, length, Option, Some, None, refl, sym, ap, subst, ◌∙◌, arith}
+use Rattle.std.proofs.Common.{◌≡◌, ◌≢◌, ◌⊎◌, inl, inr, ℕ, zero, suc, ◌<◌, ◌≤◌, Bool, true, false, cond, eqb, get_or, List, [], ◌∷◌, ◌++◌, length, map, Option, Some, None, refl, sym, ap, subst, ◌∙◌, arith}
 use Rattle.std.specs.Prelude.{slice_get}
 use Rattle.std.specs.List.{cons_option}
 use Rattle.std.specs.Option.{option_and_then, option_map, option_map_or}
 use Rattle.std.proofs.lemmas.Option.{slice_get-map}
 use Rattle.std.proofs.lemmas.List.{length-map}
 use Rattle.std.proofs.lemmas.Bool.Decides.{eqb_tells}
+use Rattle.dl_lemmas.proofs.Options.{some_is}
 use Rattle.dl_bytes.specs.Limits.{payload_limit}
 use Rattle.dl_bytes.specs.declared.item.Item.{Item}
 use Rattle.dl_bytes.specs.declared.moment.Moment.{Moment}
@@ -16,6 +17,7 @@ use Rattle.dl_events.specs.Journal as notes
 use Rattle.dl_events.specs.Journal.{Journaled}
 use Rattle.dl_message.specs.Frames.{log_message}
 use Rattle.dl_model.specs.Marks.{Mark, Queued, Announced, Noted, Pushed, OfCall, OfClaim, pushed_of, pushes, taken, journal, moment, apps, apid_of}
+use Rattle.dl_model.specs.Frames.{stored, stored_of}
 use Rattle.dl_model.specs.Steps.{just}
 use Rattle.dl_frames.specs.Frames.{TellsLen}
 use Rattle.dl_world_calls.specs.State.{Calls, as_held, item_held, next_item}
@@ -25,11 +27,11 @@ use Rattle.dl_script_lines.specs.declared.line.AppLine.{AppLine}
 use Rattle.dl_world_calls.proofs.Changing.{next_tells, no-call-stays}
 use Rattle.dl_frames.proofs.OneCall.{given_in_rings}
 use Rattle.dl_frames.proofs.Spellings.{log_tells}
-use Rattle.dl_hub.proofs.Following.{one_of}
-use Rattle.dl_core.specs.Admission.{log_event, GivesFrame, GivesApid}
-use Rattle.dl_core.specs.Follows.{Run, Adds, HoldsTrace}
+use Rattle.dl_core.specs.Admission.{log_event, lost_frames, GivesFrame, GivesApid}
+use Rattle.dl_core.specs.Follows.{Run, Adds, HoldsTrace, source_of, stored_by}
 use Rattle.dl_core.specs.State.{Core}
-use Rattle.dl_world.specs.Fed.{CanBeTold}
+use Rattle.dl_folders.specs.Standing.{KeepsTrace}
+use Rattle.dl_folders.proofs.StandingFiles.{keeps_by, keeps_storing}
 use Rattle.dl_outside.specs.Told.{FolderTold}
 use Rattle.dl_world.specs.Follows.{IsRunOf, IsAfter, IsBefore, Does, noting}
 use Rattle.dl_world.specs.State.{taken_by}
@@ -43,17 +45,18 @@ use Rattle.dl_world.proofs.StoredFiles.{asked_in, holds_on, stored_unasked}
 
 -- ---- an event that the folder may see
 
--- what is known once it is noted, and before the links took what it put
-pub record IsPutBy (run : Run) (done : List Mark) (e : Event) (old : Core) (mid : World) (told told_now : FolderTold) : Type 0 where
+-- what is known once it is noted and these frames were to be stored for it, and before the links took what it put
+pub record IsPutBy (run : Run) (done : List Mark) (e : Event) (frames : List (List ℕ)) (old : Core) (mid : World) (told told_now : FolderTold) : Type 0 where
   pub before : IsBefore run (done ++ Noted e ∷ []) mid
   pub holds : HoldsTrace run (journal done) old told → HoldsTrace run (journal done ++ e ∷ []) mid.core told_now
+  pub frames_are : stored_of (source_of run) e ≡ frames
   pub unasked : asked_in (Noted e ∷ []) ≡ []
 
-pub does_event : (make : List Mark → Event) (old mid new : World) (told told_now : FolderTold) → Fails old.core.trace mid.core.trace told.faults told_now.faults → KeepsStored told.files told_now.files → new.core.trace ≡ mid.core.trace
-    → ((run : Run) (done : List Mark) → IsAfter run done old → IsRunOf run (done ++ Noted (make done) ∷ []) → IsPutBy run done (make done) old.core mid told told_now)
+pub does_event : (make : List Mark → Event) (frames : List (List ℕ)) (old mid new : World) (told told_now : FolderTold) → Fails frames old.core.trace mid.core.trace told told_now → KeepsStored told.files told_now.files → new.core.trace ≡ mid.core.trace
+    → ((run : Run) (done : List Mark) → IsAfter run done old → IsRunOf run (done ++ Noted (make done) ∷ []) → IsPutBy run done (make done) frames old.core mid told told_now)
     → ((run : Run) (done : List Mark) → IsBefore run done mid → IsAfter run done new)
     → Does (λ setting answers. noting make setting) old new told told_now
-does_event make old mid new told told_now fails keeps still puts takes = record {
+does_event make frames old mid new told told_now fails keeps still puts takes = record {
   answered = [];
   goes = λ run done answers begins after is_run.
       let put = puts run done after is_run in
@@ -61,6 +64,9 @@ does_event make old mid new told told_now fails keeps still puts takes = record 
         after = takes run (done ++ Noted (make done) ∷ []) put.before;
         holds = λ held. holds_by run (done ++ Noted (make done) ∷ []) mid.core new.core told_now still
             (subst (λ (es : List Event). HoldsTrace run es mid.core told_now) (sym (journal_noted done (make done))) (put.holds held));
+        stands = λ first kept. keeps_by run first (journal (done ++ Noted (make done) ∷ [])) mid.core new.core told_now still
+            (subst (λ (es : List Event). KeepsTrace run first es mid.core told_now) (sym (journal_noted done (make done)))
+            (keeps_storing run first (journal done) (make done) frames old.core mid.core told told_now after.so_far.core_so.begun put.frames_are (fails.goes_on run first (stored_by run (journal done))) kept));
         stored = λ first fine. holds_on run.setting first (journal done) (journal (done ++ Noted (make done) ∷ [])) told.files told_now.files
             (stored_unasked run.setting first done (Noted (make done) ∷ []) put.unasked) keeps;
         answers = no_answers done (Noted (make done) ∷ []) refl;
@@ -81,7 +87,7 @@ app_pushed (OfClaim claim) = claim.app
 one_if : (n app : ℕ) (what got : Pushed) → app_pushed what ≡ n → cond (eqb n app) (Some what) None ≡ Some got → app_pushed got ≡ app
 one_if n app what got is e = by (eqb_tells n app) where
   by : ((eqb n app ≡ true) × (n ≡ app)) ⊎ ((eqb n app ≡ false) × (n ≢ app)) → app_pushed got ≡ app
-  by (inl same) = let it : what ≡ got = one_of (ap (λ (b : Bool). cond b (Some what) None) (sym same.0) ∙ e) in ap app_pushed (sym it) ∙ is ∙ same.1
+  by (inl same) = let it : what ≡ got = some_is (ap (λ (b : Bool). cond b (Some what) None) (sym same.0) ∙ e) in ap app_pushed (sym it) ∙ is ∙ same.1
   by (inr apart) = absurd (let bad : ◌≡◌ {A = Option Pushed} None (Some got) = ap (λ (b : Bool). cond b (Some what) None) (sym apart.0) ∙ e in cc)
 
 pushed_here : (app : ℕ) (mark : Mark) (what : Pushed) → pushed_of app mark ≡ Some what → app_pushed what ≡ app
@@ -120,7 +126,7 @@ next_call run done old app item after is_run known next =
       by None at is = absurd cc
       by (Some (OfClaim claim)) at is = absurd cc
       by (Some (OfCall call)) at is =
-          let same : call.item ≡ item = one_of is in
+          let same : call.item ≡ item = some_is is in
           subst (λ (i : Item). IsNextCall run done app i) same
           (record { app_is = pushed_at app done (taken app done) (OfCall call) at; frame_is = given_in_rings run.setting.ecu run.frame done is_run.frames app (taken app done) call at })
 
@@ -129,18 +135,19 @@ module _ (old new : World) (app : ℕ) (item : Item) (core_now : Core) (made kep
     (adds : Adds (log_event old.moment item ∷ []) (GivesFrame item) old.core core_now told told_now)
     (noted : notes.Adds (Some made.events) (Some kept.events) (log_event old.moment item))
     (took : (writer call : ℕ) (at : Moment) → calls.Does (just (Noted (event.Log app writer call at))) old.calls calls_now)
-    (fails : Fails old.core.trace core_now.trace told.faults told_now.faults) (keeps : KeepsStored told.files told_now.files) (still : new.core.trace ≡ core_now.trace)
+    (fails : Fails (stored old.core.ecu old.moment (log_message old.core.ecu item) ∷ []) old.core.trace core_now.trace told told_now) (keeps : KeepsStored told.files told_now.files) (still : new.core.trace ≡ core_now.trace)
     (takes : (run : Run) (done : List Mark) → IsBefore run done (record old { core = core_now; journal = kept; calls = calls_now }) → IsAfter run done new) where
   abbrev mid : World
   mid = record old { core = core_now; journal = kept; calls = calls_now }
 
   log_put : (run : Run) (done : List Mark) → IsAfter run done old → IsRunOf run (done ++ Noted (event.Log app item.writer item.call (moment done)) ∷ [])
-      → IsPutBy run done (event.Log app item.writer item.call (moment done)) old.core mid told told_now
+      → IsPutBy run done (event.Log app item.writer item.call (moment done)) (stored old.core.ecu old.moment (log_message old.core.ecu item) ∷ []) old.core mid told told_now
   log_put run done after is_run =
       let e = event.Log app item.writer item.call (moment done) in
       let call = next_call run done old app item after (run_before run done (Noted e ∷ []) is_run) known next in
       let same : log_event old.moment item ≡ e = λ i. event.Log (call.app_is i) item.writer item.call (after.so_far.moment_so i) in
       let core_noted = adds run (journal done) (taken_by old.clients) call.frame_is after.so_far.core_so in
+      let ecu = after.so_far.core_so.set_to.ecu in
       record {
         before = noted_before run done e old mid (no_turn_log app item.writer item.call (moment done)) after (record {
           core_noted = subst (λ (x : Event). Rattle.dl_core.specs.Follows.IsAfter run (journal done ++ x ∷ []) (taken_by old.clients) core_now) same core_noted.0;
@@ -150,13 +157,16 @@ module _ (old new : World) (app : ℕ) (item : Item) (core_now : Core) (made kep
           rest = record { injections_rest = refl; clients_rest = refl; channels_rest = refl; moment_rest = refl; later_rest = refl };
         });
         holds = λ held. subst (λ (x : Event). HoldsTrace run (journal done ++ x ∷ []) core_now told_now) same (core_noted.1 held);
+        frames_are = ap (λ (f : List ℕ). stored run.setting.ecu (moment done) f ∷ []) call.frame_is
+            ∙ ap (λ (id : List ℕ). stored id (moment done) (log_message id item) ∷ []) (sym ecu)
+            ∙ ap (λ (at : Moment). stored old.core.ecu at (log_message old.core.ecu item) ∷ []) (sym after.so_far.moment_so);
         unasked = refl;
       }
 
   pub log_does : (other : Item) → next_item old.calls app ≡ Some other → Does (λ setting answers. noting (λ now. event.Log app other.writer other.call (moment now)) setting) old new told told_now
   log_does other is =
-      subst (λ (i : Item). Does (λ setting answers. noting (λ now. event.Log app i.writer i.call (moment now)) setting) old new told told_now) (one_of (sym next ∙ is))
-      (does_event (λ now. event.Log app item.writer item.call (moment now)) old mid new told told_now fails keeps still log_put takes)
+      subst (λ (i : Item). Does (λ setting answers. noting (λ now. event.Log app i.writer i.call (moment now)) setting) old new told told_now) (some_is (sym next ∙ is))
+      (does_event (λ now. event.Log app item.writer item.call (moment now)) (stored old.core.ecu old.moment (log_message old.core.ecu item) ∷ []) old mid new told told_now fails keeps still log_put takes)
 
 -- ---- lost calls
 
@@ -176,10 +186,10 @@ module _ (old new : World) (app count : ℕ) (apid : List ℕ) (core_now : Core)
     (adds : Adds (event.Lost app count old.moment ∷ []) (GivesApid app apid) old.core core_now told told_now)
     (noted : notes.Adds (Some made.events) (Some kept.events) (event.Lost app count old.moment))
     (tells : (lost : ℕ) (at : Moment) → calls.Does (just (Noted (event.Lost app lost at))) old.calls calls_now)
-    (fails : Fails old.core.trace core_now.trace told.faults told_now.faults) (keeps : KeepsStored told.files told_now.files) (still : new.core.trace ≡ core_now.trace)
+    (fails : Fails (map (stored old.core.ecu old.moment) (lost_frames old.core.ecu apid count)) old.core.trace core_now.trace told told_now) (keeps : KeepsStored told.files told_now.files) (still : new.core.trace ≡ core_now.trace)
     (takes : (run : Run) (done : List Mark) → IsBefore run done (record old { core = core_now; journal = kept; calls = calls_now }) → IsAfter run done new) where
   losses_put : (run : Run) (done : List Mark) → IsAfter run done old → IsRunOf run (done ++ Noted (event.Lost app count (moment done)) ∷ [])
-      → IsPutBy run done (event.Lost app count (moment done)) old.core (record old { core = core_now; journal = kept; calls = calls_now }) told told_now
+      → IsPutBy run done (event.Lost app count (moment done)) (map (stored old.core.ecu old.moment) (lost_frames old.core.ecu apid count)) old.core (record old { core = core_now; journal = kept; calls = calls_now }) told told_now
   losses_put run done after is_run =
       let e = event.Lost app count (moment done) in
       let at = apid_there done old.calls app after.so_far.calls_so known in
@@ -195,40 +205,16 @@ module _ (old new : World) (app count : ℕ) (apid : List ℕ) (core_now : Core)
           rest = record { injections_rest = refl; clients_rest = refl; channels_rest = refl; moment_rest = refl; later_rest = refl };
         });
         holds = λ held. subst (λ (x : Event). HoldsTrace run (journal done ++ x ∷ []) core_now told_now) same (core_noted.1 held);
+        frames_are = ap (λ (id : List ℕ). map (stored run.setting.ecu (moment done)) (lost_frames run.setting.ecu id count)) gives
+            ∙ ap (λ (id : List ℕ). map (stored id (moment done)) (lost_frames id apid count)) (sym after.so_far.core_so.set_to.ecu)
+            ∙ ap (λ (at : Moment). map (stored old.core.ecu at) (lost_frames old.core.ecu apid count)) (sym after.so_far.moment_so);
         unasked = refl;
       }
 
   pub losses_does : Does (λ setting answers. noting (λ now. event.Lost app count (moment now)) setting) old new told told_now
-  losses_does = does_event (λ now. event.Lost app count (moment now)) old (record old { core = core_now; journal = kept; calls = calls_now }) new told told_now fails keeps still losses_put takes
+  losses_does = does_event (λ now. event.Lost app count (moment now)) (map (stored old.core.ecu old.moment) (lost_frames old.core.ecu apid count)) old (record old { core = core_now; journal = kept; calls = calls_now }) new told told_now fails keeps still losses_put takes
 
 -- ---- user messages
 
 pub no_turn_user : (channel : ℕ) (msg : UserMsg) (at : Moment) → IsNoTurn (event.User channel msg at)
 no_turn_user channel msg at = record { connects = refl; closes = refl; nobody = λ number. refl }
-
-module _ (old new : World) (channel : ℕ) (msg : UserMsg) (core_now : Core) (made kept : Journaled) (told told_now : FolderTold)
-    (fit : CanBeTold msg) (made_is : made.events ≡ old.journal.events)
-    (adds : Adds (event.User channel msg old.moment ∷ []) (λ run. Unit {0}) old.core core_now told told_now)
-    (noted : notes.Adds (Some made.events) (Some kept.events) (event.User channel msg old.moment))
-    (fails : Fails old.core.trace core_now.trace told.faults told_now.faults) (keeps : KeepsStored told.files told_now.files) (still : new.core.trace ≡ core_now.trace)
-    (takes : (run : Run) (done : List Mark) → IsBefore run done (record old { core = core_now; journal = kept }) → IsAfter run done new) where
-  message_put : (run : Run) (done : List Mark) → IsAfter run done old → IsRunOf run (done ++ Noted (event.User channel msg (moment done)) ∷ [])
-      → IsPutBy run done (event.User channel msg (moment done)) old.core (record old { core = core_now; journal = kept }) told told_now
-  message_put run done after is_run =
-      let e = event.User channel msg (moment done) in
-      let same : event.User channel msg old.moment ≡ e = ap (event.User channel msg) after.so_far.moment_so in
-      let core_noted = adds run (journal done) (taken_by old.clients) tt after.so_far.core_so in
-      record {
-        before = noted_before run done e old (record old { core = core_now; journal = kept }) (no_turn_user channel msg (moment done)) after (record {
-          core_noted = subst (λ (x : Event). Rattle.dl_core.specs.Follows.IsAfter run (journal done ++ x ∷ []) (taken_by old.clients) core_now) same core_noted.0;
-          gives = fit;
-          calls_noted = no-call-stays done (Noted e) old.calls refl after.so_far.calls_so;
-          events_noted = the_events made.events kept.events old.journal.events e made_is (subst (λ (x : Event). Some kept.events ≡ Some (made.events ++ x ∷ [])) same noted);
-          rest = record { injections_rest = refl; clients_rest = refl; channels_rest = refl; moment_rest = refl; later_rest = refl };
-        });
-        holds = λ held. subst (λ (x : Event). HoldsTrace run (journal done ++ x ∷ []) core_now told_now) same (core_noted.1 held);
-        unasked = refl;
-      }
-
-  pub message_does : Does (λ setting answers. noting (λ now. event.User channel msg (moment now)) setting) old new told told_now
-  message_does = does_event (λ now. event.User channel msg (moment now)) old (record old { core = core_now; journal = kept }) new told told_now fails keeps still message_put takes

@@ -22,9 +22,11 @@ use Rattle.dl_model.specs.Reply.{asked, Need}
 use Rattle.dl_model.specs.Reply as needs
 use Rattle.dl_model.specs.Steps as steps
 use Rattle.dl_model.specs.Steps.{Act, in_sequence, ask, changes, close, close_malformed, note_levels, note_levels_now, just, level_noted, new_requests, note, receive, request_now, served, when}
+use Rattle.dl_model.proofs.Marks.{in_sequence-one}
 use Rattle.dl_world_calls.proofs.Changing.{no-call-stays}
 use Rattle.dl_world_calls.proofs.InjectionCounts.{no-injection-stays}
 use Rattle.dl_core.specs.Follows.{Run, HoldsTrace}
+use Rattle.dl_folders.specs.Standing.{KeepsTrace}
 use Rattle.dl_world.specs.Fed.{Asks, IsFedBy}
 use Rattle.dl_outside.specs.Told.{FolderTold}
 use Rattle.dl_world.specs.Follows.{IsAfter, Deed, Does, Doing, stream_in}
@@ -35,7 +37,6 @@ use Rattle.dl_world.proofs.Composing.{both, does_both}
 use Rattle.dl_world.proofs.Deeds.{does_as, does_none}
 use Rattle.dl_world.proofs.Doings.{doing_by}
 use Rattle.dl_world.proofs.Quiet.{held, goes_on_where, journal_same, apps_same, fed_same, heard_same, moment_same, later_same}
-use Rattle.dl_world.proofs.Turning.{turns-one}
 use Rattle.dl_lemmas.proofs.Options.{if_some}
 
 -- ---- requests in turn
@@ -52,7 +53,7 @@ does_asked client before frame old mid new told told_mid told_now one two =
     does_as (both (ask_all client before) last) (ask_all client (before ++ frame ∷ [])) old new told told_now
     (λ run done answers after.
     ap (λ (acts : List Act). in_sequence acts done) (map-append (ask run.setting answers client) before (frame ∷ []))
-    ∙ turns-one (map (ask run.setting answers client) before) (ask run.setting answers client frame) done)
+    ∙ in_sequence-one (map (ask run.setting answers client) before) (ask run.setting answers client frame) done)
     (does_both (ask_all client before) last old mid new told told_mid told_now one two)
 
 -- ---- no bytes come while a request is asked
@@ -222,6 +223,7 @@ module _ (client : ℕ) (bytes : List ℕ) (made : List (List ℕ)) (bad : Bool)
   fed_does = doing_by (λ setting. just (Fed client bytes)) old mid refl (λ run done after is_run. record {
     after = fed_after run done after;
     holds = λ told holds. subst (λ (es : List Event). HoldsTrace run es old.core told) (sym (journal_same done (Fed client bytes ∷ []) refl)) holds;
+    stands = λ told first kept. subst (λ (es : List Event). KeepsTrace run first es old.core told) (sym (journal_same done (Fed client bytes ∷ []) refl)) kept;
     unasked = refl;
   })
 
@@ -239,7 +241,7 @@ module _ (client : ℕ) (bytes : List ℕ) (made : List (List ℕ)) (bad : Bool)
       let more : List Mark = in_sequence (each made) since in
       ap (λ (b : Bool). when b (in_sequence (just (Fed client bytes) ∷ (each (new_requests client bytes done) ++ close_malformed run.setting client ∷ []))) done) (opens run done after)
       ∙ ap (λ (frames : List (List ℕ)). Fed client bytes ∷ in_sequence (each frames ++ close_malformed run.setting client ∷ []) since) (new_requests_are run done after)
-      ∙ ap (λ (ms : List Mark). Fed client bytes ∷ ms) (turns-one (each made) (close_malformed run.setting client) since)
+      ∙ ap (λ (ms : List Mark). Fed client bytes ∷ ms) (in_sequence-one (each made) (close_malformed run.setting client) since)
       ∙ ap (λ (b : Bool). Fed client bytes ∷ (more ++ when b (close run.setting client why.Malformed) (since ++ more))) (shows_bad run done after more (unfed_asks client run.setting answers made since)))
       (does_both first (both (ask_all client made) ending) old mid new told told told_now (fed_does told) (does_both (ask_all client made) ending mid asked new told told_now told_now asks ends))
 

@@ -30,7 +30,10 @@ use Rattle.dl_core.specs.State.{Core}
 use Rattle.dl_core.specs.Follows.{Run, Adds, HoldsTrace, HoldsFiles, stored_by}
 use Rattle.dl_core.specs.Serving.{Answers, Ready, IsReady, Serves, done_by, injection_in, reply_now, wanted_now}
 use Rattle.dl_core.specs.Settings.{seen}
+use Rattle.dl_core.proofs.Requested.{KeepsTraces, answers_keep}
 use Rattle.dl_outside.specs.Told.{FolderTold}
+use Rattle.dl_folders.specs.Standing.{KeepsTrace}
+use Rattle.dl_folders.proofs.StandingFiles.{keeps_by, keeps_quiet}
 use Rattle.dl_world.specs.Follows.{IsAfter, IsBefore, BeginWith, answer_of, answers_in, is_failure, failures_of, Goes, Does, Queues}
 use Rattle.dl_world.specs.State.{taken_by}
 use Rattle.dl_world.specs.Stored.{HoldsStored}
@@ -58,6 +61,7 @@ no_turn client frame answer = record { connects = refl; closes = refl; nobody = 
 -- what serving a request did to the parts of a world, and what its delivery makes of them
 pub record HasServed (client : ℕ) (frame : List ℕ) (answer : Done) (old mid new : World) (told told_now : FolderTold) : Type 0 where
   pub adds : Adds (event.Request client frame answer ∷ []) (λ run. Unit {0}) old.core mid.core told told_now
+  pub keeps : KeepsTraces told.files told_now.files
   pub notes : mid.journal.events ≡ old.journal.events ++ event.Request client frame answer ∷ []
   pub calls_kept : mid.calls ≡ old.calls
   pub clients_kept : mid.clients ≡ old.clients
@@ -96,6 +100,8 @@ module _ (client : ℕ) (frame : List ℕ) (answer : Done) (old mid new : World)
       record {
         after = subst (λ (ms : List Mark). IsAfter run ms new) all (is.delivers run ((done ++ front) ++ Noted e ∷ []) before);
         holds = λ held. holds_as run (journal done ++ e ∷ []) (journal (done ++ (front ++ Noted e ∷ []))) mid.core new.core told_now whole is.trace_new (core_noted.1 held);
+        stands = λ first kept. subst (λ (es : List Event). KeepsTrace run first es new.core told_now) (sym whole)
+            (keeps_by run first (journal done ++ e ∷ []) mid.core new.core told_now is.trace_new (keeps_quiet run first (journal done) e old.core mid.core told told_now is.trace_mid refl is.keeps kept));
         stored = λ first fine holds. subst (λ (es : List Event). HoldsStored run.setting first es told_now.files) (sym whole) (stores first fine holds);
         answers = filter_map-append answer_of done (front ++ Noted e ∷ []) ∙ ap (λ (xs : List Done). answers_in done ++ xs) answered_is;
       }
@@ -279,6 +285,7 @@ has_served client frame ready pushed old mid new before told told_now events ser
     record {
       adds = subst (λ (core : Core). Adds (event.Request client frame serves.answer ∷ []) (λ run. Unit {0}) core mid.core told told_now) core_is
           (subst (λ (e : Event). Adds (e ∷ []) (λ run. Unit {0}) before mid.core told told_now) same_event serves.after);
+      keeps = answers_keep ready.want pushed serves.answer told told_now serves.acts;
       notes = the_events events mid.journal.events (event.Request ready.client ready.frame serves.answer) serves.notes ∙ ap (λ (es : List Event). es ++ event.Request ready.client ready.frame serves.answer ∷ []) events_are
           ∙ ap (λ (e : Event). old.journal.events ++ e ∷ []) same_event;
       calls_kept = calls_are;

@@ -9,9 +9,11 @@ use Rattle.dl_bytes.specs.declared.user.UserMsg.{UserMsg}
 use Rattle.dl_events.specs.declared.event.Event.{Event}
 use Rattle.dl_model.specs.Marks.{Mark, Heard, heard, heard_of}
 use Rattle.dl_model.specs.Steps.{Act, in_sequence, just, note, tell, hear, new_messages, note_levels, note_levels_now}
+use Rattle.dl_model.proofs.Marks.{in_sequence-one}
 use Rattle.dl_world_calls.proofs.Changing.{no-call-stays}
 use Rattle.dl_world_calls.proofs.InjectionCounts.{no-injection-stays}
 use Rattle.dl_core.specs.Follows.{Run, HoldsTrace}
+use Rattle.dl_folders.specs.Standing.{KeepsTrace}
 use Rattle.dl_world.specs.Fed.{IsHeardBy, Tells}
 use Rattle.dl_outside.specs.Told.{FolderTold}
 use Rattle.dl_world.specs.Follows.{IsAfter, Deed, Does, Doing, noting}
@@ -21,7 +23,6 @@ use Rattle.dl_world.proofs.Composing.{both, does_both}
 use Rattle.dl_world.proofs.Deeds.{does_as}
 use Rattle.dl_world.proofs.Doings.{doing_by}
 use Rattle.dl_world.proofs.Quiet.{held, goes_on, apps_same, fed_same, heard_same, moment_same, later_same, journal_same}
-use Rattle.dl_world.proofs.Turning.{turns-one}
 
 -- ---- three acts in turn
 
@@ -55,7 +56,7 @@ does_message channel before msg old mid new told told_mid told_now one two =
     does_as (both (tell_all channel before) last) (tell_all channel (before ++ msg ∷ [])) old new told told_now
     (λ run done answers after.
     ap (λ (acts : List Act). in_sequence acts done) (map-append (tell run.setting channel) before (msg ∷ []))
-    ∙ turns-one (map (tell run.setting channel) before) (tell run.setting channel msg) done)
+    ∙ in_sequence-one (map (tell run.setting channel) before) (tell run.setting channel msg) done)
     (does_both (tell_all channel before) last old mid new told told_mid told_now one two)
 
 -- ---- bytes on a channel
@@ -110,6 +111,7 @@ module _ (channel : ℕ) (bytes : List ℕ) (messages : List UserMsg) (old : Wor
   heard_does = doing_by (λ setting. just (Heard channel bytes)) old mid refl (λ run done after is_run. record {
     after = heard_after run done after;
     holds = λ told holds. subst (λ (es : List Event). HoldsTrace run es old.core told) (sym (journal_same done (Heard channel bytes ∷ []) refl)) holds;
+    stands = λ told first kept. subst (λ (es : List Event). KeepsTrace run first es old.core told) (sym (journal_same done (Heard channel bytes ∷ []) refl)) kept;
     unasked = refl;
   })
 

@@ -1,25 +1,16 @@
 -- Calls in a row: what each of them comes to makes what they come to in turn.
-use Rattle.std.proofs.Common.{◌≡◌, ℕ, ◌+◌, ◌-◌, ◌≤◌, List, [], ◌∷◌, ◌++◌, map, sym, ap, subst, ◌∙◌, append_assoc, arith}
+use Rattle.std.proofs.Common.{◌≡◌, ℕ, ◌+◌, ◌-◌, ◌≤◌, List, map, ap, subst, ◌∙◌, arith}
 use Rattle.std.specs.List.{range_with_len}
-use Rattle.std.proofs.lemmas.List.{append-nil}
 use Rattle.std.proofs.lemmas.List.FromFn.{map-range_with_len_more}
-use Rattle.dl_model.specs.Marks.{Mark}
 use Rattle.dl_model.specs.Steps.{Act, in_sequence}
 use Rattle.dl_outside.specs.Told.{FolderTold}
+use Rattle.dl_model.proofs.Marks.{in_sequence-one}
 use Rattle.dl_world.specs.Follows.{Deed, Does}
 use Rattle.dl_world.specs.declared.world.World.{World}
 use Rattle.dl_world.proofs.Composing.{both, does_both}
 use Rattle.dl_world.proofs.Deeds.{does_as, does_nothing}
 
 -- ---- acts
-
--- one act more, after the others
-pub turns-one : (acts : List Act) (act : Act) (done : List Mark) → in_sequence (acts ++ act ∷ []) done ≡ in_sequence acts done ++ act (done ++ in_sequence acts done)
-turns-one [] act done = append-nil (act done) ∙ ap act (sym (append-nil done))
-turns-one (first ∷ acts) act done =
-    ap (λ (ms : List Mark). first done ++ ms) (turns-one acts act (done ++ first done))
-    ∙ sym (append_assoc (first done) (in_sequence acts (done ++ first done)) (act ((done ++ first done) ++ in_sequence acts (done ++ first done))))
-    ∙ ap (λ (ms : List Mark). (first done ++ in_sequence acts (done ++ first done)) ++ act ms) (append_assoc done (first done) (in_sequence acts (done ++ first done)))
 
 -- ---- deeds of numbers
 
@@ -38,7 +29,7 @@ does_next first count n deed old mid new told told_mid told_now number before on
     (λ run done answers after.
     let act = λ (k : ℕ). deed k run.setting answers in
     ap (λ (acts : List Act). in_sequence acts done) (map-range_with_len_more act first count n number)
-    ∙ turns-one (map act (range_with_len first count)) (act n) done)
+    ∙ in_sequence-one (map act (range_with_len first count)) (act n) done)
     (does_both (from first count deed) (deed n) old mid new told told_mid told_now before one)
 
 -- the same at the next number of a loop that began at this one

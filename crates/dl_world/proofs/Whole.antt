@@ -6,6 +6,7 @@ use Rattle.std.specs.List.{filter_map, AllByRecursion}
 use Rattle.std.specs.Option.{option_map, option_map_or}
 use Rattle.std.proofs.lemmas.List.{append-nil}
 use Rattle.std.proofs.lemmas.List.Sums.{sum_by-cons}
+use Rattle.dl_lemmas.proofs.Lists.{all_at}
 use Rattle.dl_bytes.specs.declared.conf.Conf.{Conf}
 use Rattle.dl_bytes.specs.declared.conf.Stored.{Stored}
 use Rattle.dl_bytes.specs.declared.outcome.Done.{Done}
@@ -20,25 +21,25 @@ use Rattle.dl_model.specs.Steps.{after_lines, run}
 use Rattle.dl_model.specs.TraceFiles.{StoredFile}
 use Rattle.dl_laws.proofs.Founded.{lines_founded, run_founded}
 use Rattle.dl_frames.specs.CallFrame.{HasItsFrame}
-use Rattle.dl_frames.proofs.Entries.{all_at}
 use Rattle.dl_frames.proofs.OneCall.{frames_now}
 use Rattle.dl_outside.specs.Folder.{Files}
 use Rattle.dl_trace.specs.Made.{IsMade}
-use Rattle.dl_trace.specs.Stands.{HasFiles}
 use Rattle.dl_trace.specs.State as traces
 use Rattle.dl_trace.specs.State.{Trace}
 use Rattle.dl_core.specs.Settings.{setting_of}
 use Rattle.dl_core.specs.Serving.{stored_name}
 use Rattle.dl_core.specs.State.{Core}
-use Rattle.dl_core.specs.Follows.{Run, IsTraceAfter, HoldsFiles, HoldsTrace, stored_by}
+use Rattle.dl_core.specs.Follows.{Run, IsTraceAfter, stored_by}
 use Rattle.dl_outside.specs.Told.{FolderTold}
 use Rattle.dl_folders.specs.Files.{directory_of}
+use Rattle.dl_folders.specs.Standing.{IsKept}
+use Rattle.dl_folders.proofs.StandingFiles.{kept_first}
 use Rattle.dl_world.specs.Follows.{IsRunOf, IsAfter, Goes, Does, BeginWith, answer_of, answers_in, is_failure, failures_of}
 use Rattle.dl_world.specs.Known.{MayCome}
 use Rattle.dl_world.specs.Left.{IsLeft, told_of}
 use Rattle.dl_script.specs.Playable.{IsInBounds, IsPlayable}
 use Rattle.dl_folders.specs.Later.{trace_failures}
-use Rattle.dl_world.specs.Played.{frames_in, files_with, IsTraced, TellsOf, Holds, is_failed, IsPlayed}
+use Rattle.dl_world.specs.Played.{IsTraced, TellsOf, is_failed, IsPlayed}
 use Rattle.dl_world.specs.Stored.{HoldsStored}
 use Rattle.dl_world.specs.declared.played.Played.{Played}
 use Rattle.dl_world.specs.declared.world.World.{World}
@@ -145,49 +146,42 @@ module _ (conf : Conf) (kept : Stored) (handed : Option Trace) (stood : List Sto
   -- ---- the trace
 
   module _ (done : List Mark) where
-    traced : (last : Trace) → IsTraceAfter (run_of done) (stored_by (run_of done) (journal done)) last → IsTraced setting stood done last.state
-    traced last is = record {
-      stored = is.stored;
-      later = is.later;
-      all = is.all;
-      files_are = is.files.files ∙ rw (is.directory, is.file_size, is.max_size) refl;
-      whole = is.whole;
+    traced : (last : Trace) (told told_now : Option Files) → IsTraceAfter (run_of done) (stored_by (run_of done) (journal done)) last
+        → IsKept (run_of done) told (stored_by (run_of done) (journal done)) last told_now → IsTraced setting stood done last.state told told_now
+    traced last told told_now is kept = record {
+      stored = kept.stored;
+      later = kept.later;
+      all = kept.all;
+      files_are = kept.files.files ∙ rw (kept.directory, kept.file_size, kept.max_size) refl;
+      whole = kept.whole;
       unspent = is.unspent;
       spent = is.spent;
+      stands = kept.stands;
     }
 
     abbrev where_is : Trace → List ℕ
     where_is trace = trace.directory
 
-    pub tells_of : (old last : Option Trace) (state : TraceState) → option_map where_is last ≡ option_map where_is old
-        → IfSome last (IsTraceAfter (run_of done) (stored_by (run_of done) (journal done))) → state ≡ told_of last → TellsOf setting stood done old state
-    tells_of None None state same is told = told
-    tells_of None (Some last) state same is told = absurd cc
-    tells_of (Some old) None state same is told = absurd cc
-    tells_of (Some old) (Some last) state same is told = subst (λ (s : TraceState). IsTraced setting stood done s) (sym told) (traced last is)
+    pub tells_of : (old last : Option Trace) (state : TraceState) (told told_now : Option Files) → option_map where_is last ≡ option_map where_is old
+        → IfSome last (IsTraceAfter (run_of done) (stored_by (run_of done) (journal done)))
+        → IfSome last (λ trace. IsKept (run_of done) told (stored_by (run_of done) (journal done)) trace told_now)
+        → state ≡ told_of last → TellsOf setting stood done old state told told_now
+    tells_of None None state told told_now same is kept left = left
+    tells_of None (Some last) state told told_now same is kept left = absurd cc
+    tells_of (Some old) None state told told_now same is kept left = absurd cc
+    tells_of (Some old) (Some last) state told told_now same is kept left = subst (λ (s : TraceState). IsTraced setting stood done s told told_now) (sym left) (traced last told told_now is kept)
 
-    pub holds_at_end : (old last : Option Trace) (state : TraceState) (told told_now : Option Files) → option_map where_is last ≡ option_map where_is old → state ≡ told_of last
-        → ((IsSomeAnd told (λ folder. HasFiles setting.directory folder stood)) → IfSome last (λ trace. trace.state.end ≡ None → IsSomeAnd told_now (λ folder. HasFiles setting.directory folder (files_with setting stood (frames_in setting done)))))
-        → Holds setting stood done old state told told_now
-    holds_at_end None last state told told_now same is holds = tt
-    holds_at_end (Some old) None state told told_now same is holds = absurd cc
-    holds_at_end (Some old) (Some last) state told told_now same is holds = λ goes_on stands. holds stands (ap (λ (s : TraceState). s.end) (sym is) ∙ goes_on)
+    -- before the first line nothing is stored, and just the files that stood stand
+    begun_keeps : (old : Option Trace) (told : Option Files) → IfSome old (IsMade conf) → IfSome old (traces.IsAfter stood [])
+        → IfSome old (λ trace. IsKept (run_of done) told (stored_by (run_of done) []) trace told)
+    begun_keeps None told made after = tt
+    begun_keeps (Some trace) told made after = kept_first (run_of done) told trace told made.directory made.file_size made.max_size made.goes_on after (λ held. held)
 
     -- the stored configuration, from the file that stood there
     stored_at_end : (told told_now : Option Files) → ((first : Option (List ℕ)) → HoldsStored setting first [] told → HoldsStored setting first (journal done) told_now)
         → IfSome told (λ folder. HoldsStored setting (map.get folder stored_name) (journal done) told_now)
     stored_at_end None told_now goes = tt
     stored_at_end (Some folder) told_now goes = goes (map.get folder stored_name) refl
-
-  begun_holds : (r : Run) (core : Core) (told : FolderTold) → IsSomeAnd told.files (λ folder. HasFiles r.setting.directory folder r.stood) → HoldsTrace r [] core told
-  begun_holds r core told holds = by_trace core.trace where
-    none_of_none : (n : ℕ) → drop {A = List ℕ} n [] ≡ []
-    none_of_none zero = refl
-    none_of_none (suc n) = refl
-
-    by_trace : (o : Option Trace) → IfSome o (λ (kept : Trace). kept.state.end ≡ None → HoldsFiles r (stored_by r []) told.files)
-    by_trace None = tt
-    by_trace (Some kept) = λ goes_on. subst (λ (fs : List (List ℕ)). HoldsFiles r fs told.files) (sym (none_of_none r.before)) holds
 
   -- ---- all of it
 
@@ -210,6 +204,8 @@ module _ (conf : Conf) (kept : Stored) (handed : Option Trace) (stood : List Sto
       let left = leaves r done goes.after in
       let directories : option_map (where_is done) last.core.trace ≡ option_map (where_is done) handed = same ∙ ap (option_map (where_is done)) handed_so in
       let traces_so : IfSome last.core.trace (IsTraceAfter r (stored_by r (journal done))) = goes.after.so_far.core_so.trace in
+      let kept_first_so : IfSome first.core.trace (λ trace. IsKept r told.files (stored_by r []) trace told.files) =
+      subst (λ (o : Option Trace). IfSome o (λ trace. IsKept r told.files (stored_by r []) trace told.files)) (sym handed_so) (begun_keeps done handed told.files made stood_so) in
       let zero_before : failures_of first.core ≡ 0 = ap (λ (o : Option Trace). option_map_or (λ (trace : Trace). trace_failures trace.state.end) o 0) handed_so ∙ none_failed handed made in
       let at_end : failures_of last.core ≡ trace_failures played.ends.trace.end = failures_left last.core.trace played.ends.trace left.trace_is in
       let failed : count_by is_failed done ≡ count_by is_failure does.answered = count_failed done ∙ ap (count_by is_failure) goes.answers in
@@ -224,9 +220,7 @@ module _ (conf : Conf) (kept : Stored) (handed : Option Trace) (stood : List Sto
         specs_are = left.specs_are;
         ends_are = λ i. record { links = left.links_are i; dropped = left.none_dropped i; trace = played.ends.trace };
         backlog_is = left.backlog_is;
-        trace_is = tells_of done handed last.core.trace played.ends.trace directories traces_so left.trace_is;
-        holds = holds_at_end done handed last.core.trace played.ends.trace told.files told_now.files directories left.trace_is
-            (λ stands. goes.holds (begun_holds r first.core told stands));
+        trace_is = tells_of done handed last.core.trace played.ends.trace told.files told_now.files directories traces_so (goes.stands told.files kept_first_so) left.trace_is;
         stored = λ none. stored_at_end done told.files told_now.files (λ first. goes.stored first (sym failed ∙ none));
         faults_rose = omega (arith, does.rose, does.failures, zero_before, at_end, failed);
       }

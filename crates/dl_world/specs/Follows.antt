@@ -23,6 +23,7 @@ use Rattle.dl_frames.specs.FramesPut.{IsPut}
 use Rattle.dl_world_calls.specs.Follows as calls
 use Rattle.dl_world_calls.specs.Injections.{AreAfter}
 use Rattle.dl_world_calls.specs.State.{Held, HeldCall, HeldClaim, next_claim, next_held, next_item}
+use Rattle.dl_outside.specs.Folder.{Files}
 use Rattle.dl_outside.specs.Told.{FolderTold}
 use Rattle.dl_hub.specs.State.{HasPlace, Waiting, outbox_of, is_open}
 use Rattle.dl_trace.specs.State.{Trace}
@@ -32,6 +33,7 @@ use Rattle.dl_core.specs.State.{Core}
 use Rattle.dl_world.specs.State.{Client, client_at, channel_at, taken_by}
 use Rattle.dl_world.specs.Fed.{IsFedBy, IsHeardBy}
 use Rattle.dl_folders.specs.Later.{trace_failures}
+use Rattle.dl_folders.specs.Standing.{KeepsTrace}
 use Rattle.dl_world.specs.Stored.{HoldsStored}
 use Rattle.dl_world.specs.declared.world.World.{World}
 
@@ -123,11 +125,12 @@ failures_of at = option_map_or (λ (trace : Trace). trace_failures trace.state.e
 abbrev pub Deed : Type 0
 Deed = Setting → List Done → Act
 
--- What holds before a call holds after it, of the marks and of the folder; of the stored configuration, where the folder failed at no
--- request meanwhile.
+-- What holds before a call holds after it, of the marks and of the folder; of the trace files also once the trace has ended; of the stored
+-- configuration, where the folder failed at no request meanwhile.
 pub record Goes (run : Run) (done more : List Mark) (old new : World) (told told_now : FolderTold) (answered : List Done) : Type 0 where
   pub after : IsAfter run (done ++ more) new
   pub holds : HoldsTrace run (journal done) old.core told → HoldsTrace run (journal (done ++ more)) new.core told_now
+  pub stands : (first : Option Files) → KeepsTrace run first (journal done) old.core told → KeepsTrace run first (journal (done ++ more)) new.core told_now
   pub stored : (first : Option (List ℕ)) → count_by is_failure answered ≡ 0
       → HoldsStored run.setting first (journal done) told.files → HoldsStored run.setting first (journal (done ++ more)) told_now.files
   pub answers : answers_in (done ++ more) ≡ answers_in done ++ answered

@@ -13,7 +13,7 @@ use Rattle.dl_model.specs.Marks.{Mark, Answered, claims, journal, records}
 use Rattle.dl_model.specs.Frames.{stored_frames}
 use Rattle.dl_model.specs.ClientStream.{traffic}
 use Rattle.dl_model.specs.Backlog.{left}
-use Rattle.dl_model.specs.TraceFiles.{StoredFile, trace_files, is_spent}
+use Rattle.dl_model.specs.TraceFiles.{StoredFile, is_spent}
 use Rattle.dl_model.specs.Replay.{source_of, stream_of, clients, specs_of, ends_of}
 use Rattle.dl_model.specs.Steps.{run}
 use Rattle.dl_outside.specs.Folder.{Files}
@@ -23,6 +23,7 @@ use Rattle.dl_trace.specs.Stands.{HasFiles}
 use Rattle.dl_core.specs.Serving.{stored_name}
 use Rattle.dl_core.specs.Settings.{setting_of}
 use Rattle.dl_folders.specs.Later.{trace_failures}
+use Rattle.dl_folders.specs.Standing.{Stands, files_with}
 use Rattle.dl_world.specs.Stored.{HoldsStored}
 use Rattle.dl_world.specs.declared.played.Played.{Played}
 
@@ -32,13 +33,10 @@ use Rattle.dl_world.specs.declared.played.Played.{Played}
 abbrev pub frames_in : Setting → List Mark → List (List ℕ)
 frames_in setting done = stored_frames (source_of setting done) (journal done)
 
--- the trace files after these stored frames, where the old ones stood before
-abbrev pub files_with : Setting → List StoredFile → List (List ℕ) → List StoredFile
-files_with setting stood frames = trace_files setting.file_size setting.max_size stood frames
-
 -- What a trace tells at the end of a run: the trace files, with their names and sizes, of all frames that the run stores; or, where it
--- ended before, of some first ones of them. It ended as spent only where a frame needed a number that no file can have.
-pub record IsTraced (setting : Setting) (stood : List StoredFile) (done : List Mark) (state : TraceState) : Type 0 where
+-- ended before, of some first ones of them. It ended as spent only where a frame needed a number that no file can have. And where the
+-- folder held just the files that stood before, it holds what stands of these frames: their files, and what the end of the trace left.
+pub record IsTraced (setting : Setting) (stood : List StoredFile) (done : List Mark) (state : TraceState) (told told_now : Option Files) : Type 0 where
   pub stored : List (List ℕ)
   pub later : List (List ℕ)
   pub all : frames_in setting done ≡ stored ++ later
@@ -46,18 +44,12 @@ pub record IsTraced (setting : Setting) (stood : List StoredFile) (done : List M
   pub whole : state.end ≡ None → later ≡ []
   pub unspent : state.end ≡ None → 0 < length (frames_in setting done) → is_spent setting.file_size stood (frames_in setting done) ≡ false
   pub spent : state.end ≡ Some Spent → is_spent setting.file_size stood (frames_in setting done) ≡ true
+  pub stands : IsSomeAnd told (λ folder. HasFiles setting.directory folder stood) → IsSomeAnd told_now (Stands state.end setting stood stored later)
 
 -- where no trace was handed in, no file is told of
-abbrev pub TellsOf : Setting → List StoredFile → List Mark → Option Trace → TraceState → Type 0
-TellsOf setting stood done None state = state ≡ record { files = []; end = None }
-TellsOf setting stood done (Some trace) state = IsTraced setting stood done state
-
--- while the trace goes on, the folder holds the trace files of the run, if it held those that stood before
-abbrev pub Holds : Setting → List StoredFile → List Mark → Option Trace → TraceState → Option Files → Option Files → Type 0
-Holds setting stood done None state told told_now = Unit {0}
-Holds setting stood done (Some trace) state told told_now =
-    state.end ≡ None → IsSomeAnd told (λ folder. HasFiles setting.directory folder stood)
-    → IsSomeAnd told_now (λ folder. HasFiles setting.directory folder (files_with setting stood (frames_in setting done)))
+abbrev pub TellsOf : Setting → List StoredFile → List Mark → Option Trace → TraceState → Option Files → Option Files → Type 0
+TellsOf setting stood done None state told told_now = state ≡ record { files = []; end = None }
+TellsOf setting stood done (Some trace) state told told_now = IsTraced setting stood done state told told_now
 
 -- ---- the folder
 
@@ -86,8 +78,7 @@ pub record IsPlayed (setting : Setting) (stood : List StoredFile) (steps : List 
   pub specs_are : played.specs ≡ specs_of done
   pub ends_are : played.ends ≡ ends_of setting done played.ends.trace
   pub backlog_is : played.backlog ≡ left setting.buffer (traffic (source_of setting done) (journal done))
-  pub trace_is : TellsOf setting stood done trace played.ends.trace
-  pub holds : Holds setting stood done trace played.ends.trace told.files told_now.files
+  pub trace_is : TellsOf setting stood done trace played.ends.trace told.files told_now.files
   pub stored : count_by is_failed done ≡ 0 → IfSome told.files (λ folder. HoldsStored setting (files.get folder stored_name) (journal done) told_now.files)
   pub faults_rose : min (told.faults + failures done played.ends.trace) (2 ^ 64 - 1) ≤ told_now.faults
 

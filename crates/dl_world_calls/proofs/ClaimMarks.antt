@@ -5,6 +5,7 @@ use Rattle.std.specs.List.{filter, filter_map, AllByRecursion}
 use Rattle.std.proofs.lemmas.List.{append-nil, take-append-le}
 use Rattle.std.proofs.lemmas.List.Elements.{filter-append, filter_map-append}
 use Rattle.std.proofs.lemmas.Option.{slice_get_within}
+use Rattle.dl_lemmas.proofs.Lists.{take_next}
 use Rattle.dl_bytes.specs.Claim.{Claimed}
 use Rattle.dl_model.specs.Marks.{Mark, HasClaim, Announced, claim_of, announced_of, claims_of, claims_on, announced_by, to_announce}
 use Rattle.dl_laws.proofs.Founded.{kept-passes}
@@ -108,13 +109,6 @@ claimed-more number done c =
       by_test false = refl
 
 -- ---- a claim is announced
-
-take_next : {A : Type 0} (xs : List A) (i : ℕ) (x : A) → slice_get xs i ≡ Some x → take (i + 1) xs ≡ take i xs ++ x ∷ []
-take_next [] i x e = absurd cc
-take_next (y ∷ xs) zero x e = cc
-take_next {A = A} (y ∷ xs) (suc i) x e =
-    let count : suc i + 1 ≡ suc (i + 1) = omega arith in
-    ap (λ n. take n (y ∷ xs)) count ∙ ap (λ (zs : List A). y ∷ zs) (take_next xs i x e)
 
 pub claimer-announces : (done : List Mark) (number : ℕ) (writer : Writer) (c : Claimed) → eqb c.writer number ≡ true → slice_get writer.claims writer.announced ≡ Some c → IsClaimerAfter done number writer
     → IsClaimerAfter (done ++ Announced c ∷ []) number (record writer { announced = writer.announced + 1 })

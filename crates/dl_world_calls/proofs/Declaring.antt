@@ -12,9 +12,10 @@ use Rattle.std.proofs.lemmas.Bool.Decides.{nat_tests, eqb_tells}
 use Rattle.dl_bytes.specs.declared.conf.AppSpec.{AppSpec}
 use Rattle.dl_script_lines.specs.declared.line.AppLine.{AppLine}
 use Rattle.dl_script_lines.specs.declared.line.ContextLine.{ContextLine}
-use Rattle.dl_model.proofs.Presence.{bytes_tell}
+use Rattle.dl_model.proofs.Presence.{bytes_tell, same_bytes}
 use Rattle.dl_model.specs.Marks.{Mark, HasApp, HasContext, HasWriter, app_of, context_of, writer_of, apps, contexts_of, number_of}
 use Rattle.dl_model.specs.Steps.{just}
+use Rattle.dl_model.proofs.Marks.{contexts-same, writers-same}
 use Rattle.dl_world_calls.specs.declared.queue.OwnPlace.{OwnPlace}
 use Rattle.dl_world_calls.specs.State.{App, Writer, Calls, new_app, new_writer, numbered}
 use Rattle.dl_world_calls.specs.Follows.{no_app, no_writer, writer_at, line_of, is_named, contexts_in, IsOwned, IsWriterAfter, IsClaimerAfter, IsAppAfter, IsAfter, Does}
@@ -23,10 +24,7 @@ use Rattle.dl_world_calls.proofs.AppMarks.{Keeps, IsApart, app-stays}
 use Rattle.dl_world_calls.proofs.ClaimMarks.{claimers-stay, claimed-stay, same_kept}
 use Rattle.dl_world_calls.proofs.Places.{get_or-set, each_set, told_set, get_or-push, get_or-past, position_to_len, position-map, any_default}
 use Rattle.dl_lemmas.proofs.Lists.{get_more, position-more}
-use Rattle.dl_world_calls.proofs.Following.{apps-same, writers-same, contexts-same, number-same, lines_set, owned_on, held_keeps}
-
-same_of : (a b : List ℕ) → bytes_eq a b ≡ true → a ≡ b
-same_of a b e = elim (bytes_tell a b) as (λ _. a ≡ b) [ inl same ↦ same.1 | inr other ↦ absurd cc ]
+use Rattle.dl_world_calls.proofs.Following.{apps-same, number-same, lines_set, owned_on, held_keeps}
 
 -- ---- an application more
 
@@ -239,7 +237,7 @@ context-declared done calls line a app known app_is is = record {
             let two : is_named line.apid (get_or calls.apps (position_or_len (is_named line.apid) calls.apps) no_app) ≡ true = passes_at_first (is_named line.apid) calls.apps no_app (omega (arith, at.0, at.1)) in
             let one_at : bytes_eq (get_or calls.apps a no_app).spec.apid apid ≡ true = subst (λ (k : ℕ). is_named apid (get_or calls.apps k no_app) ≡ true) here.1 one in
             let two_at : bytes_eq (get_or calls.apps a no_app).spec.apid line.apid ≡ true = subst (λ (k : ℕ). is_named line.apid (get_or calls.apps k no_app) ≡ true) at.0 two in
-            absurd (other.1 (sym (same_of (get_or calls.apps a no_app).spec.apid line.apid two_at) ∙ same_of (get_or calls.apps a no_app).spec.apid apid one_at))
+            absurd (other.1 (sym (same_bytes (get_or calls.apps a no_app).spec.apid line.apid two_at) ∙ same_bytes (get_or calls.apps a no_app).spec.apid apid one_at))
 
 -- ---- the same as calls
 

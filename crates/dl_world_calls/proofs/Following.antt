@@ -1,7 +1,7 @@
 -- What all log calls are after one mark more.
 use Rattle.std.proofs.Common.{◌≡◌, ℕ, ◌+◌, ◌-◌, ◌<◌, Bool, true, false, cond, eqb, eq-eqb, get_or, set, List, [], ◌∷◌, ◌++◌, length, Option, Some, None, refl, sym, ap, subst, ◌∙◌, arith}
 use Rattle.std.specs.Prelude.{map, slice_get, nat_le, IfSome}
-use Rattle.std.specs.List.{filter, filter_map, position, position_or_len, All}
+use Rattle.std.specs.List.{position, position_or_len, All}
 use Rattle.std.specs.Option.{option_map, option_and_then}
 use Rattle.std.specs.Str.{bytes_eq}
 use Rattle.std.proofs.Math.Seq.{map-set_same}
@@ -15,7 +15,8 @@ use Rattle.dl_events.specs.declared.record.Record.{Record}
 use Rattle.dl_events.specs.declared.record.Answer.TheVariants as answers
 use Rattle.dl_script_lines.specs.declared.line.AppLine.{AppLine}
 use Rattle.dl_script_lines.specs.declared.line.ContextLine.{ContextLine}
-use Rattle.dl_model.specs.Marks.{Call, Mark, Queued, Refused, Counted, HasClaim, Announced, HeldBack, recorded, app_of, context_of, writer_of, apps, contexts_of, writers, number_of, capacity_of, is_full, held_by, claims_on, OfCall, OfClaim, pushed_of, pushes, is_step_of}
+use Rattle.dl_model.specs.Marks.{Call, Mark, Queued, Refused, Counted, HasClaim, Announced, HeldBack, recorded, app_of, context_of, writer_of, apps, writers, number_of, capacity_of, is_full, held_by, claims_on, OfCall, OfClaim, pushed_of, pushes, is_step_of}
+use Rattle.dl_model.proofs.Marks.{contexts-same, writers-same}
 use Rattle.dl_world_calls.specs.declared.queue.OwnPlace.{OwnPlace}
 use Rattle.dl_world_calls.specs.declared.queue.Entry.{Entry}
 use Rattle.dl_world_calls.specs.declared.queue.Entry.TheVariants as entry
@@ -37,14 +38,6 @@ pub record IsQuiet (mark : Mark) : Type 0 where
 
 pub apps-same : (done : List Mark) (mark : Mark) → app_of mark ≡ None → apps (done ++ mark ∷ []) ≡ apps done
 apps-same done mark e = filter_map-append app_of done (mark ∷ []) ∙ rw e (append-nil (apps done))
-
-pub writers-same : (done : List Mark) (mark : Mark) → writer_of mark ≡ None → writers (done ++ mark ∷ []) ≡ writers done
-writers-same done mark e = filter_map-append writer_of done (mark ∷ []) ∙ rw e (append-nil (writers done))
-
-pub contexts-same : (apid : List ℕ) (done : List Mark) (mark : Mark) → context_of mark ≡ None → contexts_of apid (done ++ mark ∷ []) ≡ contexts_of apid done
-contexts-same apid done mark e =
-    let same : filter_map context_of (done ++ mark ∷ []) ≡ filter_map context_of done = filter_map-append context_of done (mark ∷ []) ∙ rw e (append-nil (filter_map context_of done)) in
-    ap (filter (λ (context : ContextLine). bytes_eq context.apid apid)) same
 
 pub number-same : (apid : List ℕ) (done : List Mark) (mark : Mark) → app_of mark ≡ None → number_of apid (done ++ mark ∷ []) ≡ number_of apid done
 number-same apid done mark e = ap (position (λ (app : AppLine). bytes_eq app.apid apid)) (apps-same done mark e)

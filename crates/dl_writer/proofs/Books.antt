@@ -7,6 +7,7 @@ use Rattle.std.proofs.lemmas.List.Elements.{filter_map-append}
 use Rattle.std.specs.Prelude.{IfNone}
 use Rattle.std.proofs.Math.Seq.{get_or-append_seam}
 use Rattle.std.proofs.lemmas.Option.{slice_get_read, slice_get-map}
+use Rattle.dl_lemmas.proofs.Lists.{get_or-there}
 use Rattle.dl_events.specs.Records.{given}
 use Rattle.dl_events.proofs.Given.{there-at, not-none}
 use Rattle.dl_thread_rules.specs.Views.{bit, times}
@@ -108,18 +109,13 @@ some_so P found y is holds = subst (λ (o : Option _). IfSome o P) (sym is) hold
 pub none_so : {A : Type 0} (P : Type 0) (found : Option A) (y : A) → found ≡ Some y → IfNone found P
 none_so P found y is = subst (λ (o : Option _). IfNone o P) (sym is) tt
 
-read_is : {A : Type 0} (xs : List A) (place : ℕ) (x d : A) → slice_get xs place ≡ Some x → get_or xs place d ≡ x
-read_is [] place x d at = absurd cc
-read_is (y ∷ xs) zero x d at = cc
-read_is (y ∷ xs) (suc place) x d at = read_is xs place x d at
-
 -- an entry that is read of a list of entries that are all there
 pub read_there : {A : Type 0} (items : List (Option A)) (there : List A) (place : ℕ) (found : Option A) (y : A)
     → items ≡ map Some (given items) → given items ≡ there → slice_get there place ≡ Some y → found ≡ get_or items place found → found ≡ Some y
 read_there items there place found y all view at read =
     let here : slice_get items place ≡ Some (Some y) =
     ap (λ (l : List (Option _)). slice_get l place) all ∙ slice_get-map Some (given items) place ∙ ap (λ (l : List _). option_map Some (slice_get l place)) view ∙ ap (option_map Some) at in
-    read ∙ read_is items place (Some y) found here
+    read ∙ get_or-there items place (Some y) found here
 
 pub first_there : {A : Type 0} (P : Type 0) (items : List (Option A)) (found : Option A) → items ≡ map Some (given items) → 0 < length items → found ≡ get_or items 0 found → IfNone found P
 first_there P [] found all some read = absurd (omega (arith, some))

@@ -1,10 +1,11 @@
 -- The records and the claims of a whole book go on telling all that its writer did, with one call more and with claims that the
 -- ring took.
-use Rattle.std.proofs.Common.{◌≡◌, ℕ, zero, suc, ◌+◌, ◌%◌, ◌≤◌, Bool, true, false, cond, Result, Ok, Err, List, [], ◌∷◌, ◌++◌, length, refl, sym, ap, subst, ◌∙◌, length-append, arith}
+use Rattle.std.proofs.Common.{◌≡◌, ℕ, ◌+◌, ◌%◌, ◌≤◌, Bool, true, false, cond, Result, Ok, Err, List, [], ◌∷◌, ◌++◌, length, refl, sym, ap, subst, ◌∙◌, length-append, arith}
 use Rattle.std.specs.Prelude.{map, not, is_ok, IsOk, All, Contains}
 use Rattle.std.specs.List.{range_with_len, AllByRecursion}
 use Rattle.std.proofs.lemmas.List.{append-nil, map-append, length-map}
 use Rattle.std.proofs.lemmas.List.Elements.{filter-append, All-push, All-weaker, All-contains, Contains-append_left, Contains-append_right, recursion_from_All}
+use Rattle.dl_lemmas.proofs.Lists.{range-one}
 use Rattle.dl_bytes.specs.Claim.{Claimed}
 use Rattle.dl_bytes.specs.Context.{Context}
 use Rattle.dl_bytes.specs.Level.{passes}
@@ -33,20 +34,12 @@ all-more : {X : Type 0} (P : X → Type 0) (xs : List X) (x : X) → AllByRecurs
 all-more P [] x h p = (p, tt)
 all-more P (y ∷ ys) x h p = (h.0, all-more P ys x h.1 p)
 
--- the numbers from a on, with one more
-range-more : (a n : ℕ) → range_with_len a (n + 1) ≡ range_with_len a n ++ (a + n) ∷ []
-range-more a zero = ap (λ (x : ℕ). x ∷ []) (omega arith)
-range-more a (suc n) =
-    let count : suc n + 1 ≡ suc (n + 1) = omega arith in
-    let last : a + 1 + n ≡ a + suc n = omega arith in
-    ap (range_with_len a) count ∙ ap (λ (xs : List ℕ). a ∷ xs) (range-more (a + 1) n ∙ ap (λ (x : ℕ). range_with_len (a + 1) n ++ x ∷ []) last)
-
 numbered-more : (rs : List Record) (r : Record) → AreNumbered rs → r.item.call ≡ length rs + 1 → AreNumbered (rs ++ r ∷ [])
 numbered-more rs r h e =
     let last : r.item.call ≡ 1 + length rs = omega (arith, e) in
     map-append (λ (s : Record). s.item.call) rs (r ∷ []) ∙ ap (λ (xs : List ℕ). xs ++ r.item.call ∷ []) h
     ∙ ap (λ (x : ℕ). range_with_len 1 (length rs) ++ x ∷ []) last
-    ∙ sym (range-more 1 (length rs)) ∙ ap (range_with_len 1) (sym (length-append rs (r ∷ [])))
+    ∙ sym (range-one 1 (length rs)) ∙ ap (range_with_len 1) (sym (length-append rs (r ∷ [])))
 
 -- one record more stands at the end of those with its answer
 with_answer-more : (what : Answer) (rs : List Record) (r : Record) → with_answer what (rs ++ r ∷ []) ≡ with_answer what rs ++ cond (is_answer what r.answer) (r ∷ []) []

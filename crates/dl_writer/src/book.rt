@@ -1,6 +1,6 @@
 //! A writer together with the records of its calls, and the claims that the ring took of it.
 
-ghost use Rattle.std.specs.Prelude.{◌≡◌, ◌+◌, ◌^◌, ◌<◌, ◌≤◌, ◌∷◌, ◌++◌, ℕ, [], Err, IfErr, IfOk, IfSome, IfNone, OnErr, OnSome, length};
+ghost use Rattle.std.specs.Prelude.{◌≡◌, ◌+◌, ◌^◌, ◌<◌, ◌≤◌, ◌∷◌, ◌++◌, ℕ, [], Err, IfErr, IfOk, IfSome, IfNone, OnErr, OnSome, length, vec_len};
 ghost use Rattle.std.specs.Result.{result_err};
 ghost use Rattle.dl_injections.specs.Order.{Rises, MetEmpty};
 ghost use Rattle.dl_ring.specs.Items.{calls_in, claims_in};
@@ -13,8 +13,9 @@ ghost use Rattle.dl_writer.specs.declared.fault.RegisterFault.TheVariants as reg
 use crate::claim_room::ClaimRoom;
 use crate::fault::{BookFault, RegisterFault};
 use crate::writer::Writer;
-use dl_bytes::{Claim, Ctx, Id, Injection, OwnLevel, Payload, Severity};
+use dl_bytes::{Claim, Ctx, Id, Injection, Level, OutOfMemory, OwnLevel, Payload, Severity};
 use dl_events::{Answer, Record};
+use dl_ring::Call;
 use std::alloc::Global;
 use std::marker::Model;
 use std::sync::Wait;
@@ -25,7 +26,9 @@ use std::sync::Wait;
 #[derive(Drop)]
 pub struct Book {
     writer: Writer,
-    room: u32,
+    // How many calls it keeps.
+    kept: usize,
+    // As many as it has room for. The first ones tell of the calls that it keeps; in the others lies whatever was there.
     records: Vec<Record>,
     claims: ClaimRoom,
 }
@@ -42,13 +45,13 @@ impl Model for Book {
 }
 
 impl Book {
-    /// A book with room for this many records and for 64 claims, for which it takes all memory here. Without memory the writer
-    /// comes back.
+    /// A book with room for this many records, some 1.5 kB each, and for 64 claims. It takes all memory for them here, and
+    /// fills it with blank records, so that no call touches a page for the first time. Without memory the writer comes back.
     pub fn make(alloc: Global, writer: Writer, room: u32) -> Result<Book, Writer>
         ensures book { IfOk result (λ book. book ≡ record { writer = writer; room = room; records = []; claims = [] }) }
         ensures back { IfErr result (λ back. back ≡ writer) }
     {
-        let Ok(records) = Vec::with_capacity(alloc, room as usize) else {
+        let Ok(records) = blank_records(alloc, room as usize) else {
             return Err(writer);
         };
         let Ok(claims) = ClaimRoom::make(alloc) else {
@@ -56,13 +59,13 @@ impl Book {
         };
         Ok(Book {
             writer,
-            room,
+            kept: 0,
             records,
             claims,
         })
     }
 
-    /// Logs a message as `Writer::log` does, and keeps the record of the call. No memory.
+    /// Logs a message as `Writer::log` does, and keeps the record of the call, which is filled where it lies. No memory.
     pub fn log<R: Wait>(
         &mut self,
         rt: &R,
@@ -76,12 +79,12 @@ impl Book {
         ensures kept { IfOk result (λ answer. Keeps self.old ctx.now severity at payload.now answer self.new) }
         ensures whole { IsWhole self.old → IsWhole self.new }
     {
-        if self.records.len() == self.room as usize {
+        if self.kept == self.records.len() {
             return Err(BookFault::Full);
         }
-        let record = self.writer.log(rt, ctx, severity, at, payload)?;
-        let answer = record.answer;
-        self.records.push(record).unwrap();
+        let entry = &mut self.records[self.kept];
+        let answer = self.writer.log_into(rt, ctx, severity, at, payload, entry)?;
+        self.kept += 1;
         Ok(answer)
     }
 
@@ -176,7 +179,7 @@ impl Book {
         ensures value { result.now ≡ self.now.records }
         ensures told { IsWhole self.now → TellAll self.now.writer self.now.records self.now.claims }
     {
-        self.records.as_slice()
+        &self.records[..self.kept]
     }
 
     /// The claims that the ring took of its writer through it, in order.
@@ -196,11 +199,42 @@ impl Book {
     {
         let Book {
             writer,
-            room: _,
-            records,
+            kept,
+            mut records,
             claims,
         } = self;
+        records.truncate(kept);
         (writer, records, claims.into_list())
+    }
+}
+
+// So many blank records.
+fn blank_records(alloc: Global, count: usize) -> Result<Vec<Record>, OutOfMemory>
+    ensures { IfOk result (λ records. vec_len records ≡ count) }
+{
+    let mut records = Vec::with_capacity(alloc, count)?;
+    records.resize_with(count, blank_record)?;
+    Ok(records)
+}
+
+// What lies where a record will be.
+fn blank_record() -> Record {
+    let call = Call {
+        app: 0,
+        writer: 0,
+        severity: Severity::Fatal,
+        mcnt: 0,
+        at: 0,
+        apid: Id::from_bytes([0; 4]),
+        ctid: Id::from_bytes([0; 4]),
+        number: 0,
+    };
+    Record {
+        item: call.item(&Payload::new()),
+        slot: 0,
+        version: 0,
+        held: Level::from(Severity::Fatal),
+        answer: Answer::Filtered,
     }
 }
 

@@ -1,6 +1,6 @@
 //! The calls of one thread.
 
-ghost use Rattle.std.specs.Prelude.{◌≡◌, ◌+◌, ◌*◌, ◌<◌, ◌≤◌, ◌^◌, ◌%◌, ℕ, false, not, [], IfOk, IfSome, IfNone, OnErr, OnSome, length};
+ghost use Rattle.std.specs.Prelude.{◌≡◌, ◌+◌, ◌*◌, ◌<◌, ◌≤◌, ◌^◌, ◌%◌, ℕ, false, not, [], IfOk, IfSome, IfNone, OnErr, OnOk, OnSome, length};
 ghost use Rattle.std.specs.Result.{result_err};
 ghost use Rattle.dl_bytes.specs.Context.{slot_of};
 ghost use Rattle.dl_bytes.specs.Level.{passes};
@@ -275,6 +275,35 @@ impl Writer {
 }
 
 impl Writer {
+    // Logs a message as `log` does, and makes a record of the caller's the one that tells of it. It is filled where it lies;
+    // what lies there stays where the call is refused.
+    pub(crate) fn log_into<R: Wait>(
+        &mut self,
+        rt: &R,
+        ctx: &Ctx,
+        severity: Severity,
+        at: u32,
+        payload: &Payload,
+        entry: &mut Record,
+    ) -> Result<Answer, LogFault>
+        ensures fault { result_err result ≡ call_fault self.old ctx.now }
+        ensures refused { OnErr result ((self.new ≡ self.old) × (entry.new ≡ entry.old)) }
+        ensures told { OnOk result (Tells self.old ctx.now severity at payload.now entry.new) }
+        ensures made { OnOk result (self.new ≡ after self.old entry.new) }
+        ensures answer { IfOk result (λ answer. entry.new.answer ≡ answer) }
+    {
+        let mcnt = self.mcnt;
+        let Met { seen, answer } = self.call(rt, ctx, severity, at, payload)?;
+        let mut call = self.last_call(ctx, severity, at);
+        call.mcnt = mcnt;
+        call.fill(&mut entry.item, payload);
+        entry.slot = slot_of(ctx);
+        entry.version = seen.version;
+        entry.held = seen.level;
+        entry.answer = answer;
+        Ok(answer)
+    }
+
     // A call without its record.
     fn call<R: Wait>(
         &mut self,

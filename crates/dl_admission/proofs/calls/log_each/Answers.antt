@@ -1,10 +1,10 @@
 use Rattle.std.proofs.Common.{◌≡◌, ◌+◌, List, ℕ, [], ◌∷◌, ◌++◌, take, length, length-append, ap, sym, subst, ◌∙◌, arith}
 use Rattle.std.proofs.Math.Seq.{take-length}
 use Rattle.std.proofs.lemmas.List.{length-take}
+use Rattle.dl_lemmas.proofs.Lists.{item_here}
 use Rattle.dl_bytes.specs.declared.item.Item.{Item}
 use Rattle.dl_registry.specs.Kept.{owed_change}
 use Rattle.dl_core.specs.State.{Core}
-use Rattle.dl_core.proofs.Gathered.{item_here}
 use Rattle.dl_admission.specs.Admission.{Logs, Uses}
 use Rattle.dl_admission.specs.Part.{part}
 use Rattle.dl_admission.proofs.Entries.{logs_more, logs_none, uses_both, uses_none}

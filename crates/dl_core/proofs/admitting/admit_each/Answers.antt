@@ -1,12 +1,13 @@
 use Rattle.std.proofs.Common.{◌≡◌, ◌+◌, List, ℕ, sym, ap, subst, ◌∙◌, arith}
 use Rattle.std.proofs.Common.{take, drop, length, map}
 use Rattle.std.proofs.Math.Seq.{take-length}
+use Rattle.dl_lemmas.proofs.Lists.{item_here}
 use Rattle.dl_bytes.specs.declared.item.Item.{Item}
 use Rattle.dl_events.specs.Journal as notes
 use Rattle.dl_events.specs.declared.event.Event.{Event}
 use Rattle.dl_message.specs.Frames.{log_message}
 use Rattle.dl_core.specs.Admission.{Admits}
-use Rattle.dl_core.proofs.Gathered.{Gathered, gathers_one, item_here}
+use Rattle.dl_core.proofs.Gathered.{Gathered, gathers_one}
 use Rattle.dl_core.proofs.admitting.admit_each.Goals as goal
 
 pub loop-item-preserved : goal.loop-item-preserved

@@ -41,7 +41,7 @@ loop-round-preserved g c =
           (g.N.Net.told c.round.new.net) (g.N.Net.told c.args.users.now) (g.N.Net.told c.loop-round.users) (g.N.Net.told c.round.new.users)
           (seen told noted (g.F.Folder.told c.args.folder.now) c.args.server.now) folder folder_now c.loop-round.server c.renew-begun.new.server c.ask_again.new.server
           (seen told noted (g.F.Folder.told c.round.new.folder) c.round.new.self) c.now-moment.result c.renew-begun.result c.loop-round.invariant.rounds (c.stops.ensures.room c.in-None-stops.is) renews
-          c.renew-begun.ensures.rest renewed c.ask_again.ensures c.round.ensures.round;
+          c.renew-begun.ensures.rest renewed c.ask_again.ensures c.round.ensures.round.0;
       server = c.round.ensures.server;
       conf = c.renew-begun.ensures.conf ∙ c.loop-round.invariant.conf;
     }

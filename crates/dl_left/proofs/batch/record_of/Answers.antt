@@ -1,10 +1,11 @@
 use Rattle.std.proofs.Common.{eqb, ◌≡◌, ℕ, ◌+◌, ◌<◌, List, sym, ap, subst, ◌∙◌, arith, option_map}
 use Rattle.std.specs.Prelude.{slice_get}
 use Rattle.std.specs.List.{find}
+use Rattle.dl_lemmas.proofs.Lists.{lent_is}
 use Rattle.dl_events.specs.declared.record.Record.{Record}
 use Rattle.dl_model.specs.Accounts.{AreNumbered}
 use Rattle.dl_model.specs.WholeAccounts.{records_by}
-use Rattle.dl_left.proofs.Numbering.{found_at, lent_is, none_below, records_at}
+use Rattle.dl_model.proofs.Records.{found_at, none_below, records_at}
 use Rattle.dl_left.proofs.batch.record_of.Goals as goal
 
 pub returns-in_err-place : goal.returns-in_err-place

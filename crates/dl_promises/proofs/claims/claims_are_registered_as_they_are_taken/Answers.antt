@@ -5,4 +5,6 @@ use Rattle.dl_promises.proofs.WellFormed.{run_stands}
 use Rattle.dl_promises.proofs.claims.claims_are_registered_as_they_are_taken.Goals as goal
 
 pub returns : goal.returns
-returns c = λ setting answers steps. taken_registered setting (run setting answers steps) (run_founded setting answers steps) (run_stands setting answers steps)
+returns c = λ setting answers steps taken parts n.
+    taken_registered setting (run setting answers steps) (run_founded setting answers steps) (run_stands setting answers steps)
+    taken.before taken.after taken.claim taken.moment parts n.there n.below n.version n.free

@@ -1,8 +1,8 @@
 use Rattle.std.proofs.Common.{◌≡◌, ◌+◌, ◌++◌, ◌∷◌, [], List, take, drop, refl, sym, ap, subst, ◌∙◌, arith}
 use Rattle.std.specs.List.{AllByRecursion, sum_by}
 use Rattle.std.proofs.lemmas.List.Sums.{sum_by-cons}
+use Rattle.dl_lemmas.proofs.Lists.{item_here}
 use Rattle.dl_bytes.specs.declared.user.UserMsg.{UserMsg}
-use Rattle.dl_core.proofs.Gathered.{item_here}
 use Rattle.dl_turns.specs.State.{Side, side}
 use Rattle.dl_rounds.specs.Greetings.{GreetsEach, GreetsFirst, IsRegistration, apps_in}
 use Rattle.dl_rounds.proofs.GreetedAll.{each_one, first_of, introduced, on_err}

@@ -32,11 +32,16 @@ of_claims P before after claim moment all =
     ∙ ap (λ (b : Bool). claims claim.app before ++ cons_option (cond b (Some claim) None) (claims claim.app after)) (eq-eqb claim.app claim.app refl)) all)
 
 pub returns : goal.returns
-returns c = λ setting answers steps before after claim moment playable parts first.
+returns c = λ setting answers steps taken playable parts first.
+    let before = taken.before in
+    let after = taken.after in
+    let claim = taken.claim in
+    let moment = taken.moment in
     let marks = run setting answers steps in
     let there = there_at setting [] before after (event.Claim claim moment) (subst (AreThere setting []) parts (c.claims_of_a_script_are_present.ensures.whole setting answers steps playable)) in
     let left = of_claims (IsLeft setting marks) before after claim moment
     (subst (λ (events : List Event). AllByRecursion (IsLeft setting marks) (claims claim.app events)) parts
     (noted_are setting marks (run_founded setting answers steps) (IsLeft setting marks) (claims_left setting answers steps playable) claim.app)) in
     let free = first_left setting claim.app claim.place [] before (event.Claim claim moment ∷ after) (subst (λ (events : List Event). MessagesLeaveFree setting claim.app claim.place [] events) parts left.free) in
-    c.claims_are_registered_as_they_are_taken.ensures setting answers steps before after claim moment parts there left.below first free
+    c.claims_are_registered_as_they_are_taken.ensures setting answers steps taken parts
+    (record { there = there; below = left.below; version = first; free = free })

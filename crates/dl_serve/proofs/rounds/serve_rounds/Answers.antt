@@ -12,7 +12,7 @@ loop-round-preserved g c =
     let s = seen g.N.L.Link.told kept in record {
       rounds = one_more g.N.L.Link.told c.loop-round._round (g.N.Net.told c.args.net.now) (g.N.Net.told c.loop-round.net) (g.N.Net.told c.round.new.net) (g.N.Net.told c.args.users.now)
           (g.N.Net.told c.loop-round.users) (g.N.Net.told c.round.new.users) (s (g.F.Folder.told c.args.folder.now) c.args.server.now) (s (g.F.Folder.told c.loop-round.folder) c.loop-round.server)
-          (s (g.F.Folder.told c.round.new.folder) c.round.new.self) c.loop-round.invariant.rounds (c.is_full-full.ensures.room c.if-full.false) c.round.ensures.round
+          (s (g.F.Folder.told c.round.new.folder) c.round.new.self) c.loop-round.invariant.rounds (c.is_full-full.ensures.room c.if-full.false) c.round.ensures.round.0
           (record { server = c.loop-round.server; folder = g.F.Folder.told c.loop-round.folder; is_server = c.loop-round.invariant.server; is = refl });
       server = c.round.ensures.server;
       limits = limits_both c.args.server.now c.loop-round.server c.round.new.self c.loop-round.invariant.limits c.round.ensures.limits;

@@ -1,7 +1,7 @@
 use Rattle.std.proofs.Common.{List, take, sym, subst}
+use Rattle.dl_lemmas.proofs.Lists.{item_here}
 use Rattle.dl_sessions.specs.Account.{IsAfter}
 use Rattle.dl_sessions.specs.declared.session.Told.{Told}
-use Rattle.dl_sessions.proofs.Items.{item_here}
 use Rattle.dl_sessions.proofs.account.account_of.Goals as goal
 
 pub loop-told-preserved : goal.loop-told-preserved

@@ -2,7 +2,7 @@ use Rattle.std.proofs.Common.{eqb, ◌≡◌, ℕ, ◌+◌, ◌<◌, sym, ap, �
 use Rattle.std.specs.Prelude.{slice_get}
 use Rattle.std.specs.List.{find}
 use Rattle.dl_events.specs.declared.record.Record.{Record}
-use Rattle.dl_storage.proofs.Numbering.{found_at, none_below}
+use Rattle.dl_model.proofs.Records.{found_at, none_below}
 use Rattle.dl_storage.proofs.calls.at_its_place.Goals as goal
 use Rattle.dl_lemmas.proofs.Lists.{lent_is}
 

@@ -1,6 +1,6 @@
 use Rattle.std.proofs.Common.{◌≡◌, ◌+◌, drop}
 use Rattle.dl_model.specs.Accounts.{AreNumbered}
-use Rattle.dl_storage.proofs.Numbering.{AreNumberedFrom}
+use Rattle.dl_model.proofs.Records.{AreNumberedFrom}
 use Rattle.dl_storage.proofs.calls.is_numbered.Given as goal
 
 -- where the records that are left are numbered from here on, all are from 1

@@ -1,7 +1,7 @@
 use Rattle.std.proofs.Common.{◌≡◌, ℕ, ◌+◌, ◌++◌, ◌∷◌, [], List, length, map, take, sym, ap, subst, ◌∙◌, append_assoc, arith}
 use Rattle.std.proofs.Math.Seq.{take-length}
 use Rattle.std.proofs.lemmas.List.{append-nil, map-append}
-use Rattle.dl_sessions.proofs.Items.{item_here}
+use Rattle.dl_lemmas.proofs.Lists.{item_here}
 use Rattle.dl_sessions.specs.Account.{entries, holes, totals_of}
 use Rattle.dl_sessions.specs.declared.session.Hole.{Hole}
 use Rattle.dl_timeline.specs.Timeline.{KeepsMarks, hole_mark}

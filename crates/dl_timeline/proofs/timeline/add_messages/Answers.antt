@@ -2,7 +2,7 @@ use Rattle.std.proofs.Common.{◌≡◌, ◌+◌, ◌++◌, ◌∷◌, [], List,
 use Rattle.std.specs.List.{flat_map}
 use Rattle.std.proofs.lemmas.List.{append-nil}
 use Rattle.std.proofs.lemmas.Grind.{flat_map-append}
-use Rattle.dl_sessions.proofs.Items.{item_here}
+use Rattle.dl_lemmas.proofs.Lists.{item_here}
 use Rattle.dl_sessions.specs.declared.session.Told.{Told}
 use Rattle.dl_timeline.specs.Timeline.{KeepsMarks, message_mark}
 use Rattle.dl_timeline.specs.declared.timeline.SpotMark.{SpotMark}

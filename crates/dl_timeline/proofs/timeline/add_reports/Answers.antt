@@ -1,5 +1,5 @@
 use Rattle.std.proofs.Common.{ℕ, ◌+◌, ◌++◌, List, [], drop, refl, sym, ap, ◌∙◌, append_assoc}
-use Rattle.dl_sessions.proofs.Items.{item_here}
+use Rattle.dl_lemmas.proofs.Lists.{item_here}
 use Rattle.dl_sessions.specs.declared.session.Told.{Told}
 use Rattle.dl_timeline.specs.Timeline.{column_behind, report_of, reports_from}
 use Rattle.dl_timeline.specs.declared.timeline.Report.{Report}

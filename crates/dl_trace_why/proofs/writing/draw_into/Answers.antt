@@ -1,5 +1,5 @@
 use Rattle.std.proofs.Common.{◌∙◌}
-use Rattle.dl_trace_files.proofs.Looking.{stays_same}
+use Rattle.dl_outside.proofs.Staying.{stays_same}
 use Rattle.dl_trace_why.proofs.Ending.{drawn_by}
 use Rattle.dl_trace_why.proofs.writing.draw_into.Goals as goal
 

@@ -4,7 +4,8 @@ use Rattle.dl_bytes.specs.Limits.{message_limit}
 use Rattle.dl_message.specs.Cut.{IsWholeMessage}
 use Rattle.dl_message.specs.Requests.{asks}
 use Rattle.dl_message.specs.declared.cutter.Cut.TheVariants.{Message, NeedMore, Bad}
-use Rattle.dl_turns.proofs.SentBytes.{fewer, finds_bad, finds_none, finds_request, goes_on, limit_stays, passes_over, sets_out, shorter, whole_now}
+use Rattle.dl_message.proofs.Calls.{cuts_limit}
+use Rattle.dl_turns.proofs.SentBytes.{fewer, finds_bad, finds_none, finds_request, goes_on, passes_over, sets_out, shorter, whole_now}
 use Rattle.dl_turns.proofs.cutting.next_request.Goals as goal
 
 pub loop-cutter-init : goal.loop-cutter-init
@@ -17,7 +18,7 @@ is_request-requires c =
     c.in-Message.ensures.answer (c.next.ensures.whole c.in-Message.is))
 
 pub returns-in-Message-clause-limit : goal.returns-in-Message-clause-limit
-returns-in-Message-clause-limit c = limit_stays c.loop-cutter.cutter c.next.new.self Message c.in-Message.ensures.answer ∙ c.loop-cutter.invariant.limit
+returns-in-Message-clause-limit c = cuts_limit c.loop-cutter.cutter c.next.new.self Message c.in-Message.ensures.answer ∙ c.loop-cutter.invariant.limit
 
 pub returns-in-Message-clause-finds : goal.returns-in-Message-clause-finds
 returns-in-Message-clause-finds c =
@@ -35,7 +36,7 @@ loop-cutter-preserved-else-is_request c =
     c.in-Message.ensures.answer other
 
 pub returns-in-NeedMore-clause-limit : goal.returns-in-NeedMore-clause-limit
-returns-in-NeedMore-clause-limit c = limit_stays c.loop-cutter.cutter c.next.new.self NeedMore c.in-NeedMore.ensures.answer ∙ c.loop-cutter.invariant.limit
+returns-in-NeedMore-clause-limit c = cuts_limit c.loop-cutter.cutter c.next.new.self NeedMore c.in-NeedMore.ensures.answer ∙ c.loop-cutter.invariant.limit
 
 pub returns-in-NeedMore-clause-finds : goal.returns-in-NeedMore-clause-finds
 returns-in-NeedMore-clause-finds c =
@@ -54,7 +55,7 @@ loop-cutter-preserved c =
     c.in-NeedMore.ensures.answer _ c.feed-taken.result c.feed-taken.new.self (take_rest c.args.piece.now c.loop-cutter.taken) c.feed-taken.ensures
 
 pub returns-in-Bad-clause-limit : goal.returns-in-Bad-clause-limit
-returns-in-Bad-clause-limit c = limit_stays c.loop-cutter.cutter c.next.new.self (Bad c.in-Bad.field-0) c.in-Bad.ensures.answer ∙ c.loop-cutter.invariant.limit
+returns-in-Bad-clause-limit c = cuts_limit c.loop-cutter.cutter c.next.new.self (Bad c.in-Bad.field-0) c.in-Bad.ensures.answer ∙ c.loop-cutter.invariant.limit
 
 pub returns-in-Bad-clause-finds : goal.returns-in-Bad-clause-finds
 returns-in-Bad-clause-finds c =

@@ -10,7 +10,7 @@ use Rattle.dl_model.specs.WholeAccounts.{records_by}
 use Rattle.dl_promises.specs.RunRecords.{refusals_of}
 use Rattle.dl_left.specs.Clients.{ComeAndGo}
 use Rattle.dl_startup.specs.Failures.{unserved}
-use Rattle.dl_why.specs.Written.{IsRotating}
+use Rattle.dl_call_fates.specs.Written.{IsRotating}
 use Rattle.dl_why.proofs.Explaining.{is_drawn, is_explained}
 use Rattle.dl_why.proofs.explanation.explain.Goals as goal
 

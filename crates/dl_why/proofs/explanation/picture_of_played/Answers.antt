@@ -10,7 +10,7 @@ use Rattle.dl_events.specs.declared.event.Event.{Event}
 use Rattle.dl_model.specs.WholeAccounts.{source_of_records}
 use Rattle.dl_picture.specs.Picture.{Chart, picture}
 use Rattle.dl_script_lines.specs.declared.step.Step.{Step}
-use Rattle.dl_why.specs.Cases.{cases_of}
+use Rattle.dl_call_fates.specs.Cases.{cases_of}
 use Rattle.dl_why.proofs.explanation.picture_of_played.Goals as goal
 
 pub returns : goal.returns

@@ -8,7 +8,7 @@ use Rattle.dl_events.specs.declared.event.Event.{Event}
 use Rattle.dl_model.specs.Report.{report}
 use Rattle.dl_model.specs.WholeAccounts.{source_of_records}
 use Rattle.dl_script_lines.specs.declared.step.Step.{Step}
-use Rattle.dl_why.specs.Rows.{more_words, rows_of}
+use Rattle.dl_call_fates.specs.Rows.{more_words, rows_of}
 use Rattle.dl_why.proofs.explanation.text_of_played.Goals as goal
 
 pub returns : goal.returns

@@ -1,7 +1,7 @@
 use Rattle.std.proofs.Common.{◌≡◌, false, refl, sym, ap, ◌∙◌}
 use Rattle.dl_message.specs.declared.cutter.Cut.{Cut}
 use Rattle.dl_message.specs.declared.cutter.Cut.TheVariants.{Message, NeedMore, Bad}
-use Rattle.dl_world.proofs.FedClients.{limit_stays}
+use Rattle.dl_message.proofs.Calls.{cuts_limit}
 use Rattle.dl_world.proofs.FedStreams.{is_bad_cut, fed_next, bad_next}
 use Rattle.dl_world.proofs.clients.is_bad.Goals as goal
 
@@ -19,7 +19,7 @@ returns-in_default c =
       | Bad fault ↦ λ e. absurd (c.in_default.not-Bad fault e)
     ] refl in
     record {
-      limit = limit_stays c.args.cutter.now c.next.new.self c.next.result c.next.ensures.answer;
+      limit = cuts_limit c.args.cutter.now c.next.new.self c.next.result c.next.ensures.answer;
       stands = λ stream fed. fed_next stream c.args.cutter.now c.next.new.self c.next.result fed c.next.ensures.answer;
       bad = λ stream fed. sym other ∙ bad_next stream c.args.cutter.now c.next.new.self c.next.result fed c.next.ensures.answer;
     }

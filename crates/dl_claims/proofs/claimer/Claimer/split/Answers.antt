@@ -1,10 +1,11 @@
 use Rattle.std.proofs.Common.{rules, arith, ◌<◌, ◌∙◌, ap, sym, false, slice_index_or, vec_len}
 use Rattle.atomic_table.specs.Table.{Me}
 use Rattle.dl_thread_rules.specs.Views.{bit}
+use Rattle.dl_thread_rules.proofs.Bits.{bit_small}
 use Rattle.dl_claims.specs.declared.words.View.{View}
 use Rattle.dl_claims.specs.Claims.{refused_of}
 use Rattle.dl_claims.proofs.Keeping.{giving}
-use Rattle.dl_claims.proofs.Sums.{bit_small, none_noted}
+use Rattle.dl_claims.proofs.Sums.{none_noted}
 use Rattle.dl_claims.proofs.claimer.Claimer.split.Goals as goal
 
 pub split_seat-seat-requires : goal.split_seat-seat-requires

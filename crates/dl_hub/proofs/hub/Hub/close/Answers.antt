@@ -1,8 +1,8 @@
 use Rattle.std.proofs.Common.{◌≡◌, ◌++◌, ◌∷◌, [], ◌-◌, eqb, not, refl, sym, ap, ◌∙◌, arith, rules}
 use Rattle.std.specs.Option.{option_map}
+use Rattle.dl_lemmas.proofs.Options.{some_is}
 use Rattle.dl_hub.specs.State.{emptied, shut}
 use Rattle.dl_hub.proofs.Places.{places-goes, retained}
-use Rattle.dl_hub.proofs.Following.{one_of}
 use Rattle.dl_hub.proofs.Calls.{close-all}
 use Rattle.dl_hub.proofs.hub.Hub.close.Goals as goal
 
@@ -16,7 +16,7 @@ pub invariant_of-self : goal.invariant_of-self
 invariant_of-self c =
     let all = close-all c.self.inside.ecu c.self.inside.store c.self.inside.limit c.self.inside.clients.items c.self.inside.admitted c.self.inside.free.items c.self.invariant.0
     c.args.self.now c.args.client c.index_mut.result.now _ c.self.view_is c.index_mut.ensures.value c.requires in
-    let outbox : c.in-Some.outbox ≡ emptied all.0 = one_of (sym c.in-Some.is ∙ c.close.ensures.outbox ∙ ap (option_map emptied) all.1) in
+    let outbox : c.in-Some.outbox ≡ emptied all.0 = some_is (sym c.in-Some.is ∙ c.close.ensures.outbox ∙ ap (option_map emptied) all.1) in
     let more : c.push.new.self.items ≡ c.self.inside.free.items ++ c.in-Some.outbox ∷ [] = search rules in
     let places = retained _ (λ other. not (eqb other (c.args.client - 1))) _ (λ x b g y k. search rules) _ _ c.retain.ensures.filtered in (
       rw (c.close.ensures.closed, more, outbox) all.3,

@@ -2,6 +2,7 @@ use Rattle.std.proofs.Common.{◌≡◌, ℕ, ◌+◌, ◌<◌, Bool, false, Lis
 use Rattle.dl_bytes.specs.declared.conf.AppSpec.{AppSpec}
 use Rattle.dl_loop.specs.Scene.{scene}
 use Rattle.dl_taking.specs.Takes.{found_none, gave}
+use Rattle.dl_thread_rules.specs.Views.{bit}
 use Rattle.dl_loop.specs.Takes.{TakesOn, TakesSomeOf, is_over, most_of}
 use Rattle.dl_loop.proofs.GoneRounds.{goes_both, goes_none, goes_some}
 use Rattle.dl_loop.proofs.TakesTurned.{GoOn, go_on, some_same}
@@ -14,6 +15,7 @@ loop-empty-init g c = record {
   apps = refl;
   greeted = c.requires.greeted;
   few = omega arith;
+  count = omega arith;
 }
 
 pub take_some_of-got-requires-clause-app : goal.take_some_of-got-requires-clause-app
@@ -41,6 +43,7 @@ loop-empty-preserved g c =
     let on : GoOn c.loop-empty.done c.loop-empty.empty c.loop-empty.self = go_on c.loop-empty.done c.loop-empty.empty c.loop-empty.self not_over in
     let app : c.args.app < length c.loop-empty.self.desk.apps = subst (λ (specs : List AppSpec). c.args.app < length specs) (sym so.apps) c.requires.app in
     let found : c.found_none-empty.result ≡ found_none (most_of c.loop-empty.done c.loop-empty.self) got = c.found_none-empty.ensures ∙ ap (λ (n : ℕ). found_none n got) c.most-most.ensures in
+    let given : c.gave-done.result ≡ got.calls + bit got.claimed = c.gave-done.ensures in
     record {
       behind = λ end gots rest. so.behind end (got ∷ gots) (
         not_over,
@@ -55,6 +58,7 @@ loop-empty-preserved g c =
       apps = same.apps ∙ so.apps;
       greeted = same.greeted ∙ so.greeted;
       few = omega (arith, c.gave-done.ensures, takes.takes.few, c.most-most.ensures, so.few);
+      count = omega (arith, takes.noted, takes.claimed, given, so.count);
     }
 
 pub returns-clause-takes : goal.returns-clause-takes

@@ -15,6 +15,7 @@ invariant-loop-empty g l = record {
   apps : l.self.desk.apps ≡ l.fn.self.desk.apps;
   greeted : l.self.greeted ≡ true;
   few : l.done ≤ 64;
+  count : l.self.noted + l.self.claimed ≡ l.fn.self.noted + l.fn.self.claimed + l.done;
 }
 
 -- each time some take gives, or the ring is found empty

@@ -1,6 +1,7 @@
-use Rattle.std.proofs.Common.{sym, subst, ◌∙◌}
+use Rattle.std.proofs.Common.{◌≡◌, sym, subst, ◌∙◌}
 use Rattle.dl_outside.specs.Told.{NetTold}
-use Rattle.dl_server.specs.Round.{IsRound}
+use Rattle.dl_loop.proofs.RestedNets.{all_three, rested_so}
+use Rattle.dl_server.specs.Round.{IsRound, has_moved}
 use Rattle.dl_server.specs.State.{seen}
 use Rattle.dl_server.proofs.server.Server.round.Goals as goal
 
@@ -11,15 +12,16 @@ returns-clause-round g c =
     let first = c.accept_all-came.new in
     let second = c.hear-heard.new in
     let third = c.pump-sent.new in
-    subst (λ (n : NetTold g.row.L.Denot). IsRound g.L.Link.told (g.N.Net.told c.args.net.now) n (g.N.Net.told c.args.users.now) (g.N.Net.told first.users) (s was c.args.self.now) (s (g.F.Folder.told third.folder) third.self))
-    (sym c.rest_if_idle.ensures)
-    (record {
-      accepted = s was first.self;
-      accepts = c.accept_all-came.ensures.accepts was;
-      heard = s (g.F.Folder.told second.folder) second.self;
-      hears = c.hear-heard.ensures.hears;
-      pumps = c.pump-sent.ensures.pumps;
-    })
+    let rest = c.rest_if_idle.ensures in
+    let accepts = c.accept_all-came.ensures.accepts was in
+    let hears = c.hear-heard.ensures.hears in
+    let pumps = c.pump-sent.ensures.pumps in
+    subst (λ (n : NetTold g.row.L.Denot). (round : IsRound g.L.Link.told (g.N.Net.told c.args.net.now) n (g.N.Net.told c.args.users.now) (g.N.Net.told first.users) (s was c.args.self.now)
+    (s (g.F.Folder.told third.folder) third.self)) × (c.rest_if_idle.result ≡ has_moved round))
+    (sym (rested_so g.N.Net.told _ _ _ rest.rests rest.leaves)) (
+      record { accepted = s was first.self; accepts = accepts.0; heard = s (g.F.Folder.told second.folder) second.self; hears = hears.0; pumps = pumps.0 },
+      rest.answer ∙ all_three accepts.1 hears.1 pumps.1,
+    )
 
 pub returns-clause-limits : goal.returns-clause-limits
 returns-clause-limits g c =

@@ -1,8 +1,8 @@
 use Rattle.std.proofs.Common.{◌≡◌, ◌+◌, ◌++◌, ◌∷◌, [], List, map, take, sym, ap, ◌∙◌}
 use Rattle.std.proofs.lemmas.List.{map-append}
+use Rattle.dl_lemmas.proofs.Lists.{item_here}
 use Rattle.dl_picture.specs.Row.{ChartRow, shown}
 use Rattle.dl_picture.specs.declared.chart.Row.{Row}
-use Rattle.dl_sessions.proofs.Items.{item_here}
 use Rattle.dl_sessions.specs.declared.session.Session.{Session}
 use Rattle.dl_timeline.specs.Timeline.{row_of}
 use Rattle.dl_timeline.proofs.timeline.Timeline.rows.Goals as goal

@@ -1,7 +1,7 @@
 use Rattle.std.proofs.Common.{List, ◌∙◌, refl, ap, arith}
+use Rattle.dl_lemmas.proofs.Options.{some_is}
 use Rattle.dl_bytes.specs.declared.outcome.Done.TheVariants as did
 use Rattle.dl_model.specs.Marks.{Mark}
-use Rattle.dl_hub.proofs.Following.{one_of}
 use Rattle.dl_world_calls.proofs.Acts.{on_ok}
 use Rattle.dl_core.specs.Follows.{Run}
 use Rattle.dl_core.specs.State.{Core}
@@ -45,7 +45,7 @@ returns-clause-does g c =
     (λ (takes : (run : Run) (done : List Mark) → IsBefore run done mid → IsAfter run done new).
     does_request c.args.client c.args.frame serves.answer old mid new told told_now
     (has_served c.args.client c.args.frame ready pushed old mid new c.prepare.new.self told told_now c.prepare.new.journal.events serves c.prepare.ensures.unchanged names.0 names.1
-    (one_of c.prepare.ensures.events) (ap (λ (core : Core). core.trace) c.request.ensures.rest) refl refl refl refl refl takes c.deliver.ensures.trace)
+    (some_is c.prepare.ensures.events) (ap (λ (core : Core). core.trace) c.request.ensures.rest) refl refl refl refl refl takes c.deliver.ensures.trace)
     ready.want pushed (wanted_by c.args.frame ready old is_ready names.1) serves.acts c.push_injection-pushed.ensures)
     c.deliver.ensures.takes
 

@@ -9,7 +9,6 @@ pub invariant_of-self : goal.invariant_of-self
 invariant_of-self g c =
     let into = c.announce_into.ensures in
     record {
-      room = c.self.invariant.room;
       fits = c.self.invariant.fits;
       taken = announced_taken _ _ _ into.announced _ _ into.behind c.self.invariant.taken;
       told = announced_told _ _ _ into.announced _ _ into.behind _ c.self.invariant.told;

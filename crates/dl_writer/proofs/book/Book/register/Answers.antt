@@ -9,7 +9,6 @@ pub invariant_of-self : goal.invariant_of-self
 invariant_of-self g c =
     let refused = refused_so _ _ c.self.inside.writer c.claim_context.new.self (name_fault c.args.ctid c.args.text.now) c.in_err-ctx.ensures.named c.in_err-ctx.ensures.full in
     record {
-      room = c.self.invariant.room;
       fits = c.self.invariant.fits;
       taken = refused_taken _ _ _ refused c.self.invariant.taken;
       told = refused_knows _ _ _ _ refused c.self.invariant.told;
@@ -19,7 +18,6 @@ pub invariant_of-self-2 : goal.invariant_of-self-2
 invariant_of-self-2 g c =
     let joins = c.in_ok-ctx.ensures.joined in
     record {
-      room = c.self.invariant.room;
       fits = c.self.invariant.fits;
       taken = joined_taken _ _ _ _ _ _ _ joins c.self.invariant.taken;
       told = joined_knows _ _ _ _ _ _ _ _ joins c.self.invariant.told;
