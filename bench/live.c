@@ -2,6 +2,7 @@
  *
  *     live channel PORT COUNT SIZE            logs over a channel of this project's daemon, as fast as it takes
  *     live read PORT COUNT                    reads until so many messages of application LIVE came or were told as lost, or none for ten seconds
+ *     live gets PORT COUNT                    as read, where those that were told as lost are logged again: it reads until so many came
  *     live latency PORT USERS COUNT REST      logs single messages over a channel, each REST milliseconds after the one before has come to a client
  *     live slow PORT SECONDS                  reads 10,000 bytes a second
  *
@@ -114,11 +115,12 @@ static int came(int link) {
     return found;
 }
 
-static void read_messages(char **words) {
+/* Whether a call that was told as lost is done with, or made again. */
+static void read_until(char **words, int is_done) {
     int link = dial(words[0]), count = atoi(words[1]), found = 0, more;
     double first = 0, last = 0;
     puts("listens"), fflush(stdout);
-    while (found + told_lost < count && (more = came(link)) >= 0) {
+    while (found + (is_done ? told_lost : 0) < count && (more = came(link)) >= 0) {
         if (more && !found)
             first = now();
         if (more)
@@ -127,6 +129,10 @@ static void read_messages(char **words) {
     }
     printf("%d %ld %.4f\n", found, told_lost, last - first);
 }
+
+static void read_messages(char **words) { read_until(words, 1); }
+
+static void get_messages(char **words) { read_until(words, 0); }
 
 static int compare(const void *one, const void *other) { return (*(double *)one > *(double *)other) - (*(double *)one < *(double *)other); }
 
@@ -256,6 +262,7 @@ struct job {
 static const struct job jobs[] = {
     {"channel", 3, log_over_channel},
     {"read", 2, read_messages},
+    {"gets", 2, get_messages},
     {"latency", 4, measure_channel},
     {"slow", 2, read_slowly},
 #ifdef LIBDLT

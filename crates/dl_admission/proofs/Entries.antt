@@ -28,7 +28,7 @@ use Rattle.dl_core.specs.State.{Core}
 use Rattle.dl_core.specs.Admission.{GivesApid, GivesFrame, GivesFrames, log_event, lost_frames, more_noted}
 use Rattle.dl_core.specs.Follows.{Run, source_of}
 use Rattle.dl_core.specs.Noting.{NotesLog, NotesLogs, NotesLost, NotesMessage}
-use Rattle.dl_core.specs.Storing.{StoresEach, StoresIn}
+use Rattle.dl_trace.specs.Written.{StoresEach, StoresIn}
 use Rattle.dl_well_formed.proofs.InTurn.{log_in_turn, lost_in_turn, user_in_turn}
 use Rattle.dl_admission.specs.Admission.{Admits, AreNoted, Entry, Forwards, Logs, Tells, Uses, call_entry, loss_entries, message_entry}
 use Rattle.dl_admission.specs.Part.{Part}

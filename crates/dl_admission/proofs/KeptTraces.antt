@@ -9,7 +9,7 @@ use Rattle.dl_outside.specs.Outside.{HasRisen}
 use Rattle.dl_outside.specs.Told.{FolderTold}
 use Rattle.dl_trace.specs.Stands.{ChangesTraceFiles}
 use Rattle.dl_trace.specs.State.{Trace}
-use Rattle.dl_core.specs.Storing.{ChangesTraceAlone, StoresEach, StoresIn, StoresTill}
+use Rattle.dl_trace.specs.Written.{ChangesTraceAlone, StoresEach, StoresIn, StoresTill}
 use Rattle.dl_admission.specs.Kept.{KeepsTrace, end_of}
 use Rattle.dl_trace.proofs.Joined.{unchanged}
 

@@ -6,7 +6,7 @@ use Rattle.dl_bytes.specs.declared.outcome.TraceEnd.TheVariants.{Failed}
 use Rattle.dl_outside.specs.Outside.{HasRisen}
 use Rattle.dl_outside.specs.Told.{FolderTold}
 use Rattle.dl_trace.specs.State.{Trace}
-use Rattle.dl_core.specs.Storing.{ChangesTraceAlone}
+use Rattle.dl_trace.specs.Written.{ChangesTraceAlone}
 
 -- why nothing more is stored, where a trace is kept and that is so
 abbrev pub end_of : Option Trace → Option TraceEnd

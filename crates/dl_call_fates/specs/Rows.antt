@@ -13,6 +13,7 @@ use Rattle.dl_model.specs.Frames.{FrameSource}
 use Rattle.dl_model.specs.Journal.{is_connect}
 use Rattle.dl_model.specs.Setting.{Setting}
 use Rattle.dl_model.specs.TraceFiles.{StoredFile, trace_name}
+use Rattle.dl_left.specs.declared.batch.Sources.{Sources}
 use Rattle.dl_model.specs.WholeAccounts.{record_named, source_of_records}
 use Rattle.dl_promises.specs.Fates.{Fate, Filtered, RingFull, InRing, InStream, InBacklog, BufferFull, ForOthers, what_became_of}
 use Rattle.dl_call_lines.specs.declared.call.CallAt.{CallAt}
@@ -159,3 +160,7 @@ abbrev pub rows_of_run : Setting → List StoredFile → (buffer : ℕ) → List
 rows_of_run setting stood buffer records events specs claims calls =
     let source = source_of_records setting records specs in
     rows_of source buffer records events specs (more_words setting stood source events claims) calls
+
+-- the same by the sources of a run
+abbrev pub rows_by : Setting → List StoredFile → (buffer : ℕ) → Sources → List Event → List ClaimAt → List CallAt → List ℕ
+rows_by setting stood buffer sources events claims calls = rows_of_run setting stood buffer sources.records.now events sources.specs.now claims calls

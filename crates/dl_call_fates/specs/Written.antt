@@ -66,3 +66,7 @@ TellWhole source buffer events fates = TellsWhole source buffer fates.client eve
 abbrev pub IsRotating : Setting → List StoredFile → List ℕ → Option Rotation → Type 0
 IsRotating setting stood directory None = setting.directory ≡ []
 IsRotating setting stood directory (Some rotation) = (0 < length setting.directory) × (setting.directory ≡ directory) × IsOf setting stood rotation
+
+-- so it is said of each setting of this control unit that does, and of the files that stood before
+abbrev pub InEach : List ℕ → List ℕ → Option Rotation → (Setting → List StoredFile → Type 0) → Type 0
+InEach ecu directory rotation Said = (setting : Setting) (stood : List StoredFile) → setting.ecu ≡ ecu → IsRotating setting stood directory rotation → Said setting stood

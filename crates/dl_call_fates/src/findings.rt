@@ -1,6 +1,6 @@
 //! What became of the calls of a journal, for every client that came.
 
-ghost use Rattle.std.specs.Prelude.{◌≡◌, ◌+◌, ◌++◌, ◌<◌, ◌^◌, ℕ, true, List, IfOk, OnOk, count_by, map};
+ghost use Rattle.std.specs.Prelude.{◌≡◌, ◌+◌, ◌++◌, ◌<◌, ◌^◌, ℕ, List, IfOk, OnOk, count_by, map};
 ghost use Rattle.std.specs.List.{AllByRecursion, range_with_len};
 ghost use Rattle.dl_model.specs.Accounts.{AreNumbered};
 ghost use Rattle.dl_model.specs.Journal.{is_connect};
@@ -10,8 +10,8 @@ ghost use Rattle.dl_model.specs.TraceFiles.{StoredFile};
 ghost use Rattle.dl_model.specs.WholeAccounts.{records_by, source_of_records};
 ghost use Rattle.dl_left.specs.Clients.{ComeAndGo};
 ghost use Rattle.dl_left.specs.Losses.{told};
-ghost use Rattle.dl_call_fates.specs.Rows.{rows_of_run, storage_words};
-ghost use Rattle.dl_call_fates.specs.Written.{IsRotating, TellWhole, storage_by};
+ghost use Rattle.dl_call_fates.specs.Rows.{rows_by, storage_words};
+ghost use Rattle.dl_call_fates.specs.Written.{InEach, IsRotating, TellWhole, storage_by};
 
 use crate::claims::slots_claimed;
 use crate::fates::{Fates, find_fates};
@@ -116,9 +116,8 @@ pub fn push_findings(
 ) -> Result<(), OutOfMemory>
     requires numbered { (number : ℕ) → AreNumbered (records_by number sources.now.records.now) }
     requires clients { ComeAndGo events.now }
-    ensures { (setting : Setting) (stood : List StoredFile) → setting.ecu ≡ sources.now.ecu → IsRotating setting stood directory.now rotation
-        → OnOk result (text.new.items ≡ text.old.items
-        ++ (let s = sources.now in rows_of_run setting stood buffer s.records.now events.now s.specs.now claims.now calls.now)) }
+    ensures { InEach sources.now.ecu directory.now rotation (λ setting stood.
+        OnOk result (text.new.items ≡ text.old.items ++ rows_by setting stood buffer sources.now events.now claims.now calls.now)) }
 {
     if told_losses(events)? >= 1 << 63 {
         return Err(OutOfMemory);

@@ -29,13 +29,13 @@ pub fn hear<J: Journal, L: Link, F: Folder>(
     gathered: &mut Gathered,
     channel: u16,
     link: &mut L,
-    moment: Moment,
+    at: Moment,
     folder: &mut F,
 ) -> Option<ChannelEnd>
     requires none { gathered.old ≡ [] }
     requires settled { owed_change core.old.registry ≡ None }
     requires few { core.old.hub.admitted + 4096 ≤ admitted_limit }
-    ensures turn { let s = seen L.told J.events F.told in IsTurn channel moment result
+    ensures turn { let s = seen L.told J.events F.told in IsTurn channel at result
         (s link.old inbox.old core.old outboxes.old journal.old folder.old) (s link.new inbox.new core.new outboxes.new journal.new folder.new) }
     ensures stays { result ≡ None → Stays (L.told link.old) (L.told link.new) }
     ensures settled { owed_change core.new.registry ≡ None }
@@ -48,7 +48,7 @@ pub fn hear<J: Journal, L: Link, F: Folder>(
         Gave::Bytes(count) => {
             let piece = &buffer[..count];
             let served = serve_each(
-                core, outboxes, journal, inbox, gathered, channel, piece, moment, folder,
+                core, outboxes, journal, inbox, gathered, channel, piece, at, folder,
             );
             gathered.clear();
             match served {

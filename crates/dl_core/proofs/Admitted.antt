@@ -19,7 +19,7 @@ use Rattle.dl_trace.specs.Stands.{ChangesTraceFiles}
 use Rattle.dl_trace.proofs.Joined.{changes_later, unchanged}
 use Rattle.dl_core.specs.Admission.{Admits, lost_frames}
 use Rattle.dl_core.specs.Noting.{TakesIn}
-use Rattle.dl_core.specs.Storing.{StoresTill, StoresIn, StoresEach, ChangesTraceAlone}
+use Rattle.dl_trace.specs.Written.{StoresTill, StoresIn, StoresEach, ChangesTraceAlone}
 
 -- ---- the hub
 

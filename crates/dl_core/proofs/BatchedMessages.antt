@@ -20,7 +20,7 @@ use Rattle.dl_registry.proofs.Following.{after_event}
 use Rattle.dl_core.specs.Admission.{Admits, IsLog, message_frames, user_event}
 use Rattle.dl_core.specs.Follows.{Adds, HoldsTrace, IsAfter, source_of, stored_by}
 use Rattle.dl_core.specs.State.{Core}
-use Rattle.dl_core.specs.Storing.{StoresIn}
+use Rattle.dl_trace.specs.Written.{StoresIn}
 use Rattle.dl_core.proofs.Journals.{IsSameCore, events_follow}
 use Rattle.dl_core.proofs.Tracing.{trace_follows}
 

@@ -14,9 +14,9 @@ use Rattle.dl_model.specs.Frames.{stored}
 use Rattle.dl_model.specs.Traffic.{Admitted}
 use Rattle.dl_hub.specs.State.{Hub, IsSameHub, EachHasRoom, is_open, replies_of}
 use Rattle.dl_hub.specs.Follows.{Adds}
-use Rattle.dl_core.specs.declared.storing.TraceWriter.{TraceWriter}
+use Rattle.dl_trace.specs.declared.writer.TraceWriter.{TraceWriter}
 use Rattle.dl_core.specs.Admission.{Admits, AddsEach, log_event, more_noted}
-use Rattle.dl_core.specs.Writer.{trace_in}
+use Rattle.dl_trace.specs.Writer.{trace_in}
 use Rattle.dl_core.proofs.Admitted.{admits-one, same_hub-later}
 
 -- a call's frame as it is stored

@@ -17,9 +17,9 @@ use Rattle.dl_model.specs.Frames.{stored, user_frames}
 use Rattle.dl_model.specs.Traffic.{Admitted}
 use Rattle.dl_hub.specs.State.{Hub, IsSameHub, EachHasRoom, is_open, replies_of}
 use Rattle.dl_hub.specs.Follows.{Adds}
-use Rattle.dl_core.specs.declared.storing.TraceWriter.{TraceWriter}
+use Rattle.dl_trace.specs.declared.writer.TraceWriter.{TraceWriter}
 use Rattle.dl_core.specs.Admission.{Admits, AddsEach, IsLog, message_frames, more_noted, user_event}
-use Rattle.dl_core.specs.Writer.{trace_in}
+use Rattle.dl_trace.specs.Writer.{trace_in}
 use Rattle.dl_core.proofs.Admitted.{admits-none, admits-one, less_room, same_hub-later}
 use Rattle.dl_core.proofs.Gathered.{batch-more, each-more}
 

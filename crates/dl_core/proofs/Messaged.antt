@@ -22,7 +22,7 @@ use Rattle.dl_core.specs.Admission.{Admits, has_frames}
 use Rattle.dl_core.specs.Noting.{AdmitsFrames, TakesIn}
 use Rattle.dl_core.proofs.Admitted.{takes-none}
 use Rattle.dl_core.specs.Follows.{source_of, stored_by, Adds}
-use Rattle.dl_core.specs.Storing.{StoresEach}
+use Rattle.dl_trace.specs.Written.{StoresEach}
 use Rattle.dl_core.proofs.Tracing.{each_follows}
 use Rattle.dl_core.proofs.Journals.{IsSameCore, event_follows}
 

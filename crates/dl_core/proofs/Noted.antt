@@ -26,7 +26,7 @@ use Rattle.dl_hub.specs.Follows as hub
 use Rattle.dl_core.specs.State.{Core}
 use Rattle.dl_core.specs.Follows.{Run, source_of, stored_by, IsAfter, HoldsTrace, Adds, AddsAlone}
 use Rattle.dl_core.specs.Admission.{log_event, lost_frames, AddsEach, Admits, GivesFrame, GivesFrames, GivesApid}
-use Rattle.dl_core.specs.Storing.{StoresIn, StoresEach}
+use Rattle.dl_trace.specs.Written.{StoresIn, StoresEach}
 use Rattle.dl_core.proofs.Tracing.{trace_follows, each_follows}
 use Rattle.dl_core.proofs.Journals.{IsSameCore, events_follow, event_follows, quiet_event}
 

@@ -2,9 +2,9 @@
 use Rattle.std.proofs.Common.{ℕ, Bool, List, Option}
 use Rattle.dl_registry.specs.Kept.{Kept}
 use Rattle.dl_hub.specs.State.{Hub}
-use Rattle.dl_core.specs.declared.storing.TraceWriter.{TraceWriter}
+use Rattle.dl_trace.specs.declared.writer.TraceWriter.{TraceWriter}
 use Rattle.dl_core.specs.State.{Core}
-use Rattle.dl_core.specs.Writer.{trace_in}
+use Rattle.dl_trace.specs.Writer.{trace_in}
 
 -- the core of these parts
 abbrev pub core_of : List ℕ → ℕ → Bool → Kept → Hub → Option TraceWriter → Core

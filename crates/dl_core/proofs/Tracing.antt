@@ -14,7 +14,7 @@ use Rattle.dl_trace.specs.Storing.{IsStored, Stops}
 use Rattle.dl_trace.proofs.Spent.{spent_later}
 use Rattle.dl_trace.proofs.Joined.{frames_in-append}
 use Rattle.dl_core.specs.Follows.{Run, HoldsFiles, IsTraceAfter, files_with}
-use Rattle.dl_core.specs.Storing.{StoresTill, Stores, StoresIn, StoresEach}
+use Rattle.dl_trace.specs.Written.{StoresTill, Stores, StoresIn, StoresEach}
 
 -- ---- pieces are the frames
 

@@ -1,11 +1,9 @@
 pub mod State
 pub mod Settings
 pub mod Follows
-pub mod Storing
 pub mod Waiting
 pub mod Registering
 pub mod Admission
 pub mod Noting
-pub mod Writer
 pub mod Closing
 pub mod Serving

@@ -14,7 +14,7 @@ use Rattle.dl_trace.specs.State.{Trace}
 use Rattle.dl_core.specs.Admission.{Admits, AddsEach, GivesApid, GivesFrame, GivesFrames, log_event, lost_frames, message_frames, user_event}
 use Rattle.dl_core.specs.Follows.{Run, Adds}
 use Rattle.dl_core.specs.State.{Core}
-use Rattle.dl_core.specs.Storing.{ChangesTraceAlone, StoresEach, StoresIn}
+use Rattle.dl_trace.specs.Written.{ChangesTraceAlone, StoresEach, StoresIn}
 
 -- These frames were admitted, and stored one after the other; who is open stays, and nobody was put a reply.
 pub record TakesIn (ecu : List ℕ) (moment : Moment) (frames : List (List ℕ)) (hub hub_now : Hub) (kept kept_now : Option Trace) (folder folder_now : FolderTold) : Type 0 where
@@ -74,3 +74,17 @@ NotesMessages moment channel msgs old =
 abbrev pub NotesClaim : Moment → Claimed → Core → Core → Option (List Event) → Option (List Event) → Type 0
 NotesClaim moment claim old new past present =
     (folder : FolderTold) → Notes (event.Claim claim moment ∷ []) (λ run. Unit {0}) 0 (StoresEach []) old new folder folder past present
+
+-- ---- what a core stands for afterwards, and what its folder holds, of each of these calls alone
+
+abbrev pub AddsCall : Moment → Item → Core → Core → FolderTold → FolderTold → Type 0
+AddsCall moment item old new folder folder_now = Adds (log_event moment item ∷ []) (GivesFrame item) old new folder folder_now
+
+abbrev pub AddsCalls : Moment → List Item → Core → Core → FolderTold → FolderTold → Type 0
+AddsCalls moment items old new folder folder_now = Adds (map (log_event moment) items) (GivesFrames items) old new folder folder_now
+
+abbrev pub AddsMessage : Moment → ℕ → UserMsg → Core → Core → FolderTold → FolderTold → Type 0
+AddsMessage moment channel msg old new folder folder_now = Adds (user_event moment channel msg ∷ []) (λ run. Unit {0}) old new folder folder_now
+
+abbrev pub AddsMessages : Moment → ℕ → List UserMsg → Core → Core → FolderTold → FolderTold → Type 0
+AddsMessages moment channel msgs old new folder folder_now = Adds (map (user_event moment channel) msgs) (λ run. Unit {0}) old new folder folder_now

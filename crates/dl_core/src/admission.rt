@@ -12,11 +12,11 @@ ghost use Rattle.dl_core.specs.Noting.{NotesLog, NotesLogs, NotesLost};
 
 use crate::admitting::{admit, admit_each, log_len, logged, lost_len, report};
 use crate::daemon::Core;
-use crate::storing::{begin_batch, store_batch};
 use dl_bytes::{ADMITTED_LIMIT, Id, Item, Moment};
 use dl_events::{Event, Journal};
 use dl_message::write_log_frame;
 use dl_outside::Folder;
+use dl_trace::{begin_batch, store_batch};
 
 impl Core {
     /// Notes a log call that was taken from its ring, and admits its frame.

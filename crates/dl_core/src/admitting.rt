@@ -1,8 +1,7 @@
 //! Frames as they are admitted: each goes to the clients or into the backlog, and into the trace.
 
-ghost use Rattle.std.specs.Prelude.{◌≡◌, ◌≤◌, ◌<◌, ◌+◌, ◌++◌, ◌^◌, ◌-◌, ◌∷◌, [], ℕ, List, IfSome, length, map, option_map};
+ghost use Rattle.std.specs.Prelude.{◌≡◌, ◌≤◌, ◌<◌, ◌+◌, ◌++◌, ◌^◌, ◌-◌, ◌∷◌, [], ℕ, List, length, map};
 ghost use Rattle.std.specs.List.{AllByRecursion};
-ghost use Rattle.dl_events.specs.Journal.{one_more};
 ghost use Rattle.dl_message.specs.Frames.{log_message};
 ghost use Rattle.dl_model.specs.Backlog.{size_of};
 ghost use Rattle.dl_model.specs.Frames.{stored, user_frames};
@@ -12,16 +11,16 @@ ghost use Rattle.dl_hub.specs.State.{EachHasRoom, IsSameHub, is_open, replies_of
 ghost use Rattle.dl_hub.specs.Follows.{Adds};
 ghost use Rattle.dl_core.specs.Admission.{log_event, lost_frames, message_frames, more_noted, user_event, Admits, AddsEach, IsLog};
 ghost use Rattle.dl_core.specs.Noting.{TakesIn};
-ghost use Rattle.dl_core.specs.Storing.{StoresIn, ChangesTraceAlone};
-ghost use Rattle.dl_core.specs.Writer.{HasBatch, trace_in};
+ghost use Rattle.dl_trace.specs.Written.{StoresIn, ChangesTraceAlone};
+ghost use Rattle.dl_trace.specs.Writer.{HasBatch, trace_in};
 
-use crate::storing::{TraceWriter, add_to_batch, store};
 use circular_buffer::HeapCircularBuffer;
 use dl_bytes::{Frame, Id, Item, Moment, UserMsg};
 use dl_events::{Event, Journal};
 use dl_hub::Hub;
 use dl_message::{overflow_frame, write_log_frame};
 use dl_outside::Folder;
+use dl_trace::{TraceWriter, add_to_batch, store};
 
 /// The most that one overflow record counts.
 pub const COUNTER_LIMIT: u64 = u32::MAX as u64;

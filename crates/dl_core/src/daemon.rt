@@ -3,17 +3,15 @@
 ghost use Rattle.std.specs.Prelude.{◌≡◌, ◌≤◌, [], IfOk, IfSome, IsSome, Some, option_map};
 ghost use Rattle.dl_bytes.specs.Limits.{last_version};
 ghost use Rattle.dl_bytes.specs.declared.conf.Conf.{Conf};
-ghost use Rattle.dl_outside.specs.Folder.{Files};
 ghost use Rattle.dl_trace.specs.Made.{IsMade};
 ghost use Rattle.dl_core.specs.Follows.{Begins, BeginsAnew};
 ghost use Rattle.dl_core.specs.Settings.{begun, begun_for, setting_for, setting_of};
-ghost use Rattle.dl_core.specs.Writer.{trace_in};
+ghost use Rattle.dl_trace.specs.Writer.{trace_in};
 
-use crate::storing::TraceWriter;
 use dl_bytes::{CLIENT_LIMIT, Conf, Frame, Id, Level, OutOfMemory, Stored, TraceState};
 use dl_hub::Hub;
 use dl_registry::Registry;
-use dl_trace::Trace;
+use dl_trace::{Trace, TraceWriter};
 use std::alloc::Global;
 use std::marker::Model;
 
@@ -33,7 +31,7 @@ pub struct Core {
 
 impl Model for Core {
     ghost use Rattle.dl_core.specs.State as state;
-    ghost use Rattle.dl_core.specs.Writer.{trace_in};
+    ghost use Rattle.dl_trace.specs.Writer.{trace_in};
 
     ghost Value = { state.Core };
 

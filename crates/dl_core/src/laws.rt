@@ -1,6 +1,6 @@
 //! Laws of the core, over whole journals.
 
-ghost use Rattle.std.specs.Prelude.{◌≡◌, ◌≤◌, ◌+◌, ◌/◌, ◌%◌, ◌++◌, ◌∷◌, ℕ, List, [], count_by, map, min, None, Option, Some, IsSomeAnd, length};
+ghost use Rattle.std.specs.Prelude.{◌≡◌, ◌≤◌, ◌+◌, ◌/◌, ◌%◌, ◌++◌, ◌∷◌, ℕ, List, [], count_by, map, min, None, Some, IsSomeAnd, length};
 ghost use Rattle.dl_events.specs.declared.event.Event.{Event};
 ghost use Rattle.dl_model.specs.Journal.{is_request_of, owed};
 ghost use Rattle.dl_outside.specs.Told.{FolderTold};
@@ -12,8 +12,9 @@ ghost use Rattle.dl_trace.specs.State.{Trace, listed};
 ghost use Rattle.dl_bytes.specs.declared.item.Item.{Item};
 ghost use Rattle.dl_bytes.specs.declared.moment.Moment.{Moment};
 ghost use Rattle.dl_bytes.specs.declared.user.UserMsg.{UserMsg};
-ghost use Rattle.dl_core.specs.Admission.{log_event, lost_frames, user_event, GivesFrame, GivesFrames};
-ghost use Rattle.dl_core.specs.Follows.{Run, Adds, HoldsTrace, IsAfter, files_with, stored_by};
+ghost use Rattle.dl_core.specs.Admission.{lost_frames};
+ghost use Rattle.dl_core.specs.Follows.{Run, HoldsTrace, IsAfter, files_with, stored_by};
+ghost use Rattle.dl_core.specs.Noting.{AddsCall, AddsCalls, AddsMessage, AddsMessages};
 ghost use Rattle.dl_core.specs.State.{Core};
 
 /// While no event came, the folder holds the trace files that stood before.
@@ -40,18 +41,16 @@ pub fn what_links_take()
 /// all of them together, as `log_batch` does.
 pub fn a_batch_is_its_calls()
     ensures { (moment : Moment) (items : List Item) (item : Item) (old between new : Core) (folder folder_between folder_now : FolderTold) →
-        Adds (map (log_event moment) items) (GivesFrames items) old between folder folder_between
-        → Adds (log_event moment item ∷ []) (GivesFrame item) between new folder_between folder_now
-        → Adds (map (log_event moment) (items ++ item ∷ [])) (GivesFrames (items ++ item ∷ [])) old new folder folder_now }
+        AddsCalls moment items old between folder folder_between → AddsCall moment item between new folder_between folder_now
+        → AddsCalls moment (items ++ item ∷ []) old new folder folder_now }
 {}
 
 /// A batch of log messages is its messages one after the other: what makes the events of some messages, and then that of one more, makes
 /// those of all of them together, as `user_batch` does.
 pub fn a_batch_is_its_messages()
     ensures { (moment : Moment) (channel : ℕ) (msgs : List UserMsg) (msg : UserMsg) (old between new : Core) (folder folder_between folder_now : FolderTold) →
-        Adds (map (user_event moment channel) msgs) (λ run. Unit {0}) old between folder folder_between
-        → Adds (user_event moment channel msg ∷ []) (λ run. Unit {0}) between new folder_between folder_now
-        → Adds (map (user_event moment channel) (msgs ++ msg ∷ [])) (λ run. Unit {0}) old new folder folder_now }
+        AddsMessages moment channel msgs old between folder folder_between → AddsMessage moment channel msg between new folder_between folder_now
+        → AddsMessages moment channel (msgs ++ msg ∷ []) old new folder folder_now }
 {}
 
 /// How many records report so many lost calls: one for each 4,294,967,295 of them, and one for the rest.

@@ -14,7 +14,6 @@ pub mod laws;
 mod levels;
 mod messages;
 mod requests;
-mod storing;
 
 pub use daemon::Core;
 pub use requests::{Ready, STORED_NAME};

@@ -18,12 +18,12 @@ ghost use Rattle.dl_core.specs.Waiting.{changes_by, waiting};
 
 use crate::admitting::{admit, admit_messages, report};
 use crate::daemon::Core;
-use crate::storing::{begin_batch, store_batch};
 use circular_buffer::HeapCircularBuffer;
 use dl_bytes::{Frame, Id, Moment, OutOfMemory, UserMsg};
 use dl_events::{Event, Journal};
 use dl_outside::Folder;
 use dl_registry::RegistryFault;
+use dl_trace::{begin_batch, store_batch};
 
 impl Core {
     /// Notes a user message, which is fit, and admits the frames of a log message or of a report of lost ones. Any other message

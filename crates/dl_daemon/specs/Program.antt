@@ -151,3 +151,7 @@ pub record IsKeeping {L : Type 0} (link_told : L → LinkTold) (said : List (Lis
   pub complete : (asked : Daemon) → daemon_of said ≡ Some asked → IsLawful asked old new → (status ≡ Ok) ⊎ (status ≡ JournalFull) ⊎ (status ≡ OutOfMemory)
   -- the status's line is said, and nothing where all went well
   pub told : Says status err err_now
+
+-- the same, where this is the word for what standard error tells
+abbrev pub Keeps : {L E : Type 0} → (L → LinkTold) → (E → SinkTold) → List (List ℕ) → Outside L → Outside L → E → E → Status → Option (Left L) → Type 0
+Keeps link_told err_told said old new err err_now = IsKeeping link_told said old new (err_told err) (err_told err_now)

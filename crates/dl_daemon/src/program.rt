@@ -4,7 +4,7 @@ ghost use Rattle.std.specs.Prelude.{◌≡◌, IfSome, None, map, string_bytes};
 ghost use Rattle.dl_server.specs.Server.{IsServer};
 ghost use Rattle.dl_trace.specs.Made.{IsMade};
 ghost use Rattle.dl_daemon.specs.Outside.{seen};
-ghost use Rattle.dl_daemon.specs.Program.{Ended, EndsBegun, EndsWith, IsKeeping};
+ghost use Rattle.dl_daemon.specs.Program.{Ended, EndsBegun, EndsWith, Keeps};
 ghost use Rattle.dl_daemon.specs.Status.{status_of};
 
 use crate::beginning::{ask, begin};
@@ -177,8 +177,8 @@ pub fn keep<R: Wait, F: Folder, N: Net, C: Clock, W: Watch, E: Sink>(
 ) -> Outcome<N::L>
 where
     N::L: Drop,
-    ensures { let s = seen F.told N.told in IsKeeping N.L.told (map string_bytes words.now)
-        (s folder.old net.old users.old) (s folder.new net.new users.new) (E.told err.old) (E.told err.new) result.status result.left }
+    ensures { let s = seen F.told N.told in Keeps N.L.told E.told (map string_bytes words.now)
+        (s folder.old net.old users.old) (s folder.new net.new users.new) err.old err.new result.status result.left }
 {
     an_end_is_a_keeping::<N::L>();
     let ended = keep_words(rt, alloc, words, folder, net, users, clock, watch);

@@ -8,7 +8,7 @@ use Rattle.dl_bytes.specs.declared.outcome.TraceEnd.{TraceEnd}
 use Rattle.dl_bytes.specs.declared.outcome.TraceEnd.TheVariants.{Failed, Spent, NoMemory}
 use Rattle.dl_events.specs.declared.event.Event.{Event}
 use Rattle.dl_model.specs.Frames.{stored_of, stored_frames}
-use Rattle.dl_model.specs.TraceFiles.{StoredFile, greatest, segments, trace_files, trace_name}
+use Rattle.dl_model.specs.TraceFiles.{greatest, segments, trace_files, trace_name}
 use Rattle.dl_outside.specs.Folder.{Files}
 use Rattle.dl_outside.specs.Told.{FolderTold}
 use Rattle.dl_trace.specs.State.{IsAfter, Trace}
@@ -17,7 +17,7 @@ use Rattle.dl_trace.specs.Pieces.{frames_in, pieces, pieces_from, pieces_of, roo
 use Rattle.dl_trace.specs.Storing.{IsStored, Leaves, Stops}
 use Rattle.dl_core.specs.Follows.{Run, source_of, stored_by}
 use Rattle.dl_core.specs.State.{Core}
-use Rattle.dl_core.specs.Storing.{StoresEach, StoresIn, StoresTill}
+use Rattle.dl_trace.specs.Written.{StoresEach, StoresIn, StoresTill}
 use Rattle.dl_core.proofs.Journals.{stored-one}
 use Rattle.dl_core.proofs.Requested.{KeepsTraces}
 use Rattle.dl_folders.specs.Standing.{IsCutAt, IsKept, KeepsTrace, Stands, files_with, number_with}

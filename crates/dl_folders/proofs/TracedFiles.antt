@@ -6,7 +6,7 @@ use Rattle.dl_outside.specs.Told.{FolderTold}
 use Rattle.dl_trace.specs.State.{Trace}
 use Rattle.dl_trace.specs.Stands.{ChangesTraceFiles, IsTraceName}
 use Rattle.dl_core.specs.Serving.{stored_name}
-use Rattle.dl_core.specs.Storing.{ChangesTraceAlone}
+use Rattle.dl_trace.specs.Written.{ChangesTraceAlone}
 use Rattle.dl_core.proofs.Requested.{name_length}
 use Rattle.dl_folders.specs.Files.{ChangesOwnFiles, KeepsStored}
 

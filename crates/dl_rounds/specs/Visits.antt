@@ -10,6 +10,7 @@ use Rattle.dl_desk.specs.Told.{PostTold}
 use Rattle.dl_hub.specs.State.{outbox_of}
 use Rattle.dl_core.specs.State.{Core}
 use Rattle.dl_turns.specs.Events.{HasServed}
+use Rattle.dl_turns.specs.Gone.{TellOver}
 use Rattle.dl_turns.specs.State.{side}
 use Rattle.dl_turns.specs.Stopping.{IsWoundUp}
 use Rattle.dl_turns.specs.Turns.{IsPump, IsTurn}
@@ -88,3 +89,10 @@ PumpsAll moved links links_now old new events events_now =
 -- each was closed
 abbrev pub ClosesAll : Type 0 → Clients → Clients → Type 0
 ClosesAll Tells old new = (moved : Bool) × VisitsAll (Closed Tells) moved old new
+
+-- the same by what links tell
+abbrev pub Shuts : {L : Type 0} → (L → LinkTold) → ℕ → Client → Client → Type 0
+Shuts link_told number = Closed (TellOver link_told) number true
+
+abbrev pub HaveShut : {L : Type 0} → (L → LinkTold) → Clients → Clients → Type 0
+HaveShut link_told = ClosesAll (TellOver link_told)

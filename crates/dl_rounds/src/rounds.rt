@@ -3,11 +3,10 @@
 ghost use Rattle.std.specs.Prelude.{◌≡◌, ℕ, None, map};
 ghost use Rattle.dl_desk.specs.Told.{PostTold};
 ghost use Rattle.dl_hub.specs.State.{IsSameHub, outbox_of};
-ghost use Rattle.dl_turns.specs.Gone.{TellOver};
-ghost use Rattle.dl_rounds.specs.Rounds.{seen};
 ghost use Rattle.dl_rounds.specs.Seats.{Seated};
 ghost use Rattle.dl_rounds.specs.Ready.{AreHeard, AreLinked, KeepsRoom};
-ghost use Rattle.dl_rounds.specs.Visits.{ClosesAll, HearsAll, PumpsAll};
+ghost use Rattle.dl_rounds.specs.Rounds.{seated};
+ghost use Rattle.dl_rounds.specs.Visits.{HaveShut, HearsAll, PumpsAll};
 
 use crate::seats::Seats;
 use crate::visits::{close_one, listen_to, pump_to};
@@ -31,8 +30,8 @@ pub fn listen_all<R: Wait, D: Post, J: Journal, L: Link, F: Folder>(
 ) -> bool
     requires linked { AreLinked links.old core.old (J.spare journal.old) }
     requires heard { AreHeard seats.old core.old (D.told desk.old) }
-    ensures visits { let c = seen L.told D.told J.events F.told in HearsAll result
-        (c links.old seats.old.listeners core.old desk.old journal.old folder.old) (c links.new seats.new.listeners core.new desk.new journal.new folder.new) }
+    ensures visits { let c = seated L.told D.told J.events F.told in HearsAll result
+        (c links.old seats.old core.old desk.old journal.old folder.old) (c links.new seats.new core.new desk.new journal.new folder.new) }
     ensures linked { AreLinked links.new core.new (J.spare journal.new) }
     ensures heard { AreHeard seats.new core.new (D.told desk.new) }
     ensures room { KeepsRoom core.old core.new (J.spare journal.old) (J.spare journal.new) }
@@ -88,8 +87,8 @@ pub fn close_all<R: Wait, D: Post, J: Journal, L: Link, F: Folder>(
 )
     requires linked { AreLinked links.old core.old (J.spare journal.old) }
     requires heard { AreHeard seats.old core.old (D.told desk.old) }
-    ensures visits { let c = seen L.told D.told J.events F.told in ClosesAll (TellOver L.told)
-        (c links.old seats.old.listeners core.old desk.old journal.old folder.old) (c links.new seats.new.listeners core.new desk.new journal.new folder.new) }
+    ensures visits { let c = seated L.told D.told J.events F.told in HaveShut L.told
+        (c links.old seats.old core.old desk.old journal.old folder.old) (c links.new seats.new core.new desk.new journal.new folder.new) }
     ensures none { (number : ℕ) → outbox_of core.new.hub number ≡ None }
     ensures linked { AreLinked links.new core.new (J.spare journal.new) }
     ensures heard { AreHeard seats.new core.new (D.told desk.new) }

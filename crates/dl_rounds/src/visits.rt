@@ -1,14 +1,13 @@
 //! One client in its round. Nothing here knows where its link and its listener are kept.
 
-ghost use Rattle.std.specs.Prelude.{◌≡◌, ◌≤◌, ℕ, true, false, IsSome, None};
+ghost use Rattle.std.specs.Prelude.{◌≡◌, ◌≤◌, ℕ, true, IsSome, None};
 ghost use Rattle.dl_bytes.specs.Limits.{message_limit};
 ghost use Rattle.dl_registry.specs.Kept.{owed_change};
 ghost use Rattle.dl_hub.specs.State.{outbox_of};
 ghost use Rattle.dl_turns.specs.Events.{HasServed, IsDeskOf, IsServing};
-ghost use Rattle.dl_turns.specs.Gone.{TellOver};
 ghost use Rattle.dl_rounds.specs.Clients.{seen};
 ghost use Rattle.dl_rounds.specs.Ready.{KeepsRoom};
-ghost use Rattle.dl_rounds.specs.Visits.{Closed, Heard, PumpsTo};
+ghost use Rattle.dl_rounds.specs.Visits.{Heard, PumpsTo, Shuts};
 
 use crate::listener::Listener;
 use dl_core::Core;
@@ -106,7 +105,7 @@ pub fn close_one<R: Wait, D: Post, J: Journal, L: Link, F: Folder>(
     requires limit { listener.old.cutter.limit ≡ message_limit }
     requires serving { IsServing client listener.old.served core.old (D.told desk.old) }
     requires spare { 1 ≤ J.spare journal.old }
-    ensures closed { let c = seen L.told D.told J.events F.told in Closed (TellOver L.told) client true
+    ensures closed { let c = seen L.told D.told J.events F.told in Shuts L.told client
         (c link.old listener.old core.old desk.old journal.old folder.old) (c link.new listener.new core.new desk.new journal.new folder.new) }
     ensures limit { listener.new.cutter.limit ≡ message_limit }
     ensures settled { owed_change core.new.registry ≡ None }

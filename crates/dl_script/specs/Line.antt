@@ -1,5 +1,5 @@
 -- What a line says: its word chooses what its fields are.
-use Rattle.std.specs.Prelude.{ℕ, Bool, false, ◌==◌, ◌||◌, List, [], ◌∷◌, length, codes, Option, Some, None, option_map, Result, Ok, Err, if◌then◌else◌}
+use Rattle.std.specs.Prelude.{ℕ, Bool, false, ◌==◌, ◌||◌, List, [], ◌∷◌, length, Option, Some, option_map, Result, Ok, Err, if◌then◌else◌}
 use Rattle.std.specs.List.{list_all}
 use Rattle.std.specs.Option.{ok_or}
 use Rattle.std.specs.Str.{is_utf8}
@@ -12,17 +12,17 @@ use Rattle.dl_text.specs.Lines.{is_blank}
 use Rattle.dl_script_fields.specs.Fields.{worded, fields_of}
 use Rattle.dl_script_fields.specs.Kind.{◌>>=◌}
 use Rattle.dl_script_fields.specs.Line.{app_line, context_line, claim_line, id_line, call_line, clock_line, writer_line, levels_line, bare_line, client_line, bytes_line, user_line, leave_line, line_in}
-use Rattle.dl_script_fields.specs.Value.{is_word}
+use Rattle.dl_script_fields.specs.Word.{step_word, scenario_word}
 use Rattle.dl_script_fields.specs.declared.kind.ScriptKind.{ScriptKind}
 use Rattle.dl_script_fields.specs.declared.kind.ScriptKind.TheVariants as wrong
 use Rattle.dl_script_fields.specs.declared.line.Call.{Call}
 use Rattle.dl_script.specs.declared.claim.Claim.{Claim}
 use Rattle.dl_script.specs.declared.claim.Claim.TheVariants as claim
 use Rattle.dl_script.specs.declared.read.Read.{Read}
-use Rattle.dl_script.specs.declared.word.StepWord.{StepWord}
-use Rattle.dl_script.specs.declared.word.StepWord.TheVariants as word
-use Rattle.dl_script.specs.declared.word.ScenarioWord.{ScenarioWord}
-use Rattle.dl_script.specs.declared.word.ScenarioWord.TheVariants as scene
+use Rattle.dl_script_fields.specs.declared.word.StepWord.{StepWord}
+use Rattle.dl_script_fields.specs.declared.word.StepWord.TheVariants as word
+use Rattle.dl_script_fields.specs.declared.word.ScenarioWord.{ScenarioWord}
+use Rattle.dl_script_fields.specs.declared.word.ScenarioWord.TheVariants as scene
 
 -- ---- a line by its word
 
@@ -72,45 +72,6 @@ scenario_by_word scene.Calls fields = call_line 1 1000000 fields >>= λ call. Ok
 scenario_by_word scene.Client fields = bare_line fields >>= λ done. Ok (says claim.Client scenario.Client)
 scenario_by_word scene.Send fields = bytes_line fields >>= λ sent. Ok (says (claim.Send sent.0 (length sent.1)) (scenario.Send sent.0 sent.1))
 scenario_by_word scene.Leave fields = leave_line fields >>= λ left. Ok (says (claim.Leave left.0) (scenario.Leave left.0 left.1))
-
--- ---- the words
-
-abbrev pub step_word : List ℕ → Option StepWord
-step_word field =
-    if is_word field (codes "app") then Some word.App
-    else if is_word field (codes "context") then Some word.Context
-    else if is_word field (codes "writer") then Some word.Writer
-    else if is_word field (codes "clock") then Some word.Clock
-    else if is_word field (codes "load") then Some word.Load
-    else if is_word field (codes "push") then Some word.Push
-    else if is_word field (codes "count") then Some word.Count
-    else if is_word field (codes "call") then Some word.Call
-    else if is_word field (codes "log") then Some word.Log
-    else if is_word field (codes "claim") then Some word.Claim
-    else if is_word field (codes "announce") then Some word.Announce
-    else if is_word field (codes "register") then Some word.Register
-    else if is_word field (codes "take") then Some word.Take
-    else if is_word field (codes "losses") then Some word.Losses
-    else if is_word field (codes "levels") then Some word.Levels
-    else if is_word field (codes "level") then Some word.Level
-    else if is_word field (codes "connect") then Some word.Connect
-    else if is_word field (codes "bytes") then Some word.Bytes
-    else if is_word field (codes "close") then Some word.Close
-    else if is_word field (codes "user") then Some word.User
-    else if is_word field (codes "inject") then Some word.Inject
-    else None
-
-abbrev pub scenario_word : List ℕ → Option ScenarioWord
-scenario_word field =
-    if is_word field (codes "app") then Some scene.App
-    else if is_word field (codes "context") then Some scene.Context
-    else if is_word field (codes "writer") then Some scene.Writer
-    else if is_word field (codes "register") then Some scene.Register
-    else if is_word field (codes "calls") then Some scene.Calls
-    else if is_word field (codes "client") then Some scene.Client
-    else if is_word field (codes "send") then Some scene.Send
-    else if is_word field (codes "leave") then Some scene.Leave
-    else None
 
 -- ---- a line
 

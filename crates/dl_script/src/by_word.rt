@@ -4,18 +4,19 @@ ghost use Rattle.std.specs.Prelude.{◌≡◌};
 ghost use Rattle.dl_script_lines.specs.declared.step.Step.TheVariants as step;
 ghost use Rattle.dl_script_fields.specs.Fields.{texts};
 ghost use Rattle.dl_script_fields.specs.Kind.{Says};
-ghost use Rattle.dl_script.specs.Line.{called, step_by_word, step_word, scenario_word, scenario_by_word, line_of_text, step_of, scenario_line_of};
-ghost use Rattle.dl_script.specs.declared.word.StepWord.TheVariants as word;
-ghost use Rattle.dl_script.specs.declared.word.ScenarioWord.TheVariants as scene;
+ghost use Rattle.dl_script_fields.specs.Word.{step_word, scenario_word};
+ghost use Rattle.dl_script.specs.Line.{called, step_by_word, scenario_by_word, line_of_text, step_of, scenario_line_of};
+ghost use Rattle.dl_script_fields.specs.declared.word.StepWord.TheVariants as word;
+ghost use Rattle.dl_script_fields.specs.declared.word.ScenarioWord.TheVariants as scene;
 
 use crate::claim::Claim;
 use crate::read::{Read, all_calls, one_call, says};
 use crate::scratch::Scratch;
-use crate::word::{ScenarioWord, StepWord, scenario_word, step_word};
 use dl_bytes::Payload;
 use dl_script_fields::{
-    Call, LineError, ScriptKind, app, app_id, bare, claim, client_bytes, client_number, clock,
-    context, cut_into, leave, levels, log_call, user, worded, writer_number,
+    Call, LineError, ScenarioWord, ScriptKind, StepWord, app, app_id, bare, claim, client_bytes,
+    client_number, clock, context, cut_into, leave, levels, log_call, scenario_word, step_word,
+    user, worded, writer_number,
 };
 use dl_script_lines::{ScenarioLine, Step};
 use std::alloc::Global;

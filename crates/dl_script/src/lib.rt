@@ -9,7 +9,6 @@ pub mod laws;
 mod read;
 mod scratch;
 mod script;
-mod word;
 
 pub use dl_script_fields::ScriptKind;
 pub use error::ScriptError;

@@ -7,3 +7,4 @@ pub mod Spelling
 pub mod Added
 pub mod Line
 pub mod Spells
+pub mod Word

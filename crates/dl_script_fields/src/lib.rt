@@ -7,6 +7,7 @@ mod kind;
 pub mod laws;
 mod line;
 mod value;
+mod word;
 
 pub use cut::{cut_into, fields, worded};
 pub use kind::{LineError, ScriptKind};
@@ -14,3 +15,4 @@ pub use line::{
     Call, app, app_id, bare, claim, client_bytes, client_number, clock, context, leave, levels,
     log_call, user, writer_number,
 };
+pub use word::{ScenarioWord, StepWord, scenario_word, step_word};

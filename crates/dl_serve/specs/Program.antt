@@ -170,3 +170,7 @@ pub record HasServed {L : Type 0} (link_told : L → LinkTold) (said : List (Lis
   pub closed : Option (Closed L)
   pub serving : IsServing link_told said old new err err_now status closed
   pub back : HandsBack status closed served
+
+-- the same, where this is the word for what standard error tells
+abbrev pub Serves : {L E : Type 0} → (L → LinkTold) → (E → SinkTold) → List (List ℕ) → Told L → Told L → E → E → Served L → Type 0
+Serves link_told err_told said old new err err_now = HasServed link_told said old new (err_told err) (err_told err_now)

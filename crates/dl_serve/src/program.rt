@@ -4,7 +4,7 @@ ghost use Rattle.std.specs.Prelude.{◌≡◌, ◌≤◌, IfSome, None, map, str
 ghost use Rattle.dl_bytes.specs.Limits.{client_limit};
 ghost use Rattle.dl_server.specs.Server.{IsServer};
 ghost use Rattle.dl_trace.specs.Made.{IsMade};
-ghost use Rattle.dl_serve.specs.Program.{Ended, EndsBegun, EndsWith, HandsBack, HasServed};
+ghost use Rattle.dl_serve.specs.Program.{Ended, EndsBegun, EndsWith, HandsBack, Serves};
 ghost use Rattle.dl_serve.specs.Told.{seen};
 
 use crate::beginning::{Begun, begin};
@@ -176,8 +176,8 @@ pub fn serve<R: Wait, F: Folder, N: Net, C: Clock, O: Sink, E: Sink>(
 ) -> Served<N::L>
 where
     N::L: Drop,
-    ensures { let s = seen F.told N.told O.told in HasServed N.L.told (map string_bytes words.now)
-        (s folder.old net.old users.old out.old) (s folder.new net.new users.new out.new) (E.told err.old) (E.told err.new) result }
+    ensures { let s = seen F.told N.told O.told in Serves N.L.told E.told (map string_bytes words.now)
+        (s folder.old net.old users.old out.old) (s folder.new net.new users.new out.new) err.old err.new result }
 {
     an_end_is_a_serving::<N::L>();
     let Outcome { status, closed } = serve_words(rt, alloc, words, folder, net, users, clock, out);

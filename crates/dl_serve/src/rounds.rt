@@ -2,7 +2,7 @@
 
 ghost use Rattle.std.specs.Prelude.{◌≡◌, false, true};
 ghost use Rattle.dl_server.specs.Server.{IsServer, SameLimits};
-ghost use Rattle.dl_server.specs.State.{seen};
+ghost use Rattle.dl_server.specs.State.{shown};
 ghost use Rattle.dl_serve.specs.Rounds.{HasRoom, HasMadeRounds, IsFull, kept};
 
 use dl_events::Kept;
@@ -34,8 +34,8 @@ pub fn serve_rounds<R: Wait, N: Net, C: Clock, F: Folder>(
 where
     N::L: Drop,
     requires server { IsServer N.L.told server.old }
-    ensures served { let s = seen N.L.told kept in HasMadeRounds N.L.told rounds result (N.told net.old) (N.told net.new) (N.told users.old) (N.told users.new)
-        (s (F.told folder.old) server.old) (s (F.told folder.new) server.new) }
+    ensures served { let s = shown N.L.told kept F.told in HasMadeRounds N.L.told rounds result (N.told net.old) (N.told net.new) (N.told users.old) (N.told users.new)
+        (s folder.old server.old) (s folder.new server.new) }
     ensures server { IsServer N.L.told server.new }
     ensures limits { SameLimits server.old server.new }
 {

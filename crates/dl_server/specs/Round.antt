@@ -1,5 +1,5 @@
 -- One round of a server.
-use Rattle.std.specs.Prelude.{◌||◌, Bool}
+use Rattle.std.specs.Prelude.{◌≡◌, ◌||◌, Bool}
 use Rattle.dl_bytes.specs.declared.moment.Moment.{Moment}
 use Rattle.dl_outside.specs.Told.{LinkTold, NetTold}
 use Rattle.dl_server.specs.Accepts.{AcceptsClientIfMay, AcceptsProgramIfMay}
@@ -55,3 +55,7 @@ pub record IsRound {L : Type 0} (told : L → LinkTold) (net net_now users users
 abbrev pub has_moved : {L : Type 0} {told : L → LinkTold} {net net_now users users_now : NetTold L} {old new : State}
     → IsRound told net net_now users users_now old new → Bool
 has_moved round = has_come round.accepts || has_heard round.hears || round.pumps.moved
+
+-- it was made, and was told rightly whether anything moved
+abbrev pub HasMadeRound : {L : Type 0} → (L → LinkTold) → Bool → NetTold L → NetTold L → NetTold L → NetTold L → State → State → Type 0
+HasMadeRound told moved net net_now users users_now old new = (round : IsRound told net net_now users users_now old new) × (moved ≡ has_moved round)

@@ -47,6 +47,10 @@ seen told events folder s = record {
   wanted = s.wanted;
 }
 
+-- the same with what a folder tells, where this is the word for it
+abbrev pub shown : {J L F : Type 0} → (L → LinkTold) → (J → Option (List Event)) → (F → FolderTold) → F → Server J L → State
+shown told events folder_told folder s = seen told events (folder_told folder) s
+
 -- what visits to its clients see, beside what sets levels
 abbrev pub clients_of : State → PostTold → Clients
 clients_of s desk = record { links = s.clients; listeners = s.listeners; side = side s.core desk s.events s.folder }

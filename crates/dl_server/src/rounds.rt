@@ -2,9 +2,9 @@
 
 ghost use Rattle.std.specs.Prelude.{◌≡◌};
 ghost use Rattle.dl_outside.specs.Told.{FolderTold};
-ghost use Rattle.dl_server.specs.Round.{AcceptsAll, Hears, IsRound, Pumps, has_come, has_heard, has_moved};
+ghost use Rattle.dl_server.specs.Round.{AcceptsAll, HasMadeRound, Hears, Pumps, has_come, has_heard};
 ghost use Rattle.dl_server.specs.Server.{IsServer, SameLimits};
-ghost use Rattle.dl_server.specs.State.{seen};
+ghost use Rattle.dl_server.specs.State.{seen, shown};
 
 use crate::server::Server;
 use dl_events::Journal;
@@ -70,9 +70,8 @@ impl<J: Journal, L: Link> Server<J, L> {
     where
         L: Drop,
         requires server { IsServer L.told self.old }
-        ensures round { let s = seen L.told J.events in
-            (round : IsRound L.told (N.told net.old) (N.told net.new) (N.told users.old) (N.told users.new)
-            (s (F.told folder.old) self.old) (s (F.told folder.new) self.new)) × (result ≡ has_moved round) }
+        ensures round { let s = shown L.told J.events F.told in HasMadeRound L.told result
+            (N.told net.old) (N.told net.new) (N.told users.old) (N.told users.new) (s folder.old self.old) (s folder.new self.new) }
         ensures server { IsServer L.told self.new }
         ensures limits { SameLimits self.old self.new }
     {

@@ -1,5 +1,5 @@
 -- What visits to the daemon's clients come to, beside programs outside.
-use Rattle.std.specs.Prelude.{◌≡◌, ℕ, List, ◌++◌, Option}
+use Rattle.std.specs.Prelude.{◌≡◌, ℕ, Bool, List, ◌++◌, Option}
 use Rattle.dl_core.specs.State.{Core}
 use Rattle.dl_desk.specs.Told.{PostTold}
 use Rattle.dl_events.specs.declared.event.Event.{Event}
@@ -9,8 +9,10 @@ use Rattle.dl_outside.specs.Told.{FolderTold, LinkTold}
 use Rattle.dl_registry.specs.Kept.{Kept}
 use Rattle.dl_rounds.specs.Clients.{Clients}
 use Rattle.dl_rounds.specs.Ready.{AreHeard}
-use Rattle.dl_rounds.specs.Rounds.{seen}
+use Rattle.dl_rounds.specs.Rounds.{seated}
 use Rattle.dl_rounds.specs.Seats.{Seated}
+use Rattle.dl_rounds.specs.Visits as rounds
+use Rattle.dl_rounds.specs.Visits.{HearsAll}
 use Rattle.dl_turns.specs.Events.{IsDeskOf}
 use Rattle.dl_socket.specs.Channels.{Channels}
 use Rattle.dl_socket.specs.Messenger.{full_queue}
@@ -22,7 +24,7 @@ HaveListeners seated core = (desk : PostTold) → IsDeskOf core.registry desk �
 
 -- links, the seats of clients, a core, a journal and a folder, as a visit sees them, whatever sets levels
 abbrev pub clients_of : {L J F : Type 0} → (L → LinkTold) → (J → Option (List Event)) → (F → FolderTold) → Links L → Seated → Core → J → F → PostTold → Clients
-clients_of link_told events folder_told links seats core journal folder desk = seen link_told (λ (d : PostTold). d) events folder_told links seats.listeners core desk journal folder
+clients_of link_told events folder_told links seats core journal folder desk = seated link_told (λ (d : PostTold). d) events folder_told links seats core desk journal folder
 
 -- Clients were visited so: the levels that their requests set are told the programs that have their contexts, in order. What sets the levels has the
 -- versions of the registry before it, and no queue took an injection.
@@ -36,3 +38,11 @@ pub record HaveServed (Visits : Clients → Clients → Type 0) (registry : Kept
   pub pushed : (app : ℕ) → (desk.pushed app ≡ full_queue) × (desk_now.pushed app ≡ full_queue)
   pub told_so : new.outboxes ≡ told_each registry.registry changes old.outboxes
   pub is : new ≡ record old { outboxes = new.outboxes }
+
+-- all clients that are open were listened to so
+abbrev pub HaveHeard : Bool → Core → (PostTold → Clients) → (PostTold → Clients) → Channels → Channels → Type 0
+HaveHeard moved core = HaveServed (HearsAll moved) core.registry
+
+-- and all were closed so
+abbrev pub HaveShut : {L : Type 0} → (L → LinkTold) → Core → (PostTold → Clients) → (PostTold → Clients) → Channels → Channels → Type 0
+HaveShut link_told core = HaveServed (rounds.HaveShut link_told) core.registry

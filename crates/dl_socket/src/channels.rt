@@ -6,13 +6,11 @@ ghost use Rattle.dl_bytes.specs.Limits.{admitted_limit, message_limit};
 ghost use Rattle.dl_channel_turns.specs.Turns.{Stays};
 ghost use Rattle.dl_hub.specs.State.{outbox_of};
 ghost use Rattle.dl_rounds.specs.Ready.{AreLinked, KeepsRoom};
-ghost use Rattle.dl_rounds.specs.Visits.{ClosesAll, HearsAll};
 ghost use Rattle.dl_registry.specs.Kept.{owed_change};
 ghost use Rattle.dl_turns.specs.Events.{HasServed};
-ghost use Rattle.dl_turns.specs.Gone.{TellOver};
 ghost use Rattle.dl_socket.specs.Channels.{IsOpen, Opens, Refuses, channel_limit, none_opened, open_channel_limit, open_in, with_channel};
 ghost use Rattle.dl_socket.specs.Closing.{HasBegunToClose, HasClosed};
-ghost use Rattle.dl_socket.specs.Listening.{HaveListeners, HaveServed, clients_of};
+ghost use Rattle.dl_socket.specs.Listening.{HaveHeard, HaveListeners, HaveShut, clients_of};
 ghost use Rattle.dl_socket.specs.Turns.{HasAsked, HasPumped, HasTurned, seen, side_of};
 
 use crate::closing::unregister_all;
@@ -271,7 +269,7 @@ impl Channels {
     ) -> bool
         requires linked { AreLinked links.old core.old (J.spare journal.old) }
         requires heard { HaveListeners seats.old core.old }
-        ensures serves { let s = clients_of L.told J.events F.told in HaveServed (HearsAll result) core.old.registry
+        ensures serves { let s = clients_of L.told J.events F.told in HaveHeard result core.old
             (s links.old seats.old core.old journal.old folder.old) (s links.new seats.new core.new journal.new folder.new) self.old self.new }
         ensures linked { AreLinked links.new core.new (J.spare journal.new) }
         ensures heard { HaveListeners seats.new core.new }
@@ -304,7 +302,7 @@ impl Channels {
     )
         requires linked { AreLinked links.old core.old (J.spare journal.old) }
         requires heard { HaveListeners seats.old core.old }
-        ensures serves { let s = clients_of L.told J.events F.told in HaveServed (ClosesAll (TellOver L.told)) core.old.registry
+        ensures serves { let s = clients_of L.told J.events F.told in HaveShut L.told core.old
             (s links.old seats.old core.old journal.old folder.old) (s links.new seats.new core.new journal.new folder.new) self.old self.new }
         ensures none { (number : ℕ) → outbox_of core.new.hub number ≡ None }
         ensures linked { AreLinked links.new core.new (J.spare journal.new) }

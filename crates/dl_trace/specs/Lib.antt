@@ -8,3 +8,5 @@ pub mod Batch
 pub mod Made
 pub mod Runs
 pub mod Found
+pub mod Written
+pub mod Writer

@@ -9,7 +9,9 @@ mod files;
 pub mod laws;
 mod name;
 mod trace;
+mod writer;
 
 pub use batch::{BATCH_LIMIT, STORED_LIMIT, StoredBatch};
 pub use dl_bytes::{TraceEnd, TraceFile, TraceState};
 pub use trace::{Trace, TraceFault};
+pub use writer::{TraceWriter, add_to_batch, begin_batch, store, store_batch};

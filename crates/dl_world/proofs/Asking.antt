@@ -17,7 +17,7 @@ use Rattle.dl_core.specs.Follows.{Run}
 use Rattle.dl_core.proofs.Answered.{replies_are}
 use Rattle.dl_outside.specs.Told.{FolderTold}
 use Rattle.dl_world.specs.Follows.{IsAfter, Deed, Does, Doing}
-use Rattle.dl_world.specs.State.{taken_by}
+use Rattle.dl_world_links.specs.State.{taken_by}
 use Rattle.dl_world.specs.declared.world.World.{World}
 use Rattle.dl_world.proofs.Composing.{both, does_both}
 use Rattle.dl_world.proofs.Declared.{does_two}

@@ -13,8 +13,8 @@ use Rattle.dl_world_calls.specs.Follows as calls
 use Rattle.dl_world_calls.specs.Injections.{AreAfter}
 use Rattle.dl_core.specs.Follows as core
 use Rattle.dl_core.specs.Follows.{Run}
-use Rattle.dl_world.specs.State.{Client, Channel, client_at, channel_at, taken_by}
-use Rattle.dl_world.specs.Fed.{IsFedBy, IsHeardBy}
+use Rattle.dl_world_links.specs.State.{Client, Channel, client_at, channel_at, taken_by}
+use Rattle.dl_world_links.specs.Fed.{IsFedBy, IsHeardBy}
 use Rattle.dl_world.specs.Follows.{IsAfter, stream_in}
 use Rattle.dl_world.specs.declared.world.World.{World}
 

@@ -23,7 +23,7 @@ use Rattle.dl_outside.specs.Told.{FolderTold}
 use Rattle.dl_folders.specs.Standing.{KeepsTrace}
 use Rattle.dl_folders.proofs.StandingFiles.{keeps_quiet, kept_same}
 use Rattle.dl_world.specs.Follows.{IsAfter, Doing, noting}
-use Rattle.dl_world.specs.State.{taken_by}
+use Rattle.dl_world_links.specs.State.{taken_by}
 use Rattle.dl_world.specs.declared.world.World.{World}
 use Rattle.dl_world.proofs.Doings.{ComesTo, after_quiet_event, doing_by, nothing_told, the_events}
 use Rattle.dl_world.proofs.LoggedEvents.{pushed_at}

@@ -25,13 +25,12 @@ use Rattle.dl_hub.proofs.Following.{one_more_number}
 use Rattle.dl_core.specs.Follows as core
 use Rattle.dl_core.specs.Follows.{Run, AddsAlone, HoldsTrace, source_of}
 use Rattle.dl_core.specs.State.{Core}
-use Rattle.dl_world.specs.Fed.{IsFedBy}
+use Rattle.dl_world_links.specs.Fed.{IsFedBy}
 use Rattle.dl_outside.specs.Told.{FolderTold}
-use Rattle.dl_core.specs.Follows.{stored_by, HoldsFiles}
 use Rattle.dl_folders.specs.Standing.{KeepsTrace}
 use Rattle.dl_folders.proofs.StandingFiles.{keeps_by, keeps_quiet, kept_same}
 use Rattle.dl_world.specs.Follows.{IsAfter, IsBefore, Doing, noting, stream_in}
-use Rattle.dl_world.specs.State.{Client, new_client, client_at, taken_by}
+use Rattle.dl_world_links.specs.State.{Client, new_client, client_at, taken_by}
 use Rattle.dl_world.specs.declared.world.World.{World}
 use Rattle.dl_world.proofs.ByNumber.{at_past, at-more, at-last}
 use Rattle.dl_world.proofs.Doings.{ComesTo, doing_by, holds_by, the_events, nothing_told}

@@ -16,7 +16,7 @@ use Rattle.dl_outside.specs.Told.{FolderTold}
 use Rattle.dl_folders.specs.Standing.{KeepsTrace}
 use Rattle.dl_world.specs.Follows.{IsRunOf, IsSoFar, IsAfter, answer_of, answers_in, Deed, Goes, Does, Doing}
 use Rattle.dl_world.specs.Stored.{HoldsStored}
-use Rattle.dl_world.specs.State.{Client, client_at, taken_by}
+use Rattle.dl_world_links.specs.State.{Client, client_at, taken_by}
 use Rattle.dl_world.specs.declared.world.World.{World}
 
 -- ---- deeds

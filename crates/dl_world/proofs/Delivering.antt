@@ -24,9 +24,9 @@ use Rattle.dl_hub.proofs.Pumping.{outbox-after}
 use Rattle.dl_core.specs.Follows as core
 use Rattle.dl_core.specs.Follows.{Run, source_of}
 use Rattle.dl_core.specs.State.{Core}
-use Rattle.dl_world.specs.Fed.{IsFedBy}
+use Rattle.dl_world_links.specs.Fed.{IsFedBy}
 use Rattle.dl_world.specs.Follows.{IsSoFar, IsAfter, IsBefore, IsBehind, HasTaken, IsDelivered, stream_in}
-use Rattle.dl_world.specs.State.{Client, client_at, with_client, with_frames, taken_by, cutters_of}
+use Rattle.dl_world_links.specs.State.{Client, client_at, with_client, with_frames, taken_by, cutters_of}
 use Rattle.dl_world.specs.declared.world.World.{World}
 use Rattle.dl_world.proofs.ByNumber.{at_zero, at_past, at_place, at_there, with_same, with_other, with_long, outbox_other}
 

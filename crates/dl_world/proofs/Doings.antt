@@ -26,7 +26,7 @@ use Rattle.dl_core.specs.State.{Core}
 use Rattle.dl_folders.specs.Standing.{KeepsTrace}
 use Rattle.dl_folders.proofs.StandingFiles.{keeps_quiet, kept_same}
 use Rattle.dl_world.specs.Follows.{IsRunOf, IsSoFar, IsAfter, answer_of, answers_in, Doing, next_level, stream_in}
-use Rattle.dl_world.specs.State.{Client, client_at, taken_by}
+use Rattle.dl_world_links.specs.State.{Client, client_at, taken_by}
 use Rattle.dl_world.specs.declared.world.World.{World}
 use Rattle.dl_world.proofs.Quiet.{goes_on, held}
 use Rattle.dl_world.proofs.StoredFiles.{asked_in, holds_same, stored_unasked, unanswered}

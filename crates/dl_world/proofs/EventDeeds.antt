@@ -18,7 +18,7 @@ use Rattle.dl_laws.proofs.Lists.{count_by-append}
 use Rattle.dl_hub.specs.State.{Hub, outbox_of, is_open}
 use Rattle.dl_core.specs.Follows.{Run, source_of}
 use Rattle.dl_world.specs.Follows.{IsRunOf, IsAfter, Doing, MayConnect, answers_in, noting, open_among}
-use Rattle.dl_world.specs.State.{taken_by}
+use Rattle.dl_world_links.specs.State.{taken_by}
 use Rattle.dl_world.specs.declared.world.World.{World}
 use Rattle.dl_world.proofs.Deeds.{does_as, does_none}
 use Rattle.dl_world.proofs.Delivering.{shut_where}

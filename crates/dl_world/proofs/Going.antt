@@ -39,9 +39,9 @@ use Rattle.dl_core.specs.State.{Core}
 use Rattle.dl_folders.specs.Standing.{KeepsTrace}
 use Rattle.dl_folders.proofs.StandingFiles.{keeps_quiet, kept_same}
 use Rattle.dl_world.specs.Follows.{IsAfter, IsBefore, IsBehind, HasTaken, IsPlain, Doing, noting, stream_in}
-use Rattle.dl_world.specs.State.{Client, client_at, taken_by}
+use Rattle.dl_world_links.specs.State.{Client, client_at, taken_by}
 use Rattle.dl_world.specs.declared.world.World.{World}
-use Rattle.dl_world.proofs.ByNumber.{at_place, at_zero, at_past}
+use Rattle.dl_world.proofs.ByNumber.{at_place, at_zero}
 use Rattle.dl_world.proofs.Noting.{journal_noted, noted_where, missing}
 use Rattle.dl_world.proofs.Doings.{doing_by, holds_by, the_events, after_quiet_event, nothing_told}
 use Rattle.dl_lemmas.proofs.Bools.{neither, choice_same}

@@ -22,7 +22,7 @@ use Rattle.dl_world_calls.specs.Follows.{no_writer, writer_at, line_of}
 use Rattle.dl_hub.specs.State as state
 use Rattle.dl_hub.specs.State.{Hub, client_of}
 use Rattle.dl_core.specs.Follows.{Run, source_of}
-use Rattle.dl_world.specs.State.{Client, new_client}
+use Rattle.dl_world_links.specs.State.{Client, new_client}
 use Rattle.dl_world.specs.Follows.{IsAfter, stream_in}
 use Rattle.dl_world.specs.Left.{link_in, links_in, link_after}
 use Rattle.dl_world.specs.declared.world.World.{World}

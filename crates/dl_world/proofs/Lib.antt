@@ -22,11 +22,6 @@ pub mod Needs
 pub mod Served
 pub mod StoredFiles
 pub mod Emptying
-pub mod FedClients
-pub mod FedStreams
-pub mod ClientPlaces
-pub mod HeardChannels
-pub mod ChannelPlaces
 pub mod ByNumber
 pub mod Delivering
 pub mod Counting

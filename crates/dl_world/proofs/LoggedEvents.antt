@@ -24,7 +24,7 @@ use Rattle.dl_world_calls.specs.State.{Calls, as_held, item_held, next_item}
 use Rattle.dl_world_calls.specs.Follows as calls
 use Rattle.dl_world_calls.proofs.Places.{there}
 use Rattle.dl_script_lines.specs.declared.line.AppLine.{AppLine}
-use Rattle.dl_world_calls.proofs.Changing.{next_tells, no-call-stays}
+use Rattle.dl_world_calls.proofs.Changing.{next_tells}
 use Rattle.dl_frames.proofs.OneCall.{given_in_rings}
 use Rattle.dl_frames.proofs.Spellings.{log_tells}
 use Rattle.dl_core.specs.Admission.{log_event, lost_frames, GivesFrame, GivesApid}
@@ -34,7 +34,7 @@ use Rattle.dl_folders.specs.Standing.{KeepsTrace}
 use Rattle.dl_folders.proofs.StandingFiles.{keeps_by, keeps_storing}
 use Rattle.dl_outside.specs.Told.{FolderTold}
 use Rattle.dl_world.specs.Follows.{IsRunOf, IsAfter, IsBefore, Does, noting}
-use Rattle.dl_world.specs.State.{taken_by}
+use Rattle.dl_world_links.specs.State.{taken_by}
 use Rattle.dl_world.specs.declared.world.World.{World}
 use Rattle.dl_world.proofs.Composing.{run_before}
 use Rattle.dl_world.proofs.Doings.{holds_by, the_events, no_answers}

@@ -29,9 +29,9 @@ use Rattle.dl_frames.proofs.Quiet.{open_in_journal, came_in_journal, shut_after}
 use Rattle.dl_core.specs.Follows as core
 use Rattle.dl_core.specs.Follows.{Run, source_of}
 use Rattle.dl_core.specs.State.{Core}
-use Rattle.dl_world.specs.Fed.{IsFedBy}
+use Rattle.dl_world_links.specs.Fed.{IsFedBy}
 use Rattle.dl_world.specs.Follows.{IsAfter, IsBefore, IsBehind, stream_in}
-use Rattle.dl_world.specs.State.{Client, client_at, taken_by}
+use Rattle.dl_world_links.specs.State.{Client, client_at, taken_by}
 use Rattle.dl_world.specs.declared.world.World.{World}
 use Rattle.dl_world.proofs.Quiet.{apps_same, fed_same, heard_same, moment_same, later_same}
 use Rattle.dl_lemmas.proofs.Options.{if_some}

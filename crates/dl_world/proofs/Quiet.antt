@@ -16,9 +16,9 @@ use Rattle.dl_world_calls.specs.Injections.{AreAfter}
 use Rattle.dl_world_calls.proofs.Changing.{no-call-stays}
 use Rattle.dl_world_calls.proofs.InjectionCounts.{no-injection-stays}
 use Rattle.dl_core.specs.Follows.{Run}
-use Rattle.dl_world.specs.Fed.{IsFedBy, IsHeardBy}
+use Rattle.dl_world_links.specs.Fed.{IsFedBy, IsHeardBy}
 use Rattle.dl_world.specs.Follows.{IsAfter, stream_in}
-use Rattle.dl_world.specs.State.{Client, client_at, channel_at, taken_by}
+use Rattle.dl_world_links.specs.State.{Client, client_at, channel_at, taken_by}
 use Rattle.dl_world.specs.declared.world.World.{World}
 
 -- ---- part by part

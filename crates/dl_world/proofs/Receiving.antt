@@ -27,10 +27,10 @@ use Rattle.dl_world_calls.proofs.Changing.{no-call-stays}
 use Rattle.dl_world_calls.proofs.InjectionCounts.{no-injection-stays}
 use Rattle.dl_core.specs.Follows.{Run, HoldsTrace}
 use Rattle.dl_folders.specs.Standing.{KeepsTrace}
-use Rattle.dl_world.specs.Fed.{Asks, IsFedBy}
+use Rattle.dl_world_links.specs.Fed.{Asks, IsFedBy}
 use Rattle.dl_outside.specs.Told.{FolderTold}
 use Rattle.dl_world.specs.Follows.{IsAfter, Deed, Does, Doing, stream_in}
-use Rattle.dl_world.specs.State.{Client, client_at, taken_by, with_client, with_cutter}
+use Rattle.dl_world_links.specs.State.{Client, client_at, taken_by, with_client, with_cutter}
 use Rattle.dl_world.specs.declared.world.World.{World}
 use Rattle.dl_world.proofs.ByNumber.{at_there, with_long, with_other, with_same}
 use Rattle.dl_world.proofs.Composing.{both, does_both}

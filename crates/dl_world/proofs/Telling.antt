@@ -14,10 +14,10 @@ use Rattle.dl_world_calls.proofs.Changing.{no-call-stays}
 use Rattle.dl_world_calls.proofs.InjectionCounts.{no-injection-stays}
 use Rattle.dl_core.specs.Follows.{Run, HoldsTrace}
 use Rattle.dl_folders.specs.Standing.{KeepsTrace}
-use Rattle.dl_world.specs.Fed.{IsHeardBy, Tells}
+use Rattle.dl_world_links.specs.Fed.{IsHeardBy, Tells}
 use Rattle.dl_outside.specs.Told.{FolderTold}
 use Rattle.dl_world.specs.Follows.{IsAfter, Deed, Does, Doing, noting}
-use Rattle.dl_world.specs.State.{Channel, channel_at}
+use Rattle.dl_world_links.specs.State.{Channel, channel_at}
 use Rattle.dl_world.specs.declared.world.World.{World}
 use Rattle.dl_world.proofs.Composing.{both, does_both}
 use Rattle.dl_world.proofs.Deeds.{does_as}

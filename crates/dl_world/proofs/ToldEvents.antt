@@ -12,10 +12,10 @@ use Rattle.dl_world_calls.proofs.Changing.{no-call-stays}
 use Rattle.dl_core.specs.Follows as core
 use Rattle.dl_core.specs.Follows.{Run, Adds, HoldsTrace}
 use Rattle.dl_core.specs.State.{Core}
-use Rattle.dl_world.specs.Fed.{CanBeTold}
+use Rattle.dl_world_links.specs.Fed.{CanBeTold}
 use Rattle.dl_outside.specs.Told.{FolderTold}
 use Rattle.dl_world.specs.Follows.{IsRunOf, IsAfter, IsBefore, Does, noting}
-use Rattle.dl_world.specs.State.{taken_by}
+use Rattle.dl_world_links.specs.State.{taken_by}
 use Rattle.dl_world.specs.declared.world.World.{World}
 use Rattle.dl_world.proofs.Doings.{the_events}
 use Rattle.dl_world.proofs.Failing.{Fails}

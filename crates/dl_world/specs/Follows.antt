@@ -30,8 +30,8 @@ use Rattle.dl_trace.specs.State.{Trace}
 use Rattle.dl_core.specs.Follows as core
 use Rattle.dl_core.specs.Follows.{Run, HoldsTrace}
 use Rattle.dl_core.specs.State.{Core}
-use Rattle.dl_world.specs.State.{Client, client_at, channel_at, taken_by}
-use Rattle.dl_world.specs.Fed.{IsFedBy, IsHeardBy}
+use Rattle.dl_world_links.specs.State.{Client, client_at, channel_at, taken_by}
+use Rattle.dl_world_links.specs.Fed.{IsFedBy, IsHeardBy}
 use Rattle.dl_folders.specs.Later.{trace_failures}
 use Rattle.dl_folders.specs.Standing.{KeepsTrace}
 use Rattle.dl_world.specs.Stored.{HoldsStored}

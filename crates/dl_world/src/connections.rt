@@ -9,10 +9,10 @@ ghost use Rattle.dl_registry.specs.Kept.{owed_change};
 ghost use Rattle.dl_hub.specs.State.{outbox_of};
 ghost use Rattle.dl_world.specs.Follows.{Doing, IsPlain, MayConnect, noting, open_among};
 
-use crate::clients::Client;
 use crate::world::World;
 use dl_bytes::{CLIENT_LIMIT, OPEN_CLIENT_LIMIT, OutOfMemory};
 use dl_events::{Journal, Why};
+use dl_world_links::Client;
 
 impl World {
     /// How many clients are open.

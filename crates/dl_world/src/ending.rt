@@ -11,7 +11,6 @@ ghost use Rattle.dl_folders.specs.Files.{Leaves};
 ghost use Rattle.dl_world.specs.Follows.{Does, Doing, IsAfter};
 ghost use Rattle.dl_world.specs.Left.{IsLeft, links_in, told_of};
 
-use crate::clients::Clients;
 use crate::played::Played;
 use crate::world::World;
 use dl_bytes::{Ends, FrameList, LinkEnd, OutOfMemory, Sequence, TraceState};
@@ -19,6 +18,7 @@ use dl_core::Core;
 use dl_events::Why;
 use dl_hub::Hub;
 use dl_outside::Folder;
+use dl_world_links::Clients;
 use std::alloc::Global;
 
 impl World {

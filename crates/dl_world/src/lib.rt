@@ -4,9 +4,7 @@
 //! what clients and channels sent, and the streams that the clients took. Each line of a script is one call of it.
 #![tactic(auto)]
 
-mod channels;
 mod claiming;
-mod clients;
 mod connections;
 mod delivery;
 mod ending;

@@ -1,19 +1,18 @@
 //! The world of a script: the daemon's core, and all that moves around it.
 
-ghost use Rattle.std.specs.Prelude.{◌≡◌, ℕ, [], IfOk, IfSome};
+ghost use Rattle.std.specs.Prelude.{◌≡◌, [], IfOk, IfSome};
 ghost use Rattle.dl_trace.specs.Made.{IsMade};
 ghost use Rattle.dl_trace.specs.State as traces;
 ghost use Rattle.dl_core.specs.Follows.{Run};
 ghost use Rattle.dl_core.specs.Settings.{setting_of};
 ghost use Rattle.dl_world.specs.Follows.{IsAfter};
 
-use crate::channels::Channels;
-use crate::clients::Clients;
 use dl_bytes::{Conf, Moment, OutOfMemory, Stored};
 use dl_core::Core;
 use dl_events::Kept;
 use dl_trace::Trace;
 use dl_world_calls::{Calls, Injections};
+use dl_world_links::{Channels, Clients};
 use std::alloc::Global;
 
 /// The moment before a script's clock told one.

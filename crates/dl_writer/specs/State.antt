@@ -1,5 +1,5 @@
 -- What contracts see of a writer and of a book.
-use Rattle.std.specs.Prelude.{◌≡◌, ℕ, List, length, map}
+use Rattle.std.specs.Prelude.{◌≡◌, ℕ, List, [], length, map}
 use Rattle.dl_bytes.specs.Claim.{Claimed}
 use Rattle.dl_events.specs.declared.record.Record.{Record}
 use Rattle.dl_ring.specs.Items.{claims_in}
@@ -7,6 +7,8 @@ use Rattle.dl_ring.specs.State.{PushState}
 use Rattle.dl_levels.specs.States.{ReaderState}
 use Rattle.dl_losses.specs.States as losses
 use Rattle.dl_injections.specs.State.{TakeState}
+use Rattle.dl_writer.specs.declared.writer.Owner.{Owner}
+use Rattle.dl_writer.specs.declared.writer.WriterHandles.{WriterHandles}
 
 -- A writer: its application's number; how many calls it made; its application's id, and how many contexts the application had
 -- when the writer was made; the claims that wait for the ring, in order; how many `register` calls it answered but for those
@@ -25,6 +27,22 @@ pub record WriterState : Type 0 where
   pub reader : ReaderState
   pub losses : losses.WriterState
   pub injections : TakeState
+
+-- a writer of this application with these handles, which has done nothing yet
+abbrev pub new_writer : Owner → WriterHandles → WriterState
+new_writer owner handles = record {
+  app = owner.app;
+  calls = 0;
+  apid = owner.apid;
+  base = owner.base;
+  waiting = [];
+  registers = 0;
+  table_full = 0;
+  push = handles.push;
+  reader = handles.reader;
+  losses = handles.losses;
+  injections = handles.injections;
+}
 
 -- a book: its writer, for how many records it has room, the records of the calls that were made through it, in order, and the
 -- claims that the ring took of its writer through it, in order

@@ -12,6 +12,7 @@ ghost use Rattle.dl_injections.specs.Order.{Rises, MetEmpty};
 ghost use Rattle.dl_injections.specs.State.{unused_take};
 ghost use Rattle.dl_writer.specs.Met.{last_call, record_of};
 ghost use Rattle.dl_writer.specs.Calls.{after, answered, asked, call_fault, passed, with_empty, with_injection, LooksUp, Sends, Tells};
+ghost use Rattle.dl_writer.specs.State.{new_writer};
 
 use crate::claim_room::ClaimRoom;
 use crate::fault::LogFault;
@@ -108,19 +109,7 @@ impl Writer {
         requires losses { handles.losses.counted ≡ [] }
         requires injections { handles.injections ≡ unused_take handles.injections.queue false }
         requires waiting { waiting ≡ [] }
-        ensures { result ≡ record {
-          app = owner.app;
-          calls = 0;
-          apid = owner.apid;
-          base = owner.base;
-          waiting = [];
-          registers = 0;
-          table_full = 0;
-          push = handles.push;
-          reader = handles.reader;
-          losses = handles.losses;
-          injections = handles.injections;
-        } }
+        ensures { result ≡ new_writer owner handles }
     {
         let WriterHandles {
             push,

@@ -1,5 +1,5 @@
 use Rattle.std.proofs.Common.{◌≡◌, refl, ◌∙◌, arith}
-use Rattle.dl_core.specs.Writer.{trace_in}
+use Rattle.dl_trace.specs.Writer.{trace_in}
 use Rattle.dl_core.proofs.Admitted.{few_left, reports_none, reports_one, reports_all, room_for_next}
 use Rattle.dl_core.proofs.admitting.report.Goals as goal
 

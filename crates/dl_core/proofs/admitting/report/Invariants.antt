@@ -1,4 +1,4 @@
-use Rattle.dl_core.specs.Writer.{trace_in}
+use Rattle.dl_trace.specs.Writer.{trace_in}
 use Rattle.dl_core.proofs.Admitted.{Reported}
 use Rattle.dl_core.proofs.admitting.report.Given as goal
 

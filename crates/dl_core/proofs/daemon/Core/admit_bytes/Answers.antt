@@ -2,7 +2,7 @@ use Rattle.std.proofs.Common.{◌≡◌, ℕ, List, [], ◌∷◌, subst, rules}
 use Rattle.dl_model.specs.Frames.{stored}
 use Rattle.dl_core.specs.Noting.{AdmitsFrames, TakesIn}
 use Rattle.dl_core.specs.State.{Core}
-use Rattle.dl_core.specs.Writer.{trace_in}
+use Rattle.dl_trace.specs.Writer.{trace_in}
 use Rattle.dl_core.proofs.Admitted.{each-alone}
 use Rattle.dl_core.proofs.Parts.{core_of}
 use Rattle.dl_core.proofs.daemon.Core.admit_bytes.Goals as goal

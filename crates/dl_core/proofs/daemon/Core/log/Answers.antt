@@ -4,8 +4,8 @@ use Rattle.dl_model.specs.Traffic.{Admitted}
 use Rattle.dl_hub.specs.Follows as hub
 use Rattle.dl_core.specs.Noting.{NotesLog}
 use Rattle.dl_core.specs.State.{Core}
-use Rattle.dl_core.specs.Storing.{StoresIn}
-use Rattle.dl_core.specs.Writer.{trace_in}
+use Rattle.dl_trace.specs.Written.{StoresIn}
+use Rattle.dl_trace.specs.Writer.{trace_in}
 use Rattle.dl_core.proofs.Parts.{core_of}
 use Rattle.dl_core.proofs.Journals.{IsSameCore}
 use Rattle.dl_core.proofs.Noted.{added_one, log_follows}

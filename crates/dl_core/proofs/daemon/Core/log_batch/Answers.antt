@@ -2,8 +2,8 @@ use Rattle.std.proofs.Common.{Option, map, refl, subst, ◌∙◌}
 use Rattle.dl_trace.specs.State.{Trace}
 use Rattle.dl_core.specs.Noting.{NotesLogs}
 use Rattle.dl_core.specs.State.{Core}
-use Rattle.dl_core.specs.Storing.{ChangesTraceAlone, StoresIn}
-use Rattle.dl_core.specs.Writer.{trace_in}
+use Rattle.dl_trace.specs.Written.{ChangesTraceAlone, StoresIn}
+use Rattle.dl_trace.specs.Writer.{trace_in}
 use Rattle.dl_core.proofs.Parts.{core_of}
 use Rattle.dl_core.proofs.Journals.{IsSameCore}
 use Rattle.dl_core.proofs.Gathered.{stored_call}

@@ -4,8 +4,8 @@ use Rattle.dl_trace.specs.State.{Trace}
 use Rattle.dl_core.specs.Admission.{message_frames}
 use Rattle.dl_core.specs.Noting.{NotesMessages}
 use Rattle.dl_core.specs.State.{Core}
-use Rattle.dl_core.specs.Storing.{ChangesTraceAlone, StoresIn}
-use Rattle.dl_core.specs.Writer.{trace_in}
+use Rattle.dl_trace.specs.Written.{ChangesTraceAlone, StoresIn}
+use Rattle.dl_trace.specs.Writer.{trace_in}
 use Rattle.dl_core.proofs.Parts.{core_of}
 use Rattle.dl_core.proofs.Journals.{IsSameCore}
 use Rattle.dl_core.proofs.GatheredMessages.{one_each}
