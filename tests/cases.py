@@ -33,6 +33,12 @@ def built(program):
     return f"{TOP}/crates/{program}/out/{program}"
 
 
+def measured(program):
+    """Where a program that is only measured stands once bench/lay_out has built it."""
+    tree = subprocess.run([f"{TOP}/bench/lay_out", "--where"], capture_output=True, text=True, check=True).stdout.strip()
+    return f"{tree}/crates/{program}/out/{program}"
+
+
 def run_all(cases):
     """Runs each case, or those alone that the words name, counts one that raises as failed, and ends this process."""
     for case in cases:

@@ -18,7 +18,7 @@ use Rattle.dl_model.specs.Frames.{stored, user_frames}
 use Rattle.dl_model.specs.Overflow.{overflow_frames}
 use Rattle.dl_model.specs.Journal.{AreInTurn, IsRunning}
 use Rattle.dl_model.specs.Report.{closed_of}
-use Rattle.dl_promises.proofs.LongerJournals.{goes_on}
+use Rattle.dl_laws.proofs.LongerJournals.{goes_on}
 use Rattle.dl_registry.specs.Kept as registry
 use Rattle.dl_registry.specs.Kept.{Kept, owed_change}
 use Rattle.dl_registry.proofs.Following.{after_event, change_is_owed}
@@ -29,7 +29,7 @@ use Rattle.dl_core.specs.Admission.{GivesApid, GivesFrame, GivesFrames, log_even
 use Rattle.dl_core.specs.Follows.{Run, source_of}
 use Rattle.dl_core.specs.Noting.{NotesLog, NotesLogs, NotesLost, NotesMessage}
 use Rattle.dl_trace.specs.Written.{StoresEach, StoresIn}
-use Rattle.dl_well_formed.proofs.InTurn.{log_in_turn, lost_in_turn, user_in_turn}
+use Rattle.dl_core.proofs.InTurn.{log_in_turn, lost_in_turn, user_in_turn}
 use Rattle.dl_admission.specs.Admission.{Admits, AreNoted, Entry, Forwards, Logs, Tells, Uses, call_entry, loss_entries, message_entry}
 use Rattle.dl_admission.specs.Part.{Part}
 use Rattle.dl_admission.specs.Slow.{ClosesSlow, TellRooms}

@@ -11,9 +11,9 @@ use Rattle.dl_hub.specs.State.{Waiting, client_of, outbox_of}
 use Rattle.dl_core.specs.State.{Core}
 use Rattle.dl_core.specs.Closing.{MayEnd}
 use Rattle.dl_core.specs.Follows.{IsAfter, Run, source_of}
-use Rattle.dl_well_formed.proofs.OpenClients.{its_stream}
+use Rattle.dl_core.proofs.OpenClients.{its_stream}
 use Rattle.dl_admission.specs.Slow.{TellRooms, TellsRoom}
-use Rattle.dl_well_formed.proofs.InTurn.{by_client}
+use Rattle.dl_core.proofs.InTurn.{by_client}
 
 -- a client that may be closed as slow
 pub room_told : (run : Run) (past : List Event) (taken : ℕ → List ℕ) (core : Core) (client room need : ℕ) → IsAfter run past taken core → MayEnd core.hub client (why.Slow room need)

@@ -25,7 +25,7 @@ use Rattle.dl_core.specs.Closing.{MayEnd}
 use Rattle.dl_core.specs.Follows.{AddsAlone, source_of}
 use Rattle.dl_core.proofs.Noted.{added_one}
 use Rattle.dl_admission.specs.Part.{Part, part}
-use Rattle.dl_well_formed.proofs.InTurn.{close_before_frames}
+use Rattle.dl_core.proofs.InTurn.{close_before_frames}
 use Rattle.dl_admission.specs.Slow.{Slow, StandBefore, TellRooms, Closes, ClosesIfSlow, ClosesSlow, IsAsTold, room_in, shut_if_slow, slow_among, slow_at, slow_clients, slow_close, without_slow}
 use Rattle.dl_admission.proofs.Rooms.{room_told, rooms_both}
 use Rattle.dl_admission.proofs.SlowLists.{AreTaking, first_slow, none_shut, none_slow, shut_again, shut_takes}

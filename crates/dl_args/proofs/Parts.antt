@@ -25,9 +25,6 @@ TakesForm-then order c d e p q = record {
   same = q.same;
 }
 
-pub TakesForm-weaker : {P Q : List ℕ → Type 0} (order : Order) (c d : At) → ((f : List ℕ) → P f → Q f) → TakesForm order P c d → TakesForm order Q c d
-TakesForm-weaker order c d weaker t = record { front = t.front; form = weaker t.front t.form; parts = t.parts; same = t.same }
-
 -- nothing is taken
 pub takes_none : (order : Order) (c : At) → c.order ≡ order → TakesForm order (Is []) c c
 takes_none order c same = record { front = []; form = refl; parts = refl; same = same }

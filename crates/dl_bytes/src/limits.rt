@@ -24,6 +24,9 @@ pub const APP_LIMIT: usize = 16;
 /// The most contexts of an application: an application has as many slots.
 pub const CONTEXT_LIMIT: usize = 64;
 
+/// The most contexts of all applications, each with a slot of its own.
+pub const SLOTS: u16 = 1024;
+
 /// The most writers of a run.
 pub const WRITER_LIMIT: usize = 32;
 
@@ -50,6 +53,27 @@ pub const OPEN_CLIENT_LIMIT: usize = 8;
 
 /// The most requests of one client.
 pub const REQUEST_LIMIT: u32 = 1000;
+
+/// The most channels of a run that ends.
+pub const CHANNEL_LIMIT: u16 = 256;
+
+/// The most channels that are open at once, in a run that ends.
+pub const OPEN_CHANNEL_LIMIT: u16 = 16;
+
+/// How many bytes a link is asked for at once.
+pub const LINK_PIECE: usize = 4096;
+
+/// How many bytes of a file or of an input are asked for at once.
+pub const INPUT_PIECE: usize = 8192;
+
+/// The most frames that one turn of a channel admits.
+pub const TURN_FRAMES: u64 = 4096;
+
+/// The most log messages that are admitted together, and the most frames that are stored together.
+pub const BATCH_LIMIT: usize = 64;
+
+/// The most lost messages that one overflow record counts: its counter has four bytes.
+pub const COUNTER_LIMIT: u64 = u32::MAX as u64;
 
 /// The most frames that are admitted.
 pub const ADMITTED_LIMIT: u64 = 1 << 40;

@@ -22,12 +22,6 @@ pub record IsLooking (bytes piece : List ℕ) (taken : ℕ) (cutter : cutter.Cha
 pub sets_out : (piece : List ℕ) (cutter : cutter.Channel) → IsWithin cutter → IsLooking (cutter.unread ++ piece) piece 0 cutter
 sets_out piece cutter room = record { within = omega arith; same = refl; room = room }
 
-pub within_now : (old new : cutter.Channel) (answer : UserCut) → IsWithin old → Cuts old answer new → IsWithin new
-within_now old new (cut.Message msg) room cuts = omega (arith, room, cuts.1, ap length cuts.0.2, length-append cuts.0.0 new.unread)
-within_now old new cut.NeedMore room cuts = omega (arith, room, cuts.2, ap length cuts.1)
-within_now old new (cut.Bad fault) room cuts = omega (arith, room, cuts.2, ap length cuts.1)
-within_now old new cut.OutOfMemory room cuts = subst IsWithin (sym cuts.1) room
-
 module _ (bytes piece : List ℕ) (taken : ℕ) (old new : cutter.Channel) (so : IsLooking bytes piece taken old) where
   abbrev more : List ℕ
   more = drop taken piece

@@ -20,13 +20,6 @@ pub record SoFar (old new : List ℕ) (link link_now : LinkTold) : Type 0 where
   pub waits : link_now.waits ≡ link.waits
   pub only : IsOnlySent link link_now
 
-grows_none : (o : Option (List ℕ)) → Grows o o []
-grows_none None = tt
-grows_none (Some bytes) = ap Some (sym (append-nil bytes))
-
-pub nothing_sent : (bytes : List ℕ) (link : LinkTold) → SoFar bytes bytes link link
-nothing_sent bytes link = record { count = 0; within = omega arith; taken = grows_none link.taken; left = refl; faults = refl; waits = refl; only = only_sent link }
-
 -- one piece more
 pub more_sent : (old mid new piece : List ℕ) (n : ℕ) (l0 l1 l2 : LinkTold) → SoFar old mid l0 l1 → piece ≡ take (length piece) mid → length piece ≤ length mid → n ≤ length piece
     → Grows l1.taken l2.taken (take n piece) → new ≡ drop n mid → l2.faults ≡ l1.faults → l2.waits ≡ l1.waits → IsOnlySent l1 l2 → SoFar old new l0 l2
@@ -42,25 +35,3 @@ more_sent old mid new piece n l0 l1 l2 so front shorter fits grown is faults wai
       waits = waits ∙ so.waits;
       only = only_sent-later l0 l1 l2 so.only only;
     }
-
--- and then an answer that sent nothing
-pub sent_then : (end : Option ChannelEnd) (old new : List ℕ) (l0 l1 l2 : LinkTold) → SoFar old new l0 l1 → Grows l1.taken l2.taken [] → EndsSending end new l0 l2 → IsOnlySent l1 l2
-    → HasSent end old new l0 l2
-sent_then end old new l0 l1 l2 so grown ends only = record {
-  count = so.count;
-  within = so.within;
-  taken = subst (Grows l0.taken l2.taken) (append-nil (take so.count old)) (grows_both l0.taken l1.taken l2.taken (take so.count old) [] so.taken grown);
-  left = so.left;
-  ends = ends;
-  only_sent = only_sent-later l0 l1 l2 so.only only;
-}
-
-pub all_sent : (old new : List ℕ) (l0 l1 : LinkTold) → SoFar old new l0 l1 → new ≡ [] → HasSent None old new l0 l1
-all_sent old new l0 l1 so none = record {
-  count = so.count;
-  within = so.within;
-  taken = so.taken;
-  left = so.left;
-  ends = (inl (none, so.waits), so.faults);
-  only_sent = so.only;
-}

@@ -11,13 +11,13 @@ use Rattle.dl_outside.specs.declared.link.Gave.TheVariants as gave
 use Rattle.dl_user.specs.Channel as cutter
 use Rattle.dl_model.specs.Journal.{IsWellFormed}
 use Rattle.dl_model.specs.declared.registry.LevelChange.{LevelChange}
-use Rattle.dl_promises.proofs.LongerJournals.{goes_on}
+use Rattle.dl_laws.proofs.LongerJournals.{goes_on}
 use Rattle.dl_registry.specs.Kept.{owed_change}
 use Rattle.dl_channel.specs.declared.outcome.ChannelEnd.{ChannelEnd}
 use Rattle.dl_core.specs.Admission.{has_frames}
 use Rattle.dl_core.specs.Follows.{Adds, source_of}
 use Rattle.dl_core.specs.State.{Core}
-use Rattle.dl_well_formed.proofs.InTurn.{level_in_turn, user_in_turn}
+use Rattle.dl_core.proofs.InTurn.{level_in_turn, user_in_turn}
 use Rattle.dl_admission.specs.Admission.{ForwardsAll}
 use Rattle.dl_admission.proofs.Added.{adds_both, adds_each_both, adds_each_none, adds_none}
 use Rattle.dl_admission.proofs.Admitted.{running_both}

@@ -67,12 +67,6 @@ pub record SoFar (hub : Hub) (after count : ℕ) : Type 0 where
   pub within : after ≤ length hub.clients
   pub room : (number : ℕ) → number ≤ after → IfSome (outbox_of hub number) (λ b. length b.bytes + 0 ≤ b.capacity)
 
-pub sets_out : (hub : Hub) → SoFar hub 0 0
-sets_out hub = record { counted = refl; few = omega arith; within = omega arith; room = λ number le. by number le } where
-  by : (number : ℕ) → number ≤ 0 → IfSome (outbox_of hub number) (λ b. length b.bytes + 0 ≤ b.capacity)
-  by zero le = tt
-  by (suc number) le = absurd (omega (arith, le))
-
 module _ (hub : Hub) (after count : ℕ) (so : SoFar hub after count) where
   -- none is open behind it, up to this number
   shut_behind : (till : ℕ) → ((number : ℕ) → after < number → number ≤ till → outbox_of hub number ≡ None) → AreShut hub.clients after till

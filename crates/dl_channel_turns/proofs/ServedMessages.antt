@@ -1,8 +1,7 @@
 -- Messages that are taken in, one after the other.
 use Rattle.std.proofs.Common.{◌≡◌, ℕ, ◌+◌, ◌*◌, ◌/◌, ◌%◌, ◌^◌, ◌<◌, ◌≤◌, Bool, true, false, cond, List, [], ◌∷◌, ◌++◌, length, Option, Some, inl, inr, refl, sym, ap, subst, ◌∙◌, append-nil, append_assoc, length-append, arith}
 use Rattle.std.specs.List.{AllByRecursion}
-use Rattle.std.specs.Prelude.{OnErr, OnOk, Result, Ok, Err}
-use Rattle.std.specs.Prelude.{◌==◌, replicate}
+use Rattle.std.specs.Prelude.{OnErr, OnOk, Result, Ok, Err, ◌==◌, replicate}
 use Rattle.std.proofs.Math.Nat.{div-add-mod}
 use Rattle.std.proofs.lemmas.Grind.{flat_map-append}
 use Rattle.std.proofs.lemmas.Nat.{mod_below}

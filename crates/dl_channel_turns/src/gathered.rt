@@ -11,15 +11,12 @@ ghost use Rattle.dl_admission.specs.Part.{part};
 
 use circular_buffer::HeapCircularBuffer;
 use dl_admission::admit_messages;
-use dl_bytes::{Moment, OutOfMemory, UserMsg};
+use dl_bytes::{BATCH_LIMIT, Moment, OutOfMemory, UserMsg};
 use dl_core::Core;
 use dl_events::Journal;
 use dl_outside::Folder;
 use std::alloc::Global;
 use std::marker::Model;
-
-/// The most log messages that are admitted together.
-const BATCH_LIMIT: usize = 64;
 
 /// Log messages of one program that are to be admitted together, at most 64. Their memory is taken once, when it is made.
 #[derive(Drop)]

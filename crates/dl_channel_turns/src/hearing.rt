@@ -9,14 +9,11 @@ ghost use Rattle.dl_channel_turns.specs.Turns.{IsTurn, Stays};
 use crate::gathered::Gathered;
 use crate::outboxes::Outboxes;
 use crate::serving::serve_each;
-use dl_bytes::Moment;
+use dl_bytes::{LINK_PIECE, Moment};
 use dl_channel::{ChannelEnd, Inbox};
 use dl_core::Core;
 use dl_events::Journal;
 use dl_outside::{Folder, Gave, Link};
-
-/// How many bytes a link is asked for at once.
-const PIECE: usize = 4096;
 
 /// Asks a channel's link once for at most 4096 bytes, and takes in the messages that they make whole, in order. Each message that has frames
 /// is admitted, behind the Closes of the clients that are too slow for them, log messages that come one behind the other together; any other
@@ -43,7 +40,7 @@ pub fn hear<J: Journal, L: Link, F: Folder>(
     ensures none { gathered.new ≡ [] }
 {
     inbox.is_within();
-    let mut buffer = [0; PIECE];
+    let mut buffer = [0; LINK_PIECE];
     match link.recv(&mut buffer) {
         Gave::Bytes(count) => {
             let piece = &buffer[..count];

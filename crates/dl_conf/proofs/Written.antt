@@ -20,7 +20,6 @@ use Rattle.dl_text.proofs.LineEnds.{first_line, is_inside}
 use Rattle.dl_text.proofs.LineParts.{parted}
 use Rattle.dl_conf.specs.Stored.{level_end, own_line, stored_text, line_said, level_digit, level_said, default_in, own_in, is_own, fault_in, held, same_ids, levels_said, stored_said, is_id, is_storable, are_different}
 use Rattle.dl_conf.specs.Conf.{unless_fault}
-use Rattle.dl_conf.specs.Stored.{same_ids}
 use Rattle.dl_conf.specs.declared.entry.StoredLine.{StoredLine}
 use Rattle.dl_conf.specs.declared.entry.StoredLine.TheVariants.{Default, Own}
 

@@ -10,11 +10,11 @@ use Rattle.dl_bytes.specs.declared.cursor.Order.{Order}
 use Rattle.dl_bytes.specs.Number.{At, bytes_of, number_at}
 use Rattle.dl_bytes.proofs.Bytes.{IsBytes-append, IsBytes-zeros, zeros}
 use Rattle.dl_control.specs.declared.request.Request.{Request}
-use Rattle.dl_control.specs.declared.request.Request.TheVariants.{SetLogLevel, GetLogInfo, GetDefault, Store, Reset, SetDefault, Version, Inject, Other}
+use Rattle.dl_control.specs.declared.request.Request.TheVariants.{SetLogLevel, GetLogInfo, GetDefault, Store, Reset, SetDefault, Version, SetAllLogLevel, Inject, Other}
 use Rattle.dl_control.specs.declared.request.RequestFault.{RequestFault}
 use Rattle.dl_control.specs.declared.request.RequestFault.TheVariants.{Short, Excess}
 use Rattle.dl_control.specs.Request.{service_of, fields_of, MayFollow, Fits, IsLaidOut, IsWithinLimit, BeginsRequest, service_told, IsFault}
-use Rattle.dl_control.specs.Reading.{log_level_at, log_info_at, default_level_at, body_at, whole_of, injection_of, request_of, request_in}
+use Rattle.dl_control.specs.Reading.{log_level_at, log_info_at, default_level_at, all_levels_at, body_at, whole_of, injection_of, request_of, request_in}
 use Rattle.dl_control.proofs.Fields.{TakesBytes, number_takes, number_none, number_long, number_left, number_more, bytes_again, bytes_last, byte_again, number_again, Needs, needs_number}
 use Rattle.dl_control.proofs.Rows.{TakesRequest, TakesRow, Row, fields, bare, injected, row_of, needs_body, injected_of, other_of, level_again}
 
@@ -219,6 +219,11 @@ default_level_again : (level : ℕ) (reserved : List ℕ) (order : Order) → le
 unfolding default_level_at
 default_level_again level reserved order r_len = rw (byte_again level reserved order, bytes_last 4 reserved order r_len) refl
 
+all_levels_again : (level : ℤ) (reserved : List ℕ) (order : Order) → FitsSigned w8 level → length reserved ≡ 4
+    → all_levels_at (record { rest = cast_unsigned w8 level ∷ reserved; order = order }) ≡ Some (SetAllLogLevel level, record { rest = []; order = order })
+unfolding all_levels_at
+all_levels_again level reserved order fits r_len = rw (byte_again (cast_unsigned w8 level) reserved order, bytes_last 4 reserved order r_len, level_again level fits) refl
+
 injection_again : (service : ℕ) (bytes : List ℕ) (order : Order) → length bytes ≤ 1390
     → injection_of service (number_at 4 (record { rest = bytes_of order 4 (length bytes) ++ bytes; order = order })) ≡ Ok (Inject service (record { bytes = bytes; args = 0 }))
 unfolding injection_of
@@ -242,6 +247,7 @@ row_again order Store rest fits follow within = refl
 row_again order Reset rest fits follow within = refl
 row_again order (SetDefault level) rest fits follow within = rw (default_level_again level rest order follow) refl
 row_again order Version rest fits follow within = refl
+row_again order (SetAllLogLevel level) rest fits follow within = rw (all_levels_again level rest order fits follow) refl
 row_again order (Inject service body) rest fits follow within =
     rw (
       follow,
@@ -260,8 +266,9 @@ service_fits Store fits = omega arith
 service_fits Reset fits = omega arith
 service_fits (SetDefault level) fits = omega arith
 service_fits Version fits = omega arith
+service_fits (SetAllLogLevel level) fits = omega arith
 service_fits (Inject service body) fits = fits.1
-service_fits (Other service) fits = let below = fits.7 in omega arith
+service_fits (Other service) fits = let below = fits.8 in omega arith
 
 -- what is laid out so is read
 pub again : (order : Order) (bytes : List ℕ) (request : Request) → IsLaidOut order request bytes → IsWithinLimit request → request_in order bytes ≡ Ok request

@@ -10,9 +10,9 @@ use Rattle.dl_lemmas.proofs.Options.{same_thing}
 use Rattle.dl_bytes.specs.declared.cursor.Order.{Order}
 use Rattle.dl_bytes.specs.Number.{At, bytes_at, number_at}
 use Rattle.dl_control.specs.declared.request.Request.{Request}
-use Rattle.dl_control.specs.declared.request.Request.TheVariants.{SetLogLevel, GetLogInfo, GetDefault, Store, Reset, SetDefault, Version, Inject, Other}
+use Rattle.dl_control.specs.declared.request.Request.TheVariants.{SetLogLevel, GetLogInfo, GetDefault, Store, Reset, SetDefault, Version, SetAllLogLevel, Inject, Other}
 use Rattle.dl_control.specs.Request.{service_of, fields_of, MayFollow, Fits, IsOther, IsWithinLimit}
-use Rattle.dl_control.specs.Reading.{log_level_at, log_info_at, default_level_at, body_at, whole_of, injection_of, request_of}
+use Rattle.dl_control.specs.Reading.{log_level_at, log_info_at, default_level_at, all_levels_at, body_at, whole_of, injection_of, request_of}
 use Rattle.dl_bytes.specs.Bytes.{IsBytes}
 use Rattle.dl_control.proofs.Fields.{TakesBytes, TakesBytes-then, with_step, bytes_take, byte_takes, Needs, needs_bytes, needs_number, needs_none, needs_then}
 
@@ -99,6 +99,17 @@ default_level_takes c x fits e =
     subst (λ (y : Request × At). TakesRequest c y.0 y.1 × (service_of y.0 ≡ 0x11)) (same_thing (SetDefault l.0, r.1) x made)
     (record { fits = tt; within = tt; ignored = r.0; may_follow = tr.1; takes = whole }, refl)))
 
+all_levels_takes : TakesRow 0xf08 all_levels_at
+unfolding all_levels_at
+all_levels_takes c x fits e =
+    with_step (number_at 1 c) _ x _ e (λ l el after_l.
+    with_step (bytes_at 4 l.1) _ x _ after_l (λ r er made.
+    let tl = byte_takes c l fits el in
+    let tr = bytes_take 4 l.1 r tl.0.fits er in
+    let whole = TakesBytes-then c (l.0 ∷ []) l.1 r.0 r.1 tl.0 tr.0 in
+    subst (λ (y : Request × At). TakesRequest c y.0 y.1 × (service_of y.0 ≡ 0xf08)) (same_thing (SetAllLogLevel (cast_signed w8 l.0), r.1) x made)
+    (record { fits = level_fits l.0 tl.1; within = tt; ignored = r.0; may_follow = tr.1; takes = rw (level_back l.0 tl.1) whole }, refl)))
+
 needs_log_level : Needs 13 log_level_at
 unfolding log_level_at
 needs_log_level =
@@ -123,6 +134,13 @@ needs_default_level =
     needs_then 1 4 (number_at 1) _ (needs_number 1) (λ level.
     needs_then 4 0 (bytes_at 4) _ (needs_bytes 4) (λ reserved.
     needs_none (SetDefault level)))
+
+needs_all_levels : Needs 5 all_levels_at
+unfolding all_levels_at
+needs_all_levels =
+    needs_then 1 4 (number_at 1) _ (needs_number 1) (λ level.
+    needs_then 4 0 (bytes_at 4) _ (needs_bytes 4) (λ reserved.
+    needs_none (SetAllLogLevel (cast_signed w8 level))))
 
 pub needs_body : (service n : ℕ) → Needs n (body_at service n)
 unfolding body_at
@@ -157,6 +175,10 @@ row_11 : (service : ℕ) → service ≡ 0x11 → Row service
 unfolding request_of
 row_11 service is = rw is (fields 5 default_level_at (omega arith) needs_default_level default_level_takes (λ c. refl))
 
+row_f08 : (service : ℕ) → service ≡ 0xf08 → Row service
+unfolding request_of
+row_f08 service is = rw is (fields 5 all_levels_at (omega arith) needs_all_levels all_levels_takes (λ c. refl))
+
 bare_row : (service : ℕ) (request : Request) → IsBare service request → ((c : At) → request_of (Some (service_of request, c)) ≡ Ok request) → Row service
 bare_row service request is reads = bare request is (rw is.service_is at reads)
 
@@ -184,7 +206,7 @@ row_13 service is =
 pub other_of : (service : ℕ) (c : At) → IsOther service → request_of (Some (service, c)) ≡ Ok (Other service)
 unfolding request_of
 other_of service c is =
-    let below = is.7 in
+    let below = is.8 in
     rw (
       ne_eqb service 0x01 is.0,
       ne_eqb service 0x03 is.1,
@@ -193,6 +215,7 @@ other_of service c is =
       ne_eqb service 0x06 is.4,
       ne_eqb service 0x11 is.5,
       ne_eqb service 0x13 is.6,
+      ne_eqb service 0xf08 is.7,
       le-ltb 0xffe service (omega arith),
     ) refl
 
@@ -207,6 +230,7 @@ injected_of service c above =
       ne_eqb service 0x06 (omega arith),
       ne_eqb service 0x11 (omega arith),
       ne_eqb service 0x13 (omega arith),
+      ne_eqb service 0xf08 (omega arith),
       le-leb 0xfff service above,
     ) refl
 
@@ -240,9 +264,13 @@ row_of s =
                                         elim (cases_equal s 0x13) [
                                           | inl is ↦ row_13 s is
                                           | inr not_13 ↦
-                                              elim (cases_lt s 0xfff) [
-                                                | inl below ↦ row_other s (not_01, not_03, not_04, not_05, not_06, not_11, not_13, below)
-                                                | inr above ↦ injected above (λ c. injected_of s c above)
+                                              elim (cases_equal s 0xf08) [
+                                                | inl is ↦ row_f08 s is
+                                                | inr not_f08 ↦
+                                                    elim (cases_lt s 0xfff) [
+                                                      | inl below ↦ row_other s (not_01, not_03, not_04, not_05, not_06, not_11, not_13, not_f08, below)
+                                                      | inr above ↦ injected above (λ c. injected_of s c above)
+                                                    ]
                                               ]
                                         ]
                                   ]

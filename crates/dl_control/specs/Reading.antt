@@ -5,7 +5,7 @@ use Rattle.dl_bytes.specs.declared.cursor.Order.{Order}
 use Rattle.dl_bytes.specs.Limits.{payload_limit}
 use Rattle.dl_bytes.specs.Number.{At, bytes_at, number_at, ◌>>=◌}
 use Rattle.dl_control.specs.declared.request.Request.{Request}
-use Rattle.dl_control.specs.declared.request.Request.TheVariants.{SetLogLevel, GetLogInfo, GetDefault, Store, Reset, SetDefault, Version, Inject, Other}
+use Rattle.dl_control.specs.declared.request.Request.TheVariants.{SetLogLevel, GetLogInfo, GetDefault, Store, Reset, SetDefault, Version, SetAllLogLevel, Inject, Other}
 use Rattle.dl_control.specs.declared.request.RequestFault.{RequestFault}
 use Rattle.dl_control.specs.declared.request.RequestFault.TheVariants.{Short, Excess}
 
@@ -34,6 +34,13 @@ default_level_at c = do
   reserved ← bytes_at 4 level.1
   Some (SetDefault level.0, reserved.1)
 
+-- a signed level, four reserved bytes
+unfoldable pub all_levels_at : At → Option (Request × At)
+all_levels_at c = do
+  level ← number_at 1 c
+  reserved ← bytes_at 4 level.1
+  Some (SetAllLogLevel (cast_signed w8 level.0), reserved.1)
+
 -- n raw bytes
 unfoldable pub body_at : ℕ → ℕ → At → Option (Request × At)
 body_at service n c = do
@@ -61,6 +68,7 @@ request_of (Some s) =
     else if s.0 == 0x06 then Ok Reset
     else if s.0 == 0x11 then whole_of s.0 (default_level_at s.1)
     else if s.0 == 0x13 then Ok Version
+    else if s.0 == 0xf08 then whole_of s.0 (all_levels_at s.1)
     else if nat_le 0xfff s.0 then injection_of s.0 (number_at 4 s.1)
     else Ok (Other s.0)
 

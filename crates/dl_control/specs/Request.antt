@@ -6,7 +6,7 @@ use Rattle.dl_bytes.specs.Limits.{payload_limit}
 use Rattle.dl_bytes.specs.Number.{bytes_of, number_of}
 use Rattle.dl_bytes.specs.declared.cursor.Order.{Order}
 use Rattle.dl_control.specs.declared.request.Request.{Request}
-use Rattle.dl_control.specs.declared.request.Request.TheVariants.{SetLogLevel, GetLogInfo, GetDefault, Store, Reset, SetDefault, Version, Inject, Other}
+use Rattle.dl_control.specs.declared.request.Request.TheVariants.{SetLogLevel, GetLogInfo, GetDefault, Store, Reset, SetDefault, Version, SetAllLogLevel, Inject, Other}
 use Rattle.dl_control.specs.declared.request.RequestFault.{RequestFault}
 use Rattle.dl_control.specs.declared.request.RequestFault.TheVariants.{Short, Excess}
 
@@ -19,14 +19,16 @@ service_of Store = 0x05
 service_of Reset = 0x06
 service_of (SetDefault level) = 0x11
 service_of Version = 0x13
+service_of (SetAllLogLevel level) = 0xf08
 service_of (Inject service body) = service
 service_of (Other service) = service
 
--- the fields that follow it: a level of a context is a signed byte, an injection has its length before its bytes
+-- the fields that follow it: a level of contexts is a signed byte, an injection has its length before its bytes
 abbrev pub fields_of : Order → Request → List ℕ
 fields_of order (SetLogLevel apid ctid level) = apid ++ ctid ++ cast_unsigned w8 level ∷ []
 fields_of order (GetLogInfo options apid ctid) = options ∷ apid ++ ctid
 fields_of order (SetDefault level) = level ∷ []
+fields_of order (SetAllLogLevel level) = cast_unsigned w8 level ∷ []
 fields_of order (Inject service body) = bytes_of order 4 (length body.bytes) ++ body.bytes
 fields_of order request = []
 
@@ -36,6 +38,7 @@ abbrev pub MayFollow : Request → List ℕ → Type 0
 MayFollow (SetLogLevel apid ctid level) bytes = length bytes ≡ 4
 MayFollow (GetLogInfo options apid ctid) bytes = length bytes ≡ 4
 MayFollow (SetDefault level) bytes = length bytes ≡ 4
+MayFollow (SetAllLogLevel level) bytes = length bytes ≡ 4
 MayFollow (Inject service body) bytes = bytes ≡ []
 MayFollow request bytes = Unit {0}
 
@@ -47,12 +50,13 @@ IsId id = length id ≡ 4
 abbrev pub IsOther : ℕ → Type 0
 IsOther service =
     (service ≢ 0x01) × (service ≢ 0x03) × (service ≢ 0x04) × (service ≢ 0x05) × (service ≢ 0x06) × (service ≢ 0x11)
-    × (service ≢ 0x13) × (service < 0xfff)
+    × (service ≢ 0x13) × (service ≢ 0xf08) × (service < 0xfff)
 
 -- what can be laid out: an injection is of raw bytes, which count as no arguments
 abbrev pub Fits : Request → Type 0
 Fits (SetLogLevel apid ctid level) = IsId apid × IsId ctid × FitsSigned w8 level
 Fits (GetLogInfo options apid ctid) = IsId apid × IsId ctid
+Fits (SetAllLogLevel level) = FitsSigned w8 level
 Fits (Inject service body) = (0xfff ≤ service) × (service < 2 ^ 32) × (length body.bytes < 2 ^ 32) × (body.args ≡ 0)
 Fits (Other service) = IsOther service
 Fits request = Unit {0}

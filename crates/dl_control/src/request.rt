@@ -4,7 +4,7 @@ ghost use Rattle.std.specs.Prelude.{◌≡◌, IfOk, IfErr, Ok, Some};
 ghost use Rattle.dl_bytes.specs.Number.{at, Gives, number_at};
 ghost use Rattle.dl_control.specs.declared.request.Request.{Request};
 ghost use Rattle.dl_control.specs.Request.{IsLaidOut, IsWithinLimit, IsFault};
-ghost use Rattle.dl_control.specs.Reading.{log_level_at, log_info_at, default_level_at, injection_of, request_of, request_in};
+ghost use Rattle.dl_control.specs.Reading.{log_level_at, log_info_at, all_levels_at, default_level_at, injection_of, request_of, request_in};
 
 use dl_bytes::{Cursor, Id, Order, PAYLOAD_LIMIT, Payload};
 
@@ -44,6 +44,11 @@ pub enum Request {
     },
     /// Service 0x13: asks for the version of the software.
     Version,
+    /// Service 0xF08: sets the log level of all contexts.
+    SetAllLogLevel {
+        /// The log level, as in `SetLogLevel`.
+        level: i8,
+    },
     /// A service from 0xFFF on: data for an application.
     Inject {
         /// The service id, from 0xFFF on.
@@ -114,6 +119,7 @@ fn request_of_service(service: u32, cursor: &mut Cursor) -> Result<Request, Requ
         0x06 => return Ok(Request::Reset),
         0x11 => default_level(cursor),
         0x13 => return Ok(Request::Version),
+        0xf08 => all_levels(cursor),
         FIRST_INJECTION.. => return injection(service, cursor),
         _ => return Ok(Request::Other { service }),
     };
@@ -157,6 +163,16 @@ fn default_level(cursor: &mut Cursor) -> Option<Request>
     let level = cursor.u8()?;
     let _reserved = cursor.bytes(RESERVED)?;
     Some(Request::SetDefault { level })
+}
+
+#[tactic(auto, unfolding(crate::specs::Reading::all_levels_at))]
+fn all_levels(cursor: &mut Cursor) -> Option<Request>
+    ensures { Gives (λ x. x) result cursor.new (all_levels_at (at cursor.old)) }
+{
+    let byte = cursor.u8()?;
+    let _reserved = cursor.bytes(RESERVED)?;
+    let level = byte.cast_signed();
+    Some(Request::SetAllLogLevel { level })
 }
 
 /// An injection, from its length on.

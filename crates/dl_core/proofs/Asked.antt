@@ -10,14 +10,14 @@ use Rattle.dl_bytes.specs.declared.outcome.Done.TheVariants as done
 use Rattle.dl_headers.proofs.Lengths.{apid_at, ctid_at, standard_long}
 use Rattle.dl_control.specs.declared.reply.Reply.{Reply}
 use Rattle.dl_control.specs.declared.request.Request.{Request}
-use Rattle.dl_control.specs.declared.request.Request.TheVariants.{SetLogLevel, GetLogInfo, GetDefault, Store, Reset, SetDefault, Version, Inject, Other}
+use Rattle.dl_control.specs.declared.request.Request.TheVariants.{SetLogLevel, GetLogInfo, GetDefault, Store, Reset, SetDefault, Version, SetAllLogLevel, Inject, Other}
 use Rattle.dl_control.specs.declared.request.RequestFault.{RequestFault}
 use Rattle.dl_control.specs.declared.request.RequestFault.TheVariants.{Short, Excess}
 use Rattle.dl_headers.specs.declared.header.Extended.{Extended}
 use Rattle.dl_headers.specs.Header.{standard_header, extended_header, optional, IsExtended}
 use Rattle.dl_headers.specs.Message.{Message, IsMessage}
 use Rattle.dl_model.specs.declared.registry.Slot.{Slot}
-use Rattle.dl_model.specs.Registry.{Registry, app_of, context_of, matching, reset}
+use Rattle.dl_model.specs.Registry.{Registry, app_of, context_of, named_contexts, reset}
 use Rattle.dl_model.specs.Traffic as traffic
 use Rattle.dl_hub.specs.Follows as hub
 use Rattle.dl_hub.specs.State.{Hub}
@@ -54,46 +54,6 @@ served_alike one other slots registry (Ok Reset) answer level =
 served_alike one other slots registry _ answer level = refl
 
 -- ---- replies with a body, and without
-
--- a reply without a body, whatever came of what was wanted
-pub bare_body : (setting : Setting) (slots : ℕ → Slot) (registry : Registry) (apid ctid : List ℕ) (request : Result Request RequestFault) (answer : Done)
-    → has_body request ≡ false → (reply_to setting slots registry apid ctid request answer).body ≡ []
-bare_body setting slots registry apid ctid (Ok (GetLogInfo options app context)) answer is = absurd (cc is)
-bare_body setting slots registry apid ctid (Ok GetDefault) answer is = absurd (cc is)
-bare_body setting slots registry apid ctid (Ok Version) answer is = absurd (cc is)
-bare_body setting slots registry apid ctid (Err (Short service)) answer is = refl
-bare_body setting slots registry apid ctid (Err (Excess service)) answer is = refl
-bare_body setting slots registry apid ctid _ answer is = refl
-
--- one with a body wants nothing, and changes nothing
-pub body_wants_nothing : (setting : Setting) (slots : ℕ → Slot) (registry : Registry) (apid ctid : List ℕ) (request : Result Request RequestFault)
-    → has_body request ≡ true → want.Nothing ≡ wanted setting slots registry apid ctid request
-body_wants_nothing setting slots registry apid ctid (Ok Store) is = absurd (cc is)
-body_wants_nothing setting slots registry apid ctid (Ok Reset) is = absurd (cc is)
-body_wants_nothing setting slots registry apid ctid (Ok (Inject service body)) is = absurd (cc is)
-body_wants_nothing setting slots registry apid ctid _ is = refl
-
-pub body_changes_nothing : (setting : Setting) (slots : ℕ → Slot) (registry : Registry) (request : Result Request RequestFault) (answer : Done)
-    → has_body request ≡ true → served setting slots registry request answer ≡ registry
-body_changes_nothing setting slots registry (Ok (SetLogLevel apid ctid level)) answer is = absurd (cc is)
-body_changes_nothing setting slots registry (Ok (SetDefault level)) answer is = absurd (cc is)
-body_changes_nothing setting slots registry (Ok Store) answer is = absurd (cc is)
-body_changes_nothing setting slots registry (Ok Reset) answer is = absurd (cc is)
-body_changes_nothing setting slots registry _ answer is = refl
-
--- nor does its reply depend on what came of it
-pub body_same : (setting : Setting) (slots : ℕ → Slot) (registry : Registry) (apid ctid : List ℕ) (request : Result Request RequestFault) (one other : Done)
-    → has_body request ≡ true → reply_to setting slots registry apid ctid request one ≡ reply_to setting slots registry apid ctid request other
-body_same setting slots registry apid ctid (Ok (GetLogInfo options app context)) one other is = refl
-body_same setting slots registry apid ctid (Ok GetDefault) one other is = refl
-body_same setting slots registry apid ctid (Ok Version) one other is = refl
-body_same setting slots registry apid ctid (Ok Store) one other is = absurd (cc is)
-body_same setting slots registry apid ctid (Ok Reset) one other is = absurd (cc is)
-body_same setting slots registry apid ctid (Ok (Inject service body)) one other is = absurd (cc is)
-body_same setting slots registry apid ctid (Ok (SetLogLevel app context level)) one other is = absurd (cc is)
-body_same setting slots registry apid ctid (Ok (SetDefault level)) one other is = absurd (cc is)
-body_same setting slots registry apid ctid (Ok (Other service)) one other is = absurd (cc is)
-body_same setting slots registry apid ctid (Err fault) one other is = absurd (cc is)
 
 -- ---- the ids of a request's message
 
@@ -178,7 +138,7 @@ needs_seen core frame request target (Err fault) four asks ids is = tt {0}
 -- ---- replies have at most 65,535 bytes
 
 info_fits : (registry : Registry) (options : ℕ) (apid ctid : List ℕ) → 23 + length (info_reply registry options apid ctid).body ≤ 65535
-info_fits registry options apid ctid = by_tests (not (eqb options 6 || eqb options 7)) (eqb (length (matching registry apid ctid)) 0) (is_too_long body) refl where
+info_fits registry options apid ctid = by_tests (not (eqb options 6 || eqb options 7)) (eqb (length (named_contexts registry apid ctid)) 0) (is_too_long body) refl where
   body : List ℕ
   body = info_body options registry apid ctid
 

@@ -34,12 +34,6 @@ pub none_popped : {A : Type 0} (xs : List A) → None ≡ slice_get xs 0 → xs 
 none_popped [] is = refl
 none_popped (y ∷ ys) is = absurd (cc is)
 
--- what holds of each, at a place
-pub all_at : {A : Type 0} (P : A → Type 0) (xs : List A) (k : ℕ) → AllByRecursion P xs → IfSome (slice_get xs k) P
-all_at P [] k all = tt {0}
-all_at P (x ∷ xs) zero all = all.0
-all_at P (x ∷ xs) (suc k) all = all_at P xs k all.1
-
 take_next : {A : Type 0} (xs : List A) (k : ℕ) → take (suc k) xs ≡ take k xs ++ option_to_list (slice_get xs k)
 take_next [] zero = refl
 take_next [] (suc k) = refl

@@ -26,13 +26,13 @@ use Rattle.dl_model.proofs.Order.{app_of_found, placed_of_found}
 use Rattle.dl_model.proofs.Placed.{Free, apart-right, free_tells, numbered-among, places-further, places-same}
 use Rattle.dl_registry.proofs.Finding.{valued, valued-absent, valued-set_value, numbers_of}
 use Rattle.dl_registry.proofs.Placing.{all_of, not_both, placed, placed-free}
-use Rattle.dl_applications.specs.Change.{placed_again}
+use Rattle.dl_registry.specs.Change.{placed_again}
 use Rattle.dl_registry.proofs.Fitting.{level_of, level_at-found, level_at-places, level_at-same, level_at-new_app, level_of-further, level_of-told, level_of-new}
 use Rattle.dl_registry.proofs.Following.{change_is_level, change_follows}
 use Rattle.dl_events.specs.declared.event.Event.TheVariants as event
 use Rattle.dl_registry.specs.Kept as registry
 use Rattle.dl_registry.specs.Kept.{Kept, Applies, Claims, slots, owed_change, with_change, with_registry}
-use Rattle.dl_slots.specs.Table.{raised, unset}
+use Rattle.dl_registry.specs.Table.{raised, unset}
 use Rattle.dl_core.specs.State.{Core}
 use Rattle.dl_core.specs.Follows.{AddsAlone}
 use Rattle.dl_core.specs.Waiting.{waiting, changes_by}

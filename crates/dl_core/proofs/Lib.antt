@@ -16,3 +16,14 @@ pub mod Answered
 pub mod Asked
 pub mod Requested
 pub mod Prepared
+pub mod LeftFiles
+pub mod AskedFiles
+pub mod TracedFiles
+pub mod LaterFolders
+pub mod StandingFiles
+pub mod OpenClients
+pub mod Replies
+pub mod InTurn
+pub mod Connecting
+pub mod Asking
+pub mod Following

@@ -6,12 +6,13 @@ use Rattle.std.specs.Map.{values_of}
 use Rattle.std.specs.Option.{option_and_then, option_map, option_map_or}
 use Rattle.std.specs.Result.{result_ok}
 use Rattle.std.proofs.lemmas.Bool.Decides.{eqb_tells}
+use Rattle.dl_bytes.specs.Id.{zero_id}
 use Rattle.dl_bytes.specs.Level.{own_level_of}
 use Rattle.dl_bytes.specs.Limits.{context_limit}
 use Rattle.dl_bytes.specs.declared.outcome.Done.{Done}
 use Rattle.dl_bytes.specs.declared.outcome.Done.TheVariants as done
 use Rattle.dl_control.specs.declared.request.Request.{Request}
-use Rattle.dl_control.specs.declared.request.Request.TheVariants.{SetLogLevel, Store, Reset, SetDefault}
+use Rattle.dl_control.specs.declared.request.Request.TheVariants.{SetLogLevel, SetAllLogLevel, Store, Reset, SetDefault}
 use Rattle.dl_control.specs.declared.request.RequestFault.{RequestFault}
 use Rattle.dl_model.specs.declared.context.Context.{Context}
 use Rattle.dl_model.specs.declared.registry.LevelChange.{LevelChange}
@@ -111,6 +112,7 @@ done_heads to done.NoMemory r left heads = heads_none to r
 
 request_heads : (setting : Setting) (s : ℕ → Slot) (r : Registry) (request : Result Request RequestFault) (answer : Done) → HeadFor (level_set setting.level r request) r (served setting s r request answer)
 request_heads setting s r (Ok (SetLogLevel apid ctid level)) answer = own_heads s r apid ctid (own_level_of level)
+request_heads setting s r (Ok (SetAllLogLevel level)) answer = own_heads s r zero_id zero_id (own_level_of level)
 request_heads setting s r (Ok (SetDefault level)) answer = default_heads s r level (nat_le level 6)
 request_heads setting s r (Ok Reset) answer =
     done_heads (Some setting.level) answer r _

@@ -11,7 +11,7 @@ use Rattle.dl_services.specs.Wish.{Wants, wanted}
 use Rattle.dl_services.specs.declared.wish.Want.{Want}
 use Rattle.dl_core.specs.State.{Core}
 use Rattle.dl_core.specs.Settings.{seen}
-use Rattle.dl_core.specs.Serving.{IsRequest, IsReady, Ready, changes_of, has_body, reply_now, served_now, wanted_now}
+use Rattle.dl_core.specs.Serving.{IsRequest, IsReady, Ready, changes_of, has_body, reply_now, served_now, wanted_now, Answers, Serves}
 use Rattle.dl_core.specs.Waiting.{waiting}
 use Rattle.dl_events.specs.Journal as journal
 use Rattle.dl_events.specs.declared.event.Event.{Event}
@@ -20,7 +20,6 @@ use Rattle.dl_model.specs.Traffic as traffic
 use Rattle.dl_outside.specs.Told.{FolderTold}
 use Rattle.dl_hub.specs.Follows as hub
 use Rattle.dl_hub.specs.State.{Hub, HasRoom, IsSameHub, changed, with_reply}
-use Rattle.dl_core.specs.Serving.{Answers, Serves}
 use Rattle.dl_core.proofs.Asked.{reply_asked}
 use Rattle.dl_core.proofs.Journals.{IsSameCore}
 use Rattle.dl_core.proofs.Owing.{owes_most}

@@ -53,14 +53,6 @@ name_length directory digits six e =
 apart : (directory : List ℕ) (number : ℕ) → trace_name directory number ≢ stored_name
 apart directory number e = name_length directory (six_digits number) refl (ap length e)
 
-not_tied : (x y : List ℕ) → x ≢ y → eq_by_cmp (slice_cmp nat_cmp) x y ≡ false
-not_tied x y other =
-    elim (slice_cmp nat_cmp x y) as (λ o. slice_cmp nat_cmp x y ≡ o → is_eq o ≡ false) [
-      | Less ↦ λ _. refl
-      | Equal ↦ λ e. absurd (other (slice_cmp-IsAntisymmetric nat_cmp-IsAntisymmetric x y e))
-      | Greater ↦ λ _. refl
-    ] refl
-
 -- ---- so the trace files stay
 
 -- the folder goes on telling, and each trace file is as it was

@@ -46,12 +46,6 @@ of_run P run frames t is h =
     subst (λ (d : List ℕ). P d run.setting.file_size run.setting.max_size) is.directory
     (subst (λ (n : ℕ). P t.directory n run.setting.max_size) is.file_size (subst (λ (n : ℕ). P t.directory t.file_size n) is.max_size h))
 
-of_trace : (P : List ℕ → ℕ → ℕ → Type 0) (run : Run) (frames : List (List ℕ)) (t : Trace) → IsTraceAfter run frames t
-    → P run.setting.directory run.setting.file_size run.setting.max_size → P t.directory t.file_size t.max_size
-of_trace P run frames t is h =
-    subst (λ (d : List ℕ). P d t.file_size t.max_size) (sym is.directory)
-    (subst (λ (n : ℕ). P run.setting.directory n t.max_size) (sym is.file_size) (subst (λ (n : ℕ). P run.setting.directory run.setting.file_size n) (sym is.max_size) h))
-
 -- a trace that goes on has stored all frames
 all_stored : (run : Run) (frames : List (List ℕ)) (t : Trace) → IsTraceAfter run frames t → t.state.end ≡ None → IsAfter run.stood frames t
 all_stored run frames t is goes_on =

@@ -1,5 +1,5 @@
 -- What is admitted, and noted of it.
-use Rattle.std.specs.Prelude.{◌≡◌, ℕ, ◌++◌, List, map, Option, Some, None}
+use Rattle.std.specs.Prelude.{◌≡◌, ℕ, ◌++◌, List, map, Option, Some, None, Bool, true, false, zero, suc}
 use Rattle.dl_bytes.specs.Id.{zero_id}
 use Rattle.dl_bytes.specs.UserMessage.{HoldsMessage}
 use Rattle.dl_bytes.specs.declared.item.Item.{Item}
@@ -11,7 +11,6 @@ use Rattle.dl_model.specs.Frames.{user_frames}
 use Rattle.dl_model.specs.Overflow.{overflow_frames}
 use Rattle.dl_core.specs.Follows.{Run}
 use Rattle.std.specs.List.{AllByRecursion, flat_map}
-use Rattle.std.specs.Prelude.{Bool, true, false, zero, suc}
 use Rattle.dl_events.specs.Journal.{one_more}
 use Rattle.dl_bytes.specs.declared.user.UserMsg.{UserMsg}
 use Rattle.dl_bytes.specs.declared.user.UserMsg.TheVariants as user

@@ -7,3 +7,7 @@ pub mod Admission
 pub mod Noting
 pub mod Closing
 pub mod Serving
+pub mod Files
+pub mod Later
+pub mod Standing
+pub mod Next

@@ -7,7 +7,7 @@ use Rattle.dl_bytes.specs.declared.item.Injection.{Injection}
 use Rattle.dl_bytes.specs.declared.outcome.Done.{Done}
 use Rattle.dl_bytes.specs.declared.outcome.Done.TheVariants as done
 use Rattle.dl_control.specs.declared.request.Request.{Request}
-use Rattle.dl_control.specs.declared.request.Request.TheVariants.{SetLogLevel, GetLogInfo, GetDefault, Reset, SetDefault, Version}
+use Rattle.dl_control.specs.declared.request.Request.TheVariants.{SetLogLevel, SetAllLogLevel, GetLogInfo, GetDefault, Reset, SetDefault, Version}
 use Rattle.dl_control.specs.declared.request.RequestFault.{RequestFault}
 use Rattle.dl_message.specs.Cut.{IsWholeMessage}
 use Rattle.dl_message.specs.Requests.{asks}
@@ -87,6 +87,7 @@ has_body request = false
 -- the level that it gives contexts, where it sets levels: with no own level they follow the default level
 abbrev pub level_set : ℕ → Registry → Result Request RequestFault → Option ℕ
 level_set level registry (Ok (SetLogLevel apid ctid own)) = option_map (λ own. unwrap_or own registry.level) (own_level_of own)
+level_set level registry (Ok (SetAllLogLevel own)) = option_map (λ own. unwrap_or own registry.level) (own_level_of own)
 level_set level registry (Ok (SetDefault default)) = if nat_le default 6 then Some default else None
 level_set level registry (Ok Reset) = Some level
 level_set level registry request = None

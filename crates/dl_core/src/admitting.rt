@@ -15,15 +15,12 @@ ghost use Rattle.dl_trace.specs.Written.{StoresIn, ChangesTraceAlone};
 ghost use Rattle.dl_trace.specs.Writer.{HasBatch, trace_in};
 
 use circular_buffer::HeapCircularBuffer;
-use dl_bytes::{Frame, Id, Item, Moment, UserMsg};
+use dl_bytes::{COUNTER_LIMIT, Frame, Id, Item, Moment, UserMsg};
 use dl_events::{Event, Journal};
 use dl_hub::Hub;
 use dl_message::{overflow_frame, write_log_frame};
 use dl_outside::Folder;
 use dl_trace::{TraceWriter, add_to_batch, store};
-
-/// The most that one overflow record counts.
-pub const COUNTER_LIMIT: u64 = u32::MAX as u64;
 
 /// The id that names nothing.
 const NO_ID: [u8; 4] = [0; 4];

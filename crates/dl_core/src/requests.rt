@@ -16,7 +16,9 @@ ghost use Rattle.dl_core.specs.Waiting.{other_at, others, waiting};
 ghost use Rattle.dl_core.specs.Serving as serving;
 
 use crate::daemon::Core;
-use dl_bytes::{Bytes, Done, Frame, Htyp, Id, Injection, Level, Order, OutOfMemory, OwnLevel};
+use dl_bytes::{
+    Bytes, Done, Frame, Htyp, Id, Injection, Level, Order, OutOfMemory, OwnLevel, SLOTS,
+};
 use dl_control::{
     DAEMON_APID, DAEMON_CTID, Reply, Request, RequestFault, read_request, write_reply,
 };
@@ -38,9 +40,6 @@ const BARE_REPLY: u64 = 23;
 const DEFAULT_REPLY: u64 = BARE_REPLY + 1;
 
 const VERSION_REPLY: u64 = BARE_REPLY + 13;
-
-/// How many contexts there can be, each with a slot.
-const SLOTS: u16 = 1024;
 
 /// A request for which all memory was taken.
 #[derive(Drop)]
@@ -139,7 +138,7 @@ impl Core {
         ensures { result ≡ serving.level_set self.now.level self.now.registry.registry request.now }
     {
         match request {
-            Ok(Request::SetLogLevel { level, .. }) => {
+            Ok(Request::SetLogLevel { level, .. } | Request::SetAllLogLevel { level }) => {
                 let own = OwnLevel::of(*level)?;
                 Some(own.effective(self.registry.default_level()))
             }
@@ -243,6 +242,7 @@ impl Core {
             Ok(Request::Version) => Ok(VERSION_REPLY),
             Ok(
                 Request::SetLogLevel { .. }
+                | Request::SetAllLogLevel { .. }
                 | Request::Store
                 | Request::Reset
                 | Request::SetDefault { .. }

@@ -10,9 +10,9 @@ use Rattle.std.proofs.lemmas.List.Elements.{All-cons, All-head, All-nil, All-tai
 use Rattle.std.proofs.lemmas.List.Sums.{sum_by-append, sum_by-cons, sum_by-take-drop}
 use Rattle.dl_bytes.specs.Claim.{Claimed}
 use Rattle.dl_bytes.specs.Context.{Context}
-use Rattle.dl_script_lines.specs.declared.line.ClaimLine.{ClaimLine}
-use Rattle.dl_script_lines.specs.declared.scenario.ScenarioLine.{ScenarioLine}
-use Rattle.dl_script_lines.specs.declared.scenario.ScenarioLine.TheVariants as line
+use Rattle.dl_script_model.specs.declared.line.ClaimLine.{ClaimLine}
+use Rattle.dl_script_model.specs.declared.scenario.ScenarioLine.{ScenarioLine}
+use Rattle.dl_script_model.specs.declared.scenario.ScenarioLine.TheVariants as line
 use Rattle.dl_writer.specs.State.{WriterState}
 use Rattle.dl_crew.specs.Calls.{CallContent, behind_from, calls_from, calls_in, content, context_named, count_in, count_of, counted, handles_of, register_in, registers_of}
 
@@ -32,10 +32,6 @@ line_asks contexts own app writer (line.Calls number ctid severity count payload
 line_asks contexts own app writer line.Client = lit≤ tt
 line_asks contexts own app writer (line.Send client bytes) = lit≤ tt
 line_asks contexts own app writer (line.Leave client count) = lit≤ tt
-
-pub counted_is : (o : Option ClaimLine) → length (option_to_list o) ≡ counted o
-counted_is None = refl
-counted_is (Some asked) = refl
 
 -- ---- one line more
 

@@ -8,8 +8,8 @@ use Rattle.std.proofs.lemmas.List.{length-map, map-append}
 use Rattle.dl_bytes.specs.Claim.{Claimed}
 use Rattle.dl_bytes.specs.Context.{Context}
 use Rattle.dl_events.specs.declared.record.Record.{Record}
-use Rattle.dl_script_lines.specs.declared.line.ClaimLine.{ClaimLine}
-use Rattle.dl_script_lines.specs.declared.scenario.ScenarioLine.{ScenarioLine}
+use Rattle.dl_script_model.specs.declared.line.ClaimLine.{ClaimLine}
+use Rattle.dl_script_model.specs.declared.scenario.ScenarioLine.{ScenarioLine}
 use Rattle.dl_writer.specs.State.{BookState}
 use Rattle.dl_crew.specs.Calls.{CallContent, IsClaimOf, calls_behind, calls_from, calls_in, calls_of, content_of, count_in, count_of, handle_of, handles_of, register_in, registers_of}
 use Rattle.dl_writer.specs.Claiming.{name_fault}

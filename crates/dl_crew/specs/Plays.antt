@@ -9,8 +9,8 @@ use Rattle.dl_events.specs.declared.record.Answer.{Answer}
 use Rattle.dl_events.specs.declared.record.Answer.TheVariants.{Lost}
 use Rattle.dl_events.specs.declared.record.Record.{Record}
 use Rattle.dl_model.specs.Accounts.{with_answer}
-use Rattle.dl_script_lines.specs.declared.line.ClaimLine.{ClaimLine}
-use Rattle.dl_script_lines.specs.declared.scenario.ScenarioLine.{ScenarioLine}
+use Rattle.dl_script_model.specs.declared.line.ClaimLine.{ClaimLine}
+use Rattle.dl_script_model.specs.declared.scenario.ScenarioLine.{ScenarioLine}
 use Rattle.dl_desk.specs.Made.{IsMadeWith}
 use Rattle.dl_desk.specs.State.{DeskState}
 use Rattle.dl_writer.specs.Calls.{asked, Keeps}

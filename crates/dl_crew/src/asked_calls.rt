@@ -6,7 +6,7 @@ ghost use Rattle.dl_crew.specs.Calls.{calls_in, content, context_named, has_name
 
 use crate::own::Own;
 use dl_bytes::{Ctx, Id, Payload, Sequence, Severity};
-use dl_script_lines::{ClaimLine, Scenario, ScenarioLine};
+use dl_script_model::{ClaimLine, Scenario, ScenarioLine};
 
 /// What all workers share: the lines of a scenario, and the contexts that were declared for them.
 #[derive(Drop)]

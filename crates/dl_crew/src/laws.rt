@@ -2,7 +2,7 @@
 
 ghost use Rattle.std.specs.Prelude.{◌≡◌, ℕ, List, All};
 ghost use Rattle.dl_bytes.specs.Context.{Context};
-ghost use Rattle.dl_script_lines.specs.declared.scenario.ScenarioLine.{ScenarioLine};
+ghost use Rattle.dl_script_model.specs.declared.scenario.ScenarioLine.{ScenarioLine};
 ghost use Rattle.dl_desk.specs.Made.{IsMadeWith};
 ghost use Rattle.dl_desk.specs.State.{DeskState};
 ghost use Rattle.dl_writer.specs.State.{BookState, IsWhole, numbers};

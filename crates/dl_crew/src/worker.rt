@@ -10,7 +10,7 @@ ghost use Rattle.dl_writer.specs.State.{IsWhole};
 use crate::asked_calls::{AskedCalls, Plan, asked_calls, asked_claim};
 use crate::own::Own;
 use dl_outside::{Clock, Gate};
-use dl_script_lines::ScenarioLine;
+use dl_script_model::ScenarioLine;
 use dl_writer::{Book, RegisterFault};
 use std::sync::Wait;
 

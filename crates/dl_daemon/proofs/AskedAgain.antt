@@ -10,7 +10,7 @@ use Rattle.dl_server.specs.State.{State}
 use Rattle.dl_server.specs.declared.server.Server.{Server}
 use Rattle.dl_socket.specs.Listening.{HaveListeners}
 use Rattle.dl_trace.specs.State.{Trace}
-use Rattle.dl_unkept.specs.Told.{Told}
+use Rattle.dl_events.specs.Told.{Told}
 use Rattle.dl_serve.proofs.AdmittedRuns as admitted
 use Rattle.dl_daemon.specs.Rounds.{asked_again, opened_again, with_trace}
 use Rattle.dl_daemon.proofs.Renewals.{IsAnew, IsStill, with_new}

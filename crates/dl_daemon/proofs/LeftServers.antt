@@ -4,7 +4,7 @@ use Rattle.std.proofs.lemmas.List.{length-map}
 use Rattle.dl_outside.specs.Told.{FolderTold, LinkTold}
 use Rattle.dl_server.specs.State.{seen}
 use Rattle.dl_server.specs.declared.server.Server.{Server}
-use Rattle.dl_unkept.specs.Told.{Told}
+use Rattle.dl_events.specs.Told.{Told}
 use Rattle.dl_serve.specs.Closed.{IsLeft}
 use Rattle.dl_daemon.specs.Left.{closed_of}
 use Rattle.dl_daemon.specs.Rounds.{noted}

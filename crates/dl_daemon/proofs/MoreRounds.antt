@@ -8,7 +8,7 @@ use Rattle.dl_server.specs.Round.{IsRound}
 use Rattle.dl_server.specs.Server.{IsServer}
 use Rattle.dl_server.specs.State.{State, seen}
 use Rattle.dl_server.specs.declared.server.Server.{Server}
-use Rattle.dl_unkept.specs.Told.{Told}
+use Rattle.dl_events.specs.Told.{Told}
 use Rattle.dl_daemon.specs.declared.renewing.Tries.{Tries}
 use Rattle.dl_daemon.specs.Renewing.{Anew, Renewed, Renews}
 use Rattle.dl_daemon.specs.Rounds.{AreRounds, HasRoom, IsRenewedRound, asked_again, noted, opened_again, with_trace}

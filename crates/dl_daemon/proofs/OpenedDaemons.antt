@@ -10,7 +10,7 @@ use Rattle.dl_server.specs.Server as server
 use Rattle.dl_server.specs.declared.server.Server.{Server}
 use Rattle.dl_socket.specs.Channels.{Channels, none_opened}
 use Rattle.dl_trace.specs.State.{Trace}
-use Rattle.dl_unkept.specs.Told.{Told}
+use Rattle.dl_events.specs.Told.{Told}
 use Rattle.dl_serve.specs.declared.beginning.Begun.{Begun}
 use Rattle.dl_daemon.specs.declared.limits.Limits.{Limits}
 use Rattle.dl_daemon.specs.declared.opened.Opened.{Opened}

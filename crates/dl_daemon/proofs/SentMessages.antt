@@ -13,7 +13,7 @@ use Rattle.dl_server.specs.Round.{IsRound}
 use Rattle.dl_server.specs.State.{State, seen}
 use Rattle.dl_socket.specs.Channels.{Channels}
 use Rattle.dl_turns.specs.Gone.{TellOver}
-use Rattle.dl_unkept.specs.Told.{Told}
+use Rattle.dl_events.specs.Told.{Told}
 use Rattle.dl_serve.specs.declared.beginning.Begun.{Begun}
 use Rattle.dl_serve.specs.declared.closed.Closed.{Closed}
 use Rattle.dl_serve.specs.Admitted.{AllAdmitted, TellGiven}

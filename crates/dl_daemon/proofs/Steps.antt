@@ -12,7 +12,7 @@ use Rattle.dl_startup.specs.Configuration.{Unset}
 use Rattle.dl_startup.specs.Unchanged.{IsUnchanged}
 use Rattle.dl_startup.specs.declared.status.Status.{Status}
 use Rattle.dl_startup.specs.declared.status.Status.TheVariants as status
-use Rattle.dl_unkept.specs.Told.{Told}
+use Rattle.dl_events.specs.Told.{Told}
 use Rattle.dl_words.specs.Daemon.{Daemon, daemon_of}
 use Rattle.dl_serve.specs.declared.beginning.Begun.{Begun}
 use Rattle.dl_serve.specs.declared.closed.Closed.{Closed}

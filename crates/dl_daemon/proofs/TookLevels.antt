@@ -18,7 +18,7 @@ use Rattle.dl_socket.specs.Channels.{Channels}
 use Rattle.dl_startup.specs.Setup.{IsBegun}
 use Rattle.dl_trace.specs.State.{Trace}
 use Rattle.dl_turns.specs.Gone.{TellOver}
-use Rattle.dl_unkept.specs.Told.{Told}
+use Rattle.dl_events.specs.Told.{Told}
 use Rattle.dl_serve.specs.declared.beginning.Begun.{Begun}
 use Rattle.dl_serve.specs.declared.closed.Closed.{Closed}
 use Rattle.dl_serve.specs.Comes.{run_in}

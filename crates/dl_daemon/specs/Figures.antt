@@ -5,7 +5,7 @@ use Rattle.dl_rounds.specs.Ready.{open_clients}
 use Rattle.dl_server.specs.declared.server.Server.{Server}
 use Rattle.dl_trace.specs.State.{Trace}
 use Rattle.dl_trace.specs.Steps.{bytes_in}
-use Rattle.dl_unkept.specs.Told.{Told}
+use Rattle.dl_events.specs.Told.{Told}
 use Rattle.dl_daemon.specs.declared.figures.Figures.{Figures}
 use Rattle.dl_daemon.specs.declared.figures.Passed.{Passed}
 

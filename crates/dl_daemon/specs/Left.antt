@@ -7,7 +7,7 @@ use Rattle.dl_serve.specs.declared.closed.Closed.{Closed}
 use Rattle.dl_server.specs.State.{State}
 use Rattle.dl_server.specs.declared.server.Server.{Server}
 use Rattle.dl_settling.specs.Ends.{ends_of}
-use Rattle.dl_unkept.specs.Told.{Told}
+use Rattle.dl_events.specs.Told.{Told}
 use Rattle.dl_daemon.specs.declared.left.Left.{Left}
 
 -- What is left is that of a server that closed: the events that were noted, the trace, the links, and why each channel has ended.

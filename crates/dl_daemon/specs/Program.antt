@@ -20,7 +20,7 @@ use Rattle.dl_startup.specs.Configuration.{AreSetUp}
 use Rattle.dl_startup.specs.Unchanged.{IsUnchanged}
 use Rattle.dl_startup.specs.declared.status.Status.{Status}
 use Rattle.dl_startup.specs.declared.status.Status.TheVariants.{Ok, WordsRefused, NetFault, OutOfMemory, JournalFull}
-use Rattle.dl_unkept.specs.Told.{Told}
+use Rattle.dl_events.specs.Told.{Told}
 use Rattle.dl_words.specs.Daemon.{Daemon, daemon_of}
 use Rattle.dl_daemon.specs.declared.left.Left.{Left}
 use Rattle.dl_daemon.specs.declared.limits.Limits.{Limits}

@@ -10,7 +10,7 @@ use Rattle.dl_serve.specs.Rounds.{IsSeen}
 use Rattle.dl_server.specs.Round.{IsRound}
 use Rattle.dl_server.specs.State.{State, seen}
 use Rattle.dl_server.specs.declared.server.Server.{Server}
-use Rattle.dl_unkept.specs.Told.{Told}
+use Rattle.dl_events.specs.Told.{Told}
 use Rattle.dl_daemon.specs.declared.renewing.Tries.{Tries}
 use Rattle.dl_daemon.specs.declared.rounds.Stop.{Stop}
 use Rattle.dl_daemon.specs.declared.rounds.Stop.TheVariants.{Asked, Spent}

@@ -8,10 +8,10 @@ ghost use Rattle.dl_daemon.specs.Rounds.{noted};
 
 use crate::left::Left;
 use dl_bytes::{Moment, OutOfMemory, Sequence};
+use dl_events::Unkept;
 use dl_outside::{Folder, Link};
 use dl_serve::trace_told;
 use dl_server::Server;
-use dl_unkept::Unkept;
 use std::alloc::Global;
 use std::sync::Wait;
 

@@ -7,10 +7,10 @@ use crate::figures::{Figures, Passed};
 use dl_bytes::{TraceFile, TraceState};
 use dl_channel_turns::open_clients;
 use dl_core::Core;
+use dl_events::Unkept;
 use dl_outside::Link;
 use dl_server::Server;
 use dl_socket::Channels;
-use dl_unkept::Unkept;
 
 /// How many channels are open.
 fn open_channels(channels: &Channels) -> usize

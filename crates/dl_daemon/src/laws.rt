@@ -32,7 +32,7 @@ pub fn what_was_kept_is_its_journal<L: Link>()
 {
     dl_server::laws::a_round_is_its_events::<L>();
     dl_server::laws::a_closing_is_its_events::<L>();
-    dl_well_formed::clients::who_has_an_outbox();
+    dl_core::client_turns::who_has_an_outbox();
 }
 
 /// The User events of each program outside are all messages of what its link gave, in their order, each once, however the bytes came; and behind them

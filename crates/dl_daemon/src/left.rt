@@ -2,8 +2,8 @@
 
 use dl_bytes::{Sequence, TraceState};
 use dl_channel::ChannelEnd;
+use dl_events::Unkept;
 use dl_outside::LinkList;
-use dl_unkept::Unkept;
 
 /// What is left of a daemon that closed.
 #[derive(Drop)]

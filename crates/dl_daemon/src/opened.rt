@@ -1,8 +1,8 @@
 //! A daemon before its nets listen.
 
 use crate::renewing::Renewal;
+use dl_events::Unkept;
 use dl_server::Server;
-use dl_unkept::Unkept;
 
 /// A daemon before its nets listen.
 #[derive(Drop)]

@@ -9,12 +9,12 @@ use crate::opened::Opened;
 use crate::renewing::Renewal;
 use dl_bytes::OutOfMemory;
 use dl_core::Core;
+use dl_events::Unkept;
 use dl_outside::Link;
 use dl_serve::Begun;
 use dl_server::Server;
 use dl_server::laws::a_made_server_is_one;
 use dl_socket::Channels;
-use dl_unkept::Unkept;
 use std::alloc::Global;
 
 /// Makes the daemon of what was begun, within these limits. It takes all memory here that its rounds need of their own.

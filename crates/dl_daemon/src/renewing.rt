@@ -5,10 +5,10 @@ ghost use Rattle.dl_daemon.specs.Renewing.{HasTried, Renews, has_passed, is_mend
 
 use dl_bytes::{Conf, Moment, TraceEnd};
 use dl_core::Core;
+use dl_events::Unkept;
 use dl_outside::{Folder, Link};
 use dl_server::Server;
 use dl_startup::trace_over;
-use dl_unkept::Unkept;
 use std::alloc::Global;
 
 /// A minute, in units of 0.1 ms.

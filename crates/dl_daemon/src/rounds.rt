@@ -7,10 +7,10 @@ ghost use Rattle.dl_daemon.specs.Rounds.{HasMadeRounds, HasRoom, StopsFor, opene
 use crate::figures::Passed;
 use crate::renewing::Renewal;
 use crate::watch::Watch;
-use dl_bytes::Moment;
+use dl_bytes::{Moment, TURN_FRAMES};
+use dl_events::Unkept;
 use dl_outside::{Clock, Folder, Link, Net};
 use dl_server::Server;
-use dl_unkept::Unkept;
 use std::sync::Wait;
 
 /// Why the rounds of a daemon end.
@@ -21,9 +21,6 @@ pub enum Stop {
     /// The turn of a channel might admit more frames than 2^40 in all.
     Spent,
 }
-
-/// The most frames that the turn of a channel admits.
-const TURN_FRAMES: u64 = 4096;
 
 /// Whether, and why, no round is to begin.
 fn stops<L: Link, W: Watch>(

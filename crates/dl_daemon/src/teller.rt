@@ -10,9 +10,9 @@ use crate::figures::{Figures, Passed};
 use crate::line::status_line;
 use crate::watch::Watch;
 use dl_bytes::Moment;
+use dl_events::Unkept;
 use dl_outside::{Link, Sink, write_text};
 use dl_server::Server;
-use dl_unkept::Unkept;
 use std::alloc::Global;
 
 /// Says a status line each so many seconds, where that is asked for.

@@ -2,9 +2,9 @@
 
 use crate::figures::Passed;
 use dl_bytes::Moment;
+use dl_events::Unkept;
 use dl_outside::Link;
 use dl_server::Server;
-use dl_unkept::Unkept;
 
 /// Who looks on while a daemon runs. It changes nothing of it but when it ends, and of that nothing is promised: it may be at the begin of any round.
 pub trait Watch {

@@ -4,9 +4,9 @@ use Rattle.std.specs.Prelude.{All}
 use Rattle.atomic_table.specs.Seated.{TableId}
 use Rattle.dl_bytes.specs.declared.conf.AppSpec.{AppSpec}
 use Rattle.dl_ring.specs.State as ring
-use Rattle.dl_injections.specs.State as injections
-use Rattle.dl_levels.specs.States.{ReaderState}
-use Rattle.dl_losses.specs.States as losses
+use Rattle.dl_ring.specs.InjectionState as injections
+use Rattle.dl_cells.specs.LevelStates.{ReaderState}
+use Rattle.dl_cells.specs.LossStates as losses
 use Rattle.dl_desk.specs.declared.app_handles.AppHandles.{AppHandles}
 use Rattle.dl_desk.specs.declared.app_handles.FirstHandles.{FirstHandles}
 use Rattle.dl_desk.specs.Apps.{declared_app, declared_apps}

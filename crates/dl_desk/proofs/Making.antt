@@ -6,11 +6,11 @@ use Rattle.std.proofs.lemmas.List.Elements.{All-push}
 use Rattle.std.proofs.lemmas.Option.{slice_get-map}
 use Rattle.dl_bytes.specs.declared.conf.AppSpec.{AppSpec}
 use Rattle.dl_ring.specs.State as ring
-use Rattle.dl_injections.specs.State as injections
-use Rattle.dl_levels.specs.States.{ReaderState}
-use Rattle.dl_losses.specs.States as losses
-use Rattle.dl_thread_rules.specs.Views.{bit, times}
-use Rattle.dl_thread_rules.proofs.Totals.{times_more, times_else}
+use Rattle.dl_ring.specs.InjectionState as injections
+use Rattle.dl_cells.specs.LevelStates.{ReaderState}
+use Rattle.dl_cells.specs.LossStates as losses
+use Rattle.dl_cells.specs.Views.{bit, times}
+use Rattle.dl_cells.proofs.Totals.{times_more, times_else}
 use Rattle.dl_writer.specs.State.{WriterState}
 use Rattle.dl_desk.specs.declared.app_handles.AppHandles.{AppHandles}
 use Rattle.dl_desk.specs.declared.app_handles.FirstHandles.{FirstHandles}

@@ -1,7 +1,7 @@
 -- What a step at one application's ends leaves of all.
 use Rattle.std.proofs.Common.{◌≡◌, ℕ, ◌+◌, ◌≤◌, List, [], ◌∷◌, ◌++◌, length, set, get_or, Option, Some, None, Result, Ok, Err, IfSome, IfNone, OnSome, OnOk, OnErr, ap}
 use Rattle.dl_bytes.specs.declared.item.Injection.{Injection}
-use Rattle.dl_injections.specs.State as injections
+use Rattle.dl_ring.specs.InjectionState as injections
 use Rattle.dl_ring.specs.declared.item.RingItem.{RingItem}
 use Rattle.dl_ring.specs.Order.{Holds}
 use Rattle.dl_ring.specs.State as ring

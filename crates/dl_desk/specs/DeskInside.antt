@@ -2,8 +2,8 @@
 use Rattle.std.specs.Prelude.{◌≡◌, ℕ, ◌+◌, ◌*◌, ◌<◌, ◌≤◌, ◌==◌, false, true, List, [], ◌∷◌, length, All, Some, slice_get, if◌then◌else◌}
 use Rattle.dl_bytes.specs.declared.conf.AppSpec.{AppSpec}
 use Rattle.dl_ring.specs.State as ring
-use Rattle.dl_injections.specs.State as injections
-use Rattle.dl_thread_rules.specs.Views.{times}
+use Rattle.dl_ring.specs.InjectionState as injections
+use Rattle.dl_cells.specs.Views.{times}
 use Rattle.dl_desk.specs.declared.app_handles.AppHandles.{AppHandles}
 use Rattle.dl_desk.specs.declared.app_handles.FirstHandles.{FirstHandles}
 use Rattle.dl_desk.specs.declared.desk.Desk.TheInside as desk

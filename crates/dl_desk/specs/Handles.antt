@@ -1,12 +1,12 @@
 -- What contracts see of the daemon's handles of what it shares with all writers, and what each kind of step leaves of it.
 use Rattle.std.specs.Prelude.{ℕ, ◌+◌, List, [], ◌∷◌, ◌++◌}
 use Rattle.dl_bytes.specs.declared.item.Injection.{Injection}
-use Rattle.dl_injections.specs.State as injections
-use Rattle.dl_injections.specs.Order as queue
-use Rattle.dl_levels.specs.States as levels
-use Rattle.dl_losses.specs.States as losses
-use Rattle.dl_losses.specs.Losses.{report}
-use Rattle.dl_levels.specs.History.{change}
+use Rattle.dl_ring.specs.InjectionState as injections
+use Rattle.dl_ring.specs.InjectionOrder as queue
+use Rattle.dl_cells.specs.LevelStates as levels
+use Rattle.dl_cells.specs.LossStates as losses
+use Rattle.dl_cells.specs.Losses.{report}
+use Rattle.dl_cells.specs.LevelHistory.{change}
 use Rattle.dl_ring.specs.declared.item.RingItem.{RingItem}
 use Rattle.dl_ring.specs.Order.{Holds}
 use Rattle.dl_ring.specs.State as ring

@@ -1,6 +1,6 @@
 -- The fields of the daemon's handles, and what is true of them.
 use Rattle.std.specs.Prelude.{◌≡◌, ℕ, ◌*◌, ◌^◌, ◌<◌, ◌≤◌, max, length}
-use Rattle.dl_losses.specs.Losses.{reported_of}
+use Rattle.dl_cells.specs.Losses.{reported_of}
 use Rattle.dl_desk.specs.declared.handles.DaemonHandles.TheInside as handles
 use Rattle.dl_desk.specs.Handles.{HandlesState}
 

@@ -1,8 +1,8 @@
 -- What contracts see of the daemon's side of the library.
 use Rattle.std.specs.Prelude.{ℕ, List}
 use Rattle.dl_bytes.specs.declared.conf.AppSpec.{AppSpec}
-use Rattle.dl_levels.specs.States.{ReaderState}
-use Rattle.dl_losses.specs.States as losses
+use Rattle.dl_cells.specs.LevelStates.{ReaderState}
+use Rattle.dl_cells.specs.LossStates as losses
 use Rattle.dl_desk.specs.declared.app_handles.FirstHandles.{FirstHandles}
 use Rattle.dl_desk.specs.Handles.{HandlesState}
 

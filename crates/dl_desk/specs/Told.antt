@@ -1,8 +1,8 @@
 -- What sets levels and injects tells of itself, and what each of its calls makes of that.
 use Rattle.std.specs.Prelude.{ℕ, ◌+◌, ◌==◌, List, [], ◌∷◌, ◌++◌, if◌then◌else◌}
 use Rattle.dl_bytes.specs.declared.item.Injection.{Injection}
-use Rattle.dl_levels.specs.History.{change}
-use Rattle.dl_levels.specs.declared.history.Change.{Change}
+use Rattle.dl_cells.specs.LevelHistory.{change}
+use Rattle.dl_cells.specs.declared.level_history.Change.{Change}
 use Rattle.dl_desk.specs.Handles.{HandlesState}
 use Rattle.dl_desk.specs.Posting.{pushed_of, refusals_of}
 

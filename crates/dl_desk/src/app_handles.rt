@@ -1,8 +1,7 @@
 //! The handles of one application's ring and of its queue of injections.
 
 use crate::counted_take::CountedTake;
-use dl_injections::InjectTake;
-use dl_ring::{InjectPush, RingPush};
+use dl_ring::{InjectPush, InjectTake, RingPush};
 
 /// The daemon's: it takes from the ring, and puts injections into the queue.
 #[derive(Drop)]

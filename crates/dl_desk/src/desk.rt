@@ -1,8 +1,8 @@
 //! The daemon's side while the writers log.
 
 ghost use Rattle.std.specs.Prelude.{◌≡◌, ◌+◌, ◌-◌, ◌*◌, ◌^◌, ◌<◌, ◌≤◌, ◌↔◌, false, List, [], length, map, slice_get, Some, Err, IfOk, IfErr, IfSome, IfNone, IsErr, MatchResult, OnOk, OnErr, OnSome};
-ghost use Rattle.dl_levels.specs.History.{current_version};
-ghost use Rattle.dl_losses.specs.Losses.{reported_of};
+ghost use Rattle.dl_cells.specs.LevelHistory.{current_version};
+ghost use Rattle.dl_cells.specs.Losses.{reported_of};
 ghost use Rattle.dl_ring.specs.declared.item.RingItem.{RingItem as ring_item};
 ghost use Rattle.dl_ring.specs.Items.{is_call, took};
 ghost use Rattle.dl_desk.specs.Lists.{At};
@@ -19,8 +19,7 @@ use crate::handles::DaemonHandles;
 use crate::parts::Parts;
 use arrayvec::ArrayVec;
 use dl_bytes::{AppSpec, Injection, Item, Level, OutOfMemory, Sequence, WRITER_LIMIT};
-use dl_levels::{LevelReader, Worn};
-use dl_losses::LossWriter;
+use dl_cells::{LevelReader, LossWriter, Worn};
 use dl_ring::{RingItem, Taken};
 use dl_writer::{ClaimRoom, Owner, Writer, WriterHandles};
 use std::alloc::Global;

@@ -1,11 +1,11 @@
 //! The daemon's handles of all that it shares with the writers.
 
 ghost use Rattle.std.specs.Prelude.{◌≡◌, ◌+◌, ◌-◌, ◌*◌, ◌%◌, ◌^◌, ◌<◌, ◌≤◌, ◌↔◌, false, List, ℕ, [], ◌∷◌, ◌++◌, length, nat_lt, All, IfErr, IfSome, IfNone, IsErr, OnOk, OnErr, OnSome};
-ghost use Rattle.dl_thread_rules.specs.Views.{bit, times};
-ghost use Rattle.dl_claims.specs.Claims.{given_of, refused_of, all_shares as all_claim_shares};
-ghost use Rattle.dl_levels.specs.History.{current_version, IsEntry};
-ghost use Rattle.dl_levels.specs.declared.history.Read.{Read};
-ghost use Rattle.dl_losses.specs.Losses.{counted_of, reported_of, all_shares};
+ghost use Rattle.dl_cells.specs.Views.{bit, times, all_shares};
+ghost use Rattle.dl_cells.specs.Claims.{given_of, refused_of};
+ghost use Rattle.dl_cells.specs.LevelHistory.{current_version, IsEntry};
+ghost use Rattle.dl_cells.specs.declared.level_history.Read.{Read};
+ghost use Rattle.dl_cells.specs.Losses.{counted_of, reported_of};
 ghost use Rattle.dl_ring.specs.declared.item.RingItem.{RingItem as ring_item};
 ghost use Rattle.dl_ring.specs.Items.{is_call, took};
 ghost use Rattle.dl_desk.specs.Lists.{At};
@@ -13,10 +13,8 @@ ghost use Rattle.dl_desk.specs.Handles.{QueueHolds, RingHolds, with_empty_take, 
 
 use crate::app_handles::AppHandles;
 use dl_bytes::{Injection, Item, Level};
-use dl_injections::InjectTake;
-use dl_levels::{LevelKeeper, LevelReader, Worn};
-use dl_losses::{LossKeeper, LossWriter};
-use dl_ring::{RingItem, RingPush, Taken};
+use dl_cells::{LevelKeeper, LevelReader, LossKeeper, LossWriter, Worn};
+use dl_ring::{InjectTake, RingItem, RingPush, Taken};
 use std::marker::Model;
 use std::sync::Wait;
 
@@ -158,8 +156,8 @@ impl DaemonHandles {
         ensures range { result ≤ 64 }
         ensures apart { (n : ℕ) → times n (given_of app self.old.levels.given) ≤ bit (nat_lt n result) }
         ensures few { length (given_of app self.old.levels.given) ≤ result }
-        ensures all { self.old.levels.shares ≡ all_claim_shares → (n : ℕ) → times n (given_of app self.old.levels.given) ≡ bit (nat_lt n result) }
-        ensures count { self.old.levels.shares ≡ all_claim_shares → length (given_of app self.old.levels.given) ≡ result }
+        ensures all { self.old.levels.shares ≡ all_shares → (n : ℕ) → times n (given_of app self.old.levels.given) ≡ bit (nat_lt n result) }
+        ensures count { self.old.levels.shares ≡ all_shares → length (given_of app self.old.levels.given) ≡ result }
         ensures full { 0 < refused_of app self.old.levels.refused → result ≡ 64 }
     {
         self.levels.given(app)

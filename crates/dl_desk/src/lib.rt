@@ -36,8 +36,8 @@ pub use app_handles::{AppHandles, FirstHandles};
 pub use counted_take::CountedTake;
 pub use desk::{Desk, DeskParts};
 pub use dl_bytes::{AppSpec, Ctx};
+pub use dl_cells::Worn;
 pub use dl_events::{Answer, Record};
-pub use dl_levels::Worn;
 pub use dl_ring::{RingItem, Taken};
 pub use dl_writer::{
     Book, BookFault, BookList, LogFault, RegisterFault, WRITER_CALL_LIMIT, Writer,

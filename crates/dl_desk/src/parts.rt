@@ -14,8 +14,7 @@ use crate::desk::Desk;
 use crate::handles::DaemonHandles;
 use arrayvec::ArrayVec;
 use dl_bytes::{AppSpec, OutOfMemory, Sequence};
-use dl_levels::make_levels;
-use dl_losses::make_losses;
+use dl_cells::{make_levels, make_losses};
 use dl_ring::{make_injections, make_ring};
 use std::alloc::Global;
 

@@ -1,12 +1,12 @@
 //! What a served request reaches of the programs that log: the levels of their contexts, and their injections.
 
 ghost use Rattle.std.specs.Prelude.{◌≡◌, ◌-◌, ◌*◌, ◌^◌, ◌<◌, ◌≤◌, ◌↔◌, length, IfErr, IsErr, OnOk, OnErr, refl};
-ghost use Rattle.dl_levels.specs.History.{current_version};
+ghost use Rattle.dl_cells.specs.LevelHistory.{current_version};
 ghost use Rattle.dl_desk.specs.Told.{PostTold, with_pushed, with_refused, with_set};
 
 use crate::desk::Desk;
 use dl_bytes::{Injection, Level};
-use dl_levels::Worn;
+use dl_cells::Worn;
 use std::sync::Wait;
 
 /// Sets levels and injects, before and after the writers are taken back.

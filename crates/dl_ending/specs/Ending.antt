@@ -7,8 +7,8 @@ use Rattle.dl_events.specs.declared.event.Event.{Event}
 use Rattle.dl_events.specs.declared.event.Event.TheVariants as event
 use Rattle.dl_events.specs.declared.event.Why.TheVariants as why
 use Rattle.dl_events.specs.declared.record.Record.{Record}
-use Rattle.dl_lib.specs.Settled.{refusals_of}
-use Rattle.dl_lib.specs.State.{AccountState}
+use Rattle.dl_account.specs.Settled.{refusals_of}
+use Rattle.dl_account.specs.State.{AccountState}
 use Rattle.dl_model.specs.Backlog.{left}
 use Rattle.dl_model.specs.ClientStream.{traffic}
 use Rattle.dl_model.specs.Frames.{FrameSource}

@@ -3,7 +3,7 @@ use Rattle.std.specs.Prelude.{◌≡◌, ℕ, ◌||◌, Bool, true, false, List,
 use Rattle.std.specs.List.{list_any}
 use Rattle.dl_bytes.specs.declared.outcome.TraceEnd.{TraceEnd}
 use Rattle.dl_bytes.specs.declared.outcome.TraceEnd.TheVariants as end
-use Rattle.dl_lib.specs.State.{AccountState}
+use Rattle.dl_account.specs.State.{AccountState}
 use Rattle.dl_model.specs.Setting.{Setting}
 use Rattle.dl_outside.specs.Told.{FolderTold, SinkTold}
 use Rattle.dl_outside.specs.Written.{WroteNothing}
@@ -14,7 +14,7 @@ use Rattle.dl_storage.specs.Storing.{AreStored}
 use Rattle.dl_storage.specs.Text.{storage_lines}
 use Rattle.dl_storage.specs.declared.ends.StoreEnd.{StoreEnd}
 use Rattle.dl_storage.specs.declared.ends.StoreEnds.{StoreEnds}
-use Rattle.dl_storage_text.specs.declared.filter.Filter.{Filter}
+use Rattle.dl_storage.specs.declared.filter.Filter.{Filter}
 use Rattle.dl_ending.specs.Ending.{Finishes, failures_with, records_of, text_of}
 use Rattle.dl_ending.specs.declared.concluding.Concluded.{Concluded}
 

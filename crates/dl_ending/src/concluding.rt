@@ -7,12 +7,11 @@ ghost use Rattle.dl_ending.specs.Ending.{CanReport, IsSettingOf};
 ghost use Rattle.dl_ending.specs.Storage.{IsConcluded};
 
 use crate::finishing::finish;
+use dl_account::Account;
 use dl_bytes::Conf;
-use dl_lib::Account;
 use dl_outside::{Folder, Sink};
 use dl_startup::{Failures, Status};
-use dl_storage::{StoreEnds, store};
-use dl_storage_text::FilterList;
+use dl_storage::{FilterList, StoreEnds, store};
 use std::alloc::Global;
 
 /// How a run was concluded.

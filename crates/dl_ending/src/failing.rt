@@ -4,9 +4,9 @@ ghost use Rattle.std.specs.Prelude.{◌≡◌};
 ghost use Rattle.dl_ending.specs.Ending.{failures_with, is_unheard, unheard};
 ghost use Rattle.dl_ending.specs.Storage.{has_failed, has_no_memory, is_spent, some_end, with_storage};
 
+use dl_account::Account;
 use dl_bytes::TraceEnd;
 use dl_events::{Event, Why};
-use dl_lib::Account;
 use dl_startup::{Failures, unserved};
 use dl_storage::{StoreEnd, StoreEnds};
 

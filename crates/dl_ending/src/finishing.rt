@@ -6,15 +6,13 @@ ghost use Rattle.dl_ending.specs.Ending.{CanReport, IsTextOf, IsSettingOf};
 ghost use Rattle.dl_ending.specs.Storage.{Reports};
 
 use crate::failing::{failures_with, with_storage};
+use dl_account::Account;
 use dl_bytes::{Bytes, Conf, OutOfMemory};
-use dl_left::laws::{clients_come_and_go, records_account_for_a_journal};
-use dl_left::left_of;
-use dl_lib::Account;
 use dl_outside::Sink;
-use dl_report::report;
+use dl_report::left_laws::{clients_come_and_go, records_account_for_a_journal};
+use dl_report::{left_of, report};
 use dl_startup::{Failures, Status, write_pieces};
-use dl_storage::{StoreEnds, storage_lines};
-use dl_storage_text::FilterList;
+use dl_storage::{FilterList, StoreEnds, storage_lines};
 use std::alloc::Global;
 
 /// The report of an account, of a run with this configuration.

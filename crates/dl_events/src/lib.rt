@@ -1,13 +1,25 @@
-//! What happened: the events of the daemon, the records of log calls, and the journal that takes the events.
+//! What happened: the events of the daemon, the records of log calls, and the journals that take the events.
+//!
+//! [`Kept`] keeps its events, [`Counted`] as many as it has room for. [`Unkept`] is for a daemon that runs for months: it keeps no event, only
+//! how many there were, and never wants memory. In proofs it tells all events that were noted, so laws on journals that tell their events
+//! hold of it.
+//!
+//! What must be believed: its list of events is data of proofs alone, and nothing but its length is tied to memory. So a clause on that list
+//! says nothing to who holds an [`Unkept`]: no run can read an event out of it. It binds code that is generic over [`Journal`]: such code
+//! gets an event into the list by `note` alone, which puts the event that it is given at the end. Lists are made in `make` and in `note`,
+//! and nowhere else: the type that has them is private here.
 #![tactic(auto)]
 
 mod claim_list;
 mod event;
 mod journal;
+mod log;
 mod record;
+mod unkept;
 
 pub use claim_list::ClaimList;
 pub use dl_bytes::Done;
 pub use event::{Event, Why};
 pub use journal::{Counted, Journal, Kept};
 pub use record::{Answer, Record, RecordList};
+pub use unkept::Unkept;

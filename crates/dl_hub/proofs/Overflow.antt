@@ -39,10 +39,6 @@ frames-step ecu apid ctid n counter some is = rw is (ap (map (overflow_record ec
 abbrev client_is : (o : Option Waiting) (frames bytes replies left : ℕ) → Client
 client_is o frames bytes replies left = record { outbox = o; frames = frames; bytes = bytes; replies = replies; left = left }
 
-both_added : (xs ys : List ℕ) (o : Option Waiting) → option_map (added ys) (option_map (added xs) o) ≡ option_map (added (xs ++ ys)) o
-both_added xs ys None = refl
-both_added xs ys (Some w) = ap (λ bytes. Some (record { bytes = bytes; capacity = w.capacity })) (append_assoc w.bytes xs ys)
-
 pub one-more : (f : List ℕ) (fs : List (List ℕ)) (c : Client) → IsSomeAnd c.outbox (λ outbox. length outbox.bytes + size_of (f ∷ fs) ≤ outbox.capacity) →
     with_frames fs (with_frame f c) ≡ with_frames (f ∷ fs) c
 one-more f fs c can = more c.outbox can where

@@ -259,10 +259,6 @@ places-goes clients place c places gone are =
     ∙ ap (λ b. places_of 0 (slice_set (map is_open clients) place b)) (sym gone)
     ∙ ap (places_of 0) (sym (map-set is_open clients place c))
 
-pub places-same : (clients : List Client) (place : ℕ) (old new : Client) (places : List ℕ) → slice_get clients place ≡ Some old → is_open new ≡ is_open old
-    → places ≡ places_of 0 (map is_open clients) → places ≡ places_of 0 (map is_open (slice_set clients place new))
-places-same clients place old new places is same are = are ∙ ap (places_of 0) (sym (map-same is_open clients place old new is same))
-
 -- ---- the next one that is open
 
 -- the first place from a number on that is of one that is there, where the places begin with this one

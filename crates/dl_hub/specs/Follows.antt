@@ -1,8 +1,7 @@
 -- What the hub is after a list of traffic: each client's outbox is its stream less what its link took, and the backlog
 -- is what waits.
 use Rattle.std.specs.Prelude.{◌≡◌, ℕ, ◌<◌, ◌+◌, ◌==◌, Bool, false, List, [], ◌∷◌, ◌++◌, length, count_by, slice_get, None, Some, IfSome, if◌then◌else◌}
-use Rattle.std.specs.List.{concat}
-use Rattle.std.specs.List.{range_with_len}
+use Rattle.std.specs.List.{concat, range_with_len}
 use Rattle.dl_model.specs.Traffic.{Traffic, Reply, clients, admitted_in, is_open}
 use Rattle.dl_model.specs.Backlog.{size_of, waiting, fitting, refused}
 use Rattle.dl_model.specs.ClientStream.{sent}

@@ -1,6 +1,5 @@
 -- What contracts see of the hub and its clients.
-use Rattle.std.specs.Prelude.{◌≡◌, ℕ, ◌+◌, ◌-◌, ◌≤◌, ◌<◌, ◌==◌, ◌&&◌, nat_le, Bool, true, List, [], ◌∷◌, ◌++◌, length, count_by, map, take, drop, slice_get, slice_set}
-use Rattle.std.specs.Prelude.{Option, Some, None, is_some, option_map, IfSome, IsSome, IsSomeAnd, if◌then◌else◌}
+use Rattle.std.specs.Prelude.{◌≡◌, ℕ, ◌+◌, ◌-◌, ◌≤◌, ◌<◌, ◌==◌, ◌&&◌, nat_le, Bool, true, List, [], ◌∷◌, ◌++◌, length, count_by, map, take, drop, slice_get, slice_set, Option, Some, None, is_some, option_map, IfSome, IsSome, IsSomeAnd, if◌then◌else◌}
 use Rattle.std.specs.Option.{option_and_then, option_map_or}
 use Rattle.std.specs.List.{list_any}
 use Rattle.dl_bytes.specs.Limits.{open_client_limit, request_limit}

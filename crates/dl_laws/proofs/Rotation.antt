@@ -43,10 +43,6 @@ segments_from-one size segment (x ∷ frames) frame =
       by_test true goes_on begins = goes_on
       by_test false goes_on begins = ap (λ (s : List (List (List ℕ))). segment ∷ s) begins ∙ sym (before_others size segment (x ∷ []) frames frame)
 
-pub segments-one : (size : ℕ) (frames : List (List ℕ)) (frame : List ℕ) → segments size (frames ++ frame ∷ []) ≡ with_frame size (segments size frames) frame
-segments-one size [] frame = refl
-segments-one size (x ∷ frames) frame = segments_from-one size (x ∷ []) frames frame
-
 -- ---- the segments are the frames, cut
 
 segments_from-all : (size : ℕ) (segment frames : List (List ℕ)) → flat_map (λ (s : List (List ℕ)). s) (segments_from size segment frames) ≡ segment ++ frames

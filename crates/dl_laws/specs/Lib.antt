@@ -1,3 +1,14 @@
-pub mod Scripts
-pub mod Takes
+pub mod Frames
+pub mod FrameLengths
+pub mod FramesPut
 pub mod OneStay
+pub mod Gathered
+pub mod ClientParts
+pub mod OwnFiles
+pub mod ShortFrames
+pub mod LoggedCalls
+pub mod HeardCalls
+pub mod GivenLast
+pub mod RegistryCases
+pub mod Fates
+pub mod PresentClaims

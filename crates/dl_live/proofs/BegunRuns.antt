@@ -8,8 +8,8 @@ use Rattle.dl_conf.specs.Conf.{Values}
 use Rattle.dl_conf.specs.Outcome.{values_of}
 use Rattle.dl_conf.specs.declared.conf.ConfKind.{ConfKind}
 use Rattle.dl_events.specs.declared.record.Record.{Record}
-use Rattle.dl_folders.specs.Files as folders
-use Rattle.dl_lib.specs.State.{AccountState}
+use Rattle.dl_core.specs.Files as folders
+use Rattle.dl_account.specs.State.{AccountState}
 use Rattle.dl_outside.specs.Folder.{Files}
 use Rattle.dl_outside.specs.Links.{Links}
 use Rattle.dl_outside.specs.Net.{HasCause}
@@ -26,9 +26,9 @@ use Rattle.dl_startup.specs.declared.status.Status.TheVariants as status
 use Rattle.dl_startup.specs.declared.storage_kind.StorageKind.{StorageKind}
 use Rattle.dl_storage.specs.Storing.{ChangesFiltersFiles, IsOther}
 use Rattle.dl_storage.specs.declared.ends.StoreEnds.{StoreEnds}
-use Rattle.dl_storage_text.specs.Line.{Wanted}
-use Rattle.dl_storage_text.specs.Whole.{wanted_of}
-use Rattle.dl_storage_text.specs.declared.filter.Filter.{Filter}
+use Rattle.dl_storage.specs.FilterLine.{Wanted}
+use Rattle.dl_storage.specs.FilterWhole.{wanted_of}
+use Rattle.dl_storage.specs.declared.filter.Filter.{Filter}
 use Rattle.dl_trace.specs.Stands.{IsTraceName}
 use Rattle.dl_trace.specs.State.{Trace}
 use Rattle.dl_words.specs.Run as words

@@ -6,12 +6,12 @@ use Rattle.dl_bytes.specs.declared.conf.Conf.{Conf}
 use Rattle.dl_crew.specs.Plays.{ArePairs, HasPlayed}
 use Rattle.dl_crew.proofs.Pairs.{as_many, same_numbers, still_whole}
 use Rattle.dl_ending.specs.Ending.{IsAccountIn}
-use Rattle.dl_lib.specs.Books.{books_of, registers_of}
-use Rattle.dl_lib.specs.Settled.{IsJournalOf}
-use Rattle.dl_lib.specs.State.{AccountState}
-use Rattle.dl_lib.proofs.Accounted.{accounted}
-use Rattle.dl_lib.proofs.InOrder.{all_of_ordered}
-use Rattle.dl_lib.proofs.OpenBooks.{stay_in_order}
+use Rattle.dl_account.specs.Books.{books_of, registers_of}
+use Rattle.dl_account.specs.Settled.{IsJournalOf}
+use Rattle.dl_account.specs.State.{AccountState}
+use Rattle.dl_account.proofs.Accounted.{accounted}
+use Rattle.dl_account.proofs.InOrder.{all_of_ordered}
+use Rattle.dl_account.proofs.OpenBooks.{stay_in_order}
 use Rattle.dl_loop.specs.Later.{GoesRound}
 use Rattle.dl_loop.specs.Scene.{scene, side_of}
 use Rattle.dl_loop.proofs.GoneRounds.{goes_both}
@@ -28,7 +28,7 @@ use Rattle.dl_outside.specs.Told.{FolderTold, LinkTold, NetTold}
 use Rattle.dl_rounds.specs.Greetings.{AreGreeted, hello_of}
 use Rattle.dl_rounds.proofs.GreetedEvents.{greeted_each}
 use Rattle.dl_script.specs.Playable.{IsRunnable}
-use Rattle.dl_script_lines.specs.declared.scenario.ScenarioLine.{ScenarioLine}
+use Rattle.dl_script_model.specs.declared.scenario.ScenarioLine.{ScenarioLine}
 use Rattle.dl_startup.specs.Setup.{IsBegun}
 use Rattle.dl_trace.specs.Stands.{HasFiles}
 use Rattle.dl_trace.specs.State as trace
@@ -53,7 +53,7 @@ use Rattle.dl_model.specs.ClientEnds.{MayDrop}
 use Rattle.dl_live.specs.Injected.{IsInjected}
 use Rattle.dl_live.proofs.PostedInjections.{tells_injections}
 use Rattle.dl_bytes.specs.declared.item.Item.{Item}
-use Rattle.dl_lib.specs.Known.{taken_of}
+use Rattle.dl_account.specs.Known.{taken_of}
 use Rattle.dl_loop.specs.Holds.{Gives}
 use Rattle.dl_message.specs.Frames.{log_message}
 use Rattle.dl_ring.specs.Items.{calls_in}

@@ -5,7 +5,7 @@ use Rattle.dl_bytes.specs.declared.outcome.TraceEnd.{TraceEnd}
 use Rattle.dl_bytes.specs.declared.outcome.TraceEnd.TheVariants as end
 use Rattle.dl_ending.specs.Ending.{Finishes}
 use Rattle.dl_ending.specs.Storage.{has_failed, has_no_memory, is_spent, some_end}
-use Rattle.dl_lib.specs.State.{AccountState}
+use Rattle.dl_account.specs.State.{AccountState}
 use Rattle.dl_outside.specs.Written.{WroteAll, WroteFront}
 use Rattle.dl_startup.specs.Failures.{status_of}
 use Rattle.dl_startup.specs.declared.failures.Failures.{Failures}

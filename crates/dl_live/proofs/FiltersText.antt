@@ -5,8 +5,8 @@ use Rattle.std.specs.FinMap as map
 use Rattle.std.specs.Option.{option_map_or}
 use Rattle.dl_outside.specs.Folder.{Files}
 use Rattle.dl_startup.specs.declared.storage_kind.StorageKind.{StorageKind}
-use Rattle.dl_storage_text.specs.Line.{Wanted}
-use Rattle.dl_storage_text.specs.Whole.{storage_said}
+use Rattle.dl_storage.specs.FilterLine.{Wanted}
+use Rattle.dl_storage.specs.FilterWhole.{storage_said}
 use Rattle.dl_live.specs.Filters.{filters_in, filters_name}
 
 pub says_of_text : (told : Option Files) (found : Option (List ℕ)) (text : List ℕ) (said : Result (List Wanted) (ℕ × StorageKind))

@@ -3,9 +3,9 @@ use Rattle.std.proofs.Common.{◌≡◌, ℕ, ◌+◌, ◌<◌, ◌≤◌, Bool,
 use Rattle.std.specs.Prelude.{All}
 use Rattle.std.proofs.lemmas.Bool.{cases_lt}
 use Rattle.std.proofs.lemmas.List.Elements.{All-cons, All-head, All-nil, All-tail}
-use Rattle.dl_lib.specs.Books.{books_of, registers_of}
-use Rattle.dl_lib.specs.Settled.{IsSettled}
-use Rattle.dl_lib.specs.State.{AccountState}
+use Rattle.dl_account.specs.Books.{books_of, registers_of}
+use Rattle.dl_account.specs.Settled.{IsSettled}
+use Rattle.dl_account.specs.State.{AccountState}
 use Rattle.dl_writer.specs.State.{BookState}
 
 -- what holds of an application's books holds of each of them among all

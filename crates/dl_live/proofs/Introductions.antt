@@ -5,9 +5,9 @@ use Rattle.dl_bytes.specs.declared.user.UserMsg.{UserMsg}
 use Rattle.dl_opening.specs.Scenario.{contexts_of, hello_of, opened_from, registered}
 use Rattle.dl_rounds.specs.Greetings.{IsContext, IsIntroduced}
 use Rattle.dl_rounds.specs.Greetings as greetings
-use Rattle.dl_script_lines.specs.declared.line.AppLine.{AppLine}
-use Rattle.dl_script_lines.specs.declared.line.ContextLine.{ContextLine}
-use Rattle.dl_script_lines.specs.declared.scenario.ScenarioLine.{ScenarioLine}
+use Rattle.dl_script_model.specs.declared.line.AppLine.{AppLine}
+use Rattle.dl_script_model.specs.declared.line.ContextLine.{ContextLine}
+use Rattle.dl_script_model.specs.declared.scenario.ScenarioLine.{ScenarioLine}
 
 contexts_are : (apid : List ℕ) (contexts : List ContextLine) → AllByRecursion IsContext (map (registered apid) contexts)
 contexts_are apid [] = tt

@@ -9,9 +9,9 @@ use Rattle.dl_bytes.specs.declared.outcome.TraceEnd.{TraceEnd}
 use Rattle.dl_bytes.specs.declared.outcome.TraceEnd.TheVariants as end
 use Rattle.dl_ending.specs.Ending.{Finishes, failures_with, unheard}
 use Rattle.dl_ending.specs.Storage.{has_failed, has_no_memory, is_spent, some_end, with_storage}
-use Rattle.dl_folders.specs.Later.{failed_in, trace_failures}
+use Rattle.dl_core.specs.Later.{failed_in, trace_failures}
 use Rattle.dl_launch.specs.Launching.{Launched}
-use Rattle.dl_lib.specs.State.{AccountState}
+use Rattle.dl_account.specs.State.{AccountState}
 use Rattle.dl_loop.specs.State.{DaemonState}
 use Rattle.dl_opening.specs.Scenario.{clients, scripts_of}
 use Rattle.dl_opening.proofs.Runnable.{few_clients}
@@ -20,7 +20,7 @@ use Rattle.dl_outside.specs.Outside.{HasRisen}
 use Rattle.dl_outside.specs.Told.{FolderTold, LinkTold, NetTold, SinkTold}
 use Rattle.dl_outside.specs.declared.client.ClientScript.{ClientScript}
 use Rattle.dl_script.specs.Playable.{IsRunnable}
-use Rattle.dl_script_lines.specs.declared.scenario.ScenarioLine.{ScenarioLine}
+use Rattle.dl_script_model.specs.declared.scenario.ScenarioLine.{ScenarioLine}
 use Rattle.dl_startup.specs.Failures.{unserved, with_trace}
 use Rattle.dl_startup.specs.Setup.{IsBegun}
 use Rattle.dl_startup.specs.Unchanged.{IsQuiet}

@@ -8,7 +8,7 @@ use Rattle.dl_opening.specs.Scenario.{scripts_of}
 use Rattle.dl_outside.specs.Outside.{HasRisen, Stays}
 use Rattle.dl_outside.specs.Told.{NetTold}
 use Rattle.dl_outside.specs.declared.client.ClientScript.{ClientScript}
-use Rattle.dl_script_lines.specs.declared.scenario.ScenarioLine.{ScenarioLine}
+use Rattle.dl_script_model.specs.declared.scenario.ScenarioLine.{ScenarioLine}
 use Rattle.dl_live.specs.Clients.{IsHeard, IsNetAfter}
 use Rattle.dl_lemmas.proofs.Options.{if_some_is}
 

@@ -11,12 +11,12 @@ use Rattle.dl_core.specs.Follows.{HoldsFiles, HoldsTrace, IsTraceAfter, Run, sto
 use Rattle.dl_core.specs.Serving.{stored_name}
 use Rattle.dl_core.specs.State.{Core}
 use Rattle.dl_events.specs.declared.event.Event.{Event}
-use Rattle.dl_folders.specs.Files.{Leaves}
-use Rattle.dl_folders.specs.Later.{IsFolderLater, failures_in}
-use Rattle.dl_folders.proofs.LaterFolders.{folder_both}
-use Rattle.dl_folders.proofs.LeftFiles.{leaves_both}
+use Rattle.dl_core.specs.Files.{Leaves}
+use Rattle.dl_core.specs.Later.{IsFolderLater, failures_in}
+use Rattle.dl_core.proofs.LaterFolders.{folder_both}
+use Rattle.dl_core.proofs.LeftFiles.{leaves_both}
 use Rattle.dl_launch.specs.Launching.{Launched}
-use Rattle.dl_lib.specs.State.{AccountState}
+use Rattle.dl_account.specs.State.{AccountState}
 use Rattle.dl_loop.specs.Coming.{HaveCome}
 use Rattle.dl_loop.specs.Holds.{Gives}
 use Rattle.dl_loop.specs.Later.{GoesRound, IsLaterBy}

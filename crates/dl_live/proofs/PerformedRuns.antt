@@ -6,8 +6,8 @@ use Rattle.dl_bytes.specs.declared.conf.Conf.{Conf}
 use Rattle.dl_core.specs.State.{Core}
 use Rattle.dl_ending.specs.Ending.{CanReport, IsSettingOf, records_of}
 use Rattle.dl_ending.specs.Storage.{Concludes}
-use Rattle.dl_folders.specs.Files as folders
-use Rattle.dl_lib.specs.State.{AccountState}
+use Rattle.dl_core.specs.Files as folders
+use Rattle.dl_account.specs.State.{AccountState}
 use Rattle.dl_model.specs.Setting.{Setting}
 use Rattle.dl_opening.proofs.AllCalls.{few_calls}
 use Rattle.dl_outside.specs.Folder.{Files}
@@ -22,7 +22,7 @@ use Rattle.dl_startup.specs.Unchanged.{IsQuiet}
 use Rattle.dl_startup.specs.declared.status.Status.{Status}
 use Rattle.dl_storage.specs.Storing.{ChangesFiltersFiles}
 use Rattle.dl_storage.specs.declared.ends.StoreEnds.{StoreEnds}
-use Rattle.dl_storage_text.specs.declared.filter.Filter.{Filter}
+use Rattle.dl_storage.specs.declared.filter.Filter.{Filter}
 use Rattle.dl_trace.specs.Made.{IsMade}
 use Rattle.dl_trace.specs.State.{Trace}
 use Rattle.dl_writer.specs.State.{BookState}

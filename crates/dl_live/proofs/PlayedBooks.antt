@@ -14,8 +14,8 @@ use Rattle.dl_opening.specs.Asked.{IsAsked, asked_of, count_behind, without_slot
 use Rattle.dl_opening.specs.Opening.{IsBookOf}
 use Rattle.dl_opening.specs.Scenario.{apps, handles_from}
 use Rattle.dl_opening.specs.declared.opened.Opened.{Opened}
-use Rattle.dl_script_lines.specs.declared.line.ClaimLine.{ClaimLine}
-use Rattle.dl_script_lines.specs.declared.scenario.ScenarioLine.{ScenarioLine}
+use Rattle.dl_script_model.specs.declared.line.ClaimLine.{ClaimLine}
+use Rattle.dl_script_model.specs.declared.scenario.ScenarioLine.{ScenarioLine}
 use Rattle.dl_writer.specs.State.{BookState, IsWhole, WriterState}
 use Rattle.dl_live.specs.Played.{HasClaimed, HasPlayedAll}
 

@@ -7,7 +7,7 @@ use Rattle.std.proofs.lemmas.List.Sums.{sum_by-cons}
 use Rattle.dl_bytes.specs.Context.{Context}
 use Rattle.dl_crew.specs.Plays.{ArePairs, CanPlay, HasPlayed}
 use Rattle.dl_events.specs.declared.record.Record.{Record}
-use Rattle.dl_script_lines.specs.declared.scenario.ScenarioLine.{ScenarioLine}
+use Rattle.dl_script_model.specs.declared.scenario.ScenarioLine.{ScenarioLine}
 use Rattle.dl_settling.specs.Room.{together}
 use Rattle.dl_writer.specs.State.{BookState}
 
@@ -28,11 +28,3 @@ module _ (contexts : List Context) (lines : List ScenarioLine) where
       let rest = all_fit olds news played.1 (All-tail (CanPlay lines) old olds can) in
       let sum = sum_by-cons (λ (b : BookState). b.room) old olds in
       omega (arith, this, rest, sum)
-
--- the records of books, one book's after the other's, are as many as those of all
-pub records_together : (books : List BookState) → length (flat_map (λ (rs : List Record). rs) (map (λ b. b.records) books)) ≡ together books
-records_together [] = refl
-records_together (b ∷ books) =
-    let parts = length-append b.records (flat_map (λ (rs : List Record). rs) (map (λ (b : BookState). b.records) books)) in
-    let rest = records_together books in
-    omega (arith, parts, rest)

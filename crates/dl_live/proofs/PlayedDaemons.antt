@@ -18,9 +18,9 @@ use Rattle.dl_desk.specs.Made.{IsLater}
 use Rattle.dl_ending.specs.Ending.{IsAccountIn, claims_of}
 use Rattle.dl_events.specs.declared.event.Event.{Event}
 use Rattle.dl_events.specs.declared.event.Event.TheVariants as event
-use Rattle.dl_lib.specs.Known.{taken_of, told_as}
-use Rattle.dl_lib.specs.Settled.{refusals_of}
-use Rattle.dl_lib.specs.State.{AccountState}
+use Rattle.dl_account.specs.Known.{taken_of, told_as}
+use Rattle.dl_account.specs.Settled.{refusals_of}
+use Rattle.dl_account.specs.State.{AccountState}
 use Rattle.dl_loop.specs.Holds.{Gives}
 use Rattle.dl_loop.specs.Later.{GoesRound, IsOfRound}
 use Rattle.dl_loop.specs.Scene.{scene, side_of}
@@ -37,7 +37,7 @@ use Rattle.dl_ring.specs.Items.{calls_in}
 use Rattle.dl_ring.specs.declared.item.RingItem.{RingItem}
 use Rattle.dl_ring.proofs.Items.{calls_in-append}
 use Rattle.dl_rounds.specs.Greetings.{AreGreeted, IsOfGreeting, told_in}
-use Rattle.dl_script_lines.specs.declared.scenario.ScenarioLine.{ScenarioLine}
+use Rattle.dl_script_model.specs.declared.scenario.ScenarioLine.{ScenarioLine}
 use Rattle.dl_settling.specs.Stopped.{IsOfStop}
 use Rattle.dl_trace.specs.State as trace
 use Rattle.dl_live.specs.declared.beginning.Begun.{Begun}

@@ -2,8 +2,8 @@
 use Rattle.std.proofs.Common.{◌≡◌, Bool, ℕ, ◌≤◌, List, ◌++◌, length, sym, ap, subst, ◌∙◌}
 use Rattle.std.specs.Prelude.{All, ◌==◌, ◌||◌, not}
 use Rattle.dl_crew.specs.Plays.{ArePairs, CanPlay, HasPlayed}
-use Rattle.dl_lib.specs.Making.{AreMadeWith, IsMissing}
-use Rattle.dl_lib.specs.State.{AccountState}
+use Rattle.dl_account.specs.Making.{AreMadeWith, IsMissing}
+use Rattle.dl_account.specs.State.{AccountState}
 use Rattle.dl_loop.specs.Later.{GoesRound, IsLaterBy}
 use Rattle.dl_loop.specs.Scene.{Scene, scene}
 use Rattle.dl_loop.specs.Stops.{Stops}

@@ -2,8 +2,8 @@
 use Rattle.std.proofs.Common.{◌≡◌, ℕ, ◌<◌, List, [], ◌++◌, length, ap, subst, ◌∙◌, arith}
 use Rattle.dl_bytes.specs.declared.item.Injection.{Injection}
 use Rattle.dl_desk.specs.Told.{PostTold, told_by}
-use Rattle.dl_lib.specs.Settled.{IsSettled}
-use Rattle.dl_lib.specs.State.{AccountState}
+use Rattle.dl_account.specs.Settled.{IsSettled}
+use Rattle.dl_account.specs.State.{AccountState}
 use Rattle.dl_model.specs.Setting.{Setting}
 use Rattle.dl_turns.specs.Injected.{AreRefusedFull, HasPosted, injected_by}
 use Rattle.dl_live.specs.Injected.{IsInjected}

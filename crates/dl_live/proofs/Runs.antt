@@ -3,7 +3,7 @@ use Rattle.std.proofs.Common.{◌≡◌, ℕ, ◌⊎◌, inl, inr, List, Option,
 use Rattle.std.specs.Prelude.{false, true, IfSome, IsOk, IsSomeAnd, Result, Err}
 use Rattle.dl_conf.specs.declared.conf.ConfKind.{ConfKind}
 use Rattle.dl_conf.specs.declared.stored.StoredKind.{StoredKind}
-use Rattle.dl_lib.specs.State.{AccountState}
+use Rattle.dl_account.specs.State.{AccountState}
 use Rattle.dl_outside.specs.Folder.{Files}
 use Rattle.dl_outside.specs.Links.{Links}
 use Rattle.dl_outside.specs.Told.{LinkTold, SinkTold}

@@ -11,9 +11,9 @@ use Rattle.dl_crew.proofs.Pairs.{as_many, same_bases as still_based, same_number
 use Rattle.dl_desk.specs.Apps.{AppState}
 use Rattle.dl_desk.specs.Made.{IsLater}
 use Rattle.dl_desk.specs.State.{DeskState}
-use Rattle.dl_lib.specs.Making.{AreMadeWith, IsMissing}
-use Rattle.dl_lib.proofs.InOrder.{one_within}
-use Rattle.dl_lib.proofs.OpenBooks.{made_with, same_bases, stay}
+use Rattle.dl_account.specs.Making.{AreMadeWith, IsMissing}
+use Rattle.dl_account.proofs.InOrder.{one_within}
+use Rattle.dl_account.proofs.OpenBooks.{made_with, same_bases, stay}
 use Rattle.dl_loop.specs.Greeting.{AreListed}
 use Rattle.dl_opening.specs.Opening.{IsOpened}
 use Rattle.dl_opening.specs.Scenario.{apps, base_of, clients, specs_of, writers}
@@ -25,9 +25,9 @@ use Rattle.dl_opening.proofs.Runnable.{few_clients}
 use Rattle.dl_outside.specs.Links.{Links}
 use Rattle.dl_outside.specs.declared.client.ClientScript.{ClientScript}
 use Rattle.dl_rounds.specs.Greetings.{IsIntroduced, registered}
-use Rattle.dl_script_lines.specs.declared.scenario.ScenarioLine.{ScenarioLine}
+use Rattle.dl_script_model.specs.declared.scenario.ScenarioLine.{ScenarioLine}
 use Rattle.dl_settling.specs.Room.{together}
-use Rattle.dl_thread_rules.specs.Views.{times}
+use Rattle.dl_cells.specs.Views.{times}
 use Rattle.dl_writer.specs.State.{BookState, IsWhole, numbers}
 use Rattle.dl_live.specs.declared.players.Players.{Players}
 use Rattle.dl_live.specs.Playing.{CanBePlayed}

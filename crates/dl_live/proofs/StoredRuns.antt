@@ -13,9 +13,9 @@ use Rattle.dl_ending.specs.Ending.{records_of}
 use Rattle.dl_ending.specs.Storage.{has_failed, some_end}
 use Rattle.dl_events.specs.declared.event.Event.{Event}
 use Rattle.dl_events.specs.declared.record.Record.{Record}
-use Rattle.dl_folders.specs.Files as folders
-use Rattle.dl_folders.specs.Files.{KeepsStored}
-use Rattle.dl_lib.specs.State.{AccountState}
+use Rattle.dl_core.specs.Files as folders
+use Rattle.dl_core.specs.Files.{KeepsStored}
+use Rattle.dl_account.specs.State.{AccountState}
 use Rattle.dl_model.specs.Journal.{is_connect}
 use Rattle.dl_model.specs.TraceFiles.{StoredFile, six_digits, trace_name}
 use Rattle.dl_outside.specs.Folder.{Files}
@@ -27,7 +27,7 @@ use Rattle.dl_storage.specs.Ended.{EndHasCause}
 use Rattle.dl_storage.specs.Passing.{directory_of, frames_for}
 use Rattle.dl_storage.specs.Storing.{AreStored, ChangesFiltersFiles, EndsAs, HoldsFiles as HoldsFiltersFiles, IsOther, IsStored}
 use Rattle.dl_storage.specs.declared.ends.StoreEnd.{StoreEnd}
-use Rattle.dl_storage_text.specs.declared.filter.Filter.{Filter}
+use Rattle.dl_storage.specs.declared.filter.Filter.{Filter}
 use Rattle.dl_trace.specs.Stands.{HasFiles, IsTraceName}
 use Rattle.dl_trace.specs.State.{Trace}
 use Rattle.dl_live.specs.declared.beginning.Begun.{Begun}

@@ -16,13 +16,13 @@ use Rattle.dl_ring.specs.Items.{calls_in}
 use Rattle.dl_ring.specs.Order.{of, writer_of}
 use Rattle.dl_ring.specs.declared.item.RingItem.{RingItem}
 use Rattle.dl_ring.specs.declared.item.RingItem.TheVariants.{Log, Register}
-use Rattle.dl_thread_rules.specs.Views.{bit, times}
+use Rattle.dl_cells.specs.Views.{bit, times}
 use Rattle.dl_writer.specs.Records.{TellAll}
 use Rattle.dl_writer.specs.State.{BookState, IsWhole, numbers}
-use Rattle.dl_lib.specs.Books.{books_of}
-use Rattle.dl_lib.specs.Known.{IsAllOf, taken_of}
-use Rattle.dl_lib.specs.Settled.{IsSettled}
-use Rattle.dl_lib.specs.State.{AccountState}
+use Rattle.dl_account.specs.Books.{books_of}
+use Rattle.dl_account.specs.Known.{IsAllOf, taken_of}
+use Rattle.dl_account.specs.Settled.{IsSettled}
+use Rattle.dl_account.specs.State.{AccountState}
 use Rattle.dl_lemmas.proofs.Lists.{head_is, tail_is}
 
 -- ---- what holds of the calls of each number holds of all

@@ -3,8 +3,8 @@ use Rattle.std.specs.Prelude.{◌≡◌, ℕ, ◌+◌, ◌<◌, List, [], length
 use Rattle.dl_core.specs.Follows.{Run}
 use Rattle.dl_core.specs.Settings.{setting_of}
 use Rattle.dl_ending.specs.Ending.{IsAccountIn, records_of}
-use Rattle.dl_lib.specs.Settled.{IsJournalOf, IsSettled}
-use Rattle.dl_lib.specs.State.{AccountState}
+use Rattle.dl_account.specs.Settled.{IsJournalOf, IsSettled}
+use Rattle.dl_account.specs.State.{AccountState}
 use Rattle.dl_model.specs.Journal.{is_connect}
 use Rattle.dl_model.specs.Setting.{Setting}
 use Rattle.dl_model.specs.TraceFiles.{StoredFile}

@@ -5,15 +5,15 @@ use Rattle.dl_outside.specs.Folder.{Files}
 use Rattle.dl_outside.specs.Outside.{HasRisen}
 use Rattle.dl_outside.specs.Told.{FolderTold}
 use Rattle.dl_script.specs.declared.error.ScriptError.TheVariants as bad
-use Rattle.dl_script_lines.specs.declared.scenario.ScenarioLine.{ScenarioLine}
+use Rattle.dl_script_model.specs.declared.scenario.ScenarioLine.{ScenarioLine}
 use Rattle.dl_startup.specs.Configuration.{AreSetUp, SayConfs, Unset}
 use Rattle.dl_startup.specs.Scenario.{scenario_in}
 use Rattle.dl_startup.specs.Setup.{IsBegun}
 use Rattle.dl_startup.specs.Unchanged.{IsQuiet, IsUnchanged}
 use Rattle.dl_startup.specs.declared.status.Status.{Status}
 use Rattle.dl_startup.specs.declared.status.Status.TheVariants.{WordsRefused, ScriptRefused, StorageRefused, FolderFault, OutOfMemory}
-use Rattle.dl_storage_text.specs.Whole.{wanted_of}
-use Rattle.dl_storage_text.specs.declared.filter.Filter.{Filter}
+use Rattle.dl_storage.specs.FilterWhole.{wanted_of}
+use Rattle.dl_storage.specs.declared.filter.Filter.{Filter}
 use Rattle.dl_trace.specs.State.{Trace}
 use Rattle.dl_words.specs.Run.{Run, run_of, run_said}
 use Rattle.dl_words.specs.declared.run.RunWords.{RunWords}

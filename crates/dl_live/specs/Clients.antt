@@ -10,7 +10,7 @@ use Rattle.dl_opening.specs.Scenario.{scripts_of}
 use Rattle.dl_outside.specs.Outside.{Stays}
 use Rattle.dl_outside.specs.Told.{LinkTold, NetTold}
 use Rattle.dl_outside.specs.declared.client.ClientScript.{ClientScript}
-use Rattle.dl_script_lines.specs.declared.scenario.ScenarioLine.{ScenarioLine}
+use Rattle.dl_script_model.specs.declared.scenario.ScenarioLine.{ScenarioLine}
 use Rattle.dl_settling.specs.Went.{HaveEnded, HaveGone, TellStreams}
 
 -- ---- the clients

@@ -4,12 +4,12 @@ use Rattle.std.specs.List.{AllByRecursion}
 use Rattle.dl_bytes.specs.declared.outcome.TraceEnd.TheVariants as end
 use Rattle.dl_ending.specs.Ending.{failures_with, unheard}
 use Rattle.dl_ending.specs.Storage.{has_failed, has_no_memory, is_spent, report_text, some_end, with_storage}
-use Rattle.dl_lib.specs.State.{AccountState}
+use Rattle.dl_account.specs.State.{AccountState}
 use Rattle.dl_opening.specs.Scenario.{clients, scripts_of}
 use Rattle.dl_outside.specs.Outside.{HasRisen, Stays}
 use Rattle.dl_outside.specs.Told.{NetTold}
 use Rattle.dl_outside.specs.Written.{Wrote, WroteAll, WroteFront, WroteNothing}
-use Rattle.dl_script_lines.specs.declared.scenario.ScenarioLine.{ScenarioLine}
+use Rattle.dl_script_model.specs.declared.scenario.ScenarioLine.{ScenarioLine}
 use Rattle.dl_startup.specs.Failures.{unserved}
 use Rattle.dl_startup.specs.Unchanged.{FolderWell, IsUnchanged}
 use Rattle.dl_startup.specs.declared.failures.Failures.{Failures}
@@ -106,7 +106,3 @@ pub record KnownOf {L : Type 0} (begun : Begun) (account : AccountState) (ends :
 -- what went wrong in it, beside its account and its filters
 abbrev pub failed_so : Bool → Bool → Bool → Failures
 failed_so net folder memory = record { net = net; folder = folder; names_spent = false; journal_full = false; output = false; memory = memory }
-
--- all that went wrong in it
-abbrev pub all_failures : AccountState → List StoreEnd → (net folder memory : Bool) → Failures
-all_failures account ends net folder memory = with_storage ends (failures_with account (failed_so net folder memory))

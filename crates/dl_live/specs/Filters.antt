@@ -7,9 +7,9 @@ use Rattle.std.specs.Str.{bytes_eq}
 use Rattle.dl_outside.specs.Folder.{Files}
 use Rattle.dl_startup.specs.declared.storage_kind.StorageKind.{StorageKind}
 use Rattle.dl_storage.specs.Passing.{directory_of}
-use Rattle.dl_storage_text.specs.Line.{Wanted}
-use Rattle.dl_storage_text.specs.Whole.{storage_said}
-use Rattle.dl_storage_text.specs.declared.filter.Filter.{Filter}
+use Rattle.dl_storage.specs.FilterLine.{Wanted}
+use Rattle.dl_storage.specs.FilterWhole.{storage_said}
+use Rattle.dl_storage.specs.declared.filter.Filter.{Filter}
 use Rattle.dl_trace.specs.Stands.{IsTraceName}
 
 -- the name of the filters' file

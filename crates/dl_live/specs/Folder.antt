@@ -4,13 +4,13 @@ use Rattle.std.specs.FinMap as map
 use Rattle.dl_bytes.specs.declared.outcome.TraceEnd.{TraceEnd}
 use Rattle.dl_bytes.specs.declared.outcome.TraceState.{TraceState}
 use Rattle.dl_core.specs.Follows.{HoldsFiles, IsTraceAfter, Run, stored_by}
-use Rattle.dl_folders.specs.Later.{IsFolderLater}
+use Rattle.dl_core.specs.Later.{IsFolderLater}
 use Rattle.dl_events.specs.declared.event.Event.{Event}
 use Rattle.dl_model.specs.Setting.{Setting}
 use Rattle.dl_outside.specs.Folder.{Files}
 use Rattle.dl_outside.specs.Told.{FolderTold}
 use Rattle.dl_startup.specs.Setup.{conf_in, stored_name}
-use Rattle.dl_storage_text.specs.declared.filter.Filter.{Filter}
+use Rattle.dl_storage.specs.declared.filter.Filter.{Filter}
 use Rattle.dl_trace.specs.Stands.{HasFiles, IsTraceName}
 use Rattle.dl_trace.specs.State.{Trace}
 use Rattle.dl_words.specs.Run as words

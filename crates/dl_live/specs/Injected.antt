@@ -1,8 +1,8 @@
 -- What became of the data that clients sent to applications.
 use Rattle.std.specs.Prelude.{◌≡◌, ℕ, ◌+◌, ◌≤◌, [], length}
 use Rattle.dl_desk.specs.Told.{told_by}
-use Rattle.dl_lib.specs.Books.{injected_of}
-use Rattle.dl_lib.specs.State.{AccountState}
+use Rattle.dl_account.specs.Books.{injected_of}
+use Rattle.dl_account.specs.State.{AccountState}
 use Rattle.dl_model.specs.Setting.{Setting}
 use Rattle.dl_turns.specs.Injected.{AreRefusedFull, injected_by, refused_by}
 

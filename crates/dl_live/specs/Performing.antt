@@ -1,9 +1,9 @@
 -- What a run comes to that began.
 use Rattle.std.specs.Prelude.{◌≡◌, ℕ, Option, Some, None}
 use Rattle.dl_core.specs.State.{Core}
-use Rattle.dl_folders.specs.Files as folders
-use Rattle.dl_folders.specs.Files.{Leaves}
-use Rattle.dl_lib.specs.State.{AccountState}
+use Rattle.dl_core.specs.Files as folders
+use Rattle.dl_core.specs.Files.{Leaves}
+use Rattle.dl_account.specs.State.{AccountState}
 use Rattle.dl_outside.specs.Folder.{Files}
 use Rattle.dl_outside.specs.Links.{Links}
 use Rattle.dl_outside.specs.Outside.{HasRisen, Stays}

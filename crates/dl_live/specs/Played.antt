@@ -5,14 +5,14 @@ use Rattle.dl_crew.specs.Calls.{IsClaimOf, content_of, registers_of}
 use Rattle.dl_crew.specs.Plays.{ArePairs, InTurn}
 use Rattle.dl_events.specs.declared.event.Event.{Event}
 use Rattle.dl_events.specs.declared.record.Answer.TheVariants.{Lost}
-use Rattle.dl_lib.specs.State.{AccountState}
+use Rattle.dl_account.specs.State.{AccountState}
 use Rattle.dl_model.specs.Accounts.{with_answer}
 use Rattle.dl_opening.specs.Asked.{asked_of, count_behind, without_slot}
 use Rattle.dl_opening.specs.Opening.{IsBookOf}
 use Rattle.dl_opening.specs.Scenario.{apps, handles_from, hello_of, specs_of, writers}
 use Rattle.dl_rounds.specs.Greetings.{IsOfGreeting, told_in}
-use Rattle.dl_script_lines.specs.declared.line.ClaimLine.{ClaimLine}
-use Rattle.dl_script_lines.specs.declared.scenario.ScenarioLine.{ScenarioLine}
+use Rattle.dl_script_model.specs.declared.line.ClaimLine.{ClaimLine}
+use Rattle.dl_script_model.specs.declared.scenario.ScenarioLine.{ScenarioLine}
 use Rattle.dl_writer.specs.Calls.{asked}
 use Rattle.dl_writer.specs.State.{BookState, IsWhole, numbers}
 

@@ -5,7 +5,7 @@ use Rattle.dl_core.specs.Follows.{Begins}
 use Rattle.dl_core.specs.Settings as settings
 use Rattle.dl_crew.specs.Plays.{ArePairs, HasPlayed}
 use Rattle.dl_launch.specs.Launching.{Launched}
-use Rattle.dl_lib.specs.State.{AccountState}
+use Rattle.dl_account.specs.State.{AccountState}
 use Rattle.dl_loop.specs.Coming.{HaveCome}
 use Rattle.dl_loop.specs.Greeting.{Greets}
 use Rattle.dl_loop.specs.Later.{GoesRound, IsLaterGreeted}

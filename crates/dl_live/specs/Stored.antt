@@ -5,7 +5,7 @@ use Rattle.std.specs.List.{AllByRecursion}
 use Rattle.dl_crew.specs.Plays.{ArePairs}
 use Rattle.dl_ending.specs.Ending.{records_of}
 use Rattle.dl_ending.specs.Storage.{has_failed, some_end}
-use Rattle.dl_lib.specs.State.{AccountState}
+use Rattle.dl_account.specs.State.{AccountState}
 use Rattle.dl_outside.specs.Folder.{Files}
 use Rattle.dl_outside.specs.Outside.{HasRisen}
 use Rattle.dl_outside.specs.Told.{FolderTold}
@@ -13,7 +13,7 @@ use Rattle.dl_storage.specs.Passing.{directory_of, frames_for}
 use Rattle.dl_storage.specs.Storing.{IsStored}
 use Rattle.dl_storage.specs.declared.ends.StoreEnd.{StoreEnd}
 use Rattle.dl_storage.specs.declared.ends.StoreEnds.{StoreEnds}
-use Rattle.dl_storage_text.specs.declared.filter.Filter.{Filter}
+use Rattle.dl_storage.specs.declared.filter.Filter.{Filter}
 use Rattle.dl_trace.specs.Stands.{IsTraceName}
 use Rattle.dl_live.specs.declared.beginning.Begun.{Begun}
 use Rattle.dl_live.specs.Filters.{told_of}

@@ -8,9 +8,9 @@ ghost use Rattle.dl_live.specs.Begin.{Asks, Begins, BeginsAs, MakesTrace, ReadsS
 use crate::filtering::read_filters;
 use dl_bytes::{Conf, Stored};
 use dl_outside::Folder;
-use dl_script_lines::Scenario;
+use dl_script_model::Scenario;
 use dl_startup::{SetupError, Status, scenario_in, set_up, trace_over};
-use dl_storage_text::FilterList;
+use dl_storage::FilterList;
 use dl_trace::{Trace, TraceFault};
 use dl_words::{RunWords, WordsFault, run_words};
 use std::alloc::Global;

@@ -3,13 +3,13 @@
 ghost use Rattle.std.specs.Prelude.{◌≡◌, map};
 ghost use Rattle.dl_outside.specs.Outside.{Stays};
 ghost use Rattle.dl_startup.specs.Setup.{HasCause, Says};
-ghost use Rattle.dl_storage_text.specs.Whole.{wanted_of};
+ghost use Rattle.dl_storage.specs.FilterWhole.{wanted_of};
 ghost use Rattle.dl_live.specs.Begin.{ReadsFilters};
 ghost use Rattle.dl_live.specs.Filters.{filters_in};
 
 use dl_outside::{Folder, FolderFault};
 use dl_startup::{SetupError, Status, StorageKind};
-use dl_storage_text::{FilterList, StorageError, read_storage};
+use dl_storage::{FilterList, StorageError, read_storage};
 use std::alloc::Global;
 
 /// The name of the filters' file.

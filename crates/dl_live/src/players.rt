@@ -14,7 +14,7 @@ use dl_events::Kept;
 use dl_loop::Daemon;
 use dl_opening::Opened;
 use dl_outside::{ClientScript, Link};
-use dl_storage_text::FilterList;
+use dl_storage::FilterList;
 use dl_writer::BookList;
 use std::alloc::Global;
 

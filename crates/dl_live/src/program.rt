@@ -1,7 +1,7 @@
 //! The program: what the words ask for is begun and played by threads, the report is written, and the status answered.
 
 ghost use Rattle.std.specs.Prelude.{◌≡◌, ◌||◌, IfOk, None, map, string_bytes};
-ghost use Rattle.dl_folders.specs.Files.{Leaves};
+ghost use Rattle.dl_core.specs.Files.{Leaves};
 ghost use Rattle.dl_script.specs.Playable.{IsRunnable};
 ghost use Rattle.dl_live.specs.Ends.{failed_so};
 ghost use Rattle.dl_live.specs.Performing.{HasBegun, LeavesOthers, LeavesSome, PerformsFrom, PlaysOn, status_of};
@@ -14,14 +14,13 @@ use crate::gathering::gather;
 use crate::laws::an_outcome_is_a_run;
 use crate::players::{Players, assemble};
 use crate::workers::beside;
+use dl_account::Account;
 use dl_bytes::{Conf, Moment, OutOfMemory};
 use dl_ending::{Concluded, conclude};
 use dl_launch::launch_all;
-use dl_lib::Account;
 use dl_outside::{Clock, Folder, Gate, Link, LinkList, Net, NetFault, Sink};
 use dl_startup::{Failures, Status};
-use dl_storage::StoreEnds;
-use dl_storage_text::FilterList;
+use dl_storage::{FilterList, StoreEnds};
 use std::alloc::Global;
 use std::sync::Wait;
 use std::thread::Threads;

@@ -10,7 +10,7 @@ use dl_bytes::{Conf, OutOfMemory};
 use dl_core::Core;
 use dl_opening::laws::opened_books_have_few_calls;
 use dl_opening::{Opened, all_calls, open};
-use dl_storage_text::FilterList;
+use dl_storage::FilterList;
 use std::alloc::Global;
 
 /// What a run plays.

@@ -7,15 +7,15 @@ use Rattle.dl_events.specs.Journal.{Journaled}
 use Rattle.dl_events.specs.declared.event.Event.{Event}
 use Rattle.dl_events.specs.declared.event.Event.TheVariants as event
 use Rattle.dl_model.specs.Journal.{IsInTurn, IsRunning}
-use Rattle.dl_promises.proofs.LongerJournals.{goes_on}
+use Rattle.dl_laws.proofs.LongerJournals.{goes_on}
 use Rattle.dl_outside.specs.Link.{IsFresh}
 use Rattle.dl_outside.specs.Links.{Links}
 use Rattle.dl_outside.specs.Told.{FolderTold, LinkTold, NetTold}
 use Rattle.dl_hub.specs.State.{Client, Comes, Hub, is_open}
 use Rattle.dl_core.specs.Follows.{IsAfter, Run, source_of}
 use Rattle.dl_core.specs.State.{Core}
-use Rattle.dl_well_formed.proofs.Connecting.{connect_in_turn}
-use Rattle.dl_well_formed.proofs.Following.{running_on}
+use Rattle.dl_core.proofs.Connecting.{connect_in_turn}
+use Rattle.dl_core.proofs.Following.{running_on}
 use Rattle.dl_turns.proofs.PostedSides.{posted_both}
 use Rattle.dl_rounds.specs.Arrivals.{Arrives, Connects, ConnectsAs}
 use Rattle.dl_rounds.specs.declared.accepting.Arrival.{Arrival}

@@ -5,8 +5,8 @@ use Rattle.dl_desk.specs.Posting.{without_pushes}
 use Rattle.dl_desk.specs.State.{DeskState}
 use Rattle.dl_desk.specs.declared.app_handles.AppHandles.{AppHandles}
 use Rattle.dl_loop.specs.State.{SameDesk}
-use Rattle.dl_lib.specs.Known.{taken_of}
-use Rattle.dl_lib.proofs.Resting.{taken_rest}
+use Rattle.dl_account.specs.Known.{taken_of}
+use Rattle.dl_account.proofs.Resting.{taken_rest}
 
 pub same_taken : (old new : DeskState) → SameDesk old new → (app : ℕ) → taken_of new.handles app ≡ taken_of old.handles app
 same_taken old new same app = sym (taken_rest new.handles app) ∙ ap (λ (d : DeskState). taken_of d.handles app) same ∙ taken_rest old.handles app

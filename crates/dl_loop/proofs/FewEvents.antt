@@ -2,8 +2,8 @@
 use Rattle.std.proofs.Common.{◌≡◌, ◌≢◌, ℕ, zero, suc, ◌+◌, ◌<◌, ◌≤◌, Bool, cond, eqb, eq-eqb, ne_eqb, List, ◌++◌, map, length, length-append, inl, inr, refl, sym, ap, ◌∙◌, subst, arith}
 use Rattle.std.proofs.lemmas.Bool.Decides.{eqb_tells}
 use Rattle.dl_bytes.specs.declared.item.Item.{Item}
-use Rattle.dl_losses.specs.Losses.{reported_of}
-use Rattle.dl_losses.proofs.Sums.{reported_else, reported_more}
+use Rattle.dl_cells.specs.Losses.{reported_of}
+use Rattle.dl_cells.proofs.LossSums.{reported_else, reported_more}
 use Rattle.dl_ring.specs.declared.item.RingItem.{RingItem}
 use Rattle.dl_ring.specs.declared.item.RingItem.TheVariants.{Log}
 use Rattle.dl_ring.specs.Items.{calls_in, claims_in}

@@ -9,10 +9,10 @@ use Rattle.dl_model.specs.Setting.{Setting}
 use Rattle.dl_outside.specs.Told.{FolderTold}
 use Rattle.dl_trace.specs.State.{Trace}
 use Rattle.dl_core.specs.State.{Core}
-use Rattle.dl_folders.specs.Files.{Leaves}
-use Rattle.dl_folders.specs.Later.{IsFolderLater, failed_in, trace_failures}
-use Rattle.dl_folders.proofs.LaterFolders.{folder_quiet}
-use Rattle.dl_folders.proofs.TracedFiles.{own_files, traced_keeps}
+use Rattle.dl_core.specs.Files.{Leaves}
+use Rattle.dl_core.specs.Later.{IsFolderLater, failed_in, trace_failures}
+use Rattle.dl_core.proofs.LaterFolders.{folder_quiet}
+use Rattle.dl_core.proofs.TracedFiles.{own_files, traced_keeps}
 use Rattle.dl_admission.specs.Kept.{KeepsTrace, end_of}
 use Rattle.dl_admission.proofs.KeptTraces.{trace_none}
 use Rattle.dl_settling.proofs.NoRequests.{AsksNothing}

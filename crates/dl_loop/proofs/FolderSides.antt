@@ -17,12 +17,12 @@ use Rattle.dl_core.specs.Admission.{AddsEach}
 use Rattle.dl_core.specs.Follows.{IsAfter, Run}
 use Rattle.dl_core.specs.State.{Core}
 use Rattle.dl_core.proofs.Noted.{added_one}
-use Rattle.dl_well_formed.proofs.Replies.{need_is}
-use Rattle.dl_folders.specs.Files.{Leaves}
-use Rattle.dl_folders.specs.Later.{IsFolderLater}
-use Rattle.dl_folders.proofs.AskedFiles.{request_leaves}
-use Rattle.dl_folders.proofs.LaterFolders.{folder_asked, folder_both, folder_none}
-use Rattle.dl_folders.proofs.LeftFiles.{leaves_alone, leaves_both}
+use Rattle.dl_core.proofs.Replies.{need_is}
+use Rattle.dl_core.specs.Files.{Leaves}
+use Rattle.dl_core.specs.Later.{IsFolderLater}
+use Rattle.dl_core.proofs.AskedFiles.{request_leaves}
+use Rattle.dl_core.proofs.LaterFolders.{folder_asked, folder_both, folder_none}
+use Rattle.dl_core.proofs.LeftFiles.{leaves_alone, leaves_both}
 use Rattle.dl_admission.specs.Kept.{end_of}
 use Rattle.dl_turns.specs.Events.{Asks, Closes, ServesOne, SetsLevel, SetsLevels}
 use Rattle.dl_turns.specs.State.{Side, Stage}

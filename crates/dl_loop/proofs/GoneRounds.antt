@@ -17,17 +17,17 @@ use Rattle.dl_outside.specs.Told.{FolderTold, LinkTold, NetTold}
 use Rattle.dl_ring.specs.declared.item.RingItem.{RingItem}
 use Rattle.dl_ring.specs.Items.{calls_in}
 use Rattle.dl_ring.proofs.Items.{calls_in-append}
-use Rattle.dl_thread_rules.specs.Views.{bit}
+use Rattle.dl_cells.specs.Views.{bit}
 use Rattle.dl_desk.specs.Lists.{At}
 use Rattle.dl_desk.specs.State.{DeskState}
-use Rattle.dl_lib.specs.Known.{taken_of}
+use Rattle.dl_account.specs.Known.{taken_of}
 use Rattle.dl_core.specs.Admission.{GivesFrame, GivesFrames}
 use Rattle.dl_hub.specs.State.{Client, HasPlace, is_open}
 use Rattle.dl_core.specs.Follows.{HoldsTrace, Run}
 use Rattle.dl_core.specs.State.{Core}
-use Rattle.dl_folders.specs.Later.{IsFolderLater}
-use Rattle.dl_folders.proofs.LaterFolders.{folder_both, folder_none}
-use Rattle.dl_folders.proofs.LeftFiles.{leaves_alone, leaves_both}
+use Rattle.dl_core.specs.Later.{IsFolderLater}
+use Rattle.dl_core.proofs.LaterFolders.{folder_both, folder_none}
+use Rattle.dl_core.proofs.LeftFiles.{leaves_alone, leaves_both}
 use Rattle.dl_admission.specs.Kept.{end_of}
 use Rattle.dl_rounds.specs.Arrivals.{Arrives, ConnectsAs}
 use Rattle.dl_rounds.specs.declared.accepting.Arrival.{Arrival}
@@ -54,8 +54,7 @@ use Rattle.dl_loop.proofs.FolderEvents.{folder_kept, keeps_still, leaves_kept}
 use Rattle.dl_loop.proofs.FolderSides.{FolderGoesOn, heard_on, pumped_on, same_more}
 use Rattle.dl_loop.proofs.DeskRest.{later_both, later_none, same_later, same_taken}
 use Rattle.dl_loop.proofs.LaterDaemons.{gives_before}
-use Rattle.dl_loop.proofs.TakenDaemons.{Took, gives_took, taken_events, taken_later}
-use Rattle.dl_loop.proofs.TakenDaemons.{gives_before as gives_first}
+use Rattle.dl_loop.proofs.TakenDaemons.{Took, gives_took, taken_events, taken_later, gives_before as gives_first}
 use Rattle.dl_loop.proofs.TakenEvents.{drain_asks}
 use Rattle.dl_loop.proofs.TakenSteps.{losses_took, some_took}
 use Rattle.dl_lemmas.proofs.Bools.{at_most_one}

@@ -13,15 +13,15 @@ use Rattle.dl_bytes.specs.declared.user.UserMsg.{UserMsg}
 use Rattle.dl_bytes.specs.declared.user.UserMsg.TheVariants as user
 use Rattle.dl_events.specs.declared.event.Event.{Event}
 use Rattle.dl_events.specs.declared.event.Event.TheVariants as event
-use Rattle.dl_losses.specs.Losses.{reported_of}
-use Rattle.dl_losses.specs.declared.keeper.Report.{Report}
+use Rattle.dl_cells.specs.Losses.{reported_of}
+use Rattle.dl_cells.specs.declared.loss_keeper.Report.{Report}
 use Rattle.dl_model.specs.Accounts.{takes}
 use Rattle.dl_model.specs.Frames.{stored, user_frames}
 use Rattle.dl_model.specs.Journal.{IsRunning, IsWellFormed, is_stop, is_connect}
 use Rattle.dl_model.specs.Report.{reported}
 use Rattle.dl_model.specs.declared.registry.LevelChange.{LevelChange}
 use Rattle.dl_outside.specs.Told.{FolderTold, LinkTold}
-use Rattle.dl_promises.proofs.LongerJournals.{goes_on}
+use Rattle.dl_laws.proofs.LongerJournals.{goes_on}
 use Rattle.dl_desk.specs.Apps.{AppState}
 use Rattle.dl_desk.specs.State.{DeskState}
 use Rattle.dl_desk.specs.Told.{PostTold}
@@ -30,11 +30,11 @@ use Rattle.dl_hub.specs.State.{Client, Hub, is_open, outbox_of}
 use Rattle.dl_core.specs.Admission.{AddsEach}
 use Rattle.dl_core.specs.Follows.{Adds, HoldsTrace, IsAfter, Run, source_of}
 use Rattle.dl_core.specs.State.{Core}
-use Rattle.dl_lib.specs.Known.{taken_of, told_as}
-use Rattle.dl_well_formed.proofs.Following.{running_on}
+use Rattle.dl_account.specs.Known.{taken_of, told_as}
+use Rattle.dl_core.proofs.Following.{running_on}
 use Rattle.dl_admission.specs.Kept.{KeepsTrace}
 use Rattle.dl_admission.proofs.KeptTraces.{trace_both, trace_each, trace_none}
-use Rattle.dl_well_formed.proofs.InTurn.{level_in_turn, user_in_turn}
+use Rattle.dl_core.proofs.InTurn.{level_in_turn, user_in_turn}
 use Rattle.dl_turns.specs.Events.{SetsLevel, SetsLevels}
 use Rattle.dl_turns.specs.Gone.{TellOver}
 use Rattle.dl_turns.specs.Later.{IsDeskLater}

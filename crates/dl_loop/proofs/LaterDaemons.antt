@@ -8,8 +8,8 @@ use Rattle.dl_events.specs.Journal.{Journaled}
 use Rattle.dl_events.specs.declared.event.Event.{Event}
 use Rattle.dl_events.specs.declared.event.Event.TheVariants as event
 use Rattle.dl_bytes.specs.declared.conf.AppSpec.{AppSpec}
-use Rattle.dl_losses.specs.Losses.{reported_of}
-use Rattle.dl_losses.specs.declared.keeper.Report.{Report}
+use Rattle.dl_cells.specs.Losses.{reported_of}
+use Rattle.dl_cells.specs.declared.loss_keeper.Report.{Report}
 use Rattle.dl_model.specs.Accounts.{takes}
 use Rattle.dl_model.specs.Journal.{IsRunning}
 use Rattle.dl_model.specs.Report.{reported}
@@ -24,8 +24,8 @@ use Rattle.dl_hub.specs.State.{IsSameHub}
 use Rattle.dl_core.specs.Admission.{GivesFrames}
 use Rattle.dl_core.specs.Follows.{Run}
 use Rattle.dl_core.specs.State.{Core}
-use Rattle.dl_lib.specs.Known.{taken_of, told_as}
-use Rattle.dl_well_formed.proofs.Following.{stays_formed}
+use Rattle.dl_account.specs.Known.{taken_of, told_as}
+use Rattle.dl_core.proofs.Following.{stays_formed}
 use Rattle.dl_turns.specs.State.{side}
 use Rattle.dl_turns.proofs.PostedSides.{posted_both}
 use Rattle.dl_rounds.specs.Clients.{Clients}

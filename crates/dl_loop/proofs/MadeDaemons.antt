@@ -5,8 +5,8 @@ use Rattle.std.proofs.lemmas.List.{length-replicate}
 use Rattle.dl_bytes.specs.declared.conf.Stored.{Stored}
 use Rattle.dl_bytes.specs.declared.conf.StoredLevel.{StoredLevel}
 use Rattle.dl_events.specs.declared.event.Event.{Event}
-use Rattle.dl_levels.specs.History.{current_version}
-use Rattle.dl_losses.specs.Losses.{reported_of}
+use Rattle.dl_cells.specs.LevelHistory.{current_version}
+use Rattle.dl_cells.specs.Losses.{reported_of}
 use Rattle.dl_model.specs.Journal.{IsRunning}
 use Rattle.dl_events.specs.Journal.{Journaled}
 use Rattle.dl_outside.specs.Links.{Links}
@@ -15,11 +15,11 @@ use Rattle.dl_model.specs.declared.registry.Slot.{Slot}
 use Rattle.dl_model.specs.Registry.{all_slots, first_change}
 use Rattle.dl_desk.specs.State.{DeskState}
 use Rattle.dl_registry.specs.Kept.{made, owed_change, slots}
-use Rattle.dl_slots.specs.Table.{unset}
+use Rattle.dl_registry.specs.Table.{unset}
 use Rattle.dl_bytes.specs.Limits.{client_limit}
 use Rattle.dl_hub.specs.State.{Client, fresh, outbox_of}
 use Rattle.std.specs.Option.{option_and_then}
-use Rattle.dl_lib.specs.Known.{told_as}
+use Rattle.dl_account.specs.Known.{told_as}
 use Rattle.dl_core.specs.Settings.{begun}
 use Rattle.dl_core.specs.State.{Core}
 use Rattle.dl_turns.specs.Events.{IsDeskOf}

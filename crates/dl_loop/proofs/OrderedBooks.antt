@@ -4,9 +4,9 @@ use Rattle.std.specs.Prelude.{All, Contains, slice_index_or}
 use Rattle.std.specs.List.{range_with_len}
 use Rattle.std.proofs.lemmas.Bool.Decides.{eqb_tells}
 use Rattle.std.proofs.lemmas.List.Elements.{All-head, All-tail, Contains-append_cases, Contains-append_left, Contains-append_right, Contains-get_or}
-use Rattle.dl_thread_rules.specs.Views.{bit, times, total}
+use Rattle.dl_cells.specs.Views.{bit, times, total}
 use Rattle.dl_writer.specs.State.{BookState, numbers}
-use Rattle.dl_lib.specs.Making.{AreInOrder}
+use Rattle.dl_account.specs.Making.{AreInOrder}
 use Rattle.dl_settling.specs.Room.{together}
 
 -- ---- one of a list

@@ -6,8 +6,8 @@ use Rattle.std.proofs.lemmas.Option.{slice_get-get_or, slice_get_within}
 use Rattle.dl_outside.specs.Outside.{Stays}
 use Rattle.dl_outside.specs.Told.{FolderTold, LinkTold, NetTold}
 use Rattle.dl_hub.specs.State.{Hub, Waiting, outbox_of}
-use Rattle.dl_folders.proofs.LaterFolders.{folder_none}
-use Rattle.dl_folders.proofs.LeftFiles.{leaves_alone}
+use Rattle.dl_core.proofs.LaterFolders.{folder_none}
+use Rattle.dl_core.proofs.LeftFiles.{leaves_alone}
 use Rattle.dl_admission.specs.Kept.{end_of}
 use Rattle.dl_rounds.specs.Clients.{Clients}
 use Rattle.dl_rounds.specs.Partings.{ShutsGone}

@@ -3,7 +3,7 @@ use Rattle.std.proofs.Common.{◌≡◌, ℕ, ◌+◌, Bool, true, false, cond, 
 use mir.Val.{bool_byte}
 use Rattle.std.proofs.lemmas.Bool.Decides.{eqb_tells}
 use Rattle.dl_outside.specs.Told.{FolderTold, LinkTold, NetTold}
-use Rattle.dl_thread_rules.specs.Views.{bit}
+use Rattle.dl_cells.specs.Views.{bit}
 use Rattle.dl_taking.specs.declared.taking.Got.{Got}
 use Rattle.dl_rounds.specs.declared.accepting.Arrival.{Arrival}
 use Rattle.dl_loop.specs.RoundSteps.{AcceptsIfMay}

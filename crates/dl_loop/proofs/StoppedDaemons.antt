@@ -8,8 +8,8 @@ use Rattle.dl_bytes.specs.declared.conf.AppSpec.{AppSpec}
 use Rattle.dl_bytes.specs.declared.item.Item.{Item}
 use Rattle.dl_bytes.specs.declared.outcome.Ends.{Ends}
 use Rattle.dl_events.specs.declared.event.Event.{Event}
-use Rattle.dl_levels.specs.declared.history.Change.{Change}
-use Rattle.dl_losses.specs.Losses.{reported_of}
+use Rattle.dl_cells.specs.declared.level_history.Change.{Change}
+use Rattle.dl_cells.specs.Losses.{reported_of}
 use Rattle.dl_model.specs.Journal.{IsOpen, IsWellFormed}
 use Rattle.dl_outside.specs.Links.{Links}
 use Rattle.dl_outside.specs.Told.{FolderTold, LinkTold}
@@ -21,14 +21,14 @@ use Rattle.dl_desk.specs.Lists.{At}
 use Rattle.dl_desk.specs.State.{DeskState}
 use Rattle.dl_desk.specs.Told.{PostTold}
 use Rattle.dl_desk.specs.declared.app_handles.AppHandles.{AppHandles}
-use Rattle.dl_lib.specs.Known.{AreGathered, taken_of, told_as}
-use Rattle.dl_lib.specs.Making.{IsMadeOf, KeepsDesk}
-use Rattle.dl_lib.specs.State.{AccountState, ClosingState}
+use Rattle.dl_account.specs.Known.{AreGathered, taken_of, told_as}
+use Rattle.dl_account.specs.Making.{IsMadeOf, KeepsDesk}
+use Rattle.dl_account.specs.State.{AccountState, ClosingState}
 use Rattle.dl_hub.specs.State.{outbox_of}
 use Rattle.dl_core.specs.Admission.{GivesFrame, GivesFrames}
 use Rattle.dl_core.specs.Follows.{HoldsTrace, IsAfter, Run, source_of}
 use Rattle.dl_core.specs.State.{Core}
-use Rattle.dl_folders.specs.Later.{IsFolderLater}
+use Rattle.dl_core.specs.Later.{IsFolderLater}
 use Rattle.dl_admission.specs.Kept.{end_of}
 use Rattle.dl_taking.specs.Drained.{GivesTook}
 use Rattle.dl_taking.specs.Draining.{all_claims_left, closing_told, closing_took}

@@ -6,14 +6,14 @@ use Rattle.dl_events.specs.declared.event.Event.{Event}
 use Rattle.dl_outside.specs.Links.{Links}
 use Rattle.dl_outside.specs.Told.{FolderTold, LinkTold}
 use Rattle.dl_trace.specs.State.{Trace}
-use Rattle.dl_lib.specs.Settled.{account_of}
-use Rattle.dl_lib.specs.State.{AccountState, ClosingState}
+use Rattle.dl_account.specs.Settled.{account_of}
+use Rattle.dl_account.specs.State.{AccountState, ClosingState}
 use Rattle.dl_core.specs.Follows.{IsAfter, Run}
 use Rattle.dl_core.specs.State.{Core}
-use Rattle.dl_folders.specs.Files.{Leaves}
-use Rattle.dl_folders.specs.Later.{IsFolderLater}
-use Rattle.dl_folders.proofs.LaterFolders.{folder_both}
-use Rattle.dl_folders.proofs.LeftFiles.{leaves_both}
+use Rattle.dl_core.specs.Files.{Leaves}
+use Rattle.dl_core.specs.Later.{IsFolderLater}
+use Rattle.dl_core.proofs.LaterFolders.{folder_both}
+use Rattle.dl_core.proofs.LeftFiles.{leaves_both}
 use Rattle.dl_admission.specs.Kept.{end_of}
 use Rattle.dl_taking.specs.Drained.{GivesTook, IsDrain}
 use Rattle.dl_taking.specs.Draining.{closing_took}

@@ -7,7 +7,7 @@ use Rattle.std.proofs.lemmas.List.Sums.{sum_by-append}
 use Rattle.dl_bytes.specs.declared.conf.AppSpec.{AppSpec}
 use Rattle.dl_bytes.specs.declared.item.Item.{Item}
 use Rattle.dl_events.specs.declared.event.Event.{Event}
-use Rattle.dl_levels.specs.declared.history.Change.{Change}
+use Rattle.dl_cells.specs.declared.level_history.Change.{Change}
 use Rattle.dl_model.specs.Accounts.{takes}
 use Rattle.dl_model.specs.Journal.{IsRunning}
 use Rattle.dl_model.specs.Report.{reported}
@@ -21,7 +21,7 @@ use Rattle.dl_desk.specs.Posting.{without_pushes}
 use Rattle.dl_desk.specs.State.{DeskState}
 use Rattle.dl_desk.specs.Told.{PostTold}
 use Rattle.dl_desk.specs.declared.app_handles.AppHandles.{AppHandles}
-use Rattle.dl_lib.specs.Known.{taken_of, told_as}
+use Rattle.dl_account.specs.Known.{taken_of, told_as}
 use Rattle.dl_registry.specs.Kept.{owed_change}
 use Rattle.dl_core.specs.Admission.{GivesFrame, GivesFrames}
 use Rattle.dl_core.specs.Follows.{Run}
@@ -32,7 +32,7 @@ use Rattle.dl_turns.specs.Events.{IsDeskOf}
 use Rattle.dl_turns.specs.Gone.{TellOver}
 use Rattle.dl_turns.specs.Later.{level_in}
 use Rattle.dl_turns.proofs.PostedSides.{posted_both}
-use Rattle.dl_well_formed.proofs.Following.{running_on}
+use Rattle.dl_core.proofs.Following.{running_on}
 use Rattle.dl_rounds.specs.Shown.{AllShowWhy}
 use Rattle.dl_settling.specs.Room.{HasFewClaims, IsFew}
 use Rattle.dl_settling.specs.Went.{TellBytes}

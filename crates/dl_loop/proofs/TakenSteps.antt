@@ -1,12 +1,12 @@
 -- A daemon is one after calls and a claim of an application were taken, and after its losses were.
 use Rattle.std.proofs.Common.{◌≡◌, ℕ, ◌+◌, ◌<◌, ◌≤◌, ◌^◌, Bool, true, false, cond, eqb, List, [], ◌∷◌, ◌++◌, length, refl, sym, ap, subst, ◌∙◌, arith}
 use Rattle.dl_bytes.specs.declared.moment.Moment.{Moment}
-use Rattle.dl_thread_rules.proofs.Bits.{bit_small}
-use Rattle.dl_losses.specs.Losses.{report, reported_of}
-use Rattle.dl_losses.specs.declared.keeper.Report.{Report}
+use Rattle.dl_cells.proofs.Bits.{bit_small}
+use Rattle.dl_cells.specs.Losses.{report, reported_of}
+use Rattle.dl_cells.specs.declared.loss_keeper.Report.{Report}
 use Rattle.dl_outside.specs.Told.{LinkTold}
 use Rattle.dl_ring.specs.declared.item.RingItem.TheVariants.{Register}
-use Rattle.dl_thread_rules.specs.Views.{bit}
+use Rattle.dl_cells.specs.Views.{bit}
 use Rattle.dl_registry.specs.Kept.{Kept, owed_change}
 use Rattle.dl_core.specs.Admission.{lost_frames}
 use Rattle.dl_core.specs.State.{Core}

@@ -5,15 +5,15 @@ use Rattle.std.proofs.lemmas.List.Sums.{sum_by-append}
 use Rattle.std.specs.List.{filter_map}
 use Rattle.dl_events.specs.declared.event.Event.{Event}
 use Rattle.dl_events.specs.declared.event.Event.TheVariants as event
-use Rattle.dl_levels.specs.History.{levels_set}
+use Rattle.dl_cells.specs.LevelHistory.{levels_set}
 use Rattle.dl_model.specs.History.{level_for}
-use Rattle.dl_losses.specs.Losses.{reported_of}
+use Rattle.dl_cells.specs.Losses.{reported_of}
 use Rattle.dl_model.specs.Accounts.{takes, took_of}
 use Rattle.dl_model.specs.Report.{lost_of, reported}
 use Rattle.dl_desk.specs.Handles.{HandlesState}
-use Rattle.dl_lib.specs.Known.{taken_of, told_as}
-use Rattle.dl_lib.specs.Settled.{IsJournalOf}
-use Rattle.dl_lib.specs.State.{AccountState}
+use Rattle.dl_account.specs.Known.{taken_of, told_as}
+use Rattle.dl_account.specs.Settled.{IsJournalOf}
+use Rattle.dl_account.specs.State.{AccountState}
 use Rattle.dl_turns.specs.Later.{level_in}
 use Rattle.dl_loop.specs.Told.{IsToldBy}
 

@@ -5,15 +5,15 @@ use Rattle.std.proofs.lemmas.Bool.{eqb-true}
 use Rattle.std.proofs.lemmas.Bool.Decides.{eqb_tells}
 use Rattle.std.proofs.lemmas.List.{length-map}
 use Rattle.std.proofs.lemmas.List.Elements.{filter-append}
-use Rattle.dl_thread_rules.proofs.Bits.{bit_small}
-use Rattle.dl_losses.specs.Losses.{report}
-use Rattle.dl_losses.specs.declared.keeper.Report.{Report}
+use Rattle.dl_cells.proofs.Bits.{bit_small}
+use Rattle.dl_cells.specs.Losses.{report}
+use Rattle.dl_cells.specs.declared.loss_keeper.Report.{Report}
 use Rattle.dl_outside.specs.Told.{LinkTold, NetTold}
 use Rattle.dl_ring.specs.declared.item.RingItem.{RingItem}
 use Rattle.dl_ring.specs.declared.item.RingItem.TheVariants.{Log, Register}
-use Rattle.dl_thread_rules.specs.Views.{bit}
+use Rattle.dl_cells.specs.Views.{bit}
 use Rattle.dl_desk.specs.State.{DeskState}
-use Rattle.dl_lib.specs.Known.{taken_of}
+use Rattle.dl_account.specs.Known.{taken_of}
 use Rattle.dl_taking.specs.Resting.{empties_still}
 use Rattle.dl_taking.specs.Side.{Side}
 use Rattle.dl_taking.specs.Takes.{TakesClaimIf, found_none, gave}

@@ -15,7 +15,7 @@ use Rattle.dl_outside.specs.Told.{LinkTold}
 use Rattle.dl_hub.specs.State.{Hub}
 use Rattle.dl_core.specs.State.{Core}
 use Rattle.dl_core.specs.Admission.{AddsEach}
-use Rattle.dl_well_formed.proofs.Following.{running_on}
+use Rattle.dl_core.proofs.Following.{running_on}
 use Rattle.dl_turns.specs.Events.{SetsLevels}
 use Rattle.dl_turns.specs.Later.{IsCalm, IsLaterStage, close_of}
 use Rattle.dl_turns.proofs.LaterStages.{stage_turn}

@@ -1,8 +1,8 @@
 -- How many frames a daemon has admitted at most.
 use Rattle.std.specs.Prelude.{ℕ, ◌+◌, ◌*◌, ◌^◌, ◌<◌, ◌≤◌, List, sum_by}
 use Rattle.std.specs.List.{range_with_len}
-use Rattle.dl_losses.specs.Losses.{reported_of}
-use Rattle.dl_losses.specs.declared.keeper.Report.{Report}
+use Rattle.dl_cells.specs.Losses.{reported_of}
+use Rattle.dl_cells.specs.declared.loss_keeper.Report.{Report}
 
 -- the losses that were reported of all applications together
 abbrev pub all_reported : List Report → ℕ

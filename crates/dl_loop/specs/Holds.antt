@@ -8,7 +8,7 @@ use Rattle.dl_desk.specs.Handles.{HandlesState}
 use Rattle.dl_desk.specs.Lists.{At}
 use Rattle.dl_ring.specs.Items.{calls_in}
 use Rattle.dl_desk.specs.Told.{PostTold}
-use Rattle.dl_lib.specs.Known.{taken_of}
+use Rattle.dl_account.specs.Known.{taken_of}
 use Rattle.dl_core.specs.Admission.{GivesFrames}
 use Rattle.dl_core.specs.Follows.{IsAfter, Run, source_of}
 use Rattle.dl_core.specs.State.{Core}

@@ -1,10 +1,10 @@
 -- What a round takes of each application, in one sentence: 64 takes that gave, or one that found the ring empty, and then the losses once, unless no
 -- more may come.
 use Rattle.std.specs.Prelude.{◌≡◌, ◌≤◌, ◌+◌, ◌==◌, ◌⊎◌, ℕ, List, [], ◌∷◌, ◌++◌, length, filter}
-use Rattle.dl_losses.specs.Losses.{report}
-use Rattle.dl_losses.specs.declared.keeper.Report.{Report}
+use Rattle.dl_cells.specs.Losses.{report}
+use Rattle.dl_cells.specs.declared.loss_keeper.Report.{Report}
 use Rattle.dl_ring.specs.declared.item.RingItem.{RingItem}
-use Rattle.dl_lib.specs.Known.{taken_of}
+use Rattle.dl_account.specs.Known.{taken_of}
 use Rattle.dl_taking.specs.Took.{empties_of}
 use Rattle.dl_loop.specs.Limits.{claim_limit, take_limit}
 use Rattle.dl_loop.specs.Scene.{Scene}

@@ -9,10 +9,10 @@ use Rattle.dl_model.specs.Journal.{is_connect}
 use Rattle.dl_outside.specs.Outside.{Stays}
 use Rattle.dl_outside.specs.Told.{NetTold}
 use Rattle.dl_desk.specs.Made.{IsLater}
-use Rattle.dl_lib.specs.Known.{taken_of}
+use Rattle.dl_account.specs.Known.{taken_of}
 use Rattle.dl_core.specs.Follows.{HoldsTrace, Run}
-use Rattle.dl_folders.specs.Files.{Leaves}
-use Rattle.dl_folders.specs.Later.{IsFolderLater}
+use Rattle.dl_core.specs.Files.{Leaves}
+use Rattle.dl_core.specs.Later.{IsFolderLater}
 use Rattle.dl_admission.specs.Kept.{end_of}
 use Rattle.dl_rounds.specs.Greetings.{IsOfGreeting}
 use Rattle.dl_loop.specs.Holds.{Gives}

@@ -5,7 +5,7 @@ use Rattle.dl_bytes.specs.declared.conf.Stored.{Stored}
 use Rattle.dl_trace.specs.State.{Trace}
 use Rattle.dl_desk.specs.Posting.{pushed_of, refusals_of}
 use Rattle.dl_desk.specs.State.{DeskState}
-use Rattle.dl_lib.specs.Known.{taken_of}
+use Rattle.dl_account.specs.Known.{taken_of}
 use Rattle.dl_core.specs.Settings.{begun}
 use Rattle.dl_core.specs.State.{Core}
 use Rattle.dl_rounds.specs.Ready.{fresh_listener}

@@ -6,12 +6,12 @@ use Rattle.dl_events.specs.declared.event.Event.{Event}
 use Rattle.dl_model.specs.Journal.{IsOpen, IsWellFormed}
 use Rattle.dl_outside.specs.Links.{Links}
 use Rattle.dl_outside.specs.Told.{FolderTold, LinkTold}
-use Rattle.dl_lib.specs.Known.{taken_of}
-use Rattle.dl_lib.specs.State.{AccountState, ClosingState}
+use Rattle.dl_account.specs.Known.{taken_of}
+use Rattle.dl_account.specs.State.{AccountState, ClosingState}
 use Rattle.dl_core.specs.Follows.{HoldsTrace, IsAfter, Run, source_of}
 use Rattle.dl_core.specs.State.{Core}
-use Rattle.dl_folders.specs.Files.{Leaves}
-use Rattle.dl_folders.specs.Later.{IsFolderLater}
+use Rattle.dl_core.specs.Files.{Leaves}
+use Rattle.dl_core.specs.Later.{IsFolderLater}
 use Rattle.dl_admission.specs.Kept.{end_of}
 use Rattle.dl_taking.specs.Draining.{MayNote, all_claims_left, all_to_note, closing_told}
 use Rattle.dl_rounds.specs.Ready.{AreHeard, AreLinked}
@@ -19,8 +19,8 @@ use Rattle.dl_bytes.specs.Limits.{client_limit}
 use Rattle.dl_turns.specs.Gone.{TellOver}
 use Rattle.dl_turns.specs.Injected.{HasPosted}
 use Rattle.dl_writer.specs.State.{BookState}
-use Rattle.dl_lib.specs.Making.{AreInOrder, IsMadeOf}
-use Rattle.dl_lib.specs.Settled.{IsSettled}
+use Rattle.dl_account.specs.Making.{AreInOrder, IsMadeOf}
+use Rattle.dl_account.specs.Settled.{IsSettled}
 use Rattle.dl_settling.specs.Settling.{Settles}
 use Rattle.dl_settling.specs.Ends.{trace_told}
 use Rattle.dl_settling.specs.State.{Stopping}

@@ -1,6 +1,6 @@
 -- What a round takes of the programs that log.
 use Rattle.std.specs.Prelude.{◌≡◌, ℕ, zero, suc, ◌+◌, ◌-◌, ◌<◌, ◌==◌, nat_lt, min, ◌⊎◌, Bool, true, false, ◌||◌, List, [], ◌∷◌, length, None, if◌then◌else◌}
-use Rattle.dl_thread_rules.specs.Views.{bit}
+use Rattle.dl_cells.specs.Views.{bit}
 use Rattle.dl_desk.specs.State.{DeskState}
 use Rattle.dl_registry.specs.Kept.{owed_change}
 use Rattle.dl_taking.specs.Takes.{Reports, TakesSome, found_none, gave}

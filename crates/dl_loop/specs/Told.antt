@@ -2,11 +2,11 @@
 use Rattle.std.specs.Prelude.{◌≡◌, ℕ, ◌≤◌, List, [], map}
 use Rattle.std.specs.List.{filter_map}
 use Rattle.dl_events.specs.declared.event.Event.{Event}
-use Rattle.dl_losses.specs.Losses.{reported_of}
+use Rattle.dl_cells.specs.Losses.{reported_of}
 use Rattle.dl_model.specs.Accounts.{takes}
 use Rattle.dl_model.specs.Report.{reported}
 use Rattle.dl_desk.specs.Handles.{HandlesState}
-use Rattle.dl_lib.specs.Known.{taken_of, told_as}
+use Rattle.dl_account.specs.Known.{taken_of, told_as}
 use Rattle.dl_turns.specs.Later.{level_in}
 
 -- Of each application the journal has the calls and claims that were taken of its ring, in order, and tells the losses that were reported; of no

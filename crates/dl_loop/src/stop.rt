@@ -2,14 +2,14 @@
 
 ghost use Rattle.std.specs.Prelude.{◌≡◌, true, ◌≤◌, ◌<◌, ◌^◌, All, IfErr, IfOk, OnErr, length};
 ghost use Rattle.dl_writer.specs.State.{IsWhole};
-ghost use Rattle.dl_lib.specs.Making.{AreMadeWith, IsMissing};
+ghost use Rattle.dl_account.specs.Making.{AreMadeWith, IsMissing};
 ghost use Rattle.dl_settling.specs.Room.{together};
 ghost use Rattle.dl_loop.specs.Stops.{Stops};
 
 use crate::daemon::Daemon;
 use crate::limits::PLACE_LIMIT;
 use crate::stop_laws::what_a_stop_leaves;
-use dl_lib::{Account, BookList, Closing};
+use dl_account::{Account, BookList, Closing};
 use dl_outside::{Clock, Folder, Link, LinkList, Net};
 use dl_settling::{Parts, settle};
 use std::sync::Wait;

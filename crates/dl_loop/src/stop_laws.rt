@@ -5,9 +5,9 @@ ghost use Rattle.dl_bytes.specs.Limits.{client_limit};
 ghost use Rattle.dl_outside.specs.Links.{Links};
 ghost use Rattle.dl_outside.specs.Told.{FolderTold};
 ghost use Rattle.dl_writer.specs.State.{BookState, IsWhole};
-ghost use Rattle.dl_lib.specs.Known.{AreGathered};
-ghost use Rattle.dl_lib.specs.Making.{IsMadeOf};
-ghost use Rattle.dl_lib.specs.State.{AccountState, ClosingState};
+ghost use Rattle.dl_account.specs.Known.{AreGathered};
+ghost use Rattle.dl_account.specs.Making.{IsMadeOf};
+ghost use Rattle.dl_account.specs.State.{AccountState, ClosingState};
 ghost use Rattle.dl_taking.specs.Took.{took_by};
 ghost use Rattle.dl_settling.specs.Room.{IsFew, together};
 ghost use Rattle.dl_settling.specs.Settling.{Settles};
@@ -35,6 +35,6 @@ pub fn what_a_stop_leaves<L: Link>()
     dl_settling::laws::a_stop_is_its_events::<L>();
     dl_settling::laws::how_clients_went::<L>();
     dl_settling::laws::how_clients_ended::<L>();
-    dl_well_formed::clients::who_has_an_outbox();
+    dl_core::client_turns::who_has_an_outbox();
     dl_core::laws::what_links_take();
 }

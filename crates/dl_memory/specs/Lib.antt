@@ -1,2 +1,5 @@
+pub mod Counted
 pub mod Kept
 pub mod Shelf
+pub mod Wire
+pub mod Clients

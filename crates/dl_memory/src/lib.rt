@@ -1,11 +1,25 @@
-//! The outside in memory: a source, a sink, a folder, a dial and a clock, for tests and for whoever has no files at hand.
+//! The outside in memory, for tests and for whoever has no files at hand: a source, a sink, a folder, a dial and a clock; the net, with
+//! its connections, whose peers send and take what a test prepares; a sign, gates and a net that threads share; and `Failing`, an
+//! object of the outside of which chosen calls fail, each with the fault that its trait says.
 #![tactic(auto)]
 
+mod failing;
+mod gates;
 mod memory;
+mod memory_net;
 mod shelf;
+mod sign;
 mod stand_ins;
 mod stock;
+mod watched;
+mod wire;
 
+pub use failing::Failing;
+pub use gates::{MeetingGate, Passing, SignGate};
 pub use memory::{Discard, MemorySink, MemorySource};
+pub use memory_net::MemoryNet;
+pub use sign::Sign;
 pub use stand_ins::{MemoryDial, StandingClock};
 pub use stock::MemoryFolder;
+pub use watched::{Wanted, Watched, WatchedNet};
+pub use wire::{Manner, MemoryLink, Turn};

@@ -5,7 +5,7 @@ ghost use Rattle.std.specs.FinMap.Entries.{put};
 ghost use Rattle.std.specs.Ordering.{nat_cmp};
 ghost use Rattle.std.specs.Cmp.Lexicographic.{slice_cmp};
 ghost use Rattle.std.specs.Vec.{vec_capacity};
-ghost use Rattle.dl_outside.specs.Folder.{Appends, HasCause, Puts};
+ghost use Rattle.dl_outside.specs.Folder.{Appends, HasCause, IsOldOrNew, Puts};
 ghost use Rattle.dl_outside.specs.Outside.{one_more};
 ghost use Rattle.dl_memory.specs.Shelf.{HasRoom, files_of, held_by, with_entry};
 
@@ -173,6 +173,7 @@ impl Folder for MemoryFolder {
 
     fn put(&mut self, name: &str, bytes: &[u8]) -> Result<(), FolderFault>
         ensures files { Puts (Some (files_of self.old)) (Some (files_of self.new)) result name.now bytes.now }
+        ensures whole { IsOldOrNew (Some (files_of self.old)) (Some (files_of self.new)) result name.now bytes.now }
         ensures cause { HasCause 0 0 result }
         ensures changed { self.new.changes ≡ one_more self.old.changes }
         ensures unappended { self.new.appends ≡ self.old.appends }

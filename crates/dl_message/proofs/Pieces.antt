@@ -17,10 +17,6 @@ use Rattle.dl_message.specs.Cut.{serial_header, without_serial, IsWholeMessage, 
 pub no_some : {A : Type 0} {x : A} → None ≡ Some x → ⊥
 no_some e = absurd cc
 
-some_of_two : {A : Type 0} (there : Bool) (x y : A) → cond there (Some x) (Some y) ≡ None → ⊥
-some_of_two true x y e = absurd cc
-some_of_two false x y e = absurd cc
-
 pub message_fault-append : (limit : ℕ) (a b : List ℕ) → 4 ≤ length a → message_fault limit (a ++ b) ≡ message_fault limit a
 message_fault-append limit a b l =
     let first : ltb (length a) 4 ≡ false = le-ltb _ _ l in

@@ -15,7 +15,7 @@ use Rattle.dl_bytes.specs.declared.outcome.Done.TheVariants as done
 use Rattle.dl_bytes.specs.declared.user.UserMsg.{UserMsg}
 use Rattle.dl_bytes.specs.declared.user.UserMsg.TheVariants.{Log, RegisterApp, UnregisterApp, RegisterContext, UnregisterContext, LogLevel, Injection, Overflow}
 use Rattle.dl_control.specs.declared.request.Request.{Request}
-use Rattle.dl_control.specs.declared.request.Request.TheVariants.{SetLogLevel, GetLogInfo, GetDefault, Store, Reset, SetDefault, Version, Inject, Other}
+use Rattle.dl_control.specs.declared.request.Request.TheVariants.{SetLogLevel, GetLogInfo, GetDefault, Store, Reset, SetDefault, Version, SetAllLogLevel, Inject, Other}
 use Rattle.dl_control.specs.declared.request.RequestFault.{RequestFault}
 use Rattle.dl_events.specs.declared.event.Event.{Event}
 use Rattle.dl_events.specs.declared.event.Event.TheVariants as event
@@ -269,6 +269,7 @@ where_done_same c a done.NoMemory r new same = refl
 
 served_same : (c : ℕ) (a : List ℕ) (s : Setting) (slots : ℕ → Slot) (r : Registry) (request : Result Request RequestFault) (answer : Done) → Same c a r (served s slots r request answer)
 served_same c a s slots r (Ok (SetLogLevel apid ctid level)) answer = own_same c a slots r apid ctid (own_level_of level)
+served_same c a s slots r (Ok (SetAllLogLevel level)) answer = own_same c a slots r zero_id zero_id (own_level_of level)
 served_same c a s slots r (Ok (SetDefault level)) answer = default_same c a slots r level (nat_le level 6)
 served_same c a s slots r (Ok Store) answer = where_done_same c a answer r (now_stored r) refl
 served_same c a s slots r (Ok Reset) answer =

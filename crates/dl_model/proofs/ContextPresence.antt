@@ -14,7 +14,7 @@ use Rattle.dl_bytes.specs.declared.outcome.Done.TheVariants as done
 use Rattle.dl_bytes.specs.declared.user.UserMsg.{UserMsg}
 use Rattle.dl_bytes.specs.declared.user.UserMsg.TheVariants.{Log, RegisterApp, UnregisterApp, RegisterContext, UnregisterContext, LogLevel, Injection, Overflow}
 use Rattle.dl_control.specs.declared.request.Request.{Request}
-use Rattle.dl_control.specs.declared.request.Request.TheVariants.{SetLogLevel, GetLogInfo, GetDefault, Store, Reset, SetDefault, Version, Inject, Other}
+use Rattle.dl_control.specs.declared.request.Request.TheVariants.{SetLogLevel, GetLogInfo, GetDefault, Store, Reset, SetDefault, Version, SetAllLogLevel, Inject, Other}
 use Rattle.dl_control.specs.declared.request.RequestFault.{RequestFault}
 use Rattle.dl_events.specs.declared.event.Event.{Event}
 use Rattle.dl_events.specs.declared.event.Event.TheVariants as event
@@ -30,10 +30,9 @@ use Rattle.dl_model.specs.Journal.{Told, step, registry_of, slots_of, accepted_a
 use Rattle.dl_model.specs.Registry.{App, Registry, of_channel, app_of, context_of, numbers, places, least_free, is_free, slot_of, stored_level, with_app, with_new_app, with_context, with_new_context, without, app_registered, app_unregistered, context_registered, context_unregistered, for_app, applied, apid_numbered, with_claim, context_claimed, claimed, registration, registrations, Relevel, set_matching, keep_own, no_own, wears, unless_worn, matching, own_set, default_set, nothing_stored, releveled_context, releveled_app, releveled}
 use Rattle.dl_model.specs.Reply.{asked, reset_requested, now_stored, where_done, served}
 use Rattle.dl_model.specs.Setting.{Setting}
-use Rattle.dl_model.specs.Stays.{drops_app, stays}
+use Rattle.dl_model.specs.Stays.{drops_app, stays, names_context, drops_context, registers_context, ends_context, is_context_there}
 use Rattle.dl_model.proofs.OneMore.{registry-one}
 use Rattle.dl_model.proofs.Presence.{stays-push, bytes_tell, bytes_same, bytes_differ, lookup-set_same, lookup-set_other, lookup-push, lookup-without_same, lookup-without_other}
-use Rattle.dl_model.specs.Stays.{names_context, drops_context, registers_context, ends_context, is_context_there}
 use Rattle.dl_model.proofs.AppPresence.{found_own}
 
 -- a context of an application that belongs to the channel
@@ -352,6 +351,7 @@ where_done_same c a k done.NoMemory r new same = refl
 
 served_same : (c : ℕ) (a k : List ℕ) (s : Setting) (slots : ℕ → Slot) (r : Registry) (request : Result Request RequestFault) (answer : Done) → SameThere c a k r (served s slots r request answer)
 served_same c a k s slots r (Ok (SetLogLevel apid ctid level)) answer = own_same c a k slots r apid ctid (own_level_of level)
+served_same c a k s slots r (Ok (SetAllLogLevel level)) answer = own_same c a k slots r zero_id zero_id (own_level_of level)
 served_same c a k s slots r (Ok (SetDefault level)) answer = default_same c a k slots r level (nat_le level 6)
 served_same c a k s slots r (Ok Store) answer = where_done_same c a k answer r (now_stored r) refl
 served_same c a k s slots r (Ok Reset) answer =

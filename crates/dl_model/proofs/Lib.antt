@@ -8,4 +8,3 @@ pub mod OwnLevels
 pub mod ContextPresence
 pub mod StandingApps
 pub mod Records
-pub mod Marks

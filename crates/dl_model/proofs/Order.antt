@@ -16,7 +16,7 @@ use Rattle.dl_bytes.specs.declared.outcome.Done.TheVariants as done
 use Rattle.dl_bytes.specs.declared.user.UserMsg.{UserMsg}
 use Rattle.dl_bytes.specs.declared.user.UserMsg.TheVariants.{RegisterApp, UnregisterApp, RegisterContext, UnregisterContext}
 use Rattle.dl_control.specs.declared.request.Request.{Request}
-use Rattle.dl_control.specs.declared.request.Request.TheVariants.{SetLogLevel, GetLogInfo, GetDefault, Store, Reset, SetDefault, Version, Inject, Other}
+use Rattle.dl_control.specs.declared.request.Request.TheVariants.{SetLogLevel, GetLogInfo, GetDefault, Store, Reset, SetDefault, Version, SetAllLogLevel, Inject, Other}
 use Rattle.dl_control.specs.declared.request.RequestFault.{RequestFault}
 use Rattle.dl_events.specs.declared.event.Event.{Event}
 use Rattle.dl_events.specs.declared.event.Event.TheVariants.{Log, Lost, User, Claim, Level, Connect, Request as RequestEvent, Close}
@@ -241,6 +241,7 @@ where_done-order done.NoMemory new old is was = was
 
 served-order : (s : Setting) (slots : ℕ → Slot) (r : Registry) (request : Result Request RequestFault) (answer : Done) → IsInOrder r → IsInOrder (served s slots r request answer)
 served-order s slots r (Ok (SetLogLevel apid ctid level)) answer is = some_or (own_requested slots r apid ctid level) r (own_requested-order slots r apid ctid (own_level_of level) is) is
+served-order s slots r (Ok (SetAllLogLevel level)) answer is = some_or (own_requested slots r zero_id zero_id level) r (own_requested-order slots r zero_id zero_id (own_level_of level) is) is
 served-order s slots r (Ok (SetDefault level)) answer is = some_or (default_requested slots r level) r (default_requested-order slots r level (nat_le level 6) is) is
 served-order s slots r (Ok Store) answer is = where_done-order answer (now_stored r) r (record { numbered = is.numbered; placed = is.placed }) is
 served-order s slots r (Ok Reset) answer is = where_done-order answer (unwrap_or (reset_requested s slots r) r) r (some_or (reset_requested s slots r) r (reset_requested-order s slots r is) is) is

@@ -15,7 +15,7 @@ use Rattle.dl_bytes.specs.declared.outcome.Done.TheVariants as done
 use Rattle.dl_bytes.specs.declared.user.UserMsg.{UserMsg}
 use Rattle.dl_bytes.specs.declared.user.UserMsg.TheVariants.{Log, RegisterApp, UnregisterApp, RegisterContext, UnregisterContext, LogLevel, Injection, Overflow}
 use Rattle.dl_control.specs.declared.request.Request.{Request}
-use Rattle.dl_control.specs.declared.request.Request.TheVariants.{SetLogLevel, GetLogInfo, GetDefault, Store, Reset, SetDefault, Version, Inject, Other}
+use Rattle.dl_control.specs.declared.request.Request.TheVariants.{SetLogLevel, GetLogInfo, GetDefault, Store, Reset, SetDefault, Version, SetAllLogLevel, Inject, Other}
 use Rattle.dl_control.specs.declared.request.RequestFault.{RequestFault}
 use Rattle.dl_events.specs.declared.event.Event.{Event}
 use Rattle.dl_events.specs.declared.event.Event.TheVariants as event
@@ -374,6 +374,7 @@ module _ (r : Registry) (a k : List ℕ) where
   served-own : (s : Setting) (slots : ℕ → Slot) (request : Result Request RequestFault) (answer : Done)
       → Stepped (own_at r a k) (given_by_request s slots r a k request answer) (own_at (served s slots r request answer) a k)
   served-own s slots (Ok (SetLogLevel apid ctid level)) answer = own_requested-step slots apid ctid (own_level_of level)
+  served-own s slots (Ok (SetAllLogLevel level)) answer = own_requested-step slots zero_id zero_id (own_level_of level)
   served-own s slots (Ok (SetDefault level)) answer = default-step slots level (nat_le level 6) (wears slots r level keep_own)
   served-own s slots (Ok Store) answer = where_done-same answer
   served-own s slots (Ok Reset) done.Yes = reset-step s.level (wears slots r s.level no_own)

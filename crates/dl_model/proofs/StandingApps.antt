@@ -20,7 +20,7 @@ use Rattle.dl_bytes.specs.declared.outcome.Done.TheVariants as done
 use Rattle.dl_bytes.specs.declared.user.UserMsg.{UserMsg}
 use Rattle.dl_bytes.specs.declared.user.UserMsg.TheVariants.{RegisterApp, UnregisterApp, RegisterContext, UnregisterContext, Log, LogLevel, Injection, Overflow}
 use Rattle.dl_control.specs.declared.request.Request.{Request}
-use Rattle.dl_control.specs.declared.request.Request.TheVariants.{SetLogLevel, GetLogInfo, GetDefault, Store, Reset, SetDefault, Version, Inject, Other}
+use Rattle.dl_control.specs.declared.request.Request.TheVariants.{SetLogLevel, GetLogInfo, GetDefault, Store, Reset, SetDefault, Version, SetAllLogLevel, Inject, Other}
 use Rattle.dl_control.specs.declared.request.RequestFault.{RequestFault}
 use Rattle.dl_events.specs.declared.event.Event.{Event}
 use Rattle.dl_events.specs.declared.event.Event.TheVariants as event
@@ -108,6 +108,7 @@ module _ (r : Registry) where
 
   pub request_same : (s : Setting) (slots : ℕ → Slot) (request : Result Request RequestFault) (answer : Done) → Same (served s slots r request answer)
   request_same s slots (Ok (SetLogLevel apid ctid level)) answer = same_or (own_requested slots r apid ctid level) (own_same slots apid ctid (own_level_of level))
+  request_same s slots (Ok (SetAllLogLevel level)) answer = same_or (own_requested slots r zero_id zero_id level) (own_same slots zero_id zero_id (own_level_of level))
   request_same s slots (Ok (SetDefault level)) answer = same_or (default_requested slots r level) (by (nat_le level 6)) where
     by : (b : Bool) → IfSome (if b then result_ok (default_set slots r level) else None) Same
     by true = some_ok Same (default_set slots r level) (set_same slots level keep_own)

@@ -116,9 +116,6 @@ is_stop (Close client why.Stopped) = true
 is_stop (Close client (why.Stuck left)) = true
 is_stop _ = false
 
-abbrev pub IsStopping : List Event → Type 0
-IsStopping events = list_any is_stop events ≡ true
-
 abbrev pub IsRunning : List Event → Type 0
 IsRunning events = list_any is_stop events ≡ false
 

@@ -5,7 +5,6 @@ pub mod Backlog
 pub mod Frames
 pub mod ClientStream
 pub mod TraceFiles
-pub mod Marks
 pub mod History
 pub mod Registry
 pub mod Setting
@@ -13,10 +12,7 @@ pub mod Reply
 pub mod Journal
 pub mod Stays
 pub mod RegistryExamples
-pub mod Steps
 pub mod Report
-pub mod Replay
-pub mod Runs
 pub mod Accounts
 pub mod WholeAccounts
 pub mod ClientEnds

@@ -1,5 +1,5 @@
 -- The registry: which applications and contexts there are, at which levels, and what each event makes of it.
-use Rattle.std.specs.Prelude.{ℕ, ◌+◌, ◌*◌, ◌/◌, ◌%◌, Bool, not, ◌&&◌, ◌||◌, ◌==◌, nat_eq, nat_le, nat_lt, ◌<◌, List, [], ◌∷◌, ◌++◌, length, map, reverse, if◌then◌else◌, Option, Some, None, is_some, unwrap_or, Result, Ok, Err, negsuc}
+use Rattle.std.specs.Prelude.{ℕ, ◌+◌, ◌-◌, ◌*◌, ◌/◌, ◌%◌, Bool, false, not, ◌&&◌, ◌||◌, ◌==◌, nat_eq, nat_le, nat_lt, ◌<◌, List, [], ◌∷◌, ◌++◌, length, map, take, drop, reverse, if◌then◌else◌, Option, Some, None, is_some, unwrap_or, Result, Ok, Err, negsuc}
 use Rattle.std.specs.List.{AllByRecursion, IsDistinct, filter, filter_map, find, flat_map, list_any, prefix_len, range_with_len}
 use Rattle.std.specs.Map.{lookup, set_value, values_of}
 use Rattle.std.specs.Option.{option_map, option_map_or, option_and_then, option_or}
@@ -233,9 +233,33 @@ registrations slots registry claim =
 
 -- ---- levels that clients set
 
--- the zero id stands for all ids
+-- in a request the zero id names all ids, and any other id itself
+abbrev pub names : List ℕ → List ℕ → Bool
+names asked id = bytes_eq asked zero_id || bytes_eq asked id
+
+-- the id whose one character is `*`
+abbrev pub star : List ℕ
+star = 0x2a ∷ 0 ∷ 0 ∷ 0 ∷ []
+
+-- the last character of an id, before the zero bytes that fill it, is a `*` behind n others
+abbrev pub ends_at : List ℕ → ℕ → Bool
+ends_at id n = bytes_eq (drop n id) (take (4 - n) star)
+
+-- how many characters stand before the `*` that ends an id, where one does
+abbrev pub star_at : List ℕ → Option ℕ
+star_at id = find (ends_at id) (0 ∷ 1 ∷ 2 ∷ 3 ∷ [])
+
+-- another id begins with what is before the `*` of this one
+abbrev pub begins : List ℕ → List ℕ → Bool
+begins pattern id = option_map_or (λ n. bytes_eq (take n pattern) (take n id)) (star_at pattern) false
+
+-- SetLogLevel: an id matches the ids that it names, and one that ends in `*` besides those that begin with what is before it
 abbrev pub matches : List ℕ → List ℕ → Bool
-matches pattern id = bytes_eq pattern zero_id || bytes_eq pattern id
+matches pattern id = names pattern id || begins pattern id
+
+-- an id that can match others than itself
+abbrev pub is_pattern : List ℕ → Bool
+is_pattern id = bytes_eq id zero_id || is_some (star_at id)
 
 -- An own level for each context, by the id of its application, its own id, and the level that it had.
 abbrev pub Relevel : Type 0
@@ -283,6 +307,13 @@ wears slots registry level relevel = list_any (wears_app slots registry.level le
 abbrev pub unless_worn : (ℕ → Slot) → Registry → ℕ → Relevel → Result Registry SetFault
 unless_worn slots registry level relevel =
     if wears slots registry level relevel then Err set.Worn else Ok (releveled level relevel registry)
+
+-- the contexts that GetLogInfo tells of: those of an application that the ids name, and of all applications
+abbrev pub named_in : List ℕ → List ℕ → List ℕ × App → List (List ℕ × Context)
+named_in apid ctid app = if names apid app.0 then filter (λ entry. names ctid entry.0) app.1.contexts else []
+
+abbrev pub named_contexts : Registry → List ℕ → List ℕ → List (List ℕ × Context)
+named_contexts registry apid ctid = flat_map (named_in apid ctid) registry.apps
 
 -- the contexts of an application that the ids match, and of all applications
 abbrev pub matching_in : List ℕ → List ℕ → List ℕ × App → List (List ℕ × Context)

@@ -5,6 +5,7 @@ use Rattle.std.specs.Option.{option_and_then, option_map, option_map_or}
 use Rattle.std.specs.Result.{result_ok}
 use Rattle.byteorder.specs.Endian.{little_bytes}
 use Rattle.dl_bytes.specs.Htyp.{htyp_of, has_big_numbers, standard_len, header_len}
+use Rattle.dl_bytes.specs.Id.{zero_id}
 use Rattle.dl_bytes.specs.Level.{own_level_of}
 use Rattle.dl_bytes.specs.declared.cursor.Order.{Order}
 use Rattle.dl_bytes.specs.declared.cursor.Order.TheVariants.{Little, Big}
@@ -14,12 +15,12 @@ use Rattle.dl_control.specs.Reading.{request_in}
 use Rattle.dl_control.specs.Reply.{control_reply}
 use Rattle.dl_control.specs.declared.reply.Reply.{Reply}
 use Rattle.dl_control.specs.declared.request.Request.{Request}
-use Rattle.dl_control.specs.declared.request.Request.TheVariants.{SetLogLevel, GetLogInfo, GetDefault, Store, Reset, SetDefault, Version, Inject, Other}
+use Rattle.dl_control.specs.declared.request.Request.TheVariants.{SetLogLevel, GetLogInfo, GetDefault, Store, Reset, SetDefault, Version, SetAllLogLevel, Inject, Other}
 use Rattle.dl_control.specs.declared.request.RequestFault.{RequestFault}
 use Rattle.dl_control.specs.declared.request.RequestFault.TheVariants.{Short, Excess}
 use Rattle.dl_model.specs.declared.context.Context.{Context}
 use Rattle.dl_model.specs.declared.registry.Slot.{Slot}
-use Rattle.dl_model.specs.Registry.{App, Registry, app_of, context_of, own_set, default_set, reset, owns_now, matching, matching_in}
+use Rattle.dl_model.specs.Registry.{App, Registry, app_of, context_of, own_set, default_set, reset, owns_now, named_contexts, named_in}
 use Rattle.dl_model.specs.Setting.{Setting}
 
 -- ---- what a control message asks
@@ -41,7 +42,7 @@ ctid_of frame = take 4 (drop (standard_len (htyp_of frame) + 6) frame)
 
 -- ---- what a request makes of the registry: nothing comes out where it is refused
 
--- SetLogLevel: the level is -1 to 6, a context matches, and no slot that would change is worn
+-- SetLogLevel, and SetAllLogLevel with both ids zero: the level is -1 to 6, a context matches, and no slot that would change is worn
 abbrev pub own_requested : (ℕ → Slot) → Registry → List ℕ → List ℕ → ℤ → Option Registry
 own_requested slots registry apid ctid level =
     option_and_then (λ own. result_ok (own_set slots registry apid ctid own)) (own_level_of level)
@@ -75,6 +76,8 @@ where_done _ new old = old
 abbrev pub served : Setting → (ℕ → Slot) → Registry → Result Request RequestFault → Done → Registry
 served setting slots registry (Ok (SetLogLevel apid ctid level)) answer =
     unwrap_or (own_requested slots registry apid ctid level) registry
+served setting slots registry (Ok (SetAllLogLevel level)) answer =
+    unwrap_or (own_requested slots registry zero_id zero_id level) registry
 served setting slots registry (Ok (SetDefault level)) answer = unwrap_or (default_requested slots registry level) registry
 served setting slots registry (Ok Store) answer = where_done answer (now_stored registry) registry
 served setting slots registry (Ok Reset) answer =
@@ -140,15 +143,15 @@ described options text = if options == 7 then little_bytes 2 (length text) ++ te
 abbrev pub context_info : ℕ → List ℕ × Context → List ℕ
 context_info options entry = entry.0 ++ (own_byte entry.1.own ∷ 0xff ∷ []) ++ described options entry.1.text
 
--- an application: APID, its matching contexts behind their number, and its description
+-- an application: APID, its contexts that the ids name behind their number, and its description
 abbrev pub app_info : ℕ → List ℕ → List ℕ → List ℕ × App → List ℕ
 app_info options apid ctid app =
-    app.0 ++ little_bytes 2 (length (matching_in apid ctid app))
-    ++ flat_map (context_info options) (matching_in apid ctid app) ++ described options app.1.text
+    app.0 ++ little_bytes 2 (length (named_in apid ctid app))
+    ++ flat_map (context_info options) (named_in apid ctid app) ++ described options app.1.text
 
--- the applications that have a matching context
+-- the applications that have a context that the ids name
 abbrev pub is_listed : List ℕ → List ℕ → List ℕ × App → Bool
-is_listed apid ctid app = not (length (matching_in apid ctid app) == 0)
+is_listed apid ctid app = not (length (named_in apid ctid app) == 0)
 
 abbrev pub listed : Registry → List ℕ → List ℕ → List (List ℕ × App)
 listed registry apid ctid = filter (is_listed apid ctid) registry.apps
@@ -168,11 +171,11 @@ is_too_long body = nat_lt 65535 (23 + length body)
 abbrev pub bare : ℕ → ℕ → Reply
 bare service status = record { service = service; status = status; body = [] }
 
--- 1 for other options than 6 and 7, 8 where no context matches, 9 where the reply would be too long
+-- 1 for other options than 6 and 7, 8 where the ids name no context, 9 where the reply would be too long
 abbrev pub info_reply : Registry → ℕ → List ℕ → List ℕ → Reply
 info_reply registry options apid ctid =
     if not (options == 6 || options == 7) then bare 0x03 1
-    else if length (matching registry apid ctid) == 0 then bare 0x03 8
+    else if length (named_contexts registry apid ctid) == 0 then bare 0x03 8
     else if is_too_long (info_body options registry apid ctid) then bare 0x03 9
     else record { service = 0x03; status = options; body = info_body options registry apid ctid }
 
@@ -192,6 +195,8 @@ reply_to setting slots registry apid ctid (Ok GetDefault) answer =
 reply_to setting slots registry apid ctid (Ok Store) answer = bare 0x05 (done_status answer)
 reply_to setting slots registry apid ctid (Ok Reset) answer =
     bare 0x06 (reset_status (reset_requested setting slots registry) answer)
+reply_to setting slots registry apid ctid (Ok (SetAllLogLevel level)) answer =
+    bare 0xf08 (status_of (own_requested slots registry zero_id zero_id level))
 reply_to setting slots registry apid ctid (Ok (SetDefault level)) answer =
     bare 0x11 (status_of (default_requested slots registry level))
 reply_to setting slots registry apid ctid (Ok Version) answer =

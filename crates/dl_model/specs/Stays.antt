@@ -5,13 +5,14 @@ use Rattle.std.specs.Map.{lookup}
 use Rattle.std.specs.Option.{option_and_then, option_map, option_map_or, option_or, is_some, is_none}
 use Rattle.std.specs.Result.{is_ok, result_ok}
 use Rattle.std.specs.Str.{bytes_eq}
+use Rattle.dl_bytes.specs.Id.{zero_id}
 use Rattle.dl_bytes.specs.Level.{own_level_of}
 use Rattle.dl_bytes.specs.declared.outcome.Done.{Done}
 use Rattle.dl_bytes.specs.declared.outcome.Done.TheVariants as done
 use Rattle.dl_bytes.specs.declared.user.UserMsg.{UserMsg}
 use Rattle.dl_bytes.specs.declared.user.UserMsg.TheVariants.{RegisterApp, UnregisterApp, RegisterContext, UnregisterContext}
 use Rattle.dl_control.specs.declared.request.Request.{Request}
-use Rattle.dl_control.specs.declared.request.Request.TheVariants.{SetLogLevel, Reset}
+use Rattle.dl_control.specs.declared.request.Request.TheVariants.{SetLogLevel, SetAllLogLevel, Reset}
 use Rattle.dl_control.specs.declared.request.RequestFault.{RequestFault}
 use Rattle.dl_events.specs.declared.event.Event.{Event}
 use Rattle.dl_events.specs.declared.event.Event.TheVariants as event
@@ -89,10 +90,12 @@ abbrev pub none_given : Option Registry → List (Option ℕ)
 none_given (Some registry) = None ∷ []
 none_given None = []
 
--- a SetLogLevel with status 0 that matches both ids gives its level, and a Reset with status 0 takes the level away
+-- a SetLogLevel with status 0 that matches both ids gives its level, so does a SetAllLogLevel, and a Reset with status 0 takes the level away
 abbrev pub given_by_request : Setting → (ℕ → Slot) → Registry → List ℕ → List ℕ → Result Request RequestFault → Done → List (Option ℕ)
 given_by_request setting slots registry apid ctid (Ok (SetLogLevel app context level)) answer =
     option_map_or (λ own. given_where_set apid ctid app context own (result_ok (own_set slots registry app context own))) (own_level_of level) []
+given_by_request setting slots registry apid ctid (Ok (SetAllLogLevel level)) answer =
+    option_map_or (λ own. given_where_set apid ctid zero_id zero_id own (result_ok (own_set slots registry zero_id zero_id own))) (own_level_of level) []
 given_by_request setting slots registry apid ctid (Ok Reset) done.Yes = none_given (reset_requested setting slots registry)
 given_by_request setting slots registry apid ctid request answer = []
 

@@ -5,8 +5,8 @@ use Rattle.std.specs.List.{range_with_len}
 use Rattle.std.proofs.lemmas.Bool.{eqb-true, ltb-false}
 use Rattle.std.proofs.lemmas.List.Sums.{sum_by-cons}
 use Rattle.dl_script_fields.specs.declared.kind.ScriptKind.TheVariants.{Limit, Unknown}
-use Rattle.dl_script_lines.specs.declared.scenario.ScenarioLine.{ScenarioLine}
-use Rattle.dl_script_lines.specs.declared.scenario.ScenarioLine.TheVariants as line
+use Rattle.dl_script_model.specs.declared.scenario.ScenarioLine.{ScenarioLine}
+use Rattle.dl_script_model.specs.declared.scenario.ScenarioLine.TheVariants as line
 use Rattle.dl_script.specs.Earlier.{Declared, logs_under, noted, nothing}
 use Rattle.dl_script.specs.Playable.{IsRunnable}
 use Rattle.dl_script.specs.Spelled.{MayFollow, scenario_claim}

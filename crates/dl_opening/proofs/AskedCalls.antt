@@ -16,9 +16,9 @@ use Rattle.dl_bytes.specs.declared.conf.AppSpec.{AppSpec}
 use Rattle.dl_bytes.specs.declared.level.Severity.{Severity}
 use Rattle.dl_model.specs.Along.{last_that}
 use Rattle.dl_script_fields.specs.declared.kind.ScriptKind.TheVariants.{Limit, Unknown}
-use Rattle.dl_script_lines.specs.declared.line.ClaimLine.{ClaimLine}
-use Rattle.dl_script_lines.specs.declared.scenario.ScenarioLine.{ScenarioLine}
-use Rattle.dl_script_lines.specs.declared.scenario.ScenarioLine.TheVariants as line
+use Rattle.dl_script_model.specs.declared.line.ClaimLine.{ClaimLine}
+use Rattle.dl_script_model.specs.declared.scenario.ScenarioLine.{ScenarioLine}
+use Rattle.dl_script_model.specs.declared.scenario.ScenarioLine.TheVariants as line
 use Rattle.dl_script.specs.Earlier.{Declared, claims_for, is_claim_of, is_context, is_named, logs_under, noted, nothing, numbered}
 use Rattle.dl_script.specs.Playable.{IsRunnable}
 use Rattle.dl_script.specs.Spelled.{MayFollow, scenario_claim}

@@ -4,8 +4,8 @@ use Rattle.std.specs.List.{range_with_len}
 use Rattle.std.specs.Option.{option_or, option_to_list}
 use Rattle.std.proofs.lemmas.List.{map-append}
 use Rattle.dl_outside.specs.declared.client.ClientScript.{ClientScript}
-use Rattle.dl_script_lines.specs.declared.scenario.ScenarioLine.{ScenarioLine}
-use Rattle.dl_lib.proofs.InOrder.{range_more}
+use Rattle.dl_script_model.specs.declared.scenario.ScenarioLine.{ScenarioLine}
+use Rattle.dl_account.proofs.InOrder.{range_more}
 use Rattle.dl_opening.specs.Scenario.{first_of, script_of}
 
 pub first_more : (counts : List ℕ) (o : Option ℕ) → option_or (first_of counts) o ≡ first_of (counts ++ option_to_list o)

@@ -9,9 +9,9 @@ use Rattle.std.proofs.lemmas.List.{length-map, map-append}
 use Rattle.dl_bytes.specs.Context.{Context}
 use Rattle.dl_bytes.specs.declared.conf.AppSpec.{AppSpec}
 use Rattle.dl_bytes.specs.declared.user.UserMsg.{UserMsg}
-use Rattle.dl_script_lines.specs.declared.line.AppLine.{AppLine}
-use Rattle.dl_script_lines.specs.declared.line.ContextLine.{ContextLine}
-use Rattle.dl_script_lines.specs.declared.scenario.ScenarioLine.{ScenarioLine}
+use Rattle.dl_script_model.specs.declared.line.AppLine.{AppLine}
+use Rattle.dl_script_model.specs.declared.line.ContextLine.{ContextLine}
+use Rattle.dl_script_model.specs.declared.scenario.ScenarioLine.{ScenarioLine}
 use Rattle.dl_desk.specs.Apps.{AppState, contexts, declared_app, declared_apps, registration}
 use Rattle.dl_opening.specs.Scenario.{apps, base_of, contexts_of, handles_from, hello_of, is_one_of, number_in, opened_app, opened_from, placed, registered, spec_of, specs_of}
 use Rattle.dl_lemmas.proofs.Options.{some_is}

@@ -5,10 +5,10 @@ use Rattle.std.specs.List.{filter_map, list_any}
 use Rattle.std.specs.Str.{bytes_eq}
 use Rattle.std.proofs.lemmas.Slice.Eq.{bytes_eq-Decides}
 use Rattle.dl_bytes.specs.Context.{Context}
-use Rattle.dl_script_lines.specs.declared.line.AppLine.{AppLine}
-use Rattle.dl_script_lines.specs.declared.line.ContextLine.{ContextLine}
-use Rattle.dl_script_lines.specs.declared.scenario.ScenarioLine.{ScenarioLine}
-use Rattle.dl_script_lines.specs.declared.scenario.ScenarioLine.TheVariants as line
+use Rattle.dl_script_model.specs.declared.line.AppLine.{AppLine}
+use Rattle.dl_script_model.specs.declared.line.ContextLine.{ContextLine}
+use Rattle.dl_script_model.specs.declared.scenario.ScenarioLine.{ScenarioLine}
+use Rattle.dl_script_model.specs.declared.scenario.ScenarioLine.TheVariants as line
 use Rattle.dl_script.specs.declared.claim.ContextName.{ContextName}
 use Rattle.dl_crew.specs.Calls.{has_name}
 use Rattle.dl_opening.specs.Scenario.{contexts_of, handles_from, placed}

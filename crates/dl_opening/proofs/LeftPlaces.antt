@@ -11,16 +11,16 @@ use Rattle.std.proofs.lemmas.List.Quantifiers.{position-Some}
 use Rattle.std.proofs.lemmas.Slice.Eq.{bytes_eq-Decides}
 use Rattle.dl_bytes.specs.Context.{Context}
 use Rattle.dl_bytes.specs.declared.conf.AppSpec.{AppSpec}
-use Rattle.dl_script_lines.specs.declared.line.AppLine.{AppLine}
-use Rattle.dl_script_lines.specs.declared.scenario.ScenarioLine.{ScenarioLine}
+use Rattle.dl_script_model.specs.declared.line.AppLine.{AppLine}
+use Rattle.dl_script_model.specs.declared.scenario.ScenarioLine.{ScenarioLine}
 use Rattle.dl_script.specs.Earlier.{numbered}
 use Rattle.dl_script.specs.Playable.{IsRunnable}
-use Rattle.dl_thread_rules.specs.Views.{total}
+use Rattle.dl_cells.specs.Views.{total}
 use Rattle.dl_writer.specs.State.{BookState, numbers}
 use Rattle.dl_crew.specs.Calls.{registers_of as asked_of}
 use Rattle.dl_crew.specs.Plays.{ArePairs, HasPlayed}
 use Rattle.dl_crew.proofs.Pairs.{same_bases}
-use Rattle.dl_lib.specs.Books.{books_of, registers_of}
+use Rattle.dl_account.specs.Books.{books_of, registers_of}
 use Rattle.dl_opening.specs.Opening.{IsBookOf, IsOpened}
 use Rattle.dl_opening.specs.Scenario.{apps, base_of, contexts_of, number_in, spec_of, specs_of, writers}
 use Rattle.dl_opening.specs.declared.opened.Opened.{Opened}

@@ -1,8 +1,8 @@
 -- The books of the writers, one after the other.
 use Rattle.std.proofs.Common.{◌≡◌, ◌≢◌, ℕ, ◌+◌, ◌≤◌, List, [], ◌∷◌, ◌++◌, length, Some, slice_get, refl, sym, ap, ◌∙◌, subst, length-append, arith}
 use Rattle.dl_bytes.specs.declared.conf.AppSpec.{AppSpec}
-use Rattle.dl_script_lines.specs.declared.line.AppLine.{AppLine}
-use Rattle.dl_script_lines.specs.declared.scenario.ScenarioLine.{ScenarioLine}
+use Rattle.dl_script_model.specs.declared.line.AppLine.{AppLine}
+use Rattle.dl_script_model.specs.declared.scenario.ScenarioLine.{ScenarioLine}
 use Rattle.dl_desk.specs.Apps.{AppState}
 use Rattle.dl_desk.specs.Made.{IsAppOf, IsMadeWith, IsUnused, MakesWriter}
 use Rattle.dl_desk.specs.State.{DeskState}
@@ -10,7 +10,7 @@ use Rattle.dl_writer.specs.State.{BookState, WriterState}
 use Rattle.dl_crew.specs.Calls.{count_of}
 use Rattle.dl_crew.specs.Plays.{ArePairs}
 use Rattle.dl_crew.proofs.Pairs.{pairs_more}
-use Rattle.dl_lib.proofs.OpenBooks.{AreOpen, one_open}
+use Rattle.dl_account.proofs.OpenBooks.{AreOpen, one_open}
 use Rattle.dl_opening.specs.Opening.{IsBookOf, StaysSo}
 use Rattle.dl_opening.specs.Scenario.{apps, base_of, number_in, opened_app, spec_of, specs_of, writers}
 use Rattle.dl_opening.proofs.Declared.{map_at}

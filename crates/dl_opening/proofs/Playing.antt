@@ -9,9 +9,9 @@ use Rattle.std.proofs.lemmas.Slice.Eq.{bytes_eq-Decides}
 use Rattle.dl_bytes.specs.Id.{zero_id}
 use Rattle.dl_script.specs.Earlier.{numbered}
 use Rattle.dl_script.specs.Playable.{IsClaimInBounds, IsInRange, IsRunnable}
-use Rattle.dl_script_lines.specs.declared.line.ClaimLine.{ClaimLine}
-use Rattle.dl_script_lines.specs.declared.scenario.ScenarioLine.{ScenarioLine}
-use Rattle.dl_script_lines.specs.declared.scenario.ScenarioLine.TheVariants as line
+use Rattle.dl_script_model.specs.declared.line.ClaimLine.{ClaimLine}
+use Rattle.dl_script_model.specs.declared.scenario.ScenarioLine.{ScenarioLine}
+use Rattle.dl_script_model.specs.declared.scenario.ScenarioLine.TheVariants as line
 use Rattle.dl_writer.specs.Claiming.{name_fault}
 use Rattle.dl_writer.specs.State.{BookState, IsWhole, numbers}
 use Rattle.dl_ring.specs.Items.{claims_in}

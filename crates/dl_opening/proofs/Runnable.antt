@@ -11,8 +11,8 @@ use Rattle.dl_desk.specs.Lists.{At}
 use Rattle.dl_desk.specs.Made.{AreFit}
 use Rattle.dl_script_fields.specs.declared.kind.ScriptKind.{ScriptKind}
 use Rattle.dl_script_fields.specs.declared.kind.ScriptKind.TheVariants.{Limit, Order, Twice, Unknown}
-use Rattle.dl_script_lines.specs.declared.scenario.ScenarioLine.{ScenarioLine}
-use Rattle.dl_script_lines.specs.declared.scenario.ScenarioLine.TheVariants as line
+use Rattle.dl_script_model.specs.declared.scenario.ScenarioLine.{ScenarioLine}
+use Rattle.dl_script_model.specs.declared.scenario.ScenarioLine.TheVariants as line
 use Rattle.dl_script.specs.Earlier.{Declared, changed, first_of, is_app, logs_under, noted, nothing, numbered, places_on, refusal}
 use Rattle.dl_script.specs.Playable.{IsInRange, IsRunnable}
 use Rattle.dl_script.specs.Spelled.{MayFollow, scenario_claim}

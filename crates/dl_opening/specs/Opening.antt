@@ -2,7 +2,7 @@
 use Rattle.std.specs.Prelude.{◌≡◌, ℕ, ◌≤◌, List, [], length, Some, All}
 use Rattle.std.specs.List.{range_with_len}
 use Rattle.dl_bytes.specs.declared.conf.AppSpec.{AppSpec}
-use Rattle.dl_script_lines.specs.declared.scenario.ScenarioLine.{ScenarioLine}
+use Rattle.dl_script_model.specs.declared.scenario.ScenarioLine.{ScenarioLine}
 use Rattle.dl_crew.specs.Calls.{count_of}
 use Rattle.dl_crew.specs.Plays.{ArePairs}
 use Rattle.dl_desk.specs.Made.{IsMadeWith, IsNew, IsUnused}

@@ -7,7 +7,7 @@ ghost use Rattle.dl_opening.specs.Scenario.{app_in, apps, context_in, contexts_o
 
 use dl_bytes::{AppSpec, Ctx, Id, OutOfMemory};
 use dl_desk::{App, AppList};
-use dl_script_lines::{AppLine, ContextLine, ScenarioLine};
+use dl_script_model::{AppLine, ContextLine, ScenarioLine};
 use std::alloc::Global;
 
 /// The applications, in the order of their lines.

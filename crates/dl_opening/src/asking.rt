@@ -3,7 +3,7 @@
 ghost use Rattle.std.specs.Prelude.{◌≡◌, ◌<◌, ◌^◌};
 ghost use Rattle.dl_opening.specs.Scenario.{all_calls, calls_in};
 
-use dl_script_lines::ScenarioLine;
+use dl_script_model::ScenarioLine;
 
 /// How many calls the lines ask for, of all writers together.
 pub fn all_calls(lines: &[ScenarioLine]) -> u32

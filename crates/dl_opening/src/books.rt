@@ -8,7 +8,7 @@ ghost use Rattle.dl_opening.specs.Scenario.{apps, number_in, opened_from, specs_
 
 use dl_bytes::{AppSpec, Id, OutOfMemory};
 use dl_desk::{AppList, Desk};
-use dl_script_lines::ScenarioLine;
+use dl_script_model::ScenarioLine;
 use dl_writer::{Book, BookList};
 use std::alloc::Global;
 

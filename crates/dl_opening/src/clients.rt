@@ -5,7 +5,7 @@ ghost use Rattle.dl_opening.specs.Scenario.{clients, clients_in, leave_in, scrip
 
 use dl_bytes::{Bytes, OutOfMemory};
 use dl_outside::ClientScript;
-use dl_script_lines::ScenarioLine;
+use dl_script_model::ScenarioLine;
 use std::alloc::Global;
 
 /// What each client does, by their numbers from 1.

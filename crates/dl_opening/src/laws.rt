@@ -2,9 +2,9 @@
 
 ghost use Rattle.std.specs.Prelude.{◌≡◌, ℕ, ◌+◌, ◌≤◌, List, All, length, sum_by};
 ghost use Rattle.dl_crew.specs.Plays.{ArePairs, CanPlay, HasPlayed};
-ghost use Rattle.dl_lib.specs.Books.{books_of, registers_of};
+ghost use Rattle.dl_account.specs.Books.{books_of, registers_of};
 ghost use Rattle.dl_script.specs.Playable.{IsRunnable};
-ghost use Rattle.dl_script_lines.specs.declared.scenario.ScenarioLine.{ScenarioLine};
+ghost use Rattle.dl_script_model.specs.declared.scenario.ScenarioLine.{ScenarioLine};
 ghost use Rattle.dl_writer.specs.State.{BookState, IsWhole};
 ghost use Rattle.dl_opening.specs.Asked.{IsAsked};
 ghost use Rattle.dl_opening.specs.Opening.{IsOpened};

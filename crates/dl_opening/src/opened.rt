@@ -11,7 +11,7 @@ use dl_bytes::{OutOfMemory, Sequence};
 use dl_crew::Plan;
 use dl_desk::{AppList, Desk};
 use dl_outside::ClientScript;
-use dl_script_lines::Scenario;
+use dl_script_model::Scenario;
 use dl_writer::BookList;
 use std::alloc::Global;
 

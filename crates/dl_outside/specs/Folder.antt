@@ -40,11 +40,16 @@ abbrev pub Answers : {T : Type 0} → Option Files → Result T FolderFault → 
 Answers told (Ok answer) of = IfSome told (λ files. answer ≡ of files)
 Answers told (Err fault) of = Unit {0}
 
--- a file was made or replaced; after a failure that file alone is unknown, and want of memory changed nothing
+-- a file was made or replaced; after a failure the others are as they were, and want of memory changed nothing
 abbrev pub Puts : Option Files → Option Files → Result (Unit {0}) FolderFault → List ℕ → List ℕ → Type 0
 Puts old new (Ok done) name bytes = IfSome old (λ files. new ≡ Some (map.insert files name bytes))
 Puts old new (Err Failed) name bytes = AllBut name old new
 Puts old new (Err OutOfMemory) name bytes = Stays old new
+
+-- after a failure to make or replace a file it is as it was, or has the new bytes: never a part of them
+abbrev pub IsOldOrNew : Option Files → Option Files → Result (Unit {0}) FolderFault → List ℕ → List ℕ → Type 0
+IsOldOrNew old new (Err Failed) name bytes = IfSome old (λ files. (new ≡ Some files) ⊎ (new ≡ Some (map.insert files name bytes)))
+IsOldOrNew old new result name bytes = Unit {0}
 
 -- a file has the piece more; after a failure it has some front of the piece more, and want of memory changed nothing
 abbrev pub Appends : Option Files → Option Files → Result (Unit {0}) FolderFault → List ℕ → List ℕ → Type 0

@@ -3,7 +3,7 @@
 ghost use Rattle.std.specs.Prelude.{◌≡◌, ◌≤◌, ◌<◌, ◌+◌, ◌^◌, IfOk, IfSome};
 ghost use Rattle.std.specs.FinMap as map;
 ghost use Rattle.dl_outside.specs.Outside.{one_more, Stays};
-ghost use Rattle.dl_outside.specs.Folder.{Answers, Appends, HasCause, Puts, Removes, names_with, size_in};
+ghost use Rattle.dl_outside.specs.Folder.{Answers, Appends, HasCause, IsOldOrNew, Puts, Removes, names_with, size_in};
 ghost use Rattle.dl_outside.specs.Told.{FolderTold};
 
 use crate::name::NameList;
@@ -48,9 +48,10 @@ pub trait Folder {
         ensures unchanged { (told self.new).changes ≡ (told self.old).changes }
         ensures unappended { (told self.new).appends ≡ (told self.old).appends };
 
-    /// Makes or replaces a file.
+    /// Makes or replaces a file. What a call that fails leaves is the old file or the new one, never a part.
     fn put(&mut self, name: &str, bytes: &[u8]) -> Result<(), FolderFault>
         ensures files { Puts (told self.old).files (told self.new).files result name.now bytes.now }
+        ensures whole { IsOldOrNew (told self.old).files (told self.new).files result name.now bytes.now }
         ensures cause { HasCause (told self.old).faults (told self.new).faults result }
         ensures changed { (told self.new).changes ≡ one_more (told self.old).changes }
         ensures unappended { (told self.new).appends ≡ (told self.old).appends };

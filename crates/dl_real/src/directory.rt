@@ -1,30 +1,45 @@
-//! Files below the current folder.
+//! Files by their names from the current folder.
 
 ghost use Rattle.std.specs.Prelude.{◌≡◌, ◌<◌, ◌^◌, IfOk, IfSome, None};
 ghost use Rattle.std.specs.Fs.{IsFile, file_type};
 ghost use Rattle.dl_outside.specs.Outside.{HasRisen};
 
 use crate::answers::{found, is_memory};
-use crate::paths::{is_inside, parent, parted};
-use crate::whole::{read_whole, write_whole};
+use crate::manner::{Manner, read_of, replaces, writable};
+use crate::paths::{is_trace_file, parent, parted};
+use crate::troubles::Troubles;
+use crate::whole::write_whole;
 use dl_bytes::Bytes;
 use dl_outside::{Folder, FolderFault, Name, NameList};
-use std::fs::{File, Files, Metadata, OpenOptions};
-use std::io::{Error, ErrorKind};
+use std::alloc::Global;
+use std::fs::{DirBuilder, File, Files, Metadata, OpenFile, OpenOptions};
+use std::io::{Eprint, Error, ErrorKind};
+use std::os::unix::fs::{DirBuilderExt, MetadataExt, OpenOptionsExt};
+use std::time::{Clock, Duration};
 use std::{fs, io};
 
-/// The files below the current folder, by their names from there, as `trace/a.dlt`. It tells no content.
+/// Who may read and write a file that is made: its owner, and its group to read.
+const FILE_MODE: u32 = 0o640;
+
+/// The same of a directory that is made.
+const DIRECTORY_MODE: u32 = 0o750;
+
+/// Files by their names from the current folder, as `trace/a.dlt`. It tells no content.
 ///
-/// A name that is empty, that begins with `/` or that has `..` between its slashes is refused as a fault: no call leaves
-/// the folder by such a name. What is no plain file, looked at without following, is a fault too, and is not opened: a
-/// link, a directory, a pipe. The directories of a name may be links; those of a file that is made are made where they
-/// are missing. The file that was added to last stays open. `names` looks into one directory, that which stands before
-/// the prefix's last slash, and gives the plain files in it; where it isn't there, there are none. A file whose name is
-/// no text is passed over.
+/// What is only read may lie anywhere: a name may begin with `/`, and go up by `..`. What is written stays below the folder, but for trace files, which
+/// are known by their names, and pictures where the program draws some: any other name that is written is refused as a fault. So is an empty one. What is
+/// no plain file, looked at without following, is a fault too, and is not opened: a link, a directory, a pipe. The directories of a name may be links;
+/// those of a file that is made are made where they are missing. What is made is for its owner, and for its group to read. A file that is put is written
+/// beside its name, with `.new` behind it, synced, and renamed: a cut leaves the old one or the new one. The file that was added to last stays open. `names` looks into one directory, that which stands before the prefix's last slash, and gives the plain files in it; where it isn't there,
+/// there are none. A file whose name is no text is passed over. For each fault there is a sentence that names the file and says why.
 #[derive(Drop)]
 pub struct Directory<R: Files> {
     rt: R,
+    manner: Manner,
     last: Option<Last<R::File>>,
+    troubles: Troubles,
+    // a name that was read last and isn't there
+    absent: Option<String>,
     faults: u64,
     changes: u64,
     appends: u64,
@@ -35,43 +50,59 @@ pub struct Directory<R: Files> {
 struct Last<F> {
     name: String,
     file: F,
+    // when it was looked at, in seconds of the monotonic clock
+    looked: u64,
 }
 
-/// The name, where it stays in the folder.
-fn inside(name: &str) -> io::Result<&str> {
-    if is_inside(name) {
-        Ok(name)
-    } else {
-        Err(Error::from(ErrorKind::InvalidInput))
-    }
+/// The seconds of the monotonic clock; 0 where it can't be read.
+fn seconds<R: Clock>(rt: &R) -> u64 {
+    rt.monotonic().unwrap_or(Duration::ZERO).as_secs()
 }
 
 /// What is known of a plain file, or nothing where there is none.
 fn look<R: Files>(rt: &R, name: &str) -> io::Result<Option<Metadata>>
     ensures { IfOk result (λ found. IfSome found (λ file. IsFile (file_type file))) }
 {
-    match found(fs::symlink_metadata(rt, inside(name)?))? {
+    if name.is_empty() {
+        return Err(Error::from(ErrorKind::InvalidInput));
+    }
+    match found(fs::symlink_metadata(rt, name))? {
         Some(file) if file.is_file() => Ok(Some(file)),
-        Some(_) => Err(Error::from(ErrorKind::InvalidInput)),
+        Some(_) => Err(Error::from(ErrorKind::InvalidData)),
         None => Ok(None),
     }
 }
 
-/// The bytes of a file, or nothing where there is none.
-fn read_file<R: Files + AllocGlobal>(rt: &R, name: &str) -> io::Result<Option<Vec<u8>>> {
+/// The bytes of a file, or nothing where there is none. Of a text no more is read than a reader of texts takes, and a byte.
+fn read_file<R: Files + AllocGlobal>(
+    rt: &R,
+    manner: Manner,
+    name: &str,
+) -> io::Result<Option<Vec<u8>>> {
     if look(rt, name)?.is_none() {
         return Ok(None);
     }
     match found(File::open(rt, name))? {
-        Some(mut file) => Ok(Some(read_whole(rt.alloc(), &mut file)?)),
+        Some(file) => Ok(Some(read_of(rt.alloc(), manner, file)?)),
         None => Ok(None),
     }
 }
 
-/// The size of a file, or nothing where there is none.
-fn file_size<R: Files>(rt: &R, name: &str) -> io::Result<Option<u64>>
+/// Whether something that is no file has a trace file's name.
+fn is_obstacle<R: Files>(rt: &R, name: &str) -> bool {
+    match fs::symlink_metadata(rt, name) {
+        Ok(found) => is_trace_file(name) && !found.is_file(),
+        Err(_) => false,
+    }
+}
+
+/// The size of a file, or nothing where there is none. Beside a daemon, what is no file and has a trace file's name has no bytes.
+fn file_size<R: Files>(rt: &R, manner: Manner, name: &str) -> io::Result<Option<u64>>
     ensures { IfOk result (λ size. IfSome size (λ bytes. bytes < 2 ^ 63)) }
 {
+    if manner.is_daemon() && is_obstacle(rt, name) {
+        return Ok(Some(0));
+    }
     match look(rt, name)? {
         Some(file) if file.len() < 1 << 63 => Ok(Some(file.len())),
         Some(_) => Err(Error::from(ErrorKind::InvalidData)),
@@ -82,59 +113,130 @@ fn file_size<R: Files>(rt: &R, name: &str) -> io::Result<Option<u64>>
 /// Makes a file that is missing, with its directories.
 fn create<R: Files>(rt: &R, name: &str) -> io::Result<R::File> {
     if let Some(directory) = parent(name) {
-        fs::create_dir_all(rt, directory)?;
+        DirBuilder::new()
+            .recursive(true)
+            .mode(DIRECTORY_MODE)
+            .create(rt, directory)?;
     }
     OpenOptions::new()
         .append(true)
         .create_new(true)
+        .mode(FILE_MODE)
         .open(rt, name)
 }
 
-/// Makes or replaces a file.
-fn put_file<R: Files>(rt: &R, name: &str, bytes: &[u8]) -> io::Result<()> {
-    let mut file = match look(rt, name)? {
-        Some(_) => OpenOptions::new()
-            .write(true)
-            .truncate(true)
-            .open(rt, name)?,
-        None => create(rt, name)?,
-    };
-    write_whole(&mut file, bytes)
-}
+/// What a file has behind its name until it is whole and takes that name.
+const BESIDE: &str = ".new";
 
-/// A file that is open to be added to: the one that is kept open, where it has the name.
-fn opened<R: Files + AllocGlobal>(
+/// Makes or replaces a file: one beside it is written and synced, and takes its name then. Where that fails, the one beside
+/// it is taken away, if that can be done.
+fn put_file<R: Files + AllocGlobal>(
     rt: &R,
-    kept: Option<Last<R::File>>,
+    manner: Manner,
     name: &str,
-) -> io::Result<Last<R::File>> {
-    if let Some(last) = kept {
-        if last.name.as_str() == name {
-            return Ok(last);
-        }
+    bytes: &[u8],
+) -> io::Result<()> {
+    let name = writable(manner, name)?;
+    if look(rt, name)?.is_some() && !replaces(rt, manner, name)? {
+        return Err(Error::from(ErrorKind::AlreadyExists));
     }
-    let text = String::from_str(rt.alloc(), name)?;
-    let file = match look(rt, name)? {
-        Some(_) => OpenOptions::new().append(true).open(rt, name)?,
-        None => create(rt, name)?,
-    };
-    Ok(Last { name: text, file })
+    let mut beside = String::from_str(rt.alloc(), name)?;
+    beside.push_str(BESIDE)?;
+    remove_plain(rt, beside.as_str())?;
+    let done = write_beside(rt, beside.as_str(), name, bytes);
+    if done.is_err() {
+        let _gone = remove_plain(rt, beside.as_str());
+    }
+    done
 }
 
-/// Takes a file away, if there is one.
-fn remove_file<R: Files>(rt: &R, name: &str) -> io::Result<()> {
+/// Makes a file of these bytes under one name, and gives it another one once they are synced.
+fn write_beside<R: Files>(rt: &R, beside: &str, name: &str, bytes: &[u8]) -> io::Result<()> {
+    let mut file = create(rt, beside)?;
+    write_whole(&mut file, bytes)?;
+    file.sync_all()?;
+    fs::rename(rt, beside, name)
+}
+
+/// Removes a plain file, where one has the name.
+fn remove_plain<R: Files>(rt: &R, name: &str) -> io::Result<()> {
     if look(rt, name)?.is_some() {
         let _ = found(fs::remove_file(rt, name))?;
     }
     Ok(())
 }
 
+/// Whether a file that is open is still the one of its name.
+fn is_there<R: Files>(rt: &R, last: &Last<R::File>) -> bool {
+    match (
+        fs::symlink_metadata(rt, last.name.as_str()),
+        last.file.metadata(),
+    ) {
+        (Ok(named), Ok(opened)) => named.dev() == opened.dev() && named.ino() == opened.ino(),
+        _ => false,
+    }
+}
+
+/// The file that is kept open, where it has the name. It is looked at once a second, and let go where another one has its name, or none.
+fn kept_open<R: Files>(
+    rt: &R,
+    kept: Option<Last<R::File>>,
+    name: &str,
+    now: u64,
+) -> Option<Last<R::File>> {
+    let mut last = kept?;
+    if last.name.as_str() != name {
+        return None;
+    }
+    if last.looked != now {
+        if !is_there(rt, &last) {
+            return None;
+        }
+        last.looked = now;
+    }
+    Some(last)
+}
+
+/// A file that is open to be added to: the one that is kept open, where it has the name.
+fn opened<R: Files + AllocGlobal + Clock>(
+    rt: &R,
+    manner: Manner,
+    kept: Option<Last<R::File>>,
+    name: &str,
+) -> io::Result<Last<R::File>> {
+    let now = seconds(rt);
+    if let Some(last) = kept_open(rt, kept, name, now) {
+        return Ok(last);
+    }
+    let name = writable(manner, name)?;
+    let text = String::from_str(rt.alloc(), name)?;
+    let file = match look(rt, name)? {
+        Some(_) => OpenOptions::new().append(true).open(rt, name)?,
+        None => create(rt, name)?,
+    };
+    Ok(Last {
+        name: text,
+        file,
+        looked: now,
+    })
+}
+
+/// Takes a file away, if there is one. Beside a daemon, what is no file and has a trace file's name is left there.
+fn remove_file<R: Files>(rt: &R, manner: Manner, name: &str) -> io::Result<()> {
+    let name = writable(manner, name)?;
+    if manner.is_daemon() && is_obstacle(rt, name) {
+        return Ok(());
+    }
+    remove_plain(rt, name)
+}
+
 /// The names of the files that begin with a prefix, in byte order.
 fn file_names<R: Files + AllocGlobal + Clone + Drop>(
     rt: &R,
+    manner: Manner,
     prefix: &str,
 ) -> io::Result<Vec<Name>> {
-    let mut texts = file_texts(rt, prefix)?;
+    let mut texts = file_texts(rt, manner, prefix)?;
     texts.sort()?;
     let mut names = Vec::new(rt.alloc());
     for text in texts {
@@ -143,18 +245,16 @@ fn file_names<R: Files + AllocGlobal + Clone + Drop>(
     Ok(names)
 }
 
-/// The same names, in the order in which the directory has them.
+/// The same names, in the order in which the directory has them. Beside a daemon, what is no file and has a trace file's name is among them, so that the
+/// next trace file has a number behind it.
 fn file_texts<R: Files + AllocGlobal + Clone + Drop>(
     rt: &R,
+    manner: Manner,
     prefix: &str,
 ) -> io::Result<Vec<String>> {
     let mut names = Vec::new(rt.alloc());
     let (directory, front) = parted(prefix);
-    let place = if directory.is_empty() {
-        "."
-    } else {
-        inside(directory)?
-    };
+    let place = if directory.is_empty() { "." } else { directory };
     let Some(listing) = found(fs::read_dir(rt, place))? else {
         return Ok(names);
     };
@@ -164,7 +264,8 @@ fn file_texts<R: Files + AllocGlobal + Clone + Drop>(
             Err(error) if error.kind() == ErrorKind::InvalidFilename => continue,
             Err(error) => return Err(error),
         };
-        if entry.file_name().starts_with(front) && entry.file_type()?.is_file() {
+        let counts = manner.is_daemon() && is_trace_file(entry.file_name());
+        if entry.file_name().starts_with(front) && (counts || entry.file_type()?.is_file()) {
             let mut name = String::from_str(rt.alloc(), directory)?;
             name.push_str(entry.file_name())?;
             names.push(name)?;
@@ -173,24 +274,86 @@ fn file_texts<R: Files + AllocGlobal + Clone + Drop>(
     Ok(names)
 }
 
-impl<R: Files> Directory<R> {
-    /// The files below the current folder, with nothing that failed or changed so far.
+impl<R: Files + AllocGlobal> Directory<R> {
+    /// The files of a program that reads texts, with nothing that failed or changed so far.
     pub fn over(rt: R) -> Directory<R>
         ensures faults { result.faults ≡ 0 }
         ensures changes { result.changes ≡ 0 }
         ensures appends { result.appends ≡ 0 }
     {
+        Directory::in_manner(rt, Manner::Texts)
+    }
+
+    /// The same of a program that reads files of any size, and draws pictures: what it puts may lie anywhere, and is put in the place of another picture
+    /// alone.
+    pub fn with_pictures(rt: R) -> Directory<R>
+        ensures faults { result.faults ≡ 0 }
+        ensures changes { result.changes ≡ 0 }
+        ensures appends { result.appends ≡ 0 }
+    {
+        Directory::in_manner(rt, Manner::Pictures)
+    }
+
+    /// The same of a daemon of this name, which goes on for long: each fault is said at once on standard error, and what is no file and has a trace
+    /// file's name is passed over.
+    pub fn of_daemon(rt: R, program: &'static str) -> Directory<R>
+        ensures faults { result.faults ≡ 0 }
+        ensures changes { result.changes ≡ 0 }
+        ensures appends { result.appends ≡ 0 }
+    {
+        Directory::in_manner(rt, Manner::Daemon(program))
+    }
+
+    /// With nothing that failed or changed so far.
+    fn in_manner(rt: R, manner: Manner) -> Directory<R>
+        ensures faults { result.faults ≡ 0 }
+        ensures changes { result.changes ≡ 0 }
+        ensures appends { result.appends ≡ 0 }
+    {
+        let troubles = Troubles::none(rt.alloc());
         Directory {
             rt,
+            manner,
             last: None,
+            troubles,
+            absent: None,
             faults: 0,
             changes: 0,
             appends: 0,
         }
     }
 
-    /// Counts an error as a fault, unless it is want of memory.
-    fn refused(&mut self, error: Error) -> FolderFault
+    /// What went wrong so far, each sentence with the file's name and the cause; none of them where they were said at once.
+    pub fn troubles(&self) -> &[String] {
+        match self.manner {
+            Manner::Daemon(_) => &[],
+            Manner::Texts | Manner::Pictures => self.troubles.all(),
+        }
+    }
+
+    /// The name that was read last, where nothing has it.
+    pub fn absent(&self) -> Option<&str> {
+        match &self.absent {
+            Some(name) => Some(name.as_str()),
+            None => None,
+        }
+    }
+
+    /// Notes whether a name that was read is there.
+    fn note_read(&mut self, name: &str, is_there: bool)
+        ensures { self.new ≡ record self.old { absent = self.new.absent } }
+    {
+        self.absent = if is_there {
+            None
+        } else {
+            String::from_str(self.rt.alloc(), name).ok()
+        };
+    }
+}
+
+impl<R: Files + Eprint> Directory<R> {
+    /// Counts an error as a fault, unless it is want of memory, and says or notes what it was.
+    fn refused(&mut self, name: &str, error: Error) -> FolderFault
         ensures failed { result ≡ FolderFault.Failed → HasRisen self.old.faults self.new.faults }
         ensures memory { result ≡ FolderFault.OutOfMemory → self.new.faults ≡ self.old.faults }
         ensures changes { self.new.changes ≡ self.old.changes }
@@ -200,11 +363,15 @@ impl<R: Files> Directory<R> {
             return FolderFault::OutOfMemory;
         }
         self.faults = self.faults.saturating_add(1);
+        match self.manner {
+            Manner::Daemon(program) => self.troubles.tell(&self.rt, program, name, &error),
+            Manner::Texts | Manner::Pictures => self.troubles.note(name, &error),
+        }
         FolderFault::Failed
     }
 }
 
-impl<R: Files + AllocGlobal> Directory<R> {
+impl<R: Files + AllocGlobal + Clock> Directory<R> {
     /// Adds to a file, which is made where it is missing, and keeps it open unless that failed.
     fn add(&mut self, name: &str, piece: &[u8]) -> io::Result<()>
         ensures faults { self.new.faults ≡ self.old.faults }
@@ -212,44 +379,53 @@ impl<R: Files + AllocGlobal> Directory<R> {
         ensures appends { self.new.appends ≡ self.old.appends }
     {
         let kept = self.last.take();
-        let mut last = opened(&self.rt, kept, name)?;
+        let mut last = opened(&self.rt, self.manner, kept, name)?;
         write_whole(&mut last.file, piece)?;
         self.last = Some(last);
         Ok(())
     }
 }
 
-impl<R: Files + AllocGlobal + Clone + Drop> Folder for Directory<R> {
+impl<R: Files + AllocGlobal + Clone + Drop + Eprint + Clock> Folder for Directory<R> {
     ghost told = { λ d. record { files = None; faults = d.faults; changes = d.changes; appends = d.appends } };
 
     fn read(&mut self, name: &str) -> Result<Option<Bytes>, FolderFault> {
-        match read_file(&self.rt, name) {
-            Ok(Some(bytes)) => Ok(Some(Bytes::over(bytes))),
-            Ok(None) => Ok(None),
-            Err(error) => Err(self.refused(error)),
+        match read_file(&self.rt, self.manner, name) {
+            Ok(Some(bytes)) => {
+                self.note_read(name, true);
+                Ok(Some(Bytes::over(bytes)))
+            }
+            Ok(None) => {
+                self.note_read(name, false);
+                Ok(None)
+            }
+            Err(error) => Err(self.refused(name, error)),
         }
     }
 
     fn size(&mut self, name: &str) -> Result<Option<u64>, FolderFault> {
-        match file_size(&self.rt, name) {
+        match file_size(&self.rt, self.manner, name) {
             Ok(size) => Ok(size),
-            Err(error) => Err(self.refused(error)),
+            Err(error) => Err(self.refused(name, error)),
         }
     }
 
     fn names(&mut self, prefix: &str) -> Result<NameList, FolderFault> {
-        match file_names(&self.rt, prefix) {
+        match file_names(&self.rt, self.manner, prefix) {
             Ok(names) => Ok(NameList::over(names)),
-            Err(error) => Err(self.refused(error)),
+            Err(error) => {
+                let (directory, _) = parted(prefix);
+                Err(self.refused(directory, error))
+            }
         }
     }
 
     fn put(&mut self, name: &str, bytes: &[u8]) -> Result<(), FolderFault> {
         self.changes = self.changes.saturating_add(1);
         self.last = None;
-        match put_file(&self.rt, name, bytes) {
+        match put_file(&self.rt, self.manner, name, bytes) {
             Ok(()) => Ok(()),
-            Err(error) => Err(self.refused(error)),
+            Err(error) => Err(self.refused(name, error)),
         }
     }
 
@@ -258,16 +434,16 @@ impl<R: Files + AllocGlobal + Clone + Drop> Folder for Directory<R> {
         self.appends = self.appends.saturating_add(1);
         match self.add(name, piece) {
             Ok(()) => Ok(()),
-            Err(error) => Err(self.refused(error)),
+            Err(error) => Err(self.refused(name, error)),
         }
     }
 
     fn remove(&mut self, name: &str) -> Result<(), FolderFault> {
         self.changes = self.changes.saturating_add(1);
         self.last = None;
-        match remove_file(&self.rt, name) {
+        match remove_file(&self.rt, self.manner, name) {
             Ok(()) => Ok(()),
-            Err(error) => Err(self.refused(error)),
+            Err(error) => Err(self.refused(name, error)),
         }
     }
 

@@ -20,3 +20,25 @@ pub fn parted(name: &str) -> (&str, &str) {
         None => ("", name),
     }
 }
+
+/// What the name of a trace file begins and ends with; six digits stand between.
+const TRACE_FRONT: &str = "dlt_offlinetrace.";
+
+const TRACE_END: &str = ".dlt";
+
+/// The last part of a name, behind its last slash.
+fn last_part(name: &str) -> &str {
+    let (_, last) = parted(name);
+    last
+}
+
+/// Whether the last part of a name is that of a trace file: `dlt_offlinetrace.`, six digits and `.dlt`.
+pub fn is_trace_file(name: &str) -> bool {
+    let Some(rest) = last_part(name).strip_prefix(TRACE_FRONT) else {
+        return false;
+    };
+    match rest.strip_suffix(TRACE_END) {
+        Some(digits) => digits.len() == 6 && digits.bytes().all(|digit| digit.is_ascii_digit()),
+        None => false,
+    }
+}

@@ -9,8 +9,10 @@ use crate::attendance::Attendance;
 use crate::client::attend;
 use crate::presence::Presence;
 use crate::reading::Reading;
+use crate::reasons::reason;
 use crate::resting::Resting;
 use crate::streams::{pass_on, receive};
+use crate::troubles::Troubles;
 use dl_bytes::OutOfMemory;
 use dl_outside::{Accepted, ClientScript, Dial, DialFault, Gave, Link, Net, NetFault, Sends};
 use std::io::{Error, ErrorKind};
@@ -163,10 +165,16 @@ pub struct TcpNet<R> {
     // none until one connection came, and where memory was wanting for it
     presence: Option<Presence>,
     resting: Resting,
+    troubles: Troubles,
     faults: u64,
 }
 
 impl<R> TcpNet<R> {
+    /// What went wrong so far, each sentence with the port and the cause.
+    pub fn troubles(&self) -> &[String] {
+        self.troubles.all()
+    }
+
     /// The port on which it listens, or 0 where it doesn't.
     pub fn port(&self) -> u16
         ensures { result ≡ self.now.port }
@@ -174,8 +182,8 @@ impl<R> TcpNet<R> {
         self.port
     }
 
-    /// Counts an error as a fault, unless it is want of memory.
-    fn refused(&mut self, error: Error) -> NetFault
+    /// Counts an error as a fault, unless it is want of memory, and notes what it was.
+    fn refused(&mut self, port: u16, error: Error) -> NetFault
         ensures failed { result ≡ NetFault.Failed → HasRisen self.old.faults self.new.faults }
         ensures memory { result ≡ NetFault.OutOfMemory → self.new.faults ≡ self.old.faults }
     {
@@ -183,6 +191,7 @@ impl<R> TcpNet<R> {
             return NetFault::OutOfMemory;
         }
         self.faults = self.faults.saturating_add(1);
+        self.troubles.note_port(self.address, port, &error);
         NetFault::Failed
     }
 }
@@ -193,6 +202,7 @@ impl<R: Threads + AllocGlobal> TcpNet<R> {
         ensures faults { result.faults ≡ 0 }
         ensures port { result.port ≡ 0 }
     {
+        let troubles = Troubles::none(rt.alloc());
         TcpNet {
             rt,
             address,
@@ -202,6 +212,7 @@ impl<R: Threads + AllocGlobal> TcpNet<R> {
             gone: None,
             presence: None,
             resting: Resting::none(),
+            troubles,
             faults: 0,
         }
     }
@@ -221,6 +232,7 @@ impl<R: Threads + AllocGlobal> TcpNet<R> {
             gone,
             presence: _,
             resting: _,
+            troubles: _,
             faults: _,
         } = self;
         drop(listener);
@@ -339,7 +351,7 @@ where
                 self.port = bound;
                 Ok(())
             }
-            Err(error) => Err(self.refused(error)),
+            Err(error) => Err(self.refused(port, error)),
         }
     }
 
@@ -352,7 +364,7 @@ where
                 self.launched = self.launched.saturating_add(1);
                 Ok(())
             }
-            Err(error) => Err(self.refused(error)),
+            Err(error) => Err(self.refused(self.port, error)),
         }
     }
 
@@ -373,7 +385,7 @@ where
                 })
             }
             Ok(None) => Accepted::None,
-            Err(error) => match self.refused(error) {
+            Err(error) => match self.refused(self.port, error) {
                 NetFault::Failed => Accepted::Failed,
                 NetFault::OutOfMemory => Accepted::OutOfMemory,
             },
@@ -390,19 +402,43 @@ where
     }
 }
 
-/// A way to the ports of this machine. It tells no content.
-#[derive(Debug, Drop)]
+/// A way to the ports of a machine. It tells no content.
+#[derive(Drop)]
 pub struct TcpDial<R> {
     rt: R,
+    // the machine, where it is another than this one
+    host: Option<String>,
+    // why the last dial failed
+    why: &'static str,
     faults: u64,
 }
 
 impl<R> TcpDial<R> {
-    /// A dial that has not failed yet.
-    pub fn over(rt: R) -> TcpDial<R>
+    /// A dial that has not failed yet: of this machine, or of a host by its name or address.
+    pub fn over(rt: R, host: Option<String>) -> TcpDial<R>
         ensures { result.faults ≡ 0 }
     {
-        TcpDial { rt, faults: 0 }
+        TcpDial {
+            rt,
+            host,
+            why: "",
+            faults: 0,
+        }
+    }
+
+    /// Why the last dial failed, where one did.
+    pub fn why(&self) -> &'static str {
+        self.why
+    }
+}
+
+impl<R: std::net::Net<Stream = TcpStream, Listener = TcpListener>> TcpDial<R> {
+    /// Connects to a port of the machine.
+    fn connect(&self, port: u16) -> io::Result<TcpStream> {
+        match &self.host {
+            Some(host) => TcpStream::connect(&self.rt, (host.as_str(), port)),
+            None => TcpStream::connect(&self.rt, (Ipv4Addr::LOCALHOST, port)),
+        }
     }
 }
 
@@ -412,11 +448,12 @@ impl<R: std::net::Net<Stream = TcpStream, Listener = TcpListener>> Dial for TcpD
     ghost told = { λ d. record { serves = None; faults = d.faults } };
 
     fn dial(&mut self, port: u16) -> Result<Reading<TcpStream>, DialFault> {
-        match TcpStream::connect(&self.rt, (Ipv4Addr::LOCALHOST, port)) {
+        match self.connect(port) {
             Ok(stream) => Ok(Reading::over(stream)),
             Err(error) if is_memory(&error) => Err(DialFault::OutOfMemory),
-            Err(_) => {
+            Err(error) => {
                 self.faults = self.faults.saturating_add(1);
+                self.why = reason(&error);
                 Err(DialFault::Failed)
             }
         }

@@ -57,7 +57,7 @@ module _ (m : Message) (bytes : List ℕ) (is : IsMessage m bytes) where
   htyp_read : htyp_of bytes ≡ m.standard.htyp
   htyp_read = ap htyp_of split
 
-  mcnt_read : mcnt_of bytes ≡ m.standard.mcnt
+  pub mcnt_read : mcnt_of bytes ≡ m.standard.mcnt
   mcnt_read = ap mcnt_of split
 
   len_read : len_of bytes ≡ m.standard.len
@@ -65,7 +65,7 @@ module _ (m : Message) (bytes : List ℕ) (is : IsMessage m bytes) where
       let s = m.standard in
       ap len_of split ∙ big_number-reads_back 2 s.len ((optional (λ (id : List ℕ). id) s.ecu ++ optional (big_bytes 4) s.session ++ optional (big_bytes 4) s.ticks) ++ (optional extended_header m.extended ++ m.payload)) is.standard.len
 
-  session_read : session_of bytes ≡ m.standard.session
+  pub session_read : session_of bytes ≡ m.standard.session
   session_read =
       let s = m.standard in
       ap (λ (h : ℕ). cond (has_session h) (Some (big_number 4 (drop (cond (has_ecu h) 8 4) bytes))) None) htyp_read
@@ -74,7 +74,7 @@ module _ (m : Message) (bytes : List ℕ) (is : IsMessage m bytes) where
       ∙ ap (λ (b : List ℕ). cond (is_some s.session) (Some (big_number 4 (drop (cond (is_some s.ecu) 8 4) b))) None) split
       ∙ session_at s.htyp s.mcnt s.len s.ecu s.session (optional (big_bytes 4) s.ticks) (optional extended_header m.extended ++ m.payload) is.standard.ecu is.standard.session
 
-  behind_read : behind_standard bytes ≡ optional extended_header m.extended ++ m.payload
+  pub behind_read : behind_standard bytes ≡ optional extended_header m.extended ++ m.payload
   behind_read =
       ap (λ (h : ℕ). drop (standard_len h) bytes) htyp_read ∙ ap (drop (standard_len m.standard.htyp)) split
       ∙ drop_at (standard_header m.standard) (optional extended_header m.extended ++ m.payload) (standard_len m.standard.htyp) (standard_long m.standard is.standard)

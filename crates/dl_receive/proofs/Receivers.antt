@@ -81,49 +81,7 @@ module _ (stream shown : List ℕ) (old : Receiver) (cutter : Cutting) (printer 
         ∙ ap text_of (sym given_one);
   }
 
--- what is unread gets shorter with each message
-pub shorter : (old new : Cutting) → Cuts old Message new → length new.unread < length old.unread
-shorter old new cuts =
-    let piece = cuts.0.0 in
-    omega (arith, ap length cuts.0.2, length-append piece new.unread, (piece_long old.limit piece cuts.0.1).1)
-
 -- ---- no message is given: nothing changes but what the cutter lends
-
-pub same_unread : (stream shown : List ℕ) (old : Receiver) (cutter : Cutting) → cutter.limit ≡ old.cutter.limit → cutter.unread ≡ old.cutter.unread
-    → IsAfter stream shown old → IsAfter stream shown (with cutter old.printer)
-same_unread stream shown old cutter limit unread after = record {
-  given = after.given;
-  limit = limit ∙ after.limit;
-  cut = subst (AreCut (Begins len_limit) stream after.given) (sym unread) after.cut;
-  keeps = after.keeps;
-  text = after.text;
-}
-
-pub needs_more : (stream shown : List ℕ) (old : Receiver) (cutter : Cutting) → Cuts old.cutter NeedMore cutter → IsAfter stream shown old → IsAfter stream shown (with cutter old.printer)
-needs_more stream shown old cutter cuts = same_unread stream shown old cutter (ap (λ (c : Cutting). c.limit) cuts.2) (ap (λ (c : Cutting). c.unread) cuts.2)
-
-pub is_bad : (stream shown : List ℕ) (old : Receiver) (cutter : Cutting) (fault : HeaderFault) → Cuts old.cutter (Bad fault) cutter → IsAfter stream shown old → IsAfter stream shown (with cutter old.printer)
-is_bad stream shown old cutter fault cuts = same_unread stream shown old cutter (ap (λ (c : Cutting). c.limit) cuts.1) (ap (λ (c : Cutting). c.unread) cuts.1)
-
-pub ready_now : (old new : Cutting) (printer : Printer) → old.limit ≡ len_limit → Cuts old NeedMore new → IsReady (with new printer)
-ready_now old new printer limit cuts =
-    let unread : new.unread ≡ old.unread = ap (λ (c : Cutting). c.unread) cuts.2 in
-    let room : new.room ≡ old.limit + 4 - length old.unread = ap (λ (c : Cutting). c.room) cuts.2 in
-    record {
-      limit = ap (λ (c : Cutting). c.limit) cuts.2 ∙ limit;
-      is_open = subst (IsOpen len_limit) (sym unread) (subst (λ (n : ℕ). IsOpen n old.unread) limit cuts.0);
-      room = omega (arith, room, limit, ap length unread);
-      more = cuts.1;
-    }
-
-some_fault : (limit : ℕ) (rest : List ℕ) (fault : HeaderFault) → rest_fault limit rest ≡ Some fault → IsSome (rest_fault limit rest)
-some_fault limit rest fault e = rw e refl
-
-pub bad_now : (old new : Cutting) (fault : HeaderFault) → old.limit ≡ len_limit → Cuts old (Bad fault) new → IsSome (rest_fault len_limit new.unread)
-bad_now old new fault limit cuts =
-    let unread : new.unread ≡ old.unread = ap (λ (c : Cutting). c.unread) cuts.1 in
-    let e : rest_fault len_limit new.unread ≡ Some fault = ap (rest_fault len_limit) unread ∙ ap (λ (n : ℕ). rest_fault n old.unread) (sym limit) ∙ cuts.0 in
-    some_fault len_limit new.unread fault e
 
 -- ---- fed
 

@@ -6,11 +6,9 @@ ghost use Rattle.dl_receive.specs.Receiving.{Hears, IsAt, IsReady};
 
 use crate::receiver::Receiver;
 use crate::status::Status;
+use dl_bytes::INPUT_PIECE;
 use dl_outside::{Got, Sink, Source, write_text};
 use std::alloc::Global;
-
-/// How many bytes are asked for at once.
-const PIECE: usize = 8192;
 
 /// The most bytes that are read of a source, but for the last piece: 2^40.
 const LIMIT: u64 = 1_099_511_627_776;
@@ -39,7 +37,7 @@ pub fn listen<S: Source, O: Sink>(alloc: Global, source: &mut S, out: &mut O) ->
     let Ok(mut receiver) = Receiver::make(alloc) else {
         return Status::OutOfMemory;
     };
-    let mut buffer = [0; PIECE];
+    let mut buffer = [0; INPUT_PIECE];
     let mut total = 0;
     while total < LIMIT {
         let count = match source.read(&mut buffer) {

@@ -10,14 +10,6 @@ use Rattle.std.proofs.lemmas.List.Folds.{find-append}
 use Rattle.std.proofs.lemmas.Map.Keys.{IsDistinct-head, IsDistinct-tail}
 use Rattle.dl_lemmas.proofs.Numbers.{nat_eq_same}
 
--- a search among images is a search among what they are of
-pub find-map : {X Y : Type 0} (p : Y → Bool) (h : X → Y) (xs : List X) → find p (map h xs) ≡ option_map h (find (λ x. p (h x)) xs)
-find-map p h [] = refl
-find-map p h (x ∷ xs) = by (p (h x)) (find-map p h xs) where
-  by : (b : Bool) → find p (map h xs) ≡ option_map h (find (λ y. p (h y)) xs) → cond b (Some (h x)) (find p (map h xs)) ≡ option_map h (cond b (Some x) (find (λ y. p (h y)) xs))
-  by true rest = refl
-  by false rest = rest
-
 -- two tests that cannot both hold may be made in either order
 either_first : {B : Type 0} (a b n : ℕ) (x y r : B) → nat_eq a b ≡ false → cond (nat_eq a n) x (cond (nat_eq b n) y r) ≡ cond (nat_eq b n) y (cond (nat_eq a n) x r)
 either_first a b n x y r apart = elim (eqb_tells a n) [

@@ -24,8 +24,8 @@ use Rattle.dl_model.specs.Reply.{asked, served}
 use Rattle.dl_model.specs.Setting.{Setting}
 use Rattle.dl_model.proofs.OneMore.{registry-one, slot-one, slot-other, level_for-own}
 use Rattle.dl_registry.specs.Kept.{Kept, Applies, Claims, Sets, IsAfter, made, slots, owed_change, with_change}
-use Rattle.dl_slots.proofs.Waiting.{same_everywhere}
-use Rattle.dl_slots.specs.Table.{held_at, held_after, raised, unset}
+use Rattle.dl_registry.proofs.OwedSlots.{same_everywhere}
+use Rattle.dl_registry.specs.Table.{held_at, held_after, raised, unset}
 
 held_alike : (m n : ℕ) (xs ys : List Slot) → m ≡ n → xs ≡ ys → held_at m xs ≡ held_at n ys
 held_alike m n xs ys first held = λ i. held_at (first i) (held i)

@@ -10,7 +10,7 @@ use Rattle.std.proofs.lemmas.List.Folds.{list_any-append}
 use Rattle.dl_model.specs.declared.context.Context.{Context}
 use Rattle.dl_model.specs.Registry.{effective}
 use Rattle.dl_registry.specs.Refresh.{has_slot, level_among}
-use Rattle.dl_slots.specs.Table.{Table, wanted_at}
+use Rattle.dl_registry.specs.Table.{Table, wanted_at}
 
 -- one after the other is one or the other
 pub joined : {A : Type 0} (a b : Bool) (level old : A) → cond b level (cond a level old) ≡ cond (a || b) level old

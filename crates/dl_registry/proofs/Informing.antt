@@ -1,10 +1,11 @@
 -- What GetLogInfo tells, entry by entry, and how many entries there can be.
-use Rattle.std.proofs.Common.{◌≡◌, ℕ, ◌+◌, ◌*◌, ◌≤◌, Bool, true, false, cond, List, [], ◌∷◌, ◌++◌, length, map, Option, Some, None, refl, sym, ap, ◌∙◌, arith, length-append}
+use Rattle.std.proofs.Common.{◌≡◌, ℕ, ◌+◌, ◌*◌, ◌≤◌, Bool, true, false, not, ◌==◌, cond, List, [], ◌∷◌, ◌++◌, length, map, Option, Some, None, refl, sym, ap, ◌∙◌, arith, length-append}
 use Rattle.std.specs.List.{filter, filter_map, flat_map}
+use Rattle.std.proofs.lemmas.Bool.{ne_eqb}
 use Rattle.std.proofs.lemmas.List.Elements.{filter_map-append}
 use Rattle.std.proofs.lemmas.List.{length-map, map-append}
 use Rattle.dl_model.specs.declared.context.Context.{Context}
-use Rattle.dl_model.specs.Registry.{App, Registry, ArePlaced, IsInOrder, matches, matching, matching_in, numbers, places}
+use Rattle.dl_model.specs.Registry.{App, Registry, ArePlaced, IsInOrder, matches, matching, matching_in, named_in, numbers, places}
 use Rattle.byteorder.specs.Endian.{little_bytes}
 use Rattle.dl_model.specs.Reply.{app_info, info_body, is_listed, listed}
 use Rattle.dl_model.proofs.Numbered.{IsNumbered-length}
@@ -40,6 +41,18 @@ matching-most apid ctid (e ∷ es) placed =
 pub matching_limit : (r : Registry) (apid ctid : List ℕ) → IsInOrder r → length (matching r apid ctid) ≤ 1024
 matching_limit r apid ctid is =
     omega (arith, matching-most apid ctid r.apps is.placed, IsNumbered-length 16 (numbers r.apps) is.numbered, length-map r.apps (λ (e : List ℕ × App). e.1.number))
+
+-- the ids name no context where no application has one that they name
+pub nobody-listed : (apid ctid : List ℕ) (es : List (List ℕ × App)) → (length (flat_map (named_in apid ctid) es) == 0) ≡ (length (filter (is_listed apid ctid) es) == 0)
+nobody-listed apid ctid [] = refl
+nobody-listed apid ctid (e ∷ es) = by (named_in apid ctid e) (nobody-listed apid ctid es) where
+  by : (xs : List (List ℕ × Context)) → (length (flat_map (named_in apid ctid) es) == 0) ≡ (length (filter (is_listed apid ctid) es) == 0)
+      → (length (xs ++ flat_map (named_in apid ctid) es) == 0) ≡ (length (cond (not (length xs == 0)) (e ∷ filter (is_listed apid ctid) es) (filter (is_listed apid ctid) es)) == 0)
+  by [] rest = rest
+  by (x ∷ xs) rest =
+      ne_eqb (length ((x ∷ xs) ++ flat_map (named_in apid ctid) es)) 0 (omega arith)
+      ∙ sym (ap (λ b. length (cond (not b) (e ∷ filter (is_listed apid ctid) es) (filter (is_listed apid ctid) es)) == 0) (ne_eqb (length (x ∷ xs)) 0 (omega arith))
+      ∙ ne_eqb (length (e ∷ filter (is_listed apid ctid) es)) 0 (omega arith))
 
 -- what the listed applications tell is what all tell
 pub info-listed : (options : ℕ) (apid ctid : List ℕ) (es : List (List ℕ × App)) → flat_map (info_of options apid ctid) es ≡ flat_map (app_info options apid ctid) (filter (is_listed apid ctid) es)

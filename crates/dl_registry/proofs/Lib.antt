@@ -1,3 +1,6 @@
+pub mod Numbers
+pub mod Entries
+pub mod OneNamed
 pub mod Finding
 pub mod Waiting
 pub mod Placing
@@ -8,3 +11,4 @@ pub mod Releveling
 pub mod Informing
 pub mod Following
 pub mod Naming
+pub mod OwedSlots

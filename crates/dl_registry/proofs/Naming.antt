@@ -1,5 +1,5 @@
 -- Own levels for what an id names: where ids are apart, no entry but that one changes.
-use Rattle.std.proofs.Common.{◌≡◌, ◌≢◌, inl, inr, ℕ, ◌/◌, ◌%◌, ◌<◌, ◌≤◌, Bool, true, false, not, cond, List, [], ◌∷◌, length, map, Option, Some, None, Ok, Err, refl, sym, ap, subst, ◌∙◌}
+use Rattle.std.proofs.Common.{◌≡◌, inl, inr, ℕ, ◌/◌, ◌%◌, ◌<◌, ◌≤◌, Bool, true, false, not, cond, List, [], ◌∷◌, length, map, Option, Some, None, Ok, Err, refl, sym, ap, subst, ◌∙◌}
 use Rattle.std.specs.Prelude.{◌==◌, ◌||◌, ◌&&◌, if◌then◌else◌}
 use Rattle.std.specs.List.{IsDistinct, filter, list_any}
 use Rattle.std.specs.Map.{keys_of, lookup, set_value}
@@ -8,19 +8,18 @@ use Rattle.std.specs.Str.{bytes_eq}
 use Rattle.std.proofs.lemmas.Bool.{cases_lt}
 use Rattle.std.proofs.lemmas.Bool.Decides.{eqb_tells}
 use Rattle.std.proofs.lemmas.Map.{none_passes_from_lookup}
-use Rattle.dl_bytes.specs.Id.{zero_id}
 use Rattle.dl_model.specs.declared.context.Context.{Context}
 use Rattle.dl_model.specs.declared.registry.SetFault.TheVariants as set
 use Rattle.dl_model.specs.declared.registry.Slot.{Slot}
-use Rattle.dl_model.specs.Registry.{App, Registry, IsInOrder, IsNumbered, Relevel, context_of, effective, is_worn, level_at, matches, matching, matching_in, own_set, places, places_of, releveled, releveled_app, releveled_context, set_matching, unless_worn, wears, wears_app, wears_context, with_app, with_context}
+use Rattle.dl_model.specs.Registry.{App, Registry, IsInOrder, IsNumbered, Relevel, context_of, effective, is_pattern, is_worn, level_at, matches, matching, matching_in, own_set, places, places_of, releveled, releveled_app, releveled_context, set_matching, unless_worn, wears, wears_app, wears_context, with_app, with_context}
 use Rattle.dl_model.proofs.Order.{in_order-releveled, in_order-with_app, placed_of_found}
 use Rattle.dl_model.proofs.Placed.{places-same, releveled_places}
 use Rattle.dl_model.proofs.Presence.{lookup-set_same}
-use Rattle.dl_applications.specs.Change.{changed_app, changed_context, leveled, releveled_in}
-use Rattle.dl_applications.proofs.OneNamed.{any-absent, any-named, filter-absent, filter-named, gives-absent, gives-named, map-absent, map-named, matches-itself, matches-other}
+use Rattle.dl_registry.specs.Change.{changed_app, changed_context, leveled, releveled_in}
+use Rattle.dl_registry.proofs.OneNamed.{any-absent, any-named, filter-absent, filter-named, gives-absent, gives-named, map-absent, map-named, matches-itself, matches-other}
 use Rattle.dl_registry.specs.Kept.{Fits}
 use Rattle.dl_registry.specs.Refresh.{has_slot, level_in_app, level_named}
-use Rattle.dl_slots.specs.Table.{Table, held_at, wanted_at}
+use Rattle.dl_registry.specs.Table.{Table, held_at, wanted_at}
 use Rattle.dl_registry.proofs.Fitting.{level_of, level_at-found, level_at-places, level_at-replaced, level_of-changed}
 use Rattle.dl_registry.proofs.Messages.{places_below}
 use Rattle.dl_registry.proofs.Releveling.{beyond, context_stays, fits-levels, level_in_app-is, or_old}
@@ -47,7 +46,7 @@ context-fresh s level relevel app x same = stays (is_worn s app.1.number x.1) (e
     (ap (λ (y : List ℕ × Context). effective level y.1) (sym (context-same relevel app.0 x same)))
 
 -- by the application's id
-module _ (apid ctid : List ℕ) (some : apid ≢ zero_id) where
+module _ (apid ctid : List ℕ) (some : is_pattern apid ≡ false) where
   none-there : (e : List ℕ × App) → bytes_eq apid e.0 ≡ false → matching_in apid ctid e ≡ []
   none-there e apart = ap (λ b. if b then filter (λ x. matches ctid x.0) e.1.contexts else []) (matches-other apid e.0 some apart)
 
@@ -65,7 +64,7 @@ module _ (apid ctid : List ℕ) (some : apid ≢ zero_id) where
         none_of (wears_context s level level (set_matching apid ctid own) e) (λ x. context-fresh s level (set_matching apid ctid own) e x (own-there e.0 x.0 x.1.own apart)) e.1.contexts
 
 -- by the context's id
-module _ (ctid : List ℕ) (some : ctid ≢ zero_id) where
+module _ (ctid : List ℕ) (some : is_pattern ctid ≡ false) where
   module _ (apid : List ℕ) (own : Option ℕ) where
     own-beside : (context : List ℕ) (old : Option ℕ) → bytes_eq ctid context ≡ false → set_matching apid ctid own apid context old ≡ old
     own-beside context old apart = ap (λ b. if matches apid apid && b then own else old) (matches-other ctid context some apart) ∙ by (matches apid apid) where
@@ -92,7 +91,7 @@ module _ (ctid : List ℕ) (some : ctid ≢ zero_id) where
 
 -- ---- the registry, by the application's id
 
-module _ (r : Registry) (apid ctid : List ℕ) (some : apid ≢ zero_id) (apart : IsDistinct bytes_eq (keys_of r.apps)) where
+module _ (r : Registry) (apid ctid : List ℕ) (some : is_pattern apid ≡ false) (apart : IsDistinct bytes_eq (keys_of r.apps)) where
   pub matching-absent : lookup (bytes_eq apid) r.apps ≡ None → matching r apid ctid ≡ []
   matching-absent none = gives-absent apid (matching_in apid ctid) (none-there apid ctid some) r.apps (none_passes_from_lookup (bytes_eq apid) r.apps none)
 
@@ -125,12 +124,12 @@ module _ (r : Registry) (apid ctid : List ℕ) (some : apid ≢ zero_id) (apart 
 
 -- ---- by both ids
 
-module _ (s : ℕ → Slot) (r : Registry) (apid ctid : List ℕ) (own : Option ℕ) (some : apid ≢ zero_id) (apart : IsDistinct bytes_eq (keys_of r.apps)) where
+module _ (s : ℕ → Slot) (r : Registry) (apid ctid : List ℕ) (own : Option ℕ) (some : is_pattern apid ≡ false) (apart : IsDistinct bytes_eq (keys_of r.apps)) where
   pub no_app : lookup (bytes_eq apid) r.apps ≡ None → own_set s r apid ctid own ≡ Err set.Nobody
   no_app none =
       ap (λ (xs : List (List ℕ × Context)). if length xs == 0 then Err set.Nobody else unless_worn s r r.level (set_matching apid ctid own)) (matching-absent r apid ctid some apart none)
 
-  module _ (named : ctid ≢ zero_id) (app : App) (found : lookup (bytes_eq apid) r.apps ≡ Some app) where
+  module _ (named : is_pattern ctid ≡ false) (app : App) (found : lookup (bytes_eq apid) r.apps ≡ Some app) where
     pub no_context : context_of app ctid ≡ None → own_set s r apid ctid own ≡ Err set.Nobody
     no_context none =
         ap (λ (xs : List (List ℕ × Context)). if length xs == 0 then Err set.Nobody else unless_worn s r r.level (set_matching apid ctid own))
@@ -166,7 +165,7 @@ module _ (s : ℕ → Slot) (r : Registry) (apid ctid : List ℕ) (own : Option 
 
 -- ---- the table, where the slots of that context alone get its level
 
-pub fits-one : (r : Registry) (t u : Table) (apid ctid : List ℕ) (own : Option ℕ) (app : App) (context : Context) → Fits r t → apid ≢ zero_id → ctid ≢ zero_id → IsDistinct bytes_eq (keys_of r.apps)
+pub fits-one : (r : Registry) (t u : Table) (apid ctid : List ℕ) (own : Option ℕ) (app : App) (context : Context) → Fits r t → is_pattern apid ≡ false → is_pattern ctid ≡ false → IsDistinct bytes_eq (keys_of r.apps)
     → lookup (bytes_eq apid) r.apps ≡ Some app → context_of app ctid ≡ Some context → IsDistinct bytes_eq (keys_of app.contexts)
     → (is_worn (held_at t.first t.held) app.number context && not (effective r.level context == effective r.level (leveled own context))) ≡ false
     → u.first ≡ t.first → u.held ≡ t.held → ((slot : ℕ) → 1024 ≤ slot → wanted_at u slot ≡ wanted_at t slot)
@@ -236,7 +235,7 @@ app-levels r apid relevel app is found slot =
     placed : IsNumbered 64 (places new.contexts)
     placed = subst (IsNumbered 64) (sym (releveled_places relevel apid app.contexts)) (placed_of_found r apid app is found)
 
-pub fits-app : (r : Registry) (t u : Table) (apid ctid : List ℕ) (own : Option ℕ) → Fits r t → apid ≢ zero_id → IsDistinct bytes_eq (keys_of r.apps) → wears (held_at t.first t.held) r r.level (set_matching apid ctid own) ≡ false
+pub fits-app : (r : Registry) (t u : Table) (apid ctid : List ℕ) (own : Option ℕ) → Fits r t → is_pattern apid ≡ false → IsDistinct bytes_eq (keys_of r.apps) → wears (held_at t.first t.held) r r.level (set_matching apid ctid own) ≡ false
     → u.first ≡ t.first → u.held ≡ t.held → ((slot : ℕ) → 1024 ≤ slot → wanted_at u slot ≡ wanted_at t slot)
     → ((slot : ℕ) → slot < 1024
     → wanted_at u slot ≡ option_or (level_named r.level (changed_app apid (releveled_in (set_matching apid ctid own) apid) r.apps) apid slot) (wanted_at t slot))

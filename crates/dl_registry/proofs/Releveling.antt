@@ -18,7 +18,7 @@ use Rattle.dl_model.specs.Registry.{App, Registry, ArePlaced, IsInOrder, IsNumbe
 use Rattle.dl_model.proofs.Order.{in_order-releveled}
 use Rattle.dl_registry.specs.Kept.{Fits}
 use Rattle.dl_registry.specs.Refresh.{has_slot, level_in_app, level_in_apps}
-use Rattle.dl_slots.specs.Table.{Table, held_at, wanted_at}
+use Rattle.dl_registry.specs.Table.{Table, held_at, wanted_at}
 use Rattle.dl_model.proofs.Placed.{all-left, all-right}
 use Rattle.dl_registry.proofs.Finding.{valued, valued-absent}
 use Rattle.dl_registry.proofs.Placing.{placed, placed-reverse}

@@ -4,8 +4,8 @@ use Rattle.std.specs.List.{IsDistinct}
 use Rattle.std.specs.Option.{option_or}
 use Rattle.dl_bytes.specs.declared.conf.StoredLevel.{StoredLevel}
 use Rattle.dl_model.specs.Registry.{Registry, all_slots, first_change, level_at}
-use Rattle.dl_slots.specs.Table.{Table, held_at, wanted_at, differing, first_waiting, next_waiting}
-use Rattle.dl_slots.proofs.Waiting.{same_everywhere, made_table, none_waits}
+use Rattle.dl_registry.specs.Table.{Table, held_at, wanted_at, differing, first_waiting, next_waiting}
+use Rattle.dl_registry.proofs.OwedSlots.{same_everywhere, made_table, none_waits}
 use Rattle.dl_registry.specs.Kept.{Fits, kept_of, owed_change}
 
 first_waiting-change : (r : Registry) (t : Table) → ((slot : ℕ) → wanted_at t slot ≡ level_at r slot) → (slots : List ℕ) → first_waiting t slots ≡ first_change (held_at t.first t.held) r slots

@@ -15,7 +15,7 @@ use Rattle.dl_model.specs.declared.registry.Slot.{Slot}
 use Rattle.dl_model.specs.Journal.{registry_of, slots_of}
 use Rattle.dl_model.specs.Registry.{App, Registry, IsInOrder, app_of, claimed, context_claimed, context_of, is_free, level_at, context_named, context_at, slot_of, next_change}
 use Rattle.dl_model.specs.Setting.{Setting}
-use Rattle.dl_slots.specs.Table.{Table, held_at, held_after, wanted_at, unset, IsFresh}
+use Rattle.dl_registry.specs.Table.{Table, held_at, held_after, wanted_at, unset, IsFresh}
 
 -- The registry, the first version of all slots, and what each of the 1024 slots holds.
 pub record Kept : Type 0 where

@@ -1,3 +1,5 @@
+pub mod Change
 pub mod Kept
 pub mod Refresh
 pub mod Info
+pub mod Table

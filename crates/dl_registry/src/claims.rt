@@ -3,11 +3,10 @@
 ghost use Rattle.std.specs.Prelude.{Some, None};
 ghost use Rattle.dl_registry.specs.Kept.{CanClaim, Claims, ClaimsIn};
 
-use crate::registry::{LAST_VERSION, Registry, own_for};
-use dl_applications::apps;
-use dl_bytes::{Claim, Id, OwnLevel};
+use crate::registry::{Registry, own_for};
+use crate::{apps, slot_of};
+use dl_bytes::{Claim, Id, LAST_VERSION, OwnLevel};
 use dl_model::{Context, Description, Places};
-use dl_slots::slot_of;
 
 impl Registry {
     /// What a claim makes of the registry: its context comes at the claimed place, or gets that place besides. One whose place is not

@@ -1,21 +1,21 @@
 //! What GetLogInfo tells of the applications and contexts.
 
-ghost use Rattle.std.specs.Prelude.{◌≡◌, ◌⊎◌, ◌++◌, ◌^◌, ◌-◌, ◌+◌, length, min, map, OnOk};
+ghost use Rattle.std.specs.Prelude.{◌≡◌, ◌⊎◌, ◌==◌, ◌++◌, ◌^◌, ◌-◌, ◌+◌, length, min, map, OnOk};
 ghost use Rattle.std.specs.List.{flat_map, filter};
 ghost use Rattle.byteorder.specs.Endian.{little_bytes};
-ghost use Rattle.dl_model.specs.Registry.{matches, matching_in};
+ghost use Rattle.dl_model.specs.Registry.{names, named_contexts, named_in};
 ghost use Rattle.dl_model.specs.Reply.{described, context_info, app_info, info_body, listed};
 ghost use Rattle.dl_registry.specs.Info.{GivesInfo, info_of};
 
 use crate::registry::Registry;
-use dl_applications::{Application, is_match};
+use crate::{Application, is_named};
 use dl_bytes::{Bytes, Id, OutOfMemory};
 use dl_model::Context;
 
 /// Why GetLogInfo tells nothing.
 #[derive(Clone, Copy, Debug, PartialEq, Eq)]
 pub enum InfoFault {
-    /// No context matches.
+    /// The ids name no context.
     Nobody,
     /// The reply would have more than 65,535 bytes, the most that its field LEN can tell.
     TooLong,
@@ -40,13 +40,13 @@ const BODY_LIMIT: usize = 65_512;
 const NO_TRACE_STATUS: u8 = 0xff;
 
 impl Registry {
-    /// The body of a reply to GetLogInfo: the contexts that both ids match, the zero id matching all, application by
+    /// The body of a reply to GetLogInfo: the contexts that both ids name, the zero id naming all, application by
     /// application, with option 7 also their descriptions. Its size is known before memory is taken, once.
     pub fn info(&self, options: u8, apid: Id, ctid: Id) -> Result<Bytes, InfoFault>
         requires { (options ≡ 6) ⊎ (options ≡ 7) }
         ensures { GivesInfo self.now.registry options apid ctid result }
     {
-        if self.matching(apid, ctid) == 0 {
+        if self.names_nobody(apid, ctid) {
             return Err(InfoFault::Nobody);
         }
         let size = self.info_len(options, apid, ctid);
@@ -56,6 +56,13 @@ impl Registry {
         let mut body = Vec::with_capacity(self.alloc, size)?;
         self.push_info(&mut body, options, apid, ctid)?;
         Ok(Bytes::over(body))
+    }
+
+    /// Whether the ids name no context.
+    fn names_nobody(&self, apid: Id, ctid: Id) -> bool
+        ensures { result ≡ (length (named_contexts self.now.registry apid ctid) == 0) }
+    {
+        self.listed(apid, ctid) == 0
     }
 
     /// How many bytes the body has.
@@ -86,23 +93,23 @@ impl Registry {
         body.extend_from_slice(&[0; 4])
     }
 
-    /// How many applications have a context that both ids match.
+    /// How many applications have a context that both ids name.
     fn listed(&self, apid: Id, ctid: Id) -> usize
         ensures { result ≡ length (listed self.now.registry apid ctid) }
     {
         self.apps
             .iter()
-            .filter(|(id, app)| matching_of(apid, ctid, **id, app) != 0)
+            .filter(|(id, app)| named_of(apid, ctid, **id, app) != 0)
             .count()
     }
 }
 
-/// How many contexts of an application both ids match.
-pub(crate) fn matching_of(apid: Id, ctid: Id, id: Id, app: &Application) -> usize
-    ensures { result ≡ length (matching_in apid ctid (id, app.now)) }
+/// How many contexts of an application both ids name.
+fn named_of(apid: Id, ctid: Id, id: Id, app: &Application) -> usize
+    ensures { result ≡ length (named_in apid ctid (id, app.now)) }
 {
-    if is_match(apid, id) {
-        app.matching(ctid)
+    if is_named(apid, id) {
+        app.named(ctid)
     } else {
         0
     }
@@ -122,24 +129,24 @@ fn context_len(options: u8, ctid: Id, context: &Context) -> usize
     6 + described_len(options, context.text.all())
 }
 
-/// How many bytes the contexts of an application take that the id matches.
+/// How many bytes the contexts of an application take that the id names.
 fn contexts_len(options: u8, ctid: Id, app: &Application) -> usize
-    ensures { result ≡ min (2 ^ 64 - 1) (length (flat_map (context_info options) (filter (λ entry. matches ctid entry.0) app.now.contexts))) }
+    ensures { result ≡ min (2 ^ 64 - 1) (length (flat_map (context_info options) (filter (λ entry. names ctid entry.0) app.now.contexts))) }
 {
     let mut len: usize = 0;
     for (id, context) in app.contexts().iter() {
-        if is_match(ctid, *id) {
+        if is_named(ctid, *id) {
             len = len.saturating_add(context_len(options, *id, context));
         }
     }
     len
 }
 
-/// How many bytes an application takes: none where no context of it matches.
+/// How many bytes an application takes: none where no context of it is named.
 fn app_len(options: u8, apid: Id, ctid: Id, id: Id, app: &Application) -> usize
     ensures { result ≡ min (2 ^ 64 - 1) (length (info_of options apid ctid (id, app.now))) }
 {
-    if matching_of(apid, ctid, id, app) == 0 {
+    if named_of(apid, ctid, id, app) == 0 {
         return 0;
     }
     contexts_len(options, ctid, app).saturating_add(6 + described_len(options, app.text()))
@@ -178,24 +185,24 @@ fn push_context(
     push_described(body, options, context.text.all())
 }
 
-/// Adds the contexts of an application that the id matches.
+/// Adds the contexts of an application that the id names.
 fn push_contexts(
     body: &mut Vec<u8>,
     options: u8,
     ctid: Id,
     app: &Application,
 ) -> Result<(), OutOfMemory>
-    ensures { OnOk result (body.new.items ≡ body.old.items ++ flat_map (context_info options) (filter (λ entry. matches ctid entry.0) app.now.contexts)) }
+    ensures { OnOk result (body.new.items ≡ body.old.items ++ flat_map (context_info options) (filter (λ entry. names ctid entry.0) app.now.contexts)) }
 {
     for (id, context) in app.contexts().iter() {
-        if is_match(ctid, *id) {
+        if is_named(ctid, *id) {
             push_context(body, options, *id, context)?;
         }
     }
     Ok(())
 }
 
-/// Adds an application, where a context of it matches.
+/// Adds an application, where a context of it is named.
 fn push_app(
     body: &mut Vec<u8>,
     options: u8,
@@ -206,12 +213,12 @@ fn push_app(
 ) -> Result<(), OutOfMemory>
     ensures { OnOk result (body.new.items ≡ body.old.items ++ info_of options apid ctid (id, app.now)) }
 {
-    let matching = matching_of(apid, ctid, id, app);
-    if matching == 0 {
+    let count = named_of(apid, ctid, id, app);
+    if count == 0 {
         return Ok(());
     }
     body.extend_from_slice(&id.bytes())?;
-    push_count(body, matching)?;
+    push_count(body, count)?;
     push_contexts(body, options, ctid, app)?;
     push_described(body, options, app.text())
 }

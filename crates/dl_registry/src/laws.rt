@@ -3,12 +3,13 @@
 
 ghost use Rattle.std.specs.Prelude.{◌≡◌, ◌≢◌, ◌<◌, ◌≤◌, ℕ, ℤ, List, [], ◌∷◌, ◌++◌, Option, Some, Result, Ok, Err, IsErr};
 ghost use Rattle.dl_bytes.specs.Claim.{Claimed};
+ghost use Rattle.dl_bytes.specs.Id.{zero_id};
 ghost use Rattle.dl_bytes.specs.Level.{own_level_of};
 ghost use Rattle.dl_bytes.specs.declared.moment.Moment.{Moment};
 ghost use Rattle.dl_bytes.specs.declared.outcome.Done.{Done};
 ghost use Rattle.dl_bytes.specs.declared.outcome.Done.TheVariants as done;
 ghost use Rattle.dl_bytes.specs.declared.user.UserMsg.{UserMsg};
-ghost use Rattle.dl_control.specs.declared.request.Request.TheVariants.{SetLogLevel, SetDefault, Reset, Store};
+ghost use Rattle.dl_control.specs.declared.request.Request.TheVariants.{SetLogLevel, SetAllLogLevel, SetDefault, Reset, Store};
 ghost use Rattle.dl_events.specs.declared.event.Event.{Event};
 ghost use Rattle.dl_events.specs.declared.event.Event.TheVariants.{User, Claim, Level, Request};
 ghost use Rattle.dl_model.specs.declared.registry.LevelChange.{LevelChange};
@@ -56,6 +57,10 @@ pub fn requests_are_events()
     ensures own { (setting : Setting) (events : List Event) (client : ℕ) (frame apid ctid : List ℕ) (level : ℤ) (own : Option ℕ) (answer : Done) (result : Result ℕ SetFault) (old new : Kept) →
         asked frame ≡ Ok (SetLogLevel apid ctid level) → own_level_of level ≡ Some own →
         IsAfter setting events old → Sets (own_set (slots old) old.registry apid ctid own) old result new →
+        IsAfter setting (events ++ Request client frame answer ∷ []) new }
+    ensures all { (setting : Setting) (events : List Event) (client : ℕ) (frame : List ℕ) (level : ℤ) (own : Option ℕ) (answer : Done) (result : Result ℕ SetFault) (old new : Kept) →
+        asked frame ≡ Ok (SetAllLogLevel level) → own_level_of level ≡ Some own →
+        IsAfter setting events old → Sets (own_set (slots old) old.registry zero_id zero_id own) old result new →
         IsAfter setting (events ++ Request client frame answer ∷ []) new }
     ensures default { (setting : Setting) (events : List Event) (client : ℕ) (frame : List ℕ) (level : ℕ) (answer : Done) (result : Result (Unit {0}) SetFault) (old new : Kept) →
         asked frame ≡ Ok (SetDefault level) → level ≤ 6 →

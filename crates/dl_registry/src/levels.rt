@@ -5,21 +5,18 @@ ghost use Rattle.std.specs.List.{IsDistinct, list_any};
 ghost use Rattle.std.specs.Map.{keys_of, lookup, values_of};
 ghost use Rattle.std.specs.Option.{option_map_or, option_or};
 ghost use Rattle.std.specs.Str.{bytes_eq};
-ghost use Rattle.dl_bytes.specs.Id.{zero_id};
 ghost use Rattle.dl_bytes.specs.Limits.{last_version};
-ghost use Rattle.dl_model.specs.Registry.{slot_of as slot_number, is_worn, wears, wears_app, wears_context, unless_worn, matching, own_set, default_set, reset, no_own, set_matching};
-ghost use Rattle.dl_applications.specs.Change.{relevel_of};
+ghost use Rattle.dl_model.specs.Registry.{slot_of as slot_number, is_worn, wears, wears_app, wears_context, unless_worn, is_pattern, matching, matching_in, own_set, default_set, reset, no_own, set_matching};
+ghost use Rattle.dl_registry.specs.Change.{relevel_of};
 ghost use Rattle.dl_registry.specs.Kept.{Sets, slots};
 ghost use Rattle.dl_registry.specs.Refresh.{has_slot, level_in_app, level_in_apps, level_named};
-ghost use Rattle.dl_slots.specs.Table.{held_at, wanted_at};
+ghost use Rattle.dl_registry.specs.Table.{held_at, wanted_at};
 
-use crate::info::matching_of;
-use crate::registry::{LAST_VERSION, Registry};
-use dl_applications::apps::{self, Apps};
-use dl_applications::{Application, Relevel, named};
-use dl_bytes::{Id, Level, OwnLevel, Sequence, StoredLevel};
+use crate::apps::{self, Apps};
+use crate::registry::Registry;
+use crate::{Application, Relevel, SlotTable, is_match, is_pattern, named, slot_of};
+use dl_bytes::{Id, LAST_VERSION, Level, OwnLevel, Sequence, StoredLevel};
 use dl_model::{Context, SetFault};
-use dl_slots::{SlotTable, slot_of};
 use std::alloc::Global;
 
 /// A default level, with own levels for contexts.
@@ -33,13 +30,13 @@ struct NewLevels {
 const ALL: [u8; 4] = [0; 4];
 
 impl Registry {
-    /// Sets the own level of all contexts that both ids match, the zero id matching all, and tells how many they are. Nothing
-    /// is set where a slot at its last version would change.
+    /// Sets the own level of all contexts that both ids match, and tells how many they are. The zero id matches all, and an id
+    /// that ends in `*` those that begin with what is before it. Nothing is set where a slot at its last version would change.
     pub fn set_own(&mut self, apid: Id, ctid: Id, level: OwnLevel) -> Result<u32, SetFault>
         ensures set { Sets (own_set (slots self.old) self.old.registry apid ctid level) self.old result self.new }
         ensures count { IfOk result (λ count. count ≡ length (matching self.old.registry apid ctid)) }
     {
-        if !apid.is_zero() && !ctid.is_zero() {
+        if !is_pattern(apid) && !is_pattern(ctid) {
             return self.set_one(apid, ctid, level);
         }
         let count = self.matching(apid, ctid);
@@ -54,8 +51,8 @@ impl Registry {
 
     /// The same where the ids name one context: no other one is looked at.
     fn set_one(&mut self, apid: Id, ctid: Id, own: OwnLevel) -> Result<u32, SetFault>
-        requires app { apid ≢ zero_id }
-        requires context { ctid ≢ zero_id }
+        requires app { is_pattern apid ≡ false }
+        requires context { is_pattern ctid ≡ false }
         ensures set { Sets (own_set (slots self.old) self.old.registry apid ctid own) self.old result self.new }
         ensures count { IfOk result (λ count. count ≡ length (matching self.old.registry apid ctid)) }
     {
@@ -114,7 +111,7 @@ impl Registry {
         let level = self.level;
         let own = Relevel::Set { apid, ctid, own };
         let new = NewLevels { level, own };
-        if apid.is_zero() {
+        if is_pattern(apid) {
             return self.relevel(&new);
         }
         if self.wears_in(&new, apid) {
@@ -127,10 +124,10 @@ impl Registry {
 
     /// How many contexts both ids match, at most the 1024 that there can be. Where one application is named, no other one
     /// is looked at.
-    pub(crate) fn matching(&self, apid: Id, ctid: Id) -> u32
+    fn matching(&self, apid: Id, ctid: Id) -> u32
         ensures { result ≡ length (matching self.now.registry apid ctid) }
     {
-        if apid.is_zero() {
+        if is_pattern(apid) {
             return self.matching_anywhere(apid, ctid);
         }
         match named(&self.apps, apid) {
@@ -212,6 +209,17 @@ impl Registry {
         apps::relevel(&mut self.apps, &new.own);
         refresh(&mut self.table, self.level, &self.apps);
         Ok(())
+    }
+}
+
+/// How many contexts of an application both ids match.
+fn matching_of(apid: Id, ctid: Id, id: Id, app: &Application) -> usize
+    ensures { result ≡ length (matching_in apid ctid (id, app.now)) }
+{
+    if is_match(apid, id) {
+        app.matching(ctid)
+    } else {
+        0
     }
 }
 

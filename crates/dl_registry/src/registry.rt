@@ -8,17 +8,13 @@ ghost use Rattle.dl_bytes.specs.Limits.{last_version};
 ghost use Rattle.dl_model.specs.Registry.{IsInOrder, app_of, level_at, stored_level, owns_now, owns_of_app};
 ghost use Rattle.dl_registry.specs.Kept.{slots, made, owed_change, with_change, with_registry, slot_named, channel_at, first_app, position_at};
 
-use dl_applications::Application;
-use dl_applications::apps::{Apps, first_of_channel};
+use crate::apps::{Apps, first_of_channel};
+use crate::{Application, SlotTable, slot_of};
 use dl_bytes::{Bytes, Id, Level, OutOfMemory, OwnLevel, Sequence, Stored, StoredLevel};
 use dl_model::{Description, LevelChange, Slot};
-use dl_slots::{SlotTable, slot_of};
 use indexmap::IndexMap;
 use std::alloc::Global;
 use std::marker::Model;
-
-/// The last version that a slot can have.
-pub const LAST_VERSION: u64 = 0xff_ffff_ffff_ffff;
 
 /// The applications and contexts that are there, with their levels, and what the level word of each slot holds.
 #[derive(Drop)]

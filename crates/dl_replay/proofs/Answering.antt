@@ -7,13 +7,13 @@ use Rattle.dl_bytes.specs.declared.outcome.Done.{Done}
 use Rattle.dl_bytes.specs.declared.outcome.Done.TheVariants as did
 use Rattle.dl_events.specs.declared.event.Event.TheVariants as event
 use Rattle.dl_events.specs.declared.event.Why.TheVariants as why
-use Rattle.dl_script_lines.specs.declared.step.Step.{Step}
-use Rattle.dl_script_lines.specs.declared.step.Step.TheVariants as line
+use Rattle.dl_script_model.specs.declared.step.Step.{Step}
+use Rattle.dl_script_model.specs.declared.step.Step.TheVariants as line
 use Rattle.dl_model.specs.Journal.{is_request_of, need_after}
-use Rattle.dl_model.specs.Marks.{Mark, Noted, Answered, Fed, is_answer, journal}
+use Rattle.dl_script_model.specs.Marks.{Mark, Noted, Answered, Fed, is_answer, journal}
 use Rattle.dl_model.specs.Reply.{Need, Nothing, Folder, Queue}
 use Rattle.dl_model.specs.Setting.{Setting}
-use Rattle.dl_model.specs.Steps.{Act, act_of, ask, close, close_malformed, end_of, note_levels, note_levels_now, in_sequence, is_open, just, new_requests, receive, request_now, run, served, when}
+use Rattle.dl_script_model.specs.Steps.{Act, act_of, ask, close, close_malformed, end_of, note_levels, note_levels_now, in_sequence, is_open, just, new_requests, receive, request_now, run, served, when}
 use Rattle.dl_world.specs.Played.{is_failed}
 use Rattle.dl_startup.specs.Failures.{unserved}
 

@@ -5,18 +5,18 @@ use Rattle.std.proofs.lemmas.Bool.{ne_eqb}
 use Rattle.std.proofs.lemmas.List.{append-nil}
 use Rattle.dl_bytes.specs.declared.outcome.TraceState.{TraceState}
 use Rattle.dl_outside.proofs.Staying.{counted}
-use Rattle.dl_model.specs.Replay.{files_of, trace_of}
+use Rattle.dl_script_model.specs.Replay.{files_of, trace_of}
 use Rattle.dl_model.specs.Setting.{Setting}
 use Rattle.dl_model.specs.TraceFiles.{StoredFile}
 use Rattle.dl_trace.specs.Stands.{HasFiles}
 use Rattle.dl_trace.specs.State.{listed}
 use Rattle.dl_bytes.specs.declared.outcome.TraceEnd.{TraceEnd}
 use Rattle.dl_bytes.specs.declared.outcome.TraceEnd.TheVariants as end
-use Rattle.dl_model.specs.Marks.{Mark, journal}
+use Rattle.dl_script_model.specs.Marks.{Mark, journal}
 use Rattle.dl_outside.specs.Folder.{Files}
 use Rattle.dl_outside.specs.Outside.{HasRisen}
-use Rattle.dl_folders.specs.Later.{trace_failures}
-use Rattle.dl_folders.specs.Standing.{files_with}
+use Rattle.dl_core.specs.Later.{trace_failures}
+use Rattle.dl_core.specs.Standing.{files_with}
 use Rattle.dl_world.specs.Played.{IsTraced, failures, frames_in, is_failed}
 use Rattle.dl_world.specs.declared.played.Played.{Played}
 use Rattle.dl_replay.specs.declared.begin.Start.{Start}
@@ -33,22 +33,6 @@ use Rattle.dl_startup.specs.Unchanged.{FolderWell, IsQuiet}
 use Rattle.dl_replay.proofs.Answering.{said_yes}
 use Rattle.dl_startup.proofs.Told.{known_before, unchanged_on}
 use Rattle.dl_replay.proofs.Folders.{stored_before, traced_before}
-
--- nothing was played
-pub unplayed : (task : Task) (start : Start) (old new : FolderTold) (out : SinkTold) (status : Status) → Plays start old new (Err status) → Ends task start old new out out status
-unplayed task start old new out FolderFault h = (h.0, inl (h.1, refl))
-unplayed task start old new out OutOfMemory h = inl refl
-unplayed task start old new out Ok h = absurd h
-unplayed task start old new out WordsRefused h = absurd h
-unplayed task start old new out NetFault h = absurd h
-unplayed task start old new out JournalFull h = absurd h
-unplayed task start old new out (StorageRefused line kind) h = absurd h
-unplayed task start old new out (ConfRefused line kind) h = absurd h
-unplayed task start old new out (StoredRefused line kind) h = absurd h
-unplayed task start old new out (ScriptRefused line kind) h = absurd h
-unplayed task start old new out WriteFault h = absurd h
-unplayed task start old new out NamesSpent h = absurd h
-unplayed task start old new out ReadFault h = absurd h
 
 -- ---- what the trace tells
 

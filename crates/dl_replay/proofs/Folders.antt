@@ -4,7 +4,7 @@ use Rattle.std.specs.Prelude.{IfSome, IsSomeAnd, IsOkAnd, Result, Ok}
 use Rattle.std.specs.FinMap as map
 use Rattle.dl_bytes.specs.declared.outcome.TraceState.{TraceState}
 use Rattle.dl_conf.specs.Outcome.{values_of}
-use Rattle.dl_model.specs.Marks.{Mark, journal}
+use Rattle.dl_script_model.specs.Marks.{Mark, journal}
 use Rattle.dl_model.specs.Setting.{Setting}
 use Rattle.dl_model.specs.TraceFiles.{StoredFile}
 use Rattle.dl_outside.specs.Folder.{Files}
@@ -18,23 +18,16 @@ use Rattle.dl_replay.specs.Program.{ChangesOwnFiles}
 use Rattle.dl_replay.specs.Run.{HoldsItsStored, setting}
 use Rattle.dl_replay.specs.declared.task.Task.{Task}
 use Rattle.dl_trace.specs.Stands.{HasFiles, IsTraceName}
-use Rattle.dl_folders.specs.Standing.{Stands}
+use Rattle.dl_core.specs.Standing.{Stands}
 use Rattle.dl_world.specs.Played.{IsTraced}
 use Rattle.dl_world.specs.Stored.{HoldsStored}
 use Rattle.dl_lemmas.proofs.Options.{if_some_of}
 
 -- ---- what is told
 
-pub if_some_as : {A : Type 0} → (o : Option A) (x : A) (P : A → Type 0) → o ≡ Some x → P x → IfSome o P
-if_some_as o x P e h = subst (λ v. IfSome v P) (sym e) h
-
 pub both : {A : Type 0} → (o : Option A) (P Q : A → Type 0) → IfSome o P → IfSome o Q → IfSome o (λ x. P x × Q x)
 both None P Q p q = tt
 both (Some x) P Q p q = (p, q)
-
-pub each : {A : Type 0} → (o : Option A) (P Q : A → Type 0) → ((x : A) → P x → Q x) → IfSome o P → IfSome o Q
-each None P Q f h = tt
-each (Some x) P Q f h = f x h
 
 -- the stored configuration of a run over files that stayed before it
 pub stored_before : (start : Start) (old mid new : Option Files) (done : List Mark) → Stays old mid → HoldsItsStored start mid new done → HoldsItsStored start old new done

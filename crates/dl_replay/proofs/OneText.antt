@@ -4,14 +4,14 @@ use Rattle.std.specs.Prelude.{◌==◌, IfSome, if◌then◌else◌}
 use Rattle.dl_bytes.specs.Limits.{client_limit}
 use Rattle.dl_bytes.specs.declared.conf.Stored.{Stored}
 use Rattle.dl_bytes.specs.declared.outcome.TraceState.{TraceState}
-use Rattle.dl_script_lines.specs.declared.step.Step.{Step}
+use Rattle.dl_script_model.specs.declared.step.Step.{Step}
 use Rattle.dl_conf.specs.Conf.{Values}
 use Rattle.dl_conf.specs.Outcome.{values_of}
 use Rattle.dl_model.specs.Frames.{stored_frames}
-use Rattle.dl_model.specs.Marks.{Mark, journal}
-use Rattle.dl_model.specs.Replay.{files_of, printed, report_of, source_of, trace_of}
+use Rattle.dl_script_model.specs.Marks.{Mark, journal}
+use Rattle.dl_script_model.specs.Replay.{files_of, printed, report_of, source_of, trace_of}
 use Rattle.dl_model.specs.Setting.{Setting}
-use Rattle.dl_model.specs.Steps as steps
+use Rattle.dl_script_model.specs.Steps as steps
 use Rattle.dl_model.specs.TraceFiles.{StoredFile, trace_files, trace_name}
 use Rattle.dl_outside.specs.Folder.{Files}
 use Rattle.dl_outside.specs.Written.{WroteAll}

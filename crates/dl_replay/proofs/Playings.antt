@@ -19,8 +19,8 @@ use Rattle.dl_events.specs.declared.record.Record.{Record}
 use Rattle.dl_model.specs.Journal.{is_connect}
 use Rattle.dl_model.specs.Backlog.{left}
 use Rattle.dl_model.specs.ClientStream.{traffic}
-use Rattle.dl_model.specs.Marks.{Mark, journal, records}
-use Rattle.dl_model.specs.Replay.{clients, ends_of, files_of, link_of, report_of, source_of, specs_of, stream_of}
+use Rattle.dl_script_model.specs.Marks.{Mark, journal, records}
+use Rattle.dl_script_model.specs.Replay.{clients, ends_of, files_of, link_of, report_of, source_of, specs_of, stream_of}
 use Rattle.dl_model.specs.Report.{report}
 use Rattle.dl_model.specs.Setting.{Setting}
 use Rattle.dl_model.specs.TraceFiles.{StoredFile}
@@ -31,8 +31,8 @@ use Rattle.dl_report.specs.Counts.{HasStreams}
 use Rattle.dl_trace.specs.Made.{IsMade}
 use Rattle.dl_trace.specs.Stands.{HasFiles, IsTraceName}
 use Rattle.dl_trace.specs.State.{Trace, IsAfter}
-use Rattle.dl_folders.specs.Files.{ChangesOwnFiles}
-use Rattle.dl_folders.specs.Standing.{Stands, files_with}
+use Rattle.dl_core.specs.Files.{ChangesOwnFiles}
+use Rattle.dl_core.specs.Standing.{Stands, files_with}
 use Rattle.dl_world.specs.Played.{IsPlayed, IsTraced, failures, frames_in, is_failed}
 use Rattle.dl_world.specs.declared.played.Played.{Played}
 use Rattle.dl_replay.specs.declared.begin.Start.{Start}
@@ -188,16 +188,6 @@ changes_own start (Some files) mid new None told begun changes =
 changes_own start (Some files) mid new (Some trace) told begun changes =
     let here = if_some_of mid files (λ (folder : Files). (now : Files) × (new ≡ Some now) × ((name : List ℕ) → ¬ (IsTraceName trace.directory name) → name ≢ stored_name → map.get now name ≡ map.get folder name)) told changes in
     (here.0, here.1, λ name apart other. here.2 name (λ traced. other (begun.0, subst (λ (d : List ℕ). IsTraceName d name) begun.1.directory traced)) apart)
-
--- a trace that was begun is made of the start's configuration
-pub is_made : (conf : Conf) (told : Option Files) (trace : Option Trace) → IsBegun conf told trace → IfSome trace (IsMade conf)
-is_made conf told None begun = tt
-is_made conf told (Some trace) begun = begun.1
-
--- and stands for the trace files that stood
-pub has_stood : (conf : Conf) (told : Option Files) (trace : Option Trace) → IsBegun conf told trace → IfSome trace (λ made. (stood : List StoredFile) × IsAfter stood [] made)
-has_stood conf told None begun = tt
-has_stood conf told (Some trace) begun = (begun.2.0, begun.2.1)
 
 -- files that stayed are the start's own alone
 pub own_stay : (start : Start) (old new : Option Files) → Stays old new → OwnFiles start old new

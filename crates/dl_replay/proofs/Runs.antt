@@ -6,7 +6,7 @@ use Rattle.dl_conf.specs.declared.stored.StoredKind.{StoredKind}
 use Rattle.dl_outside.specs.Folder.{Files}
 use Rattle.dl_outside.specs.Outside.{Stays}
 use Rattle.dl_startup.specs.Input.{GaveAtMost}
-use Rattle.dl_startup.specs.Setup.{conf_in, stored_in}
+use Rattle.dl_startup.specs.Setup.{conf_in, stored_in, conf_name}
 use Rattle.dl_script.specs.Script.{steps_of}
 use Rattle.dl_script.specs.declared.error.ScriptError.{ScriptError}
 use Rattle.dl_script.specs.declared.error.ScriptError.TheVariants as bad
@@ -17,7 +17,6 @@ use Rattle.dl_replay.specs.declared.task.Task.{Task}
 use Rattle.dl_replay.specs.declared.task.Task.TheVariants.{Steps}
 use Rattle.dl_replay.specs.Begin.{IsReadUp, Refuses}
 use Rattle.dl_startup.specs.Configuration.{AreSetUp}
-use Rattle.dl_startup.specs.Setup.{conf_name}
 use Rattle.dl_replay.specs.Finish.{Ends}
 use Rattle.dl_replay.specs.Program.{Asked, ChangesOwnFiles, HasReported, HasSteps, IsLawful, IsRun, IsUntouched, Outcome, Started}
 use Rattle.dl_replay.specs.Status.{line_of}
@@ -177,10 +176,6 @@ a_run words old new said said_now s asked at_most others silent told = record {
 }
 
 -- ---- parts that are left alone
-
-pub gave_nothing : (left : Option (List ℕ)) → GaveAtMost left left
-gave_nothing None = tt
-gave_nothing (Some bytes) = (0, omega arith, refl)
 
 -- a run that did not begin changes no file
 pub refusal_changes : (task : Task) (input input_now : SourceTold) (folder folder_now : FolderTold) (s : Status) → Refuses task input input_now folder folder_now s → ChangesOwnFiles folder.files folder_now.files

@@ -1,6 +1,6 @@
 -- What must be there before a run: its configurations and its steps, as folder and input say them; and why it is not there.
 use Rattle.std.specs.Prelude.{◌≡◌, ℕ, List, [], Option, Some, IfSome, IsOk, Result, Ok, Err}
-use Rattle.dl_script_lines.specs.declared.step.Step.{Step}
+use Rattle.dl_script_model.specs.declared.step.Step.{Step}
 use Rattle.dl_outside.specs.Folder.{Files}
 use Rattle.dl_outside.specs.Outside.{HasRisen}
 use Rattle.dl_startup.specs.Setup.{conf_in, conf_name, stored_in}

@@ -1,6 +1,6 @@
 -- What the words, the folder and the script decide: the text that a run prints with status 0.
 use Rattle.std.specs.Prelude.{◌≡◌, ℕ, ◌-◌, ◌^◌, ◌<◌, List, [], Some, IfSome}
-use Rattle.dl_model.specs.Replay.{printed}
+use Rattle.dl_script_model.specs.Replay.{printed}
 use Rattle.dl_model.specs.TraceFiles.{StoredFile}
 use Rattle.dl_outside.specs.Folder.{Files}
 use Rattle.dl_outside.specs.Told.{SinkTold}

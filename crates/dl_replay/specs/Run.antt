@@ -4,10 +4,10 @@ use Rattle.std.specs.FinMap as map
 use Rattle.dl_bytes.specs.declared.outcome.Done.{Done}
 use Rattle.dl_bytes.specs.declared.outcome.TraceEnd.TheVariants as end
 use Rattle.dl_bytes.specs.declared.outcome.TraceState.{TraceState}
-use Rattle.dl_model.specs.Marks.{Mark, journal}
-use Rattle.dl_model.specs.Replay.{files_of, report_of, trace_of}
+use Rattle.dl_script_model.specs.Marks.{Mark, journal}
+use Rattle.dl_script_model.specs.Replay.{files_of, report_of, trace_of}
 use Rattle.dl_model.specs.Setting.{Setting}
-use Rattle.dl_model.specs.Steps as steps
+use Rattle.dl_script_model.specs.Steps as steps
 use Rattle.dl_model.specs.TraceFiles.{StoredFile, is_spent}
 use Rattle.dl_core.specs.Settings.{setting_of}
 use Rattle.dl_outside.specs.Folder.{Files}

@@ -11,7 +11,7 @@ use dl_bytes::{Conf, Stored};
 use dl_outside::{Folder, Source};
 use dl_script::laws::{what_is_generated_can_be_played, what_is_read_can_be_played};
 use dl_script::{ScriptError, ScriptKind, generate, read_steps};
-use dl_script_lines::StepList;
+use dl_script_model::StepList;
 use dl_startup::{CONF_NAME, ReadError, Status, read_text, set_up};
 use std::alloc::Global;
 

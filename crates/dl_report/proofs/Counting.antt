@@ -136,15 +136,6 @@ notes_loss e app count moment table new small e_is is = record {
   bounds = λ n m all. rw is (weaker n (m + 18446744073709551615) n (m + 18446744073709551615 * 1) _ (omega arith) (omega arith) (loss_bound n m app count table small all));
 }
 
--- an event that reports no loss
-pub notes_nothing : (e : Event) (table : List AppCounts) → ((app : ℕ) → lost_of app e ≡ 0) → HasNoted (e ∷ []) table table
-notes_nothing e table no_loss = record {
-  size = refl;
-  counts = λ records before all app counts is.
-      all app counts is ∙ counts_same _ _ _ _ _ _ _ _ refl refl refl (sym (reported_more app before e ∙ rw (no_loss app) (omega arith)));
-  bounds = λ n m all. weaker n m n (m + 18446744073709551615 * 1) table (omega arith) (omega arith) all;
-}
-
 pub notes_none : (table : List AppCounts) → HasNoted [] table table
 notes_none table = record {
   size = refl;

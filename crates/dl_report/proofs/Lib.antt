@@ -1,3 +1,10 @@
+pub mod Sizes
+pub mod Buffers
+pub mod OpenClients
+pub mod EventTraffic
+pub mod Steps
+pub mod InTurn
+pub mod ToldLosses
 pub mod Tables
 pub mod Counting
 pub mod Writers

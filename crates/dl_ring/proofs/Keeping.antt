@@ -7,12 +7,12 @@ use mathlib.Core.Option.{some}
 use lib.ListN.{get_elem?}
 use Rattle.crossbeam_queue.specs.Fifo.{Pushes, Pops, Forks, Merges, Learns}
 use Rattle.crossbeam_queue.proofs.Lists.{at_set}
-use Rattle.dl_thread_rules.proofs.Bits.{bit_none, bit_small}
-use Rattle.dl_injections.proofs.Keeping.{gives_else}
+use Rattle.dl_cells.proofs.Bits.{bit_none, bit_small}
+use Rattle.dl_ring.proofs.InjectionKeeping.{gives_else}
 use Rattle.dl_ring.specs.declared.item.RingItem.{RingItem}
-use Rattle.dl_thread_rules.specs.Views.{Each, total, bit, times}
-use Rattle.dl_thread_rules.proofs.Each.{each_set, each_snoc, each_end, each_one, set_there}
-use Rattle.dl_thread_rules.proofs.Totals.{total-set, total-snoc, total_at, total_two, total_alone, times-append}
+use Rattle.dl_cells.specs.Views.{Each, total, bit, times}
+use Rattle.dl_cells.proofs.Each.{each_set, each_snoc, each_end, each_one, set_there}
+use Rattle.dl_cells.proofs.Totals.{total-set, total-snoc, total_at, total_two, total_alone, times-append}
 use Rattle.dl_ring.specs.declared.view.View.{View}
 use Rattle.dl_ring.specs.declared.view.Sent.{Sent}
 use Rattle.dl_ring.specs.Order.{writer_of, of, passes, Rest}

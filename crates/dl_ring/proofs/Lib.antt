@@ -1,3 +1,5 @@
+pub mod InjectionKeeping
+pub mod InjectionStates
 pub mod Keeping
 pub mod Owners
 pub mod Boxing

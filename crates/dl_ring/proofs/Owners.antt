@@ -3,8 +3,8 @@ use Rattle.std.proofs.Common.{◌≡◌, ◌≢◌, ℕ, List, [], ◌∷◌, �
 use Rattle.std.specs.Prelude.{Option, None}
 use Rattle.std.specs.List.{All}
 use Rattle.std.specs.declared.sync.Arc.{Arc}
-use Rattle.dl_thread_rules.specs.Views.{times}
-use Rattle.dl_thread_rules.proofs.Totals.{times-append, times_more}
+use Rattle.dl_cells.specs.Views.{times}
+use Rattle.dl_cells.proofs.Totals.{times-append, times_more}
 use Rattle.dl_ring.specs.declared.view.View.{View}
 use Rattle.dl_ring.specs.Rule.{first_pusher, with_given}
 use Rattle.dl_ring.specs.Passes.{Owns, HasOwners, IsPusher}

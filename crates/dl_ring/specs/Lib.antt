@@ -1,3 +1,7 @@
+pub mod InjectionState
+pub mod InjectionOrder
+pub mod InjectionRule
+pub mod InjectionPasses
 pub mod State
 pub mod Order
 pub mod Items

@@ -1,7 +1,7 @@
 -- The order in which a ring hands on what its passes pushed.
 use Rattle.std.specs.Prelude.{◌≡◌, ℕ, ◌+◌, ◌≤◌, ◌==◌, Bool, true, List, [], ◌++◌, length}
 use Rattle.std.specs.List.{All, filter}
-use Rattle.dl_thread_rules.specs.Views.{total, bit}
+use Rattle.dl_cells.specs.Views.{total, bit}
 use Rattle.dl_ring.specs.declared.item.RingItem.{RingItem}
 use Rattle.dl_ring.specs.declared.item.RingItem.TheVariants as ring
 use Rattle.dl_ring.specs.declared.view.Sent.{Sent}

@@ -2,7 +2,7 @@
 use Rattle.std.specs.Prelude.{◌≡◌, ℕ, ◌<◌, true, false, List, [], length, Option, Some, None, slice_index_or}
 use Rattle.std.specs.Arc.{arc_value}
 use Rattle.std.specs.declared.sync.Arc.{Arc}
-use Rattle.dl_thread_rules.specs.Views.{times}
+use Rattle.dl_cells.specs.Views.{times}
 use Rattle.dl_ring.specs.declared.view.View.{View}
 
 -- a pass that pushes takes nothing, and has taken no other pass in

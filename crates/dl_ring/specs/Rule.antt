@@ -3,7 +3,7 @@ use Rattle.std.specs.Prelude.{◌≡◌, ℕ, ◌+◌, ◌≤◌, ◌==◌, ◌&
 use Rattle.std.specs.List.{All}
 use Rattle.dl_ring.specs.declared.item.RingItem.{RingItem}
 use Rattle.dl_ring.specs.declared.view.View.{View}
-use Rattle.dl_thread_rules.specs.Views.{Each, total, bit, times}
+use Rattle.dl_cells.specs.Views.{Each, total, bit, times}
 use Rattle.dl_ring.specs.Order.{of, passes}
 
 -- the view of a pass that pushes under this number and has pushed nothing

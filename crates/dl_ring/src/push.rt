@@ -1,7 +1,7 @@
 //! The passes with which writers push.
 
 ghost use Rattle.std.specs.Prelude.{◌≡◌, ◌+◌, ◌≤◌, ◌∷◌, [], ◌++◌, true, false, OnOk, OnErr, IfErr};
-ghost use Rattle.dl_thread_rules.specs.Views.{times};
+ghost use Rattle.dl_cells.specs.Views.{times};
 ghost use Rattle.dl_ring.specs.Items.{item_with};
 ghost use Rattle.dl_ring.specs.Order.{writer_of, MetFull};
 ghost use Rattle.dl_ring.specs.declared.item.RingItem.TheVariants as ring_item;
@@ -11,7 +11,7 @@ use crate::call::Call;
 use crate::item::RingItem;
 use crate::ring::{Push, Ring, RingPass, new_pass};
 use dl_bytes::Payload;
-use dl_thread_rules::one_more;
+use dl_cells::one_more;
 use std::marker::{Brand, Model};
 use std::sync::{Arc, Wait};
 

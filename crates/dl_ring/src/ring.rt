@@ -4,7 +4,7 @@ ghost use Rattle.std.specs.Prelude.{◌≡◌, ℕ, ◌+◌, ◌≤◌, ◌<◌,
 ghost use Rattle.std.specs.List.{All};
 ghost use Rattle.std.specs.Arc.{arc_value};
 ghost use Rattle.crossbeam_queue.specs.Passes.{view, IsSamePass, IsPassOf, ruled_capacity};
-ghost use Rattle.dl_thread_rules.specs.Views.{times};
+ghost use Rattle.dl_cells.specs.Views.{times};
 ghost use Rattle.dl_ring.specs.Rule.{pusher, with_given};
 ghost use Rattle.dl_ring.specs.Passes.{Owns};
 ghost use Rattle.dl_ring.specs.State.{unused_push, unused_take};

@@ -10,7 +10,7 @@ use crate::item::{RingItem, Taken};
 use crate::push::RingPush;
 use crate::ring::{Gather, Ring, RingPass, Take};
 use dl_bytes::Item;
-use dl_thread_rules::one_more;
+use dl_cells::one_more;
 use std::marker::Model;
 use std::sync::{Arc, Wait};
 

@@ -31,27 +31,6 @@ use Rattle.dl_lemmas.proofs.Options.{ifok_if}
 
 -- ---- nobody is there
 
-nobody_open : (hub : Hub) (number : ℕ) → hub.clients ≡ [] → outbox_of hub number ≡ None
-nobody_open hub number nobody =
-    ap (λ (cs : List Client). option_and_then (λ (c : Client). c.outbox) (cond (eqb number 0) None (slice_get cs (number - 1)))) nobody ∙ by (eqb number 0) where
-      by : (b : Bool) → option_and_then (λ (c : Client). c.outbox) (cond b None (slice_get {X = Client} [] (number - 1))) ≡ None
-      by true = refl
-      by false = refl
-
-pub nobody_fills : (more : ℕ) (hub : Hub) → hub.clients ≡ [] → EachHasRoom more hub
-nobody_fills more hub nobody = λ number. subst (λ (o : Option Waiting). IfSome o (λ w. length w.bytes + more ≤ w.capacity)) (sym (nobody_open hub number nobody)) tt
-
--- and a registration has no frames
-pub no_frames : (ecu : List ℕ) (msg : UserMsg) → IsRegistration msg → user_frames ecu msg ≡ []
-no_frames ecu (Log message) is = absurd is
-no_frames ecu (RegisterApp apid pid text) is = refl
-no_frames ecu (UnregisterApp apid pid) is = absurd is
-no_frames ecu (RegisterContext apid ctid position level trace pid text) is = refl
-no_frames ecu (UnregisterContext apid ctid pid) is = absurd is
-no_frames ecu (LogLevel level trace position) is = absurd is
-no_frames ecu (Injection position service body) is = absurd is
-no_frames ecu (Overflow counter apid) is = absurd is
-
 -- ---- numbers
 
 -- the applications have numbers below a limit, and are at most so many
@@ -62,10 +41,6 @@ record AreBelow (limit most : ℕ) (r : Registry) : Type 0 where
 all_push : (limit : ℕ) (ns : List ℕ) (n : ℕ) → AllByRecursion (λ k. k < limit) ns → n < limit → AllByRecursion (λ k. k < limit) (ns ++ n ∷ [])
 all_push limit [] n all last = (last, tt)
 all_push limit (k ∷ ns) n all last = (all.0, all_push limit ns n all.1 last)
-
-range_len : (from count : ℕ) → length (range_with_len from count) ≡ count
-range_len from zero = refl
-range_len from (suc count) = ap suc (range_len (from + 1) count)
 
 module _ (limit : ℕ) (r : Registry) (below : AllByRecursion (λ n. n < limit) (numbers r.apps)) where
   with_same : (most : ℕ) (apid : List ℕ) (old new : App) → length r.apps ≤ most → lookup (bytes_eq apid) r.apps ≡ Some old → new.number ≡ old.number → AreBelow limit most (with_app r apid new)

@@ -82,11 +82,6 @@ hello_first moment apps place app a b c is one two =
       each_both moment before two.0 a b c one two.3,
     )
 
--- after the last
-pub hello_all : (moment : Moment) (apps : List AppState) (place : ℕ) (a b : Side) → place ≡ length apps → GreetsEach moment (hello_of (take place apps)) a b → GreetsEach moment (hello_of apps) a b
-hello_all moment apps place a b is done =
-    subst (λ (xs : List AppState). GreetsEach moment (hello_of xs) a b) (ap (λ (n : ℕ). take n apps) is ∙ take-length apps) done
-
 pub on_err : {T E : Type 0} (P : Type 0) (r : Result T E) → P → OnErr r P
 on_err P (Ok x) is = tt
 on_err P (Err e) is = is

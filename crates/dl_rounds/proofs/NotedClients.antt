@@ -21,7 +21,7 @@ use Rattle.dl_outside.specs.Told.{LinkTold}
 use Rattle.dl_hub.specs.State.{Client as HubClient, client_of, outbox_of}
 use Rattle.dl_core.specs.Follows.{IsAfter, Run, source_of}
 use Rattle.dl_core.specs.State.{Core}
-use Rattle.dl_well_formed.proofs.OpenClients.{its_stream}
+use Rattle.dl_core.proofs.OpenClients.{its_stream}
 use Rattle.dl_turns.specs.Gone.{IsShown, Tells}
 use Rattle.dl_turns.specs.Later.{HasLeft, IsLaterStage, IsOpenWith, LeavesSo}
 use Rattle.dl_turns.specs.Sent.{HasCut}

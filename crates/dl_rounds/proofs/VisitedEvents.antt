@@ -16,8 +16,8 @@ use Rattle.dl_outside.specs.Told.{LinkTold}
 use Rattle.dl_hub.specs.Follows.{took_more}
 use Rattle.dl_core.specs.Admission.{AddsEach}
 use Rattle.dl_core.specs.Follows.{HoldsTrace, IsAfter, Run}
-use Rattle.dl_well_formed.specs.Next.{ComeInTurn}
-use Rattle.dl_well_formed.proofs.Following.{both_come}
+use Rattle.dl_core.specs.Next.{ComeInTurn}
+use Rattle.dl_core.proofs.Following.{both_come}
 use Rattle.dl_turns.specs.Gone.{IsShown, Tells}
 use Rattle.dl_turns.specs.Injected.{HasPosted}
 use Rattle.dl_turns.specs.Later.{IsCalm, IsDeskLater, IsLater, IsLaterStage, close_of}

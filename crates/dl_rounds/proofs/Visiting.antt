@@ -46,7 +46,3 @@ visited_next told desk_told events folder_told Visit last number here later link
     let same : between ≡ with_client number now old =
     ap (λ (ls : List LinkTold). record { links = ls; listeners = slice_set listeners (number - 1) listener_now; side = now.side }) (set_map told links.links (number - 1) link_now) in
     visited_one Visit last number here later old between new was now next is visit same rest
-
--- no client above the last one is open
-pub none_above : (hub : Hub) (last : ℕ) (o : Option ℕ) → IsNextOpen hub last o → o ≡ None → IsNextOpen hub last None
-none_above hub last o next none = subst (λ (x : Option ℕ). IsNextOpen hub last x) none next

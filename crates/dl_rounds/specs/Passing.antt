@@ -13,7 +13,7 @@ use Rattle.dl_hub.specs.State.{Client as HubClient, client_of, outbox_of}
 use Rattle.dl_core.specs.Admission.{AddsEach}
 use Rattle.dl_core.specs.Follows.{HoldsTrace, IsAfter, Run, source_of}
 use Rattle.dl_core.specs.State.{Core}
-use Rattle.dl_well_formed.specs.Next.{ComeInTurn}
+use Rattle.dl_core.specs.Next.{ComeInTurn}
 use Rattle.dl_turns.specs.Gone.{IsShown, Tells}
 use Rattle.dl_turns.specs.Injected.{HasPosted}
 use Rattle.dl_turns.specs.Later.{IsDeskLater, IsLaterStage}

@@ -4,12 +4,9 @@ ghost use Rattle.std.specs.Prelude.{◌≡◌, IfOk, replicate};
 ghost use Rattle.dl_bytes.specs.Limits.{message_limit};
 ghost use Rattle.dl_message.specs.Cutting.{unfed};
 
-use dl_bytes::OutOfMemory;
+use dl_bytes::{MESSAGE_LIMIT, OutOfMemory};
 use dl_message::Cutter;
 use std::alloc::Global;
-
-/// The longest message that a client may send.
-const MESSAGE_LIMIT: u16 = 2048;
 
 /// What cuts the bytes of a client, and how many of its requests were served.
 #[derive(Debug, Drop)]

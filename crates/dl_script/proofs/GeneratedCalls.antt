@@ -3,8 +3,8 @@ use Rattle.std.proofs.Common.{◌≡◌, ℕ, zero, suc, ◌+◌, ◌%◌, ◌<�
 use Rattle.std.specs.Prelude.{codes}
 use Rattle.std.proofs.Math.Dec.{lit≤}
 use Rattle.std.proofs.lemmas.Bool.{le-ltb}
-use Rattle.dl_script_lines.specs.declared.step.Step.{Step}
-use Rattle.dl_script_lines.specs.declared.step.Step.TheVariants as step
+use Rattle.dl_script_model.specs.declared.step.Step.{Step}
+use Rattle.dl_script_model.specs.declared.step.Step.TheVariants as step
 use Rattle.dl_script_fields.specs.declared.kind.ScriptKind.TheVariants.{Unknown, Limit}
 use Rattle.dl_script.specs.Earlier.{Declared, is_app, logs_under, first_of, refusal}
 use Rattle.dl_script.specs.Generated.{draw, app_id, context_id, level_request, Drawn, call_at, take_at, losses_at, request_at, turn}

@@ -4,8 +4,8 @@ use Rattle.std.specs.Prelude.{IfSome, option_map}
 use Rattle.std.specs.Option.{ok_or}
 use Rattle.std.specs.Str.{is_utf8}
 use Rattle.dl_bytes.specs.Payload.{Arguments}
-use Rattle.dl_script_lines.specs.declared.scenario.ScenarioLine.{ScenarioLine}
-use Rattle.dl_script_lines.specs.declared.scenario.ScenarioLine.TheVariants as line
+use Rattle.dl_script_model.specs.declared.scenario.ScenarioLine.{ScenarioLine}
+use Rattle.dl_script_model.specs.declared.scenario.ScenarioLine.TheVariants as line
 use Rattle.dl_script_fields.specs.Fields.{worded, fields_of}
 use Rattle.dl_script_fields.specs.Line.{bare_line, bytes_line, id_line, leave_line}
 use Rattle.dl_script_fields.specs.declared.kind.ScriptKind.TheVariants as wrong

@@ -7,8 +7,8 @@ use Rattle.std.proofs.Math.Dec.{lit≤}
 use Rattle.std.proofs.lemmas.Bool.{ltb-false}
 use Rattle.std.proofs.lemmas.Result.{IfOk-at_ok}
 use Rattle.bstr.proofs.lemmas.LengthLemmas.{length-lines}
-use Rattle.dl_script_lines.specs.declared.scenario.ScenarioLine.{ScenarioLine}
-use Rattle.dl_script_lines.specs.declared.step.Step.{Step}
+use Rattle.dl_script_model.specs.declared.scenario.ScenarioLine.{ScenarioLine}
+use Rattle.dl_script_model.specs.declared.step.Step.{Step}
 use Rattle.dl_text.specs.Faults.{size_limit}
 use Rattle.dl_text.specs.Lines.{lines_of}
 use Rattle.dl_script_fields.specs.Kind.{◌>>=◌}

@@ -1,7 +1,7 @@
 -- A line that spells a line of a scenario says it.
 use Rattle.std.proofs.Common.{◌≡◌, ℕ, List, Ok, refl, lit<}
-use Rattle.dl_script_lines.specs.declared.scenario.ScenarioLine.{ScenarioLine}
-use Rattle.dl_script_lines.specs.declared.scenario.ScenarioLine.TheVariants as scenario
+use Rattle.dl_script_model.specs.declared.scenario.ScenarioLine.{ScenarioLine}
+use Rattle.dl_script_model.specs.declared.scenario.ScenarioLine.TheVariants as scenario
 use Rattle.dl_script_fields.proofs.SpelledLines.{AreGood, nothing_says, nothing_good, app_says, app_good, context_says, context_good, claim_says, claim_good, apid_says, apid_good, call_says, call_good, sent_says, sent_good, leave_says, leave_good}
 use Rattle.dl_script_fields.specs.Word.{scenario_word}
 use Rattle.dl_script.specs.Line.{says, scenario_by_word, scenario_line_of}

@@ -1,8 +1,8 @@
 -- A line that spells a step says it.
 use Rattle.std.proofs.Common.{◌≡◌, ℕ, List, Some, Ok, refl, lit<}
-use Rattle.dl_script_lines.specs.declared.line.CallLine.{CallLine}
-use Rattle.dl_script_lines.specs.declared.step.Step.{Step}
-use Rattle.dl_script_lines.specs.declared.step.Step.TheVariants as step
+use Rattle.dl_script_model.specs.declared.line.CallLine.{CallLine}
+use Rattle.dl_script_model.specs.declared.step.Step.{Step}
+use Rattle.dl_script_model.specs.declared.step.Step.TheVariants as step
 use Rattle.dl_script_fields.specs.Line.{call_line}
 use Rattle.dl_script_fields.specs.declared.line.Call.{Call}
 use Rattle.dl_script_fields.proofs.SpelledLines.{AreGood, nothing_says, nothing_good, app_says, app_good, context_says, context_good, claim_says, claim_good, apid_says, apid_good, call_says, call_good, clock_says, clock_good, writer_says, writer_good, levels_say, levels_good, client_says, client_good, sent_says, sent_good, user_says, user_good}

@@ -1,7 +1,7 @@
 -- Steps of which each may follow those before it.
 use Rattle.std.proofs.Common.{◌≡◌, ℕ, ◌+◌, ◌≤◌, List, [], ◌∷◌, ◌++◌, length, refl, sym, subst, ◌∙◌, arith, length-append}
 use Rattle.std.specs.List.{AllByRecursion}
-use Rattle.dl_script_lines.specs.declared.step.Step.{Step}
+use Rattle.dl_script_model.specs.declared.step.Step.{Step}
 use Rattle.dl_script.specs.Earlier.{Declared, noted}
 use Rattle.dl_script.specs.Spelled.{MayFollow, step_claim}
 use Rattle.dl_script.specs.Playable.{IsInBounds}

@@ -1,6 +1,6 @@
 -- The steps of one call more.
 use Rattle.std.proofs.Common.{◌≡◌, ℕ, suc, ◌+◌, ◌-◌, ◌<◌, ◌≤◌, List, ◌++◌, sym, append_assoc, append-nil, arith}
-use Rattle.dl_script_lines.specs.declared.step.Step.{Step}
+use Rattle.dl_script_model.specs.declared.step.Step.{Step}
 use Rattle.dl_script.specs.Generated.{turn, turns}
 
 pub one_turn : (front : List Step) (calls i x : ℕ) → i < calls

@@ -5,8 +5,8 @@ use Rattle.dl_bytes.specs.declared.level.Severity.TheVariants.{Fatal, Error, War
 use Rattle.dl_args.specs.Argument.{written}
 use Rattle.dl_args.specs.declared.arg.Arg.TheVariants.{Uint}
 use Rattle.dl_args.specs.declared.width.Width.TheVariants.{W32}
-use Rattle.dl_script_lines.specs.declared.step.Step.{Step}
-use Rattle.dl_script_lines.specs.declared.step.Step.TheVariants as step
+use Rattle.dl_script_model.specs.declared.step.Step.{Step}
+use Rattle.dl_script_model.specs.declared.step.Step.TheVariants as step
 
 -- ---- draws
 

@@ -3,11 +3,11 @@ use Rattle.std.specs.Prelude.{ℕ, Bool, false, ◌==◌, ◌||◌, List, [], �
 use Rattle.std.specs.List.{list_all}
 use Rattle.std.specs.Option.{ok_or}
 use Rattle.std.specs.Str.{is_utf8}
-use Rattle.dl_script_lines.specs.declared.line.CallLine.{CallLine}
-use Rattle.dl_script_lines.specs.declared.step.Step.{Step}
-use Rattle.dl_script_lines.specs.declared.step.Step.TheVariants as step
-use Rattle.dl_script_lines.specs.declared.scenario.ScenarioLine.{ScenarioLine}
-use Rattle.dl_script_lines.specs.declared.scenario.ScenarioLine.TheVariants as scenario
+use Rattle.dl_script_model.specs.declared.line.CallLine.{CallLine}
+use Rattle.dl_script_model.specs.declared.step.Step.{Step}
+use Rattle.dl_script_model.specs.declared.step.Step.TheVariants as step
+use Rattle.dl_script_model.specs.declared.scenario.ScenarioLine.{ScenarioLine}
+use Rattle.dl_script_model.specs.declared.scenario.ScenarioLine.TheVariants as scenario
 use Rattle.dl_text.specs.Lines.{is_blank}
 use Rattle.dl_script_fields.specs.Fields.{worded, fields_of}
 use Rattle.dl_script_fields.specs.Kind.{◌>>=◌}

@@ -1,8 +1,8 @@
 -- What a script says, line by line, or its first bad line and what is wrong with it.
 use Rattle.std.specs.Prelude.{◌≡◌, ℕ, ◌+◌, nat_lt, List, [], ◌∷◌, length, Option, Some, None, Result, Ok, Err, if◌then◌else◌}
 use Rattle.std.specs.Option.{ok_or}
-use Rattle.dl_script_lines.specs.declared.step.Step.{Step}
-use Rattle.dl_script_lines.specs.declared.scenario.ScenarioLine.{ScenarioLine}
+use Rattle.dl_script_model.specs.declared.step.Step.{Step}
+use Rattle.dl_script_model.specs.declared.scenario.ScenarioLine.{ScenarioLine}
 use Rattle.dl_script.specs.Earlier.{Declared, nothing, refusal, noted}
 use Rattle.dl_text.specs.Faults.{size_limit}
 use Rattle.dl_text.specs.Lines.{lines_of}

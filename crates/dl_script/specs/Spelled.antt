@@ -4,14 +4,14 @@ use Rattle.std.specs.List.{flat_map, AllByRecursion}
 use Rattle.hex.specs.Hex.{IsBytes}
 use Rattle.dl_bytes.specs.Payload.{Arguments}
 use Rattle.dl_args.specs.declared.arg.Arg.{Arg}
-use Rattle.dl_script_lines.specs.declared.line.AppLine.{AppLine}
-use Rattle.dl_script_lines.specs.declared.line.CallLine.{CallLine}
-use Rattle.dl_script_lines.specs.declared.line.ClaimLine.{ClaimLine}
-use Rattle.dl_script_lines.specs.declared.line.ContextLine.{ContextLine}
-use Rattle.dl_script_lines.specs.declared.scenario.ScenarioLine.{ScenarioLine}
-use Rattle.dl_script_lines.specs.declared.scenario.ScenarioLine.TheVariants as scenario
-use Rattle.dl_script_lines.specs.declared.step.Step.{Step}
-use Rattle.dl_script_lines.specs.declared.step.Step.TheVariants as step
+use Rattle.dl_script_model.specs.declared.line.AppLine.{AppLine}
+use Rattle.dl_script_model.specs.declared.line.CallLine.{CallLine}
+use Rattle.dl_script_model.specs.declared.line.ClaimLine.{ClaimLine}
+use Rattle.dl_script_model.specs.declared.line.ContextLine.{ContextLine}
+use Rattle.dl_script_model.specs.declared.scenario.ScenarioLine.{ScenarioLine}
+use Rattle.dl_script_model.specs.declared.scenario.ScenarioLine.TheVariants as scenario
+use Rattle.dl_script_model.specs.declared.step.Step.{Step}
+use Rattle.dl_script_model.specs.declared.step.Step.TheVariants as step
 use Rattle.dl_script_fields.specs.Argument.{payload_of}
 use Rattle.dl_script_fields.specs.Joined.{parted_by_blanks}
 use Rattle.dl_script_fields.specs.Spells.{SpellsId, IsShortText, IsSaid, SpellsNothing, SpellsApp, SpellsContext, SpellsClaim, SpellsApid, SpellsCall, SpellsClock, SpellsWriter, SpellsLevels, SpellsClient, SpellsSent, SpellsUser, SpellsLeave}

@@ -1,7 +1,7 @@
 //! What a line of a step script or of a scenario says: its word chooses what its fields are.
 
 ghost use Rattle.std.specs.Prelude.{◌≡◌};
-ghost use Rattle.dl_script_lines.specs.declared.step.Step.TheVariants as step;
+ghost use Rattle.dl_script_model.specs.declared.step.Step.TheVariants as step;
 ghost use Rattle.dl_script_fields.specs.Fields.{texts};
 ghost use Rattle.dl_script_fields.specs.Kind.{Says};
 ghost use Rattle.dl_script_fields.specs.Word.{step_word, scenario_word};
@@ -18,7 +18,7 @@ use dl_script_fields::{
     client_number, clock, context, cut_into, leave, levels, log_call, scenario_word, step_word,
     user, worded, writer_number,
 };
-use dl_script_lines::{ScenarioLine, Step};
+use dl_script_model::{ScenarioLine, Step};
 use std::alloc::Global;
 use std::str::from_utf8;
 

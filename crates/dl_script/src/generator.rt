@@ -5,11 +5,11 @@ ghost use Rattle.dl_args.specs.Argument.{written};
 ghost use Rattle.dl_args.specs.declared.arg.Arg.TheVariants.{Uint};
 ghost use Rattle.dl_args.specs.declared.width.Width.TheVariants.{W32};
 ghost use Rattle.dl_script.specs.Generated.{next, draw, app_id, context_id, severity_at, level_request, declares, call, call_at, take_at, losses_at, request_at, turn, started, generated};
-ghost use Rattle.dl_script_lines.specs.declared.step.Step.TheVariants as step;
+ghost use Rattle.dl_script_model.specs.declared.step.Step.TheVariants as step;
 
 use dl_args::{Width, add_uint};
 use dl_bytes::{Bytes, Id, OutOfMemory, OwnLevel, Payload, Severity};
-use dl_script_lines::{AppLine, CallArguments, CallLine, ContextLine, Step, StepList};
+use dl_script_model::{AppLine, CallArguments, CallLine, ContextLine, Step, StepList};
 use std::alloc::Global;
 
 /// The whole of a SetLogLevel request for every context, but for its level.

@@ -4,8 +4,8 @@ ghost use Rattle.std.specs.Prelude.{◌≡◌, ◌≤◌, ◌++◌, ◌+◌, ◌
 ghost use Rattle.std.specs.List.{list_all};
 ghost use Rattle.std.specs.Str.{is_utf8};
 ghost use Rattle.dl_script_fields.specs.Joined.{is_field, is_plain, parted_by_blanks};
-ghost use Rattle.dl_script_lines.specs.declared.scenario.ScenarioLine.{ScenarioLine};
-ghost use Rattle.dl_script_lines.specs.declared.step.Step.{Step};
+ghost use Rattle.dl_script_model.specs.declared.scenario.ScenarioLine.{ScenarioLine};
+ghost use Rattle.dl_script_model.specs.declared.step.Step.{Step};
 ghost use Rattle.dl_text.specs.Faults.{size_limit};
 ghost use Rattle.dl_script.specs.Earlier.{nothing};
 ghost use Rattle.dl_script.specs.Generated.{generated};

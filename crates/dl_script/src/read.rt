@@ -6,7 +6,7 @@ ghost use Rattle.dl_script.specs.declared.claim.Claim.TheVariants as claim;
 
 use crate::claim::Claim;
 use dl_script_fields::Call;
-use dl_script_lines::ScenarioLine;
+use dl_script_model::ScenarioLine;
 
 /// What a line says, and what it declares or asks.
 #[derive(Drop)]

@@ -13,7 +13,7 @@ use crate::claim::Known;
 use crate::error::ScriptError;
 use crate::scratch::Scratch;
 use dl_script_fields::{LineError, ScriptKind};
-use dl_script_lines::{Scenario, ScenarioLine, Step, StepList};
+use dl_script_model::{Scenario, ScenarioLine, Step, StepList};
 use dl_text::{SIZE_LIMIT, is_blank, lines};
 use std::alloc::Global;
 

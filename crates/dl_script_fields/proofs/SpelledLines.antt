@@ -7,12 +7,12 @@ use Rattle.std.proofs.lemmas.Str.{IsUtf8-append, IsUtf8-nil, IsUtf8-from_ascii, 
 use Rattle.dl_bytes.specs.Payload.{Arguments}
 use Rattle.dl_bytes.specs.declared.level.Severity.{Severity}
 use Rattle.dl_args.specs.declared.arg.Arg.{Arg}
-use Rattle.dl_script_lines.specs.declared.line.AppLine.{AppLine}
-use Rattle.dl_script_lines.specs.declared.line.ClaimLine.{ClaimLine}
-use Rattle.dl_script_lines.specs.declared.line.ContextLine.{ContextLine}
-use Rattle.dl_script_lines.specs.declared.step.LevelEvents.{LevelEvents}
-use Rattle.dl_script_lines.specs.declared.step.LevelEvents.TheVariants.{Later, Now}
-use Rattle.dl_script_lines.specs.declared.step.Step.TheVariants as step
+use Rattle.dl_script_model.specs.declared.line.AppLine.{AppLine}
+use Rattle.dl_script_model.specs.declared.line.ClaimLine.{ClaimLine}
+use Rattle.dl_script_model.specs.declared.line.ContextLine.{ContextLine}
+use Rattle.dl_script_model.specs.declared.step.LevelEvents.{LevelEvents}
+use Rattle.dl_script_model.specs.declared.step.LevelEvents.TheVariants.{Later, Now}
+use Rattle.dl_script_model.specs.declared.step.Step.TheVariants as step
 use Rattle.dl_script_fields.specs.Argument.{is_argument, arguments_of, payload_of}
 use Rattle.dl_script_fields.specs.Joined.{is_field, parted_by_blanks}
 use Rattle.dl_script_fields.specs.Kind.{◌>>=◌, is_of_form}

@@ -1,6 +1,6 @@
 -- What a field says as an argument has a written form.
 use Rattle.std.proofs.Common.{◌≡◌, ℕ, ◌+◌, ◌*◌, ◌≤◌, Bool, true, false, ◌&&◌, leb, cond, List, [], ◌∷◌, length, Option, Some, None, Result, Ok, Err, refl, subst, length-append, append-nil, arith}
-use Rattle.std.specs.Option.{option_map_or}
+use Rattle.std.specs.Option.{option_map_or, ok_or}
 use Rattle.std.specs.List.{AllByRecursion, flat_map}
 use Rattle.std.proofs.lemmas.Bool.{leb-true, and_parts}
 use Rattle.dl_bytes.specs.Payload.{Arguments}
@@ -11,7 +11,6 @@ use Rattle.dl_args.specs.Width.{byte_count}
 use Rattle.dl_args.specs.declared.arg.Arg.{Arg}
 use Rattle.dl_args.specs.declared.arg.Arg.TheVariants as arg
 use Rattle.dl_args.proofs.WrittenForms.{written_again}
-use Rattle.std.specs.Option.{ok_or}
 use Rattle.dl_script_fields.specs.Kind.{◌>>=◌, made}
 use Rattle.dl_script_fields.specs.Argument.{unescaped, truth_of, fill_of, raw_of, kind_of, value_by_kind, parted, behind_quote, quoted_value, word_value, value_of, may_name, with_name, behind_named, named_of, argument_of, arguments_of, payload_of}
 use Rattle.dl_script_fields.specs.declared.kind.ScriptKind.{ScriptKind}

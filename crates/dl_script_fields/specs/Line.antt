@@ -3,14 +3,14 @@ use Rattle.std.specs.Prelude.{ℕ, nat_le, List, [], ◌∷◌, length, codes, O
 use Rattle.std.specs.List.{list_all}
 use Rattle.std.specs.Option.{ok_or}
 use Rattle.dl_bytes.specs.Payload.{Arguments}
-use Rattle.dl_script_lines.specs.declared.line.AppLine.{AppLine}
-use Rattle.dl_script_lines.specs.declared.line.ContextLine.{ContextLine}
-use Rattle.dl_script_lines.specs.declared.line.CallLine.{CallLine}
-use Rattle.dl_script_lines.specs.declared.line.ClaimLine.{ClaimLine}
-use Rattle.dl_script_lines.specs.declared.step.LevelEvents.{LevelEvents}
-use Rattle.dl_script_lines.specs.declared.step.LevelEvents.TheVariants.{Later, Now}
-use Rattle.dl_script_lines.specs.declared.step.Step.{Step}
-use Rattle.dl_script_lines.specs.declared.step.Step.TheVariants as step
+use Rattle.dl_script_model.specs.declared.line.AppLine.{AppLine}
+use Rattle.dl_script_model.specs.declared.line.ContextLine.{ContextLine}
+use Rattle.dl_script_model.specs.declared.line.CallLine.{CallLine}
+use Rattle.dl_script_model.specs.declared.line.ClaimLine.{ClaimLine}
+use Rattle.dl_script_model.specs.declared.step.LevelEvents.{LevelEvents}
+use Rattle.dl_script_model.specs.declared.step.LevelEvents.TheVariants.{Later, Now}
+use Rattle.dl_script_model.specs.declared.step.Step.{Step}
+use Rattle.dl_script_model.specs.declared.step.Step.TheVariants as step
 use Rattle.dl_script_fields.specs.Argument.{behind_quote, unescaped, raw_of, is_argument, arguments_of, payload_of}
 use Rattle.dl_script_fields.specs.Kind.{◌>>=◌, is_of_form, formed}
 use Rattle.dl_script_fields.specs.Value.{is_word, id_field, number_field, count_field, ordinal_field, severity_field, level_field}

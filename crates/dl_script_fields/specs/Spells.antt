@@ -11,11 +11,11 @@ use Rattle.dl_bytes.specs.declared.level.Severity.{Severity}
 use Rattle.dl_bytes.specs.declared.level.Severity.TheVariants.{Fatal, Error, Warn, Info, Debug, Verbose}
 use Rattle.dl_args.specs.declared.arg.Arg.{Arg}
 use Rattle.dl_args.specs.declared.arg.Arg.TheVariants as arg
-use Rattle.dl_script_lines.specs.declared.line.AppLine.{AppLine}
-use Rattle.dl_script_lines.specs.declared.line.ClaimLine.{ClaimLine}
-use Rattle.dl_script_lines.specs.declared.line.ContextLine.{ContextLine}
-use Rattle.dl_script_lines.specs.declared.step.LevelEvents.{LevelEvents}
-use Rattle.dl_script_lines.specs.declared.step.LevelEvents.TheVariants.{Later, Now}
+use Rattle.dl_script_model.specs.declared.line.AppLine.{AppLine}
+use Rattle.dl_script_model.specs.declared.line.ClaimLine.{ClaimLine}
+use Rattle.dl_script_model.specs.declared.line.ContextLine.{ContextLine}
+use Rattle.dl_script_model.specs.declared.step.LevelEvents.{LevelEvents}
+use Rattle.dl_script_model.specs.declared.step.LevelEvents.TheVariants.{Later, Now}
 use Rattle.dl_text.specs.Lines.{is_blank}
 use Rattle.dl_script_fields.specs.Argument.{payload_of}
 use Rattle.dl_script_fields.specs.Spelling.{escaped, spelling, IsSayable}

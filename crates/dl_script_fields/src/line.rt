@@ -11,7 +11,7 @@ use crate::argument::{add, behind_quote, has_form, is_closed, raw, unescape};
 use crate::kind::{LineError, ScriptKind};
 use crate::value::{client, count, id, number, own_level, severity, writer};
 use dl_bytes::{Bytes, ClaimText, Id, Payload, Severity, TEXT_LIMIT};
-use dl_script_lines::{
+use dl_script_model::{
     AppLine, CallArguments, CallLine, ClaimLine, ContextLine, LevelEvents, Step,
 };
 use std::alloc::Global;

@@ -13,26 +13,26 @@ use Rattle.dl_bytes.specs.Claim.{Claimed}
 use Rattle.dl_bytes.specs.declared.outcome.Done.{Done}
 use Rattle.dl_events.specs.declared.event.Event.{Event}
 use Rattle.dl_events.specs.declared.event.Event.TheVariants as event
-use Rattle.dl_script_lines.specs.declared.step.Step.{Step}
+use Rattle.dl_script_model.specs.declared.step.Step.{Step}
 use Rattle.dl_model.proofs.StandingApps.{AreFirst, Who, channel_found, there, who}
 use Rattle.dl_script.specs.Playable.{IsPlayable}
 use Rattle.dl_model.specs.declared.context.Context.{Context}
 use Rattle.dl_model.specs.Along.{last_that}
 use Rattle.dl_model.specs.Journal.{registry_of}
-use Rattle.dl_model.specs.Marks.{Call, Mark, app_of_writer, claim_of, claims_of, event_of, journal, number_of, place_of}
+use Rattle.dl_script_model.specs.Marks.{Call, Mark, app_of_writer, claim_of, claims_of, event_of, journal, number_of, place_of}
 use Rattle.dl_model.specs.Registry.{App, Registry, context_of, numbers, slot_of}
 use Rattle.dl_model.specs.Setting.{Setting}
-use Rattle.dl_model.specs.Steps.{run}
+use Rattle.dl_script_model.specs.Steps.{run}
 use Rattle.dl_model.proofs.Order.{app_of_found, in_order-registry_of}
 use Rattle.dl_model.proofs.Presence.{bytes_same, same_bytes}
-use Rattle.dl_laws.proofs.Founded.{run_founded}
+use Rattle.dl_runs.proofs.Founded.{run_founded}
 use Rattle.dl_laws.proofs.Lists.{find-passes, last_that-one}
-use Rattle.dl_promises.specs.RunRecords.{IsLoadedIn}
-use Rattle.dl_promises.specs.WaitingClaims.{IsRegistered}
-use Rattle.dl_promises.proofs.ClaimPlaces.{IsOwnClaim, all_own}
-use Rattle.dl_promises.proofs.OwnApps.{number_more, writer_more}
-use Rattle.dl_promises.proofs.Relations.{AreAll, holds_on, second_part}
-use Rattle.dl_promises.proofs.UniqueIds.{AreUnique, numbered, unique-registry_of}
+use Rattle.dl_runs.specs.RunRecords.{IsLoadedIn}
+use Rattle.dl_runs.specs.WaitingClaims.{IsRegistered}
+use Rattle.dl_runs.proofs.ClaimPlaces.{IsOwnClaim, all_own}
+use Rattle.dl_runs.proofs.OwnApps.{number_more, writer_more}
+use Rattle.dl_runs.proofs.Relations.{AreAll, holds_on, second_part}
+use Rattle.dl_laws.proofs.UniqueIds.{AreUnique, numbered, unique-registry_of}
 use Rattle.dl_script_runs.specs.OwnSlots.{IsInOwnSlot, IsTaken, claim_named}
 use Rattle.dl_script_runs.proofs.FairMarks.{Fair, StaysIn, events_stay, load_named, run_fair}
 use Rattle.dl_script_runs.proofs.LeftFree.{found_number, number_is}

@@ -15,11 +15,11 @@ use Rattle.dl_bytes.specs.declared.user.UserMsg.{UserMsg}
 use Rattle.dl_bytes.specs.declared.user.UserMsg.TheVariants as user
 use Rattle.dl_events.specs.declared.event.Event.{Event}
 use Rattle.dl_events.specs.declared.event.Event.TheVariants as event
-use Rattle.dl_script_lines.specs.declared.line.ContextLine.{ContextLine}
-use Rattle.dl_script_lines.specs.declared.step.Step.{Step}
-use Rattle.dl_script_lines.specs.declared.step.Step.TheVariants as line
+use Rattle.dl_script_model.specs.declared.line.ContextLine.{ContextLine}
+use Rattle.dl_script_model.specs.declared.step.Step.{Step}
+use Rattle.dl_script_model.specs.declared.step.Step.TheVariants as line
 use Rattle.dl_model.proofs.StandingApps.{channel_found, is_message}
-use Rattle.dl_model.proofs.Marks.{in_sequence-one}
+use Rattle.dl_script_model.proofs.Marks.{in_sequence-one}
 use Rattle.dl_script_fields.specs.declared.kind.ScriptKind.{ScriptKind}
 use Rattle.dl_script_fields.specs.declared.kind.ScriptKind.TheVariants.{Limit, Order, Twice}
 use Rattle.dl_script.specs.Earlier.{Declared, is_app, is_on, noted, nothing, refusal}
@@ -29,22 +29,22 @@ use Rattle.dl_script.specs.Playable.{IsInBounds, IsPlayable}
 use Rattle.dl_script.specs.Spelled.{MayFollow, step_claim}
 use Rattle.dl_model.specs.Accounts.{claims}
 use Rattle.dl_model.specs.Journal.{registry_of, slots_of, step}
-use Rattle.dl_model.specs.Marks.{Mark, HasApp, HasContext, Heard, Noted, claim_of, context_of, contexts_of, event_of, journal, moment}
+use Rattle.dl_script_model.specs.Marks.{Mark, HasApp, HasContext, Heard, Noted, claim_of, context_of, contexts_of, event_of, journal, moment}
 use Rattle.dl_model.specs.Registry.{Registry, applied, least_free, places}
 use Rattle.dl_model.specs.Setting.{Setting}
-use Rattle.dl_model.specs.Steps.{Act, act_of, after_lines, end_of, in_sequence, just, new_messages, note_levels, note_levels_now, run, tell}
+use Rattle.dl_script_model.specs.Steps.{Act, act_of, after_lines, end_of, in_sequence, just, new_messages, note_levels, note_levels_now, run, tell}
 use Rattle.dl_model.proofs.Numbered.{below_least_free}
 use Rattle.dl_model.proofs.OneMore.{registry-one}
 use Rattle.dl_model.proofs.Order.{app_of_found, in_order-registry_of}
 use Rattle.dl_model.proofs.Presence.{bytes_same}
-use Rattle.dl_model.specs.Runs.{AreFounded}
-use Rattle.dl_laws.proofs.Founded.{lines_founded}
-use Rattle.dl_promises.specs.WaitingClaims.{IsFreeIn, IsUntaken, LeavesFree, MessagesLeaveFree}
-use Rattle.dl_promises.proofs.ClaimPlaces.{noted_are}
-use Rattle.dl_promises.proofs.EarlyCalls.{stand_and_owe}
-use Rattle.dl_promises.proofs.FreePlaces.{lack-lookup, unused}
-use Rattle.dl_promises.proofs.Relations.{AreAll, Keeps, both, holds_on, turns, weaker}
-use Rattle.dl_promises.proofs.WellFormed.{Stands, lines_stand, plain}
+use Rattle.dl_script_model.specs.Runs.{AreFounded}
+use Rattle.dl_runs.proofs.Founded.{lines_founded}
+use Rattle.dl_runs.specs.WaitingClaims.{IsFreeIn, IsUntaken, LeavesFree, MessagesLeaveFree}
+use Rattle.dl_runs.proofs.ClaimPlaces.{noted_are}
+use Rattle.dl_runs.proofs.EarlyCalls.{stand_and_owe}
+use Rattle.dl_runs.proofs.FreePlaces.{lack-lookup, unused}
+use Rattle.dl_runs.proofs.Relations.{AreAll, Keeps, both, holds_on, turns, weaker}
+use Rattle.dl_runs.proofs.WellFormed.{Stands, lines_stand, plain}
 use Rattle.dl_script_runs.proofs.ContextsFirst as first
 use Rattle.dl_script_runs.proofs.ContextsFirst.{context_admitted, none_tracked}
 use Rattle.dl_script_runs.proofs.LeftFree.{Spares, alone_at, number_is, own_channel, told_free}

@@ -8,23 +8,23 @@ use Rattle.dl_lemmas.proofs.Bools.{neither, not_false}
 use Rattle.dl_bytes.specs.Claim.{Claimed}
 use Rattle.dl_bytes.specs.declared.outcome.Done.{Done}
 use Rattle.dl_bytes.specs.declared.user.UserMsg.TheVariants as user
-use Rattle.dl_script_lines.specs.declared.line.ClaimLine.{ClaimLine}
-use Rattle.dl_script_lines.specs.declared.line.ContextLine.{ContextLine}
-use Rattle.dl_script_lines.specs.declared.step.Step.{Step}
-use Rattle.dl_script_lines.specs.declared.step.Step.TheVariants as line
-use Rattle.dl_model.proofs.Marks.{in_sequence-one}
+use Rattle.dl_script_model.specs.declared.line.ClaimLine.{ClaimLine}
+use Rattle.dl_script_model.specs.declared.line.ContextLine.{ContextLine}
+use Rattle.dl_script_model.specs.declared.step.Step.{Step}
+use Rattle.dl_script_model.specs.declared.step.Step.TheVariants as line
+use Rattle.dl_script_model.proofs.Marks.{in_sequence-one}
 use Rattle.dl_script_fields.specs.declared.kind.ScriptKind.{ScriptKind}
 use Rattle.dl_script_fields.specs.declared.kind.ScriptKind.TheVariants.{Limit, Order, Twice, Unknown}
 use Rattle.dl_script.specs.Earlier.{Declared, first_of, is_app, is_claimed_on, is_context, is_on, noted, nothing, numbered, places_on, refusal}
 use Rattle.dl_script.specs.declared.claim.Claim.TheVariants as claim_of_line
 use Rattle.dl_script.specs.Playable.{IsPlayable}
 use Rattle.dl_script.specs.Spelled.{MayFollow, step_claim}
-use Rattle.dl_model.specs.Marks.{Mark, HasApp, HasContext, HasClaim, Heard, claim_of, number_of, writers}
+use Rattle.dl_script_model.specs.Marks.{Mark, HasApp, HasContext, HasClaim, Heard, claim_of, number_of, writers}
 use Rattle.dl_model.specs.Setting.{Setting}
-use Rattle.dl_model.specs.Steps.{Act, act_of, announce_all, claim, claim_made, end_of, finish, in_sequence, just, new_messages, run, tell}
-use Rattle.dl_promises.specs.WaitingClaims.{ComesFirst, ContextsComeFirst}
-use Rattle.dl_promises.proofs.ClaimPlaces.{same_id}
-use Rattle.dl_promises.proofs.Relations.{AreAll, Keeps, asked_for, both, each, turns, weaker}
+use Rattle.dl_script_model.specs.Steps.{Act, act_of, announce_all, claim, claim_made, end_of, finish, in_sequence, just, new_messages, run, tell}
+use Rattle.dl_runs.specs.WaitingClaims.{ComesFirst, ContextsComeFirst}
+use Rattle.dl_runs.proofs.ClaimPlaces.{same_id}
+use Rattle.dl_runs.proofs.Relations.{AreAll, Keeps, asked_for, both, each, turns, weaker}
 use Rattle.dl_script_runs.proofs.Walks.{announces_all, ends, finishes, still_line}
 use Rattle.dl_script_runs.proofs.PresentApps.{not_first}
 use Rattle.dl_script_runs.proofs.TrackedClaims.{Aside, IsPlaced, Tracked, goes_claiming, goes_on, still_aside, tells, tracked_alike, tracked_context, tracked_writer}

@@ -25,11 +25,11 @@ use Rattle.dl_bytes.specs.declared.user.UserMsg.{UserMsg}
 use Rattle.dl_bytes.specs.declared.user.UserMsg.TheVariants as user
 use Rattle.dl_events.specs.declared.event.Event.{Event}
 use Rattle.dl_events.specs.declared.event.Event.TheVariants as event
-use Rattle.dl_script_lines.specs.declared.line.ContextLine.{ContextLine}
-use Rattle.dl_script_lines.specs.declared.step.Step.{Step}
-use Rattle.dl_script_lines.specs.declared.step.Step.TheVariants as line
+use Rattle.dl_script_model.specs.declared.line.ContextLine.{ContextLine}
+use Rattle.dl_script_model.specs.declared.step.Step.{Step}
+use Rattle.dl_script_model.specs.declared.step.Step.TheVariants as line
 use Rattle.dl_model.proofs.StandingApps.{channel_found, own_found}
-use Rattle.dl_model.proofs.Marks.{in_sequence-one}
+use Rattle.dl_script_model.proofs.Marks.{in_sequence-one}
 use Rattle.dl_script.specs.Earlier.{Declared, is_named, noted, nothing, numbered, refusal}
 use Rattle.dl_script.specs.declared.claim.Claim.TheVariants as claim_of_line
 use Rattle.dl_script.specs.declared.claim.ContextName.{ContextName}
@@ -42,19 +42,19 @@ use Rattle.dl_model.specs.declared.registry.RegistryFault.TheVariants as fault
 use Rattle.dl_model.specs.declared.registry.Slot.{Slot}
 use Rattle.dl_model.specs.Accounts.{claims}
 use Rattle.dl_model.specs.Journal.{registry_of, slots_of}
-use Rattle.dl_model.specs.Marks.{Call, Mark, HasContext, Filtered, Passed, Noted, context_of as context_in, contexts_of, event_of, is_later, is_load, journal, moment, place_of}
+use Rattle.dl_script_model.specs.Marks.{Call, Mark, HasContext, Filtered, Passed, Noted, context_of as context_in, contexts_of, event_of, is_later, is_load, journal, moment, place_of}
 use Rattle.dl_model.specs.Registry.{App, IsNumbered, Registry, app_of, applied, context_of, context_registered, for_app, has_place, least_free, places, places_of, slot_of, stored_level, with_app, with_new_context}
 use Rattle.dl_model.specs.Setting.{Setting}
-use Rattle.dl_model.specs.Steps.{Act, act_of, after_lines, changes, end_of, in_sequence, just, level_noted, note_levels, note_levels_now, run, tell}
+use Rattle.dl_script_model.specs.Steps.{Act, act_of, after_lines, changes, end_of, in_sequence, just, level_noted, note_levels, note_levels_now, run, tell}
 use Rattle.dl_model.proofs.Numbered.{IsNumbered-add, IsNumbered-length, below_least_free, least_free-is_free}
 use Rattle.dl_model.proofs.Order.{app_of_found, in_order-registry_of, placed_of_found}
 use Rattle.dl_model.proofs.Placed.{all-left, all-right, apart-right}
 use Rattle.dl_model.proofs.Presence.{bytes_differ, bytes_same, bytes_tell, lookup-push, lookup-set_same, same_bytes}
-use Rattle.dl_promises.specs.RunRecords.{IsLoadedIn}
-use Rattle.dl_promises.proofs.EarlyCalls.{stand_and_owe}
-use Rattle.dl_promises.proofs.FreePlaces.{IsUnused, lack-lookup, unused}
-use Rattle.dl_promises.proofs.Relations.{AreAll, Keeps, both, first_part, holds_on, second_part, turns, weaker}
-use Rattle.dl_promises.proofs.WellFormed.{Stands, lines_stand, plain}
+use Rattle.dl_runs.specs.RunRecords.{IsLoadedIn}
+use Rattle.dl_runs.proofs.EarlyCalls.{stand_and_owe}
+use Rattle.dl_runs.proofs.FreePlaces.{IsUnused, lack-lookup, unused}
+use Rattle.dl_runs.proofs.Relations.{AreAll, Keeps, both, first_part, holds_on, second_part, turns, weaker}
+use Rattle.dl_runs.proofs.WellFormed.{Stands, lines_stand, plain}
 use Rattle.dl_script_runs.specs.OwnSlots.{IsInOwnSlot, claim_named}
 use Rattle.dl_script_runs.proofs.CallSlots.{in_own_slot, its_number, named}
 use Rattle.dl_script_runs.proofs.ClaimedFree.{Comes, IsBehind, Leaves, are_left, begins, comes_on, none_of, none_taken, quietly_left}

@@ -9,15 +9,15 @@ use Rattle.dl_bytes.specs.declared.user.UserMsg.TheVariants as user
 use Rattle.dl_bytes.specs.declared.user.UserMsg.TheVariants.{RegisterApp, UnregisterApp, UnregisterContext}
 use Rattle.dl_events.specs.declared.event.Event.{Event}
 use Rattle.dl_events.specs.declared.event.Event.TheVariants as event
-use Rattle.dl_script_lines.specs.declared.line.ClaimLine.{ClaimLine}
-use Rattle.dl_script_lines.specs.declared.step.Step.{Step}
-use Rattle.dl_script_lines.specs.declared.step.Step.TheVariants as line
+use Rattle.dl_script_model.specs.declared.line.ClaimLine.{ClaimLine}
+use Rattle.dl_script_model.specs.declared.step.Step.{Step}
+use Rattle.dl_script_model.specs.declared.step.Step.TheVariants as line
 use Rattle.dl_model.proofs.StandingApps.{is_message}
 use Rattle.dl_script.specs.Playable.{IsInBounds, IsPlayable}
-use Rattle.dl_model.specs.Marks.{Call, Mark, HasApp, HasContext, HasClaim, Filtered, Passed, Noted, Heard, call_of, is_load, journal, moment}
+use Rattle.dl_script_model.specs.Marks.{Call, Mark, HasApp, HasContext, HasClaim, Filtered, Passed, Noted, Heard, call_of, is_load, journal, moment}
 use Rattle.dl_model.specs.Setting.{Setting}
-use Rattle.dl_model.specs.Steps.{Act, act_of, announce_all, claim, claim_made, end_of, finish, just, new_messages, note_levels, note_levels_now, run, tell}
-use Rattle.dl_promises.proofs.Relations.{AreAll, Keeps, and_one, asked_for, each, second_part, turns, weaker}
+use Rattle.dl_script_model.specs.Steps.{Act, act_of, announce_all, claim, claim_made, end_of, finish, just, new_messages, note_levels, note_levels_now, run, tell}
+use Rattle.dl_runs.proofs.Relations.{AreAll, Keeps, and_one, asked_for, each, second_part, turns, weaker}
 use Rattle.dl_script_runs.proofs.Walks.{IsNamed, Still, announces_all, ends, finishes, hands_out, hands_out_now, no_message, still_line}
 
 -- ---- events that keep what this process registered

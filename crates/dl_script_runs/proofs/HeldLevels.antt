@@ -9,13 +9,13 @@ use Rattle.std.proofs.lemmas.Bool.{eq-eqb, eqb-true}
 use Rattle.std.proofs.lemmas.Map.Keys.{IsDistinct-head, IsDistinct-tail}
 use Rattle.dl_model.specs.declared.context.Context.{Context}
 use Rattle.dl_model.specs.Journal.{IsSettled, registry_of, slots_of}
-use Rattle.dl_model.specs.Marks.{Call, Mark, journal}
+use Rattle.dl_script_model.specs.Marks.{Call, Mark, journal}
 use Rattle.dl_model.specs.Registry.{App, Registry, context_at, context_named, context_of, effective, has_place, level_at, numbers, places, places_of}
 use Rattle.dl_model.specs.Setting.{Setting}
 use Rattle.dl_model.proofs.Order.{in_order-registry_of, placed_of_found}
 use Rattle.dl_model.proofs.Placed.{apart-right}
-use Rattle.dl_promises.specs.RunRecords.{IsLoadedIn}
-use Rattle.dl_promises.proofs.LevelsInForce.{in_force}
+use Rattle.dl_runs.specs.RunRecords.{IsLoadedIn}
+use Rattle.dl_laws.proofs.LevelsInForce.{in_force}
 use Rattle.dl_script_runs.specs.OwnSlots.{IsInOwnSlot, level_named}
 use Rattle.dl_script_runs.proofs.DeclaredSlots.{lookup_place, not_twice}
 use Rattle.dl_script_runs.proofs.LeftFree.{found_number}

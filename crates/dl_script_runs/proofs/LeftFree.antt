@@ -17,20 +17,20 @@ use Rattle.dl_bytes.specs.Id.{zero_id}
 use Rattle.dl_bytes.specs.Limits.{last_version}
 use Rattle.dl_bytes.specs.declared.user.UserMsg.{UserMsg}
 use Rattle.dl_bytes.specs.declared.user.UserMsg.TheVariants.{RegisterApp, UnregisterApp, RegisterContext, UnregisterContext, Log, LogLevel, Injection, Overflow}
-use Rattle.dl_script_lines.specs.declared.line.AppLine.{AppLine}
+use Rattle.dl_script_model.specs.declared.line.AppLine.{AppLine}
 use Rattle.dl_model.specs.declared.context.Context.{Context}
 use Rattle.dl_model.specs.declared.registry.RegistryFault.{RegistryFault}
 use Rattle.dl_model.specs.declared.registry.RegistryFault.TheVariants as fault
 use Rattle.dl_model.specs.declared.registry.Slot.{Slot}
-use Rattle.dl_model.specs.Marks.{Mark, apps, number_of}
+use Rattle.dl_script_model.specs.Marks.{Mark, apps, number_of}
 use Rattle.dl_model.specs.Registry.{App, Registry, app_of, app_registered, app_unregistered, applied, context_of, context_registered, context_unregistered, for_app, least_free, numbers, places, places_of, slot_of, stored_level, with_app, with_context, with_new_context, without}
 use Rattle.dl_model.proofs.Order.{app_of_found}
 use Rattle.dl_model.proofs.Placed.{places-push, places-same}
 use Rattle.dl_model.proofs.Presence.{same_bytes}
 use Rattle.dl_model.proofs.StandingApps.{AreFirst, Who, who}
-use Rattle.dl_promises.specs.WaitingClaims.{IsFreeIn}
-use Rattle.dl_promises.proofs.Alls.{all_filter}
-use Rattle.dl_promises.proofs.FreePlaces.{lack-lookup, lack-set_value}
+use Rattle.dl_runs.specs.WaitingClaims.{IsFreeIn}
+use Rattle.dl_laws.proofs.Alls.{all_filter}
+use Rattle.dl_runs.proofs.FreePlaces.{lack-lookup, lack-set_value}
 
 module _ (app place : ℕ) where
   abbrev Free : Registry → Type 0

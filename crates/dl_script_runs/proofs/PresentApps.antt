@@ -14,13 +14,13 @@ use Rattle.dl_bytes.specs.declared.user.UserMsg.{UserMsg}
 use Rattle.dl_bytes.specs.declared.user.UserMsg.TheVariants as user
 use Rattle.dl_events.specs.declared.event.Event.{Event}
 use Rattle.dl_events.specs.declared.event.Event.TheVariants as event
-use Rattle.dl_script_lines.specs.declared.line.AppLine.{AppLine}
-use Rattle.dl_script_lines.specs.declared.line.ClaimLine.{ClaimLine}
-use Rattle.dl_script_lines.specs.declared.line.ContextLine.{ContextLine}
-use Rattle.dl_script_lines.specs.declared.step.Step.{Step}
-use Rattle.dl_script_lines.specs.declared.step.Step.TheVariants as line
+use Rattle.dl_script_model.specs.declared.line.AppLine.{AppLine}
+use Rattle.dl_script_model.specs.declared.line.ClaimLine.{ClaimLine}
+use Rattle.dl_script_model.specs.declared.line.ContextLine.{ContextLine}
+use Rattle.dl_script_model.specs.declared.step.Step.{Step}
+use Rattle.dl_script_model.specs.declared.step.Step.TheVariants as line
 use Rattle.dl_model.proofs.StandingApps.{AreFirst, app_comes, event_same, first_one, in_context, is_message, numbered_there, own, there, told_stay, who}
-use Rattle.dl_model.proofs.Marks.{in_sequence-one}
+use Rattle.dl_script_model.proofs.Marks.{in_sequence-one}
 use Rattle.dl_script_fields.specs.declared.kind.ScriptKind.{ScriptKind}
 use Rattle.dl_script_fields.specs.declared.kind.ScriptKind.TheVariants.{Limit, Order, Twice}
 use Rattle.dl_script.specs.Earlier.{Declared, first_of, noted, nothing, numbered, refusal}
@@ -28,20 +28,20 @@ use Rattle.dl_script.specs.declared.claim.Claim.TheVariants as claim_of_line
 use Rattle.dl_script.specs.Playable.{IsInBounds, IsPlayable}
 use Rattle.dl_script.specs.Spelled.{MayFollow, step_claim}
 use Rattle.dl_model.specs.Journal.{registry_of, slots_of, step}
-use Rattle.dl_model.specs.Marks.{Mark, HasApp, HasContext, HasClaim, Noted, Heard, Pushed, OfCall, OfClaim, announced_of, app_of as app_in, apps, claim_in, event_of, journal, moment, pushes, taken}
+use Rattle.dl_script_model.specs.Marks.{Mark, HasApp, HasContext, HasClaim, Noted, Heard, Pushed, OfCall, OfClaim, announced_of, app_of as app_in, apps, claim_in, event_of, journal, moment, pushes, taken}
 use Rattle.dl_model.specs.Registry.{Registry, app_of, apid_numbered, applied}
-use Rattle.dl_model.specs.Runs.{AreFounded, RestsOn}
+use Rattle.dl_script_model.specs.Runs.{AreFounded, RestsOn}
 use Rattle.dl_model.specs.Setting.{Setting}
-use Rattle.dl_model.specs.Steps.{Act, act_of, after_lines, announce_all, claim, claim_made, end_of, finish, in_sequence, just, new_messages, note, note_levels, note_levels_now, run, tell}
+use Rattle.dl_script_model.specs.Steps.{Act, act_of, after_lines, announce_all, claim, claim_made, end_of, finish, in_sequence, just, new_messages, note, note_levels, note_levels_now, run, tell}
 use Rattle.dl_model.proofs.OneMore.{registry-one}
 use Rattle.dl_model.proofs.Presence.{bytes_differ}
-use Rattle.dl_laws.proofs.Founded as founded
-use Rattle.dl_promises.specs.PresentClaims.{AreThere, ClaimsArePresent, IsThere}
-use Rattle.dl_promises.proofs.Alls.{all_filter}
-use Rattle.dl_promises.proofs.ClaimPlaces.{IsOwnClaim, all_own_announced, announced_in_ring}
-use Rattle.dl_promises.proofs.OwnApps.{number-within}
-use Rattle.dl_promises.proofs.Relations.{AreAll, Keeps, asked_for, both, each, holds_on, turns, weaker}
-use Rattle.dl_promises.proofs.WellFormed.{plain}
+use Rattle.dl_runs.proofs.Founded as founded
+use Rattle.dl_laws.specs.PresentClaims.{AreThere, ClaimsArePresent, IsThere}
+use Rattle.dl_laws.proofs.Alls.{all_filter}
+use Rattle.dl_runs.proofs.ClaimPlaces.{IsOwnClaim, all_own_announced, announced_in_ring}
+use Rattle.dl_runs.proofs.OwnApps.{number-within}
+use Rattle.dl_runs.proofs.Relations.{AreAll, Keeps, asked_for, both, each, holds_on, turns, weaker}
+use Rattle.dl_runs.proofs.WellFormed.{plain}
 use Rattle.dl_script_runs.proofs.Walks.{Goes, Still, Without, announces_all, ends, finishes, goes_none, goes_then, hands_out, hands_out_now, no_message, notes, still_line}
 
 -- ---- marks that declare no application, and tell no message

@@ -27,7 +27,7 @@ use Rattle.dl_model.proofs.OneMore.{registry-one}
 use Rattle.dl_model.proofs.Order.{app_of_found}
 use Rattle.dl_model.proofs.Presence.{bytes_tell, lookup-push, lookup-set_other, lookup-set_same, lookup-without_other}
 use Rattle.dl_model.proofs.StandingApps.{channel_found}
-use Rattle.dl_promises.proofs.UniqueIds.{claim_makes, served_keeps}
+use Rattle.dl_laws.proofs.UniqueIds.{claim_makes, served_keeps}
 use Rattle.dl_script_runs.proofs.FairMarks.{StaysIn, unregisters}
 use Rattle.dl_script_runs.proofs.PresentApps.{ok_or}
 

@@ -13,21 +13,21 @@ use Rattle.dl_bytes.specs.Number.{◌>>=◌}
 use Rattle.dl_bytes.specs.declared.user.UserMsg.{UserMsg}
 use Rattle.dl_events.specs.declared.event.Event.{Event}
 use Rattle.dl_events.specs.declared.event.Event.TheVariants as event
-use Rattle.dl_script_lines.specs.declared.line.ClaimLine.{ClaimLine}
-use Rattle.dl_script_lines.specs.declared.line.ContextLine.{ContextLine}
+use Rattle.dl_script_model.specs.declared.line.ClaimLine.{ClaimLine}
+use Rattle.dl_script_model.specs.declared.line.ContextLine.{ContextLine}
 use Rattle.dl_model.proofs.StandingApps.{is_message}
-use Rattle.dl_model.proofs.Marks.{contexts-same, writers-same}
+use Rattle.dl_script_model.proofs.Marks.{contexts-same, writers-same}
 use Rattle.dl_script.specs.Earlier.{Declared, is_of, is_on, numbered, places_on}
 use Rattle.dl_script.specs.declared.claim.ContextName.{ContextName}
 use Rattle.dl_script.specs.declared.claim.PlaceName.{PlaceName}
-use Rattle.dl_model.specs.Marks.{Mark, HasContext, HasWriter, HasClaim, app_of_writer, claim_of, claims_on, context_of, contexts_of, moment, next_place, number_of, writer_of, writers}
+use Rattle.dl_script_model.specs.Marks.{Mark, HasContext, HasWriter, HasClaim, app_of_writer, claim_of, claims_on, context_of, contexts_of, moment, next_place, number_of, writer_of, writers}
 use Rattle.dl_model.specs.Setting.{Setting}
-use Rattle.dl_model.specs.Steps.{Act, claim, claim_made, finish, for_some, in_sequence, just, tell}
+use Rattle.dl_script_model.specs.Steps.{Act, claim, claim_made, finish, for_some, in_sequence, just, tell}
 use Rattle.dl_model.proofs.Presence.{bytes_differ, bytes_same}
 use Rattle.dl_laws.proofs.Lists.{count_by-append}
-use Rattle.dl_promises.proofs.ClaimPlaces.{same_id}
-use Rattle.dl_promises.proofs.OwnApps.{number_more}
-use Rattle.dl_promises.proofs.Relations.{Keeps, holds_on, turns, weaker}
+use Rattle.dl_runs.proofs.ClaimPlaces.{same_id}
+use Rattle.dl_runs.proofs.OwnApps.{number_more}
+use Rattle.dl_runs.proofs.Relations.{Keeps, holds_on, turns, weaker}
 use Rattle.dl_script_runs.proofs.Walks.{Goes, Still, Without, goes_then, notes}
 
 -- ---- marks that declare no context and no writer, and claim no place

@@ -13,20 +13,20 @@ use Rattle.dl_events.specs.declared.event.Event.{Event}
 use Rattle.dl_events.specs.declared.event.Event.TheVariants as event
 use Rattle.dl_events.specs.declared.event.Why.{Why}
 use Rattle.dl_events.specs.declared.event.Why.TheVariants as why
-use Rattle.dl_script_lines.specs.declared.line.CallLine.{CallLine}
-use Rattle.dl_script_lines.specs.declared.step.LevelEvents.TheVariants as levels
-use Rattle.dl_script_lines.specs.declared.step.Step.{Step}
-use Rattle.dl_script_lines.specs.declared.step.Step.TheVariants as line
+use Rattle.dl_script_model.specs.declared.line.CallLine.{CallLine}
+use Rattle.dl_script_model.specs.declared.step.LevelEvents.TheVariants as levels
+use Rattle.dl_script_model.specs.declared.step.Step.{Step}
+use Rattle.dl_script_model.specs.declared.step.Step.TheVariants as line
 use Rattle.dl_model.specs.declared.registry.LevelChange.{LevelChange}
 use Rattle.dl_model.specs.Journal.{is_connect, is_close, is_request_of, need_after, slots_of}
-use Rattle.dl_model.specs.Marks.{Call, Mark, HasApp, HasContext, HasWriter, Filtered, Passed, Queued, Refused, Counted, HasClaim, Announced, HeldBack, Noted, Fed, Injected, Handed, Pushed, OfCall, OfClaim, app_of_writer, apps, calls_of, fed, held_by, injections, is_full, is_later, journal, moment, named_place, number_of, passed_of, pending, pushes, taken, to_announce, to_count, to_push, unannounced, writer_numbers}
+use Rattle.dl_script_model.specs.Marks.{Call, Mark, HasApp, HasContext, HasWriter, Filtered, Passed, Queued, Refused, Counted, HasClaim, Announced, HeldBack, Noted, Fed, Injected, Handed, Pushed, OfCall, OfClaim, app_of_writer, apps, calls_of, fed, held_by, injections, is_full, is_later, journal, moment, named_place, number_of, passed_of, pending, pushes, taken, to_announce, to_count, to_push, unannounced, writer_numbers}
 use Rattle.dl_model.specs.Registry.{slot_of}
 use Rattle.dl_model.specs.Reply.{Need, Nothing, Folder, Queue}
 use Rattle.dl_model.specs.Setting.{Setting}
-use Rattle.dl_model.specs.Steps.{Act, act_of, announce, announce_all, ask, begin_call, changes, claim, close, close_malformed, connect, count, drain, end_of, event_taken, finish, for_some, in_sequence, is_open, just, level_noted, load, loaded, new_requests, note, note_levels, note_levels_now, on_app, push, receive, request_now, served, take_injection, take_log, take_losses, when, whole_call}
+use Rattle.dl_script_model.specs.Steps.{Act, act_of, announce, announce_all, ask, begin_call, changes, claim, close, close_malformed, connect, count, drain, end_of, event_taken, finish, for_some, in_sequence, is_open, just, level_noted, load, loaded, new_requests, note, note_levels, note_levels_now, on_app, push, receive, request_now, served, take_injection, take_log, take_losses, when, whole_call}
 use Rattle.dl_model.proofs.StandingApps.{is_message}
-use Rattle.dl_promises.proofs.Relations.{AreAll, Keeps, and_one, announced, asked_for, each, repeated, turns, where_so}
-use Rattle.dl_promises.proofs.Turns as turn
+use Rattle.dl_runs.proofs.Relations.{AreAll, Keeps, and_one, announced, asked_for, each, repeated, turns, where_so}
+use Rattle.dl_runs.proofs.Turns as turn
 
 -- ---- acts in turn
 

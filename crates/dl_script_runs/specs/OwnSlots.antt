@@ -10,11 +10,11 @@ use Rattle.dl_events.specs.declared.record.Record.{Record}
 use Rattle.dl_model.specs.declared.context.Context.{Context}
 use Rattle.dl_model.specs.Along.{last_that}
 use Rattle.dl_model.specs.Journal.{registry_of}
-use Rattle.dl_model.specs.Marks.{Call, Mark, claims_of, journal}
+use Rattle.dl_script_model.specs.Marks.{Call, Mark, claims_of, journal}
 use Rattle.dl_model.specs.Registry.{App, Registry, context_named, effective, has_place, slot_of}
 use Rattle.dl_model.specs.Setting.{Setting}
-use Rattle.dl_promises.specs.RunRecords.{IsSeen}
-use Rattle.dl_promises.specs.WaitingClaims.{IsFilteredFirst, IsUntaken}
+use Rattle.dl_runs.specs.RunRecords.{IsSeen}
+use Rattle.dl_runs.specs.WaitingClaims.{IsFilteredFirst, IsUntaken}
 
 -- The registry has a context under both ids of a call. Its application is one of this process and has the call's number, and one of its
 -- places has the call's slot.

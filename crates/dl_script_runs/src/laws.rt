@@ -6,26 +6,26 @@ ghost use Rattle.dl_bytes.specs.Claim.{Claimed};
 ghost use Rattle.dl_bytes.specs.Limits.{last_version};
 ghost use Rattle.dl_bytes.specs.declared.outcome.Done.{Done};
 ghost use Rattle.dl_script.specs.Playable.{IsPlayable};
-ghost use Rattle.dl_script_lines.specs.declared.step.Step.{Step};
+ghost use Rattle.dl_script_model.specs.declared.step.Step.{Step};
 ghost use Rattle.dl_model.specs.Accounts.{claims};
 ghost use Rattle.dl_model.specs.Frames.{FrameSource};
 ghost use Rattle.dl_model.specs.Journal.{IsSettled, IsWellFormed, registry_of};
-ghost use Rattle.dl_model.specs.Marks.{Call, Mark, claim_of, journal, number_of, records_of};
+ghost use Rattle.dl_script_model.specs.Marks.{Call, Mark, claim_of, journal, number_of, records_of};
 ghost use Rattle.dl_model.specs.Setting.{Setting};
-ghost use Rattle.dl_model.specs.Steps.{after_lines, run};
+ghost use Rattle.dl_script_model.specs.Steps.{after_lines, run};
 ghost use Rattle.dl_model.specs.WholeAccounts.{ArePlacesApart};
-ghost use Rattle.dl_promises.specs.Causes.{HaveCauses};
-ghost use Rattle.dl_promises.specs.PresentClaims.{ClaimsArePresent};
-ghost use Rattle.dl_promises.specs.RunRecords.{IsLoadedIn};
-ghost use Rattle.dl_promises.specs.WaitingClaims.{IsBehindContexts, IsRegistered, TakenClaim, events_with, registry_with};
+ghost use Rattle.dl_runs.specs.Causes.{HaveCauses};
+ghost use Rattle.dl_laws.specs.PresentClaims.{ClaimsArePresent};
+ghost use Rattle.dl_runs.specs.RunRecords.{IsLoadedIn};
+ghost use Rattle.dl_runs.specs.WaitingClaims.{IsBehindContexts, IsRegistered, TakenClaim, events_with, registry_with};
 ghost use Rattle.dl_script_runs.specs.OwnSlots.{GoesByClaim, GoesByLines, IsFilteredUntilTaken, IsInOwnSlot, LoadsOwnSlot, level_named};
 
-use dl_promises::causes::every_call_of_a_run_has_one_cause;
-use dl_promises::claims::{
+use dl_runs::causes::every_call_of_a_run_has_one_cause;
+use dl_runs::claims::{
     calls_are_filtered_until_their_claim_is_taken, claims_are_registered_as_they_are_taken,
     no_place_is_claimed_twice,
 };
-use dl_promises::runs::runs_are_well_formed;
+use dl_runs::runs::runs_are_well_formed;
 
 /// Each claim that the daemon takes is of an application that is there, on channel 0: a script declares it before user messages come, under a
 /// name that none has yet, and no other process can unregister it.

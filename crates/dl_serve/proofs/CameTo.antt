@@ -30,8 +30,8 @@ use Rattle.dl_startup.specs.Unchanged.{IsQuiet}
 use Rattle.dl_trace.specs.Stands.{HasFiles}
 use Rattle.dl_trace.specs.State as trace
 use Rattle.dl_trace.specs.State.{Trace}
-use Rattle.dl_well_formed.proofs.Connecting.{came_by_journal}
-use Rattle.dl_well_formed.proofs.OpenClients.{its_stream}
+use Rattle.dl_core.proofs.Connecting.{came_by_journal}
+use Rattle.dl_core.proofs.OpenClients.{its_stream}
 use Rattle.dl_serve.specs.declared.beginning.Begun.{Begun}
 use Rattle.dl_serve.specs.declared.closed.Closed.{Closed}
 use Rattle.dl_serve.specs.Closed.{IsLeft}

@@ -5,12 +5,13 @@ use Rattle.std.specs.List.{AllByRecursion, find}
 use Rattle.std.specs.Map.{values_of}
 use Rattle.std.specs.Option.{option_and_then, option_map}
 use Rattle.std.specs.Result.{result_ok}
+use Rattle.dl_bytes.specs.Id.{zero_id}
 use Rattle.dl_bytes.specs.Limits.{context_limit}
 use Rattle.dl_bytes.specs.Level.{own_level_of}
 use Rattle.dl_bytes.specs.declared.outcome.Done.{Done}
 use Rattle.dl_bytes.specs.declared.outcome.Done.TheVariants as done
 use Rattle.dl_control.specs.declared.request.Request.{Request}
-use Rattle.dl_control.specs.declared.request.Request.TheVariants.{SetLogLevel, GetLogInfo, GetDefault, Store, Reset, SetDefault, Version, Inject, Other}
+use Rattle.dl_control.specs.declared.request.Request.TheVariants.{SetLogLevel, GetLogInfo, GetDefault, Store, Reset, SetDefault, Version, SetAllLogLevel, Inject, Other}
 use Rattle.dl_control.specs.declared.request.RequestFault.{RequestFault}
 use Rattle.dl_model.specs.declared.context.Context.{Context}
 use Rattle.dl_model.specs.declared.registry.SetFault.{SetFault}
@@ -128,6 +129,7 @@ done_or done.NoMemory new old is = names_none old
 
 pub names_served : (s : Setting) (slots : ℕ → Slot) (r : Registry) (request : Result Request RequestFault) (answer : Done) → NamesSame r (served s slots r request answer)
 names_served s slots r (Ok (SetLogLevel apid ctid level)) answer = some_or (own_requested slots r apid ctid level) r (own_names slots r apid ctid (own_level_of level))
+names_served s slots r (Ok (SetAllLogLevel level)) answer = some_or (own_requested slots r zero_id zero_id level) r (own_names slots r zero_id zero_id (own_level_of level))
 names_served s slots r (Ok (SetDefault level)) answer = some_or (default_requested slots r level) r (default_names slots r level (nat_le level 6))
 names_served s slots r (Ok Store) answer = done_or answer (now_stored r) r (record { channels = λ number. refl; positions = λ slot. refl; apart = λ channel all. all })
 names_served s slots r (Ok Reset) answer = done_or answer (unwrap_or (reset_requested s slots r) r) r (some_or (reset_requested s slots r) r (reset_names s slots r))

@@ -39,7 +39,7 @@ use Rattle.dl_turns.specs.Later.{LeavesSo}
 use Rattle.dl_turns.specs.Sent.{HasCut}
 use Rattle.dl_turns.specs.State.{side}
 use Rattle.dl_turns.specs.State as turns
-use Rattle.dl_well_formed.proofs.OpenClients.{its_stream}
+use Rattle.dl_core.proofs.OpenClients.{its_stream}
 use Rattle.dl_serve.proofs.PassedEvents.{IsOfPrograms, Passes}
 use Rattle.dl_lemmas.proofs.Options.{as_some, none_of, some_of}
 

@@ -30,7 +30,7 @@ pub fn what_was_served_is_its_journal<L: Link>()
 {
     dl_server::laws::a_round_is_its_events::<L>();
     dl_server::laws::a_closing_is_its_events::<L>();
-    dl_well_formed::clients::who_has_an_outbox();
+    dl_core::client_turns::who_has_an_outbox();
 }
 
 /// The User events of each program outside are all messages of what its link gave, in their order, each once, however the bytes came; and behind them
@@ -87,7 +87,7 @@ pub fn who_was_handed_out<L: Link>()
 {
     dl_rounds::laws::a_round_is_its_events::<L>();
     dl_rounds::laws::why_clients_stay();
-    dl_well_formed::clients::who_has_an_outbox();
+    dl_core::client_turns::who_has_an_outbox();
 }
 
 /// What a status says of serving is what is promised of the whole: the words decide first, and where all is of the form and nothing fails, the report was

@@ -6,7 +6,7 @@ ghost use Rattle.dl_serve.specs.Open.{IsOpenedFor, Listen, ListensOn, refused};
 
 use crate::beginning::Begun;
 use crate::opened::Opened;
-use dl_bytes::OutOfMemory;
+use dl_bytes::{CHANNEL_LIMIT, CLIENT_LIMIT, OutOfMemory};
 use dl_core::Core;
 use dl_events::Kept;
 use dl_outside::{Link, Net, NetFault};
@@ -16,12 +16,6 @@ use dl_settling::EndRoom;
 use dl_socket::Channels;
 use dl_startup::Status;
 use std::alloc::Global;
-
-/// The most clients of a run that ends.
-const CLIENT_LIMIT: u32 = 32;
-
-/// The most channels of a run that ends.
-const CHANNEL_LIMIT: u16 = 256;
 
 /// Makes what serves.
 pub fn open<L: Link>(alloc: Global, begun: Begun) -> Result<Opened<L>, OutOfMemory>

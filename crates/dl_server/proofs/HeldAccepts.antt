@@ -12,13 +12,13 @@ use Rattle.dl_loop.specs.Holds.{AreTaken}
 use Rattle.dl_model.specs.Journal.{IsInTurn}
 use Rattle.dl_outside.specs.Links.{Links}
 use Rattle.dl_outside.specs.Told.{FolderTold, LinkTold, NetTold}
-use Rattle.dl_promises.proofs.LongerJournals.{goes_on}
+use Rattle.dl_laws.proofs.LongerJournals.{goes_on}
 use Rattle.dl_registry.specs.Kept.{owed_change}
 use Rattle.dl_rounds.specs.Arrivals.{Arrives, Connects, ConnectsAs}
 use Rattle.dl_rounds.specs.declared.accepting.Arrival.{Arrival}
 use Rattle.dl_rounds.specs.declared.accepting.Arrival.TheVariants as arrival
-use Rattle.dl_well_formed.proofs.Connecting.{connect_in_turn}
-use Rattle.dl_well_formed.proofs.Following.{running_on}
+use Rattle.dl_core.proofs.Connecting.{connect_in_turn}
+use Rattle.dl_core.proofs.Following.{running_on}
 use Rattle.dl_server.specs.Accepts.{AcceptsClientIfMay, AcceptsProgramIfMay}
 use Rattle.dl_server.specs.Holds.{GoesOn, Holds}
 use Rattle.dl_server.specs.State.{State, with_want}

@@ -18,14 +18,14 @@ use Rattle.dl_events.specs.declared.event.Event.TheVariants as event
 use Rattle.dl_model.specs.declared.registry.LevelChange.{LevelChange}
 use Rattle.dl_outside.specs.declared.link.Gave.{Gave}
 use Rattle.dl_outside.specs.declared.link.Gave.TheVariants as gave
-use Rattle.dl_promises.proofs.LongerJournals.{goes_on}
+use Rattle.dl_laws.proofs.LongerJournals.{goes_on}
 use Rattle.dl_registry.specs.Kept.{owed_change}
 use Rattle.dl_serving.specs.Visits.{Ends, EndsFor, Hears, HearsOpen, Pumps, side_of}
 use Rattle.dl_socket.specs.Channels.{Channels}
 use Rattle.dl_socket.specs.Closing.{UnregistersEach}
 use Rattle.dl_socket.specs.Turns.{Sight}
 use Rattle.dl_user.specs.Channel as cutter
-use Rattle.dl_well_formed.proofs.InTurn.{user_in_turn}
+use Rattle.dl_core.proofs.InTurn.{user_in_turn}
 use Rattle.dl_channel_turns.proofs.LaterSides.{later_both, later_none, level_later}
 
 -- A side is later, and owes no level.

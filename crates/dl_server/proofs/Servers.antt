@@ -39,15 +39,6 @@ linked_so links core spare have room = record {
 pub room_so : {L : Type 0} (links : Links L) (core : Core) (spare : ℕ) → HaveLinks links core → length links.links + 2 ≤ spare → open_clients core.hub + 2 ≤ spare
 room_so links core spare have room = omega (arith, room, have.many, open_few core.hub.clients)
 
--- where the clients stay, they have their links
-pub linked_still : {L : Type 0} (links : Links L) (old new : Core) → HaveLinks links old → length new.hub.clients ≡ length old.hub.clients → new.hub.limit ≡ old.hub.limit → new.registry ≡ old.registry → HaveLinks links new
-linked_still links old new have many limit registry = record {
-  many = many ∙ have.many;
-  few = omega (arith, have.few, many, limit);
-  place = omega (arith, have.place, limit);
-  settled = ap (λ (k : Kept). owed_change k) registry ∙ have.settled;
-}
-
 -- ---- accepts
 
 -- what stays of a core with an accept
@@ -71,25 +62,6 @@ connects_so arrival.OutOfMemory old new events events_now connects = same_so old
 pub record OpensSo (old new : Channels) : Type 0 where
   pub in_all : new.in_all ≡ old.in_all
   pub given : old.opened ≤ old.in_all → new.opened ≤ new.in_all
-
-same_channels : (old new : Channels) → new ≡ old → OpensSo old new
-same_channels old new same =
-    let in_all : new.in_all ≡ old.in_all = ap (λ (c : Channels). c.in_all) same in
-    let opened : new.opened ≡ old.opened = ap (λ (c : Channels). c.opened) same in
-    record { in_all = in_all; given = λ before. omega (arith, before, in_all, opened) }
-
-pub enters_so : {L : Type 0} (told : L → LinkTold) (came : Entry) (net net_now : NetTold L) (links links_now : Links L) (dropped dropped_now : ℕ) (old new : Channels)
-    → Enters told came net net_now links links_now dropped dropped_now old new → OpensSo old new
-enters_so told (entry.Channel number) net net_now links links_now dropped dropped_now old new enters =
-    let opens = enters.4 in
-    let in_all : new.in_all ≡ old.in_all = ap (λ (c : Channels). c.in_all) opens.3 in
-    let opened : new.opened ≡ number = ap (λ (c : Channels). c.opened) opens.3 in
-    record { in_all = in_all; given = λ before. omega (arith, opens.0, opens.2, in_all, opened) }
-enters_so told entry.Dropped net net_now links links_now dropped dropped_now old new enters = same_channels old new enters.4
-enters_so told entry.Unopened net net_now links links_now dropped dropped_now old new enters = same_channels old new enters.4
-enters_so told entry.Nobody net net_now links links_now dropped dropped_now old new enters = same_channels old new enters.5
-enters_so told entry.Failed net net_now links links_now dropped dropped_now old new enters = same_channels old new enters.4
-enters_so told entry.OutOfMemory net net_now links links_now dropped dropped_now old new enters = same_channels old new enters.4
 
 -- ---- visits to clients
 

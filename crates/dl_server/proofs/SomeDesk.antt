@@ -2,8 +2,8 @@
 use Rattle.std.proofs.Common.{◌≡◌, ◌<◌, ℕ, zero, suc, List, [], inl, inr, sym, subst, ◌∙◌, arith}
 use Rattle.std.proofs.lemmas.Bool.{cases_lt}
 use Rattle.dl_desk.specs.Told.{PostTold}
-use Rattle.dl_levels.specs.History.{current_version}
-use Rattle.dl_levels.specs.declared.history.Change.{Change}
+use Rattle.dl_cells.specs.LevelHistory.{current_version}
+use Rattle.dl_cells.specs.declared.level_history.Change.{Change}
 use Rattle.dl_model.specs.Registry.{IsInOrder}
 use Rattle.dl_registry.specs.Kept.{Kept, slots}
 use Rattle.dl_socket.specs.History.{with_version}

@@ -34,7 +34,12 @@ mod id {
     pub const SET_DEFAULT: u32 = 0x11;
 
     pub const VERSION: u32 = 0x13;
+
+    pub const SET_ALL_LOG_LEVEL: u32 = 0xf08;
 }
+
+/// The id that means all.
+const ALL: [u8; 4] = [0; 4];
 
 /// The name of this software's version.
 const VERSION_NAME: [u8; 9] = *b"dlt_run 1";
@@ -61,7 +66,12 @@ pub fn serve(
 {
     match request {
         Ok(Request::SetLogLevel { apid, ctid, level }) => {
-            Ok(set_own(alloc, registry, *apid, *ctid, *level))
+            let status = set_own(registry, *apid, *ctid, *level);
+            Ok(bare(alloc, id::SET_LOG_LEVEL, status))
+        }
+        Ok(Request::SetAllLogLevel { level }) => {
+            let status = set_own(registry, Id::from_bytes(ALL), Id::from_bytes(ALL), *level);
+            Ok(bare(alloc, id::SET_ALL_LOG_LEVEL, status))
         }
         Ok(
             Request::GetLogInfo {
@@ -95,17 +105,17 @@ fn bare(alloc: Global, service: u32, status: u8) -> Reply
     }
 }
 
-/// SetLogLevel: the own level of all contexts that match.
-fn set_own(alloc: Global, registry: &mut Registry, apid: Id, ctid: Id, level: i8) -> Reply
-    ensures reply { result ≡ bare 0x01 (status_of (own_requested (slots registry.old) registry.old.registry apid ctid level)) }
+/// SetLogLevel, and SetAllLogLevel with both ids zero: the own level of all contexts that match. It gives the reply's status.
+fn set_own(registry: &mut Registry, apid: Id, ctid: Id, level: i8) -> u8
+    ensures status { result ≡ status_of (own_requested (slots registry.old) registry.old.registry apid ctid level) }
     ensures registry { registry.new ≡ with_registry registry.old (unwrap_or (own_requested (slots registry.old) registry.old.registry apid ctid level) registry.old.registry) }
 {
     let Some(own) = OwnLevel::of(level) else {
-        return bare(alloc, id::SET_LOG_LEVEL, FAILED);
+        return FAILED;
     };
     match registry.set_own(apid, ctid, own) {
-        Ok(_) => bare(alloc, id::SET_LOG_LEVEL, DONE),
-        Err(SetFault::Nobody | SetFault::Worn) => bare(alloc, id::SET_LOG_LEVEL, FAILED),
+        Ok(_) => DONE,
+        Err(SetFault::Nobody | SetFault::Worn) => FAILED,
     }
 }
 

@@ -52,6 +52,7 @@ pub fn wish_of(
         }
         Ok(
             Request::SetLogLevel { .. }
+            | Request::SetAllLogLevel { .. }
             | Request::GetLogInfo { .. }
             | Request::GetDefault
             | Request::SetDefault { .. }

@@ -7,15 +7,12 @@ ghost use Rattle.dl_socket.specs.Channels.{IsOpen};
 ghost use Rattle.dl_socket.specs.Turns.{seen};
 ghost use Rattle.dl_serving.specs.Visits.{Ends, Hears, HearsOpen, Pumps, PumpsOpen};
 
-use dl_bytes::Moment;
+use dl_bytes::{Moment, TURN_FRAMES};
 use dl_channel::ChannelEnd;
 use dl_core::Core;
 use dl_events::Journal;
 use dl_outside::{Folder, Link};
 use dl_socket::Channels;
-
-/// How many frames one turn of a channel may need.
-const TURN_FRAMES: u64 = 4096;
 
 /// Ends a channel that is open: its link is shut, and its applications are unregistered. Answers whether it is closed: where memory was wanting it
 /// stays open, and the next call goes on.

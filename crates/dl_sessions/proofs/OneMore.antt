@@ -1,6 +1,6 @@
 -- What one message more changes of each count.
 use Rattle.std.proofs.Common.{◌≡◌, ℕ, ◌+◌, Bool, true, false, cond, eqb, List, [], ◌∷◌, ◌++◌, Option, Some, None, refl, sym, ap, ◌∙◌, arith, rules}
-use Rattle.std.specs.Prelude.{count_by, find, sum, sum_by, unwrap_or, is_none, is_some, not, ◌&&◌}
+use Rattle.std.specs.Prelude.{count_by, find, sum, unwrap_or, is_none, is_some, not, ◌&&◌}
 use Rattle.std.specs.Option.{option_map, option_or}
 use Rattle.std.specs.Str.{bytes_eq}
 use Rattle.std.proofs.lemmas.Bool.{eq-eqb, eqb-true}
@@ -12,13 +12,11 @@ use Rattle.dl_laws.proofs.Lists.{along-one, count_by-append, last_that-one}
 use Rattle.dl_sessions.specs.declared.session.Context.{Context}
 use Rattle.dl_sessions.specs.declared.session.Entry.{Entry}
 use Rattle.dl_sessions.specs.declared.session.Latest.{Latest}
-use Rattle.dl_sessions.specs.declared.session.Lost.{Lost}
 use Rattle.dl_sessions.specs.declared.session.Session.{Session}
 use Rattle.dl_sessions.specs.declared.session.Source.{Source}
-use Rattle.dl_sessions.specs.declared.session.Told.{Told}
-use Rattle.dl_sessions.specs.declared.session.Told.TheVariants as told
 use Rattle.dl_sessions.specs.declared.session.Totals.{Totals}
-use Rattle.dl_sessions.specs.Account.{context_of, counted, gap_in_context, gap_in_session, gaps, is_in, is_of, latest, latest_of, lost_in, lost_of, no_totals, noted, same_context, same_session, same_source, totals_of}
+use Rattle.dl_sessions.specs.Account.{gaps, no_totals, noted, totals_of}
+use Rattle.dl_sessions.specs.Gaps.{anew_at, context_counts, context_of, counted, gap_in_context, gap_in_session, is_in, is_of, latest, latest_of, same_context, same_session, same_source, session_counts, turn_of}
 
 -- ---- counts
 
@@ -37,15 +35,14 @@ latest-one test es e = ap (option_map latest_of) (last_that-one test es e) ∙ b
   by_test true = refl
   by_test false = refl
 
-first-one : (test : Entry → Bool) (es : List Entry) (e : Entry) →
-    option_map (λ (x : Entry). x.ticks) (find test (es ++ e ∷ [])) ≡ option_or (option_map (λ (x : Entry). x.ticks) (find test es)) (cond (test e) (Some e.ticks) None)
-first-one test es e = ap (option_map (λ (x : Entry). x.ticks)) (find-append test es (e ∷ [])) ∙ by_both (find test es) (test e) where
-  by_both : (o : Option Entry) (b : Bool) → option_map (λ (x : Entry). x.ticks) (option_or o (cond b (Some e) None)) ≡ option_or (option_map (λ (x : Entry). x.ticks) o) (cond b (Some e.ticks) None)
+first-one : (test : Entry → Bool) (es : List Entry) (e : Entry) → option_map latest_of (find test (es ++ e ∷ [])) ≡ option_or (option_map latest_of (find test es)) (cond (test e) (Some (latest_of e)) None)
+first-one test es e = ap (option_map latest_of) (find-append test es (e ∷ [])) ∙ by_both (find test es) (test e) where
+  by_both : (o : Option Entry) (b : Bool) → option_map latest_of (option_or o (cond b (Some e) None)) ≡ option_or (option_map latest_of o) (cond b (Some (latest_of e)) None)
   by_both None true = refl
   by_both None false = refl
   by_both (Some x) b = refl
 
-or_none : (o : Option ℕ) → option_or o None ≡ o
+or_none : (o : Option Latest) → option_or o None ≡ o
 or_none None = refl
 or_none (Some x) = refl
 
@@ -77,53 +74,61 @@ session_is a b e =
     let r = eqb-true a.seid b.seid rest.1 in
     λ i. record { ecu = p i; apid = q i; seid = r i }
 
+pub source_self : (a : Source) → same_source a a ≡ true
+source_self a = both_true (bytes_eq a.ecu a.ecu) (bytes_eq a.apid a.apid) (bytes_self a.ecu) (bytes_self a.apid)
+
 pub session_self : (a : Session) → same_session a a ≡ true
 session_self a =
     both_true (bytes_eq a.ecu a.ecu) (bytes_eq a.apid a.apid && eqb a.seid a.seid) (bytes_self a.ecu) (both_true (bytes_eq a.apid a.apid) (eqb a.seid a.seid) (bytes_self a.apid) (eq-eqb a.seid a.seid refl))
 
 -- ---- totals
 
+-- a sum of the session that the message is of, and one of another
+here_sum : (missing : List Entry → Entry → ℕ) (es : List Entry) (e : Entry) → counted (sum (gaps missing e.session (es ++ e ∷ []))) ≡ counted (counted (sum (gaps missing e.session es)) + missing es e)
+here_sum missing es e =
+    let s = e.session in
+    ap counted (gaps-one missing s es e ∙ ap (λ (b : Bool). sum (gaps missing s es) + cond {A = ℕ} b (missing es e) 0) (session_self s)) ∙ goes_on (sum (gaps missing s es)) (missing es e)
+
+elsewhere_sum : (missing : List Entry → Entry → ℕ) (session : Session) (es : List Entry) (e : Entry) → is_in session e ≡ false → counted (sum (gaps missing session (es ++ e ∷ []))) ≡ counted (sum (gaps missing session es))
+elsewhere_sum missing s es e not =
+    ap counted (gaps-one missing s es e ∙ ap (λ (b : Bool). sum (gaps missing s es) + cond {A = ℕ} b (missing es e) 0) not ∙ omega arith)
+
 -- those of the session that the message is of
-here : (es : List Entry) (e : Entry) → totals_of e.session (es ++ e ∷ []) ≡ noted (totals_of e.session es) e (gap_in_context es e)
+here : (es : List Entry) (e : Entry) → totals_of e.session (es ++ e ∷ []) ≡ noted (totals_of e.session es) e (turn_of es e)
 here es e =
     let s = e.session in
     let is = session_self s in
     let p : counted (count_by (is_in s) (es ++ e ∷ [])) ≡ counted (counted (count_by (is_in s) es) + 1) =
     ap counted (count-one (is_in s) es e ∙ ap (λ (b : Bool). count_by (is_in s) es + cond {A = ℕ} b 1 0) is) ∙ goes_on (count_by (is_in s) es) 1 in
-    let q = first-one (is_in s) es e ∙ ap (λ (b : Bool). option_or (option_map (λ (x : Entry). x.ticks) (find (is_in s) es)) (cond b (Some e.ticks) None)) is in
+    let q = first-one (is_in s) es e ∙ ap (λ (b : Bool). option_or (option_map latest_of (find (is_in s) es)) (cond b (Some (latest_of e)) None)) is in
     let r = latest-one (is_in s) es e ∙ ap (λ (b : Bool). cond b (Some (latest_of e)) (latest (is_in s) es)) is in
-    let u : counted (sum (gaps gap_in_session s (es ++ e ∷ []))) ≡ counted (counted (sum (gaps gap_in_session s es)) + gap_in_session es e) =
-    ap counted (gaps-one gap_in_session s es e ∙ ap (λ (b : Bool). sum (gaps gap_in_session s es) + cond {A = ℕ} b (gap_in_session es e) 0) is) ∙ goes_on (sum (gaps gap_in_session s es)) (gap_in_session es e) in
-    let v : counted (sum (gaps gap_in_context s (es ++ e ∷ []))) ≡ counted (counted (sum (gaps gap_in_context s es)) + gap_in_context es e) =
-    ap counted (gaps-one gap_in_context s es e ∙ ap (λ (b : Bool). sum (gaps gap_in_context s es) + cond {A = ℕ} b (gap_in_context es e) 0) is) ∙ goes_on (sum (gaps gap_in_context s es)) (gap_in_context es e) in
-    λ i. record { messages = p i; first = q i; last = r i; by_session = u i; by_context = v i }
+    let u = here_sum gap_in_session es e in
+    let v = here_sum gap_in_context es e in
+    let w = here_sum session_counts es e in
+    let x = here_sum context_counts es e in
+    let y = here_sum anew_at es e in
+    λ i. record { messages = p i; first = q i; last = r i; by_session = u i; by_context = v i; of_session = w i; of_context = x i; anew = y i }
 
 -- those of another one
 elsewhere : (session : Session) (es : List Entry) (e : Entry) → is_in session e ≡ false → totals_of session (es ++ e ∷ []) ≡ totals_of session es
 elsewhere s es e not =
     let p : counted (count_by (is_in s) (es ++ e ∷ [])) ≡ counted (count_by (is_in s) es) =
     ap counted (count-one (is_in s) es e ∙ ap (λ (b : Bool). count_by (is_in s) es + cond {A = ℕ} b 1 0) not ∙ omega arith) in
-    let q = first-one (is_in s) es e ∙ ap (λ (b : Bool). option_or (option_map (λ (x : Entry). x.ticks) (find (is_in s) es)) (cond b (Some e.ticks) None)) not ∙ or_none (option_map (λ (x : Entry). x.ticks) (find (is_in s) es)) in
+    let q = first-one (is_in s) es e ∙ ap (λ (b : Bool). option_or (option_map latest_of (find (is_in s) es)) (cond b (Some (latest_of e)) None)) not ∙ or_none (option_map latest_of (find (is_in s) es)) in
     let r = latest-one (is_in s) es e ∙ ap (λ (b : Bool). cond b (Some (latest_of e)) (latest (is_in s) es)) not in
-    let u : counted (sum (gaps gap_in_session s (es ++ e ∷ []))) ≡ counted (sum (gaps gap_in_session s es)) =
-    ap counted (gaps-one gap_in_session s es e ∙ ap (λ (b : Bool). sum (gaps gap_in_session s es) + cond {A = ℕ} b (gap_in_session es e) 0) not ∙ omega arith) in
-    let v : counted (sum (gaps gap_in_context s (es ++ e ∷ []))) ≡ counted (sum (gaps gap_in_context s es)) =
-    ap counted (gaps-one gap_in_context s es e ∙ ap (λ (b : Bool). sum (gaps gap_in_context s es) + cond {A = ℕ} b (gap_in_context es e) 0) not ∙ omega arith) in
-    λ i. record { messages = p i; first = q i; last = r i; by_session = u i; by_context = v i }
+    let u = elsewhere_sum gap_in_session s es e not in
+    let v = elsewhere_sum gap_in_context s es e not in
+    let w = elsewhere_sum session_counts s es e not in
+    let x = elsewhere_sum context_counts s es e not in
+    let y = elsewhere_sum anew_at s es e not in
+    λ i. record { messages = p i; first = q i; last = r i; by_session = u i; by_context = v i; of_session = w i; of_context = x i; anew = y i }
 
 pub totals-one : (session : Session) (es : List Entry) (e : Entry) (old : Option Totals) → unwrap_or old no_totals ≡ totals_of session es →
-    unwrap_or (cond (same_session e.session session) (Some (noted (totals_of e.session es) e (gap_in_context es e))) old) no_totals ≡ totals_of session (es ++ e ∷ [])
+    unwrap_or (cond (same_session e.session session) (Some (noted (totals_of e.session es) e (turn_of es e))) old) no_totals ≡ totals_of session (es ++ e ∷ [])
 totals-one session es e old is = by_test (same_session e.session session) refl where
-  by_test : (b : Bool) → same_session e.session session ≡ b → unwrap_or (cond b (Some (noted (totals_of e.session es) e (gap_in_context es e))) old) no_totals ≡ totals_of session (es ++ e ∷ [])
+  by_test : (b : Bool) → same_session e.session session ≡ b → unwrap_or (cond b (Some (noted (totals_of e.session es) e (turn_of es e))) old) no_totals ≡ totals_of session (es ++ e ∷ [])
   by_test true same = sym (here es e) ∙ ap (λ (s : Session). totals_of s (es ++ e ∷ [])) (session_is e.session session same)
   by_test false apart = is ∙ sym (elsewhere session es e apart)
-
--- ---- losses
-
-pub lost-one : (source : Source) (stream : List Told) (t : Told) → lost_of source (stream ++ t ∷ []) ≡ counted (lost_of source stream + lost_in source t)
-lost-one source stream t =
-    let more : sum_by (lost_in source) (stream ++ t ∷ []) ≡ sum_by (lost_in source) stream + lost_in source t = sum_by-append (lost_in source) stream (t ∷ []) ∙ omega arith in
-    ap counted more ∙ goes_on (sum_by (lost_in source) stream) (lost_in source t)
 
 -- ---- what is kept, after a message was noted
 
@@ -133,7 +138,7 @@ contexts_kept old new es e kept noted_so is keeps c =
     noted_so c ∙ ap (λ (k : Latest). cond (same_context (context_of e) c) (Some k) (old c)) is ∙ ap (cond (same_context (context_of e) c) (Some (latest_of e))) (keeps c)
     ∙ sym (latest-one (is_of c) es e)
 
-pub totals_kept : (old new : Session → Option Totals) (es : List Entry) (e : Entry) (now : Totals) → ((s : Session) → new s ≡ cond (same_session e.session s) (Some now) (old s)) → now ≡ noted (totals_of e.session es) e (gap_in_context es e) →
+pub totals_kept : (old new : Session → Option Totals) (es : List Entry) (e : Entry) (now : Totals) → ((s : Session) → new s ≡ cond (same_session e.session s) (Some now) (old s)) → now ≡ noted (totals_of e.session es) e (turn_of es e) →
     ((s : Session) → unwrap_or (old s) no_totals ≡ totals_of s es) → (s : Session) → unwrap_or (new s) no_totals ≡ totals_of s (es ++ e ∷ [])
 totals_kept old new es e now noted_so is keeps s =
     ap (λ (o : Option Totals). unwrap_or o no_totals) (noted_so s ∙ ap (λ (t : Totals). cond (same_session e.session s) (Some t) (old s)) is) ∙ totals-one s es e (old s) (keeps s)
@@ -144,14 +149,6 @@ source_is a b e =
     let p = bytes_same a.ecu b.ecu parts.0 in
     let q = bytes_same a.apid b.apid parts.1 in
     λ i. record { ecu = p i; apid = q i }
-
-pub lost_kept : (old new : Source → Option ℕ) (stream : List Told) (l : Lost) (now : ℕ) → ((x : Source) → new x ≡ cond (same_source l.source x) (Some now) (old x)) → now ≡ counted (lost_of l.source stream + l.count) →
-    ((x : Source) → unwrap_or (old x) 0 ≡ lost_of x stream) → (x : Source) → unwrap_or (new x) 0 ≡ lost_of x (stream ++ told.Lost l ∷ [])
-lost_kept old new stream l now noted_so is keeps x = ap (λ (o : Option ℕ). unwrap_or o 0) (noted_so x) ∙ by_test (same_source l.source x) refl ∙ sym (lost-one x stream (told.Lost l)) where
-  by_test : (b : Bool) → same_source l.source x ≡ b → unwrap_or (cond b (Some now) (old x)) 0 ≡ counted (lost_of x stream + cond {A = ℕ} (same_source l.source x) l.count 0)
-  by_test true same =
-      is ∙ ap (λ (y : Source). counted (lost_of y stream + l.count)) (source_is l.source x same) ∙ sym (ap (λ (b : Bool). counted (lost_of x stream + cond {A = ℕ} b l.count 0)) same)
-  by_test false apart = keeps x ∙ stands (sum_by (lost_in x) stream) ∙ sym (ap (λ (b : Bool). counted (lost_of x stream + cond {A = ℕ} b l.count 0)) apart)
 
 -- ---- an answer told the other way round
 

@@ -2,7 +2,7 @@
 use Rattle.std.proofs.Common.{◌≡◌, ℕ, ◌<◌, ◌≤◌, Bool, true, false, cond, eqb, leb, ltb, List, [], ◌∷◌, ◌++◌, length, take, drop, Option, Some, None, refl, sym, ap, subst, ◌∙◌, append_assoc, arith}
 use Rattle.std.specs.Prelude.{not, is_none, ◌&&◌}
 use Rattle.std.proofs.lemmas.Bool.{leb-true, ltb-false}
-use Rattle.std.proofs.lemmas.List.{length-take, length-drop}
+use Rattle.std.proofs.lemmas.List.{length-take, length-drop, append-nil}
 use Rattle.dl_lemmas.proofs.Bools.{both}
 use Rattle.dl_bytes.specs.Htyp.{htyp_of, len_of, version, header_len}
 use Rattle.dl_headers.specs.declared.fault.HeaderFault.{HeaderFault}
@@ -10,7 +10,6 @@ use Rattle.dl_headers.specs.declared.fault.HeaderFault.TheVariants.{Short, Versi
 use Rattle.dl_headers.specs.Reading.{front_fault}
 use Rattle.dl_message.specs.Cut.{IsWholeMessage}
 use Rattle.dl_message.proofs.Pieces.{whole_front}
-use Rattle.std.proofs.lemmas.List.{append-nil}
 use Rattle.dl_sessions.specs.declared.session.Told.{Told}
 use Rattle.dl_sessions.specs.declared.stream.Place.{Place}
 use Rattle.dl_sessions.specs.Reads.{IsReading, Reads}

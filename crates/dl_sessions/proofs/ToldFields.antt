@@ -1,14 +1,21 @@
 -- What is read of a message's ECU and timestamp at their places are the fields that it spells.
-use Rattle.std.proofs.Common.{◌≡◌, ℕ, ◌+◌, ◌-◌, ◌<◌, ◌^◌, Bool, true, cond, List, [], ◌∷◌, ◌++◌, length, take, drop, Option, Some, None, refl, sym, ap, ◌∙◌, append_assoc, length-append, is_some, arith}
+use Rattle.std.proofs.Common.{◌≡◌, ℕ, ◌+◌, ◌-◌, ◌<◌, ◌^◌, Bool, true, false, cond, List, [], ◌∷◌, ◌++◌, length, take, drop, Option, Some, None, refl, sym, ap, ◌∙◌, append_assoc, length-append, is_some, arith}
 use Rattle.std.specs.Prelude.{IfSome, unwrap_or}
+use Rattle.std.proofs.lemmas.Bool.{cond-true, cond-false}
 use Rattle.std.proofs.lemmas.List.{take_at, drop_at}
 use Rattle.byteorder.specs.Endian.{big_bytes, big_number}
 use Rattle.byteorder.specs.Numbers.{big_number-reads_back}
-use Rattle.dl_bytes.specs.Htyp.{htyp_of, has_ecu, has_ticks, standard_len}
-use Rattle.dl_headers.specs.Header.{standard_header, extended_header, optional}
+use Rattle.dl_bytes.specs.Htyp.{htyp_of, has_ecu, has_extended, has_ticks, standard_len}
+use Rattle.dl_headers.specs.Header.{standard_header, extended_header, optional, IsExtended}
 use Rattle.dl_headers.specs.Message.{Message, IsMessage}
-use Rattle.dl_headers.proofs.Lengths.{number_long}
-use Rattle.dl_sessions.specs.Stream.{ecu_of, ticks_of}
+use Rattle.dl_headers.proofs.Lengths.{number_long, apid_at, ctid_at}
+use Rattle.dl_headers.specs.declared.header.Extended.{Extended}
+use Rattle.dl_headers.specs.Reading.{mcnt_of}
+use Rattle.dl_receive.specs.MessageKind.{apid_of, behind_standard, ctid_of, session_of}
+use Rattle.dl_receive.proofs.Fields.{behind_read, mcnt_read, session_read}
+use Rattle.dl_sessions.specs.Stream.{ecu_of, entry_at, entry_by, entry_in, ticks_of}
+use Rattle.dl_sessions.specs.declared.session.Told.{Told}
+use Rattle.dl_sessions.specs.declared.session.Told.TheVariants as told
 
 ecu_at : (htyp mcnt len : ℕ) (ecu : Option (List ℕ)) (other more : List ℕ) → IfSome ecu (λ id. length id ≡ 4)
     → cond (is_some ecu) (take 4 (drop 4 (((htyp ∷ mcnt ∷ []) ++ big_bytes 2 len ++ optional (λ (id : List ℕ). id) ecu) ++ more))) other ≡ unwrap_or ecu other
@@ -63,3 +70,21 @@ module _ (m : Message) (bytes : List ℕ) (is : IsMessage m bytes) where
       ∙ ap (λ (there : Bool). cond there (big_number 4 (drop (standard_len s.htyp - 4) bytes)) 0) (sym s.ticks_as_told)
       ∙ ap (λ (b : List ℕ). cond (is_some s.ticks) (big_number 4 (drop (standard_len s.htyp - 4) b)) 0) parts
       ∙ ticks_at front s.ticks rest (standard_len s.htyp - 4) long is.standard.ticks
+
+  entry_when : (ecu : List ℕ) (ticks : ℕ) (e : Option Extended) → m.extended ≡ e → IfSome e IsExtended → entry_at ecu ticks bytes ≡ entry_in m.standard e ecu ticks
+  entry_when ecu ticks None there fits =
+      let said : has_extended (htyp_of bytes) ≡ false = ap has_extended htyp_read ∙ sym is.told ∙ ap (λ (e : Option Extended). is_some e) there in
+      cond-false _ _ _ said
+  entry_when ecu ticks (Some head) there fits =
+      let said : has_extended (htyp_of bytes) ≡ true = ap has_extended htyp_read ∙ sym is.told ∙ ap (λ (e : Option Extended). is_some e) there in
+      let at : behind_standard bytes ≡ extended_header head ++ m.payload = behind_read m bytes is ∙ ap (λ (e : Option Extended). optional extended_header e ++ m.payload) there in
+      let apid : apid_of bytes ≡ head.apid = ap (λ (x : List ℕ). take 4 (drop 2 x)) at ∙ apid_at head.msin head.noar head.apid head.ctid m.payload fits.apid in
+      let ctid : ctid_of bytes ≡ head.ctid = ap (λ (x : List ℕ). take 4 (drop 6 x)) at ∙ ctid_at head.msin head.noar head.apid head.ctid m.payload fits.apid fits.ctid in
+      cond-true _ _ _ said
+      ∙ ap (λ (s : Option ℕ). entry_by s (mcnt_of bytes) (apid_of bytes) (ctid_of bytes) ecu ticks) (session_read m bytes is)
+      ∙ ap (λ (n : ℕ). entry_by m.standard.session n (apid_of bytes) (ctid_of bytes) ecu ticks) (mcnt_read m bytes is)
+      ∙ ap (λ (a : List ℕ). entry_by m.standard.session m.standard.mcnt a (ctid_of bytes) ecu ticks) apid
+      ∙ ap (λ (c : List ℕ). entry_by m.standard.session m.standard.mcnt head.apid c ecu ticks) ctid
+
+  pub entry_read : (ecu : List ℕ) (ticks : ℕ) → entry_at ecu ticks bytes ≡ entry_in m.standard m.extended ecu ticks
+  entry_read ecu ticks = entry_when ecu ticks m.extended refl is.extended

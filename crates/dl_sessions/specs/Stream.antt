@@ -2,15 +2,18 @@
 use Rattle.std.specs.Prelude.{◌≡◌, ℕ, ◌-◌, ◌&&◌, nat_eq, nat_le, Bool, true, false, List, [], ◌∷◌, length, take, drop, slice_index, Option, Some, None, is_none, if◌then◌else◌}
 use Rattle.std.specs.List.{starts_with}
 use Rattle.byteorder.specs.Endian.{big_number}
-use Rattle.dl_bytes.specs.Htyp.{htyp_of, len_of, has_ecu, has_ticks, standard_len}
+use Rattle.std.specs.Option.{option_map_or}
+use Rattle.dl_bytes.specs.Htyp.{htyp_of, len_of, has_ecu, has_extended, has_ticks, standard_len}
 use Rattle.dl_bytes.specs.Id.{zero_id}
 use Rattle.dl_headers.specs.declared.fault.HeaderFault.{HeaderFault}
 use Rattle.dl_headers.specs.declared.fault.HeaderFault.TheVariants.{Version, Length}
-use Rattle.dl_headers.specs.Reading.{front_fault}
+use Rattle.dl_headers.specs.declared.header.Extended.{Extended}
+use Rattle.dl_headers.specs.declared.header.Standard.{Standard}
+use Rattle.dl_headers.specs.Reading.{front_fault, mcnt_of}
 use Rattle.dl_message.specs.Cut.{serial_header}
 use Rattle.dl_receive.specs.declared.kind.Kind.{Kind}
 use Rattle.dl_receive.specs.declared.kind.Kind.TheVariants.{Log, Overflow, Other}
-use Rattle.dl_receive.specs.MessageKind.{kind_of}
+use Rattle.dl_receive.specs.MessageKind.{apid_of, ctid_of, kind_of, session_of}
 use Rattle.dl_sessions.specs.declared.session.Told.{Told}
 use Rattle.dl_sessions.specs.declared.session.Told.TheVariants as told
 use Rattle.dl_sessions.specs.declared.stream.End.{End}
@@ -27,13 +30,30 @@ ecu_of other message = if has_ecu (htyp_of message) then take 4 (drop 4 message)
 abbrev pub ticks_of : List ℕ → ℕ
 ticks_of message = if has_ticks (htyp_of message) then big_number 4 (drop (standard_len (htyp_of message) - 4) message) else 0
 
-abbrev pub told_by : Kind → List ℕ → ℕ → Told
-told_by (Log seid mcnt apid ctid len) ecu ticks = told.Log (record { session = record { ecu = ecu; apid = apid; seid = seid }; ctid = ctid; mcnt = mcnt; ticks = ticks })
-told_by (Overflow apid counter) ecu ticks = told.Lost (record { source = record { ecu = ecu; apid = apid }; count = counter })
-told_by (Other len) ecu ticks = told.Other
+-- a message of a session, where one is told
+abbrev pub entry_by : Option ℕ → ℕ → (apid ctid ecu : List ℕ) → ℕ → Told
+entry_by session mcnt apid ctid ecu ticks =
+    option_map_or (λ seid. told.Log (record { session = record { ecu = ecu; apid = apid; seid = seid }; ctid = ctid; mcnt = mcnt; ticks = ticks })) session told.Other
+
+-- whatever its type (MSTP), a message with an extended header that tells its session takes a message counter of it
+abbrev pub entry_at : List ℕ → ℕ → List ℕ → Told
+entry_at ecu ticks message =
+    if has_extended (htyp_of message)
+    then entry_by (session_of message) (mcnt_of message) (apid_of message) (ctid_of message) ecu ticks
+    else told.Other
+
+-- the same by its headers
+abbrev pub entry_in : Standard → Option Extended → List ℕ → ℕ → Told
+entry_in standard extended ecu ticks = option_map_or (λ head. entry_by standard.session standard.mcnt head.apid head.ctid ecu ticks) extended told.Other
+
+-- the report of lost messages, or any other message
+abbrev pub told_by : Kind → List ℕ → Told → Told
+told_by (Overflow apid counter) ecu entry = told.Lost (record { source = record { ecu = ecu; apid = apid }; count = counter })
+told_by (Log seid mcnt apid ctid len) ecu entry = entry
+told_by (Other len) ecu entry = entry
 
 abbrev pub told_of : List ℕ → List ℕ → Told
-told_of ecu message = told_by (kind_of message) (ecu_of ecu message) (ticks_of message)
+told_of ecu message = told_by (kind_of message) (ecu_of ecu message) (entry_at (ecu_of ecu message) (ticks_of message) message)
 
 -- ---- where messages stand
 

@@ -1,17 +1,23 @@
 //! The account: message after message.
 
-ghost use Rattle.std.specs.Prelude.{◌≡◌, ◌++◌, ◌∷◌, [], List, IfOk, OnOk, unwrap_or, if◌then◌else◌};
+ghost use Rattle.std.specs.Prelude.{◌≡◌, ◌++◌, ◌∷◌, ◌&&◌, [], List, IfOk, OnOk, nat_eq, not, unwrap_or, if◌then◌else◌};
 ghost use Rattle.std.specs.HashMap as hash;
 ghost use Rattle.std.specs.List.{flat_map};
-ghost use Rattle.dl_sessions.specs.Printing.{hole_by, session_by};
+ghost use Rattle.dl_sessions.specs.Printing.{application_by, hole_by, losses_by, missing_by, missing_of, session_by};
 ghost use Rattle.dl_sessions.specs.Text.{printed};
-ghost use Rattle.dl_sessions.specs.Account.{IsAfter, KeepsContexts, KeepsLost, KeepsTotals, NotedContext, NotedSession, begins_anew, entries, gap, gap_in_context, hole_if, holes, noted, latest_of, no_totals, same_session, same_source, sessions, totals_of};
+ghost use Rattle.dl_sessions.specs.Account.{IsAfter, KeepsContexts, KeepsTotals, NotedContext, NotedSession, hole_if, holes, noted, no_totals, sessions, totals_of};
+ghost use Rattle.dl_sessions.specs.Gaps.{anew, begins_anew, entries, gap, goes_on, latest_of, of_context, of_session, same_session, same_source, source_of, turn, turn_of};
 ghost use Rattle.dl_sessions.specs.declared.session.Entry.{Entry};
 ghost use Rattle.dl_sessions.specs.declared.session.Told.{Told};
 ghost use Rattle.dl_sessions.specs.declared.session.Told.TheVariants as told;
 
-use crate::session::{Context, Entry, Hole, Latest, Lost, Session, Source, Told, Totals};
-use crate::text::{push_hole as push_hole_line, push_totals, push_verdict};
+use crate::applications::{Applications, next_number, source_of};
+use crate::session::{
+    Context, Entry, Hole, Latest, Losses, Position, Session, Source, Told, Totals, Turn,
+};
+use crate::text::{
+    missing, push_application as push_application_line, push_hole as push_hole_line, push_totals,
+};
 use dl_bytes::{Id, OutOfMemory};
 use std::alloc::Global;
 use std::collections::HashMap;
@@ -19,16 +25,15 @@ use std::collections::HashMap;
 /// The daemon's own APID, `DA1`: its buffer's losses are reported in its name.
 const DAEMON: [u8; 4] = *b"DA1\0";
 
-/// The account of a stream of messages. It takes memory for each session, each context, each application that reports lost
-/// messages, and each hole.
+/// The account of a stream of messages. It takes memory for each session, each context, each application, and each hole.
 #[derive(Drop)]
 pub struct Account {
     /// What is counted of each session.
     totals: HashMap<Session, Totals>,
     /// The last message of each context.
     contexts: HashMap<Context, Latest>,
-    /// How many messages each application reported as lost.
-    lost: HashMap<Source, u64>,
+    /// The applications.
+    applications: Applications,
     /// The sessions, in the order of their first messages.
     sessions: Vec<Session>,
     /// The holes, in the order of the stream.
@@ -37,7 +42,7 @@ pub struct Account {
     messages: u64,
 }
 
-/// What is kept of a log message.
+/// What is kept of a message.
 fn latest_of(entry: &Entry) -> Latest
     ensures { result ≡ latest_of entry.now }
 {
@@ -47,20 +52,70 @@ fn latest_of(entry: &Entry) -> Latest
     }
 }
 
-/// Whether the program that counts has begun anew with a log message: it counts from 0 again, and the timestamp falls back.
+/// Whether the program that counts has begun anew with a message: it counts from 0 again, and the timestamp falls back.
 fn begins_anew(last: Latest, entry: &Entry) -> bool
     ensures { result ≡ begins_anew last entry.now }
 {
     entry.ticks < last.ticks && entry.mcnt == 0
 }
 
-/// How many counters were passed over since the last log message.
+/// How many counters were passed over since the last message.
 fn gap(last: Option<Latest>, entry: &Entry) -> u8
     ensures { result ≡ gap last entry.now }
 {
     match last {
         Some(last) if begins_anew(last, entry) => 0,
         Some(last) => entry.mcnt.wrapping_sub(last.mcnt).wrapping_sub(1),
+        None => 0,
+    }
+}
+
+/// Whether a message goes on from its context's last counter, or is the first, 0, of a new context.
+fn goes_on(last: Option<Latest>, entry: &Entry) -> bool
+    ensures { result ≡ goes_on last entry.now }
+{
+    gap(last, entry) == 0 && (last.is_some() || entry.mcnt == 0)
+}
+
+/// What a message is to its context.
+fn turn(last: Option<Latest>, entry: &Entry) -> Turn
+    ensures { result ≡ turn last entry.now }
+{
+    Turn {
+        missing: gap(last, entry),
+        goes_on: goes_on(last, entry),
+    }
+}
+
+/// Whether a message goes on from its session's last counter, and not from its context's.
+fn of_session(last: Option<Latest>, in_context: bool, entry: &Entry) -> u64
+    ensures { result ≡ of_session last in_context entry.now }
+{
+    if last.is_some() && gap(last, entry) == 0 && !in_context {
+        1
+    } else {
+        0
+    }
+}
+
+/// Whether a message goes on from its context's last counter, and that of its session is met again or steps back.
+fn of_context(last: Option<Latest>, in_context: bool, entry: &Entry) -> u64
+    ensures { result ≡ of_context last in_context entry.now }
+{
+    if gap(last, entry) >= 127 && in_context {
+        1
+    } else {
+        0
+    }
+}
+
+/// Whether who counts has begun anew.
+fn anew(last: Option<Latest>, entry: &Entry) -> u64
+    ensures { result ≡ anew last entry.now }
+{
+    match last {
+        Some(last) if begins_anew(last, entry) => 1,
+        Some(_) => 0,
         None => 0,
     }
 }
@@ -75,24 +130,32 @@ fn no_totals() -> Totals
         last: None,
         by_session: 0,
         by_context: 0,
+        of_session: 0,
+        of_context: 0,
+        anew: 0,
     }
 }
 
-/// What is counted of a session with one message more.
-fn noted(totals: &Totals, entry: &Entry, by_context: u8) -> Totals
-    ensures { result ≡ noted totals.now entry.now by_context }
+/// What is counted of a session with one message more, which is this to its context.
+fn noted(totals: &Totals, entry: &Entry, turn: Turn) -> Totals
+    ensures { result ≡ noted totals.now entry.now turn }
 {
-    let missing = gap(totals.last, entry);
+    let last = totals.last;
+    let of_session = of_session(last, turn.goes_on, entry);
+    let of_context = of_context(last, turn.goes_on, entry);
     Totals {
         messages: totals.messages.saturating_add(1),
-        first: totals.first.or(Some(entry.ticks)),
+        first: totals.first.or(Some(latest_of(entry))),
         last: Some(latest_of(entry)),
-        by_session: totals.by_session.saturating_add(missing as u64),
-        by_context: totals.by_context.saturating_add(by_context as u64),
+        by_session: totals.by_session.saturating_add(gap(last, entry) as u64),
+        by_context: totals.by_context.saturating_add(turn.missing as u64),
+        of_session: totals.of_session.saturating_add(of_session),
+        of_context: totals.of_context.saturating_add(of_context),
+        anew: totals.anew.saturating_add(anew(last, entry)),
     }
 }
 
-/// What a log message is to its session.
+/// What a message is to its session.
 #[derive(Clone, Copy)]
 struct Step {
     /// How many are missing before it, where the session counts its messages.
@@ -101,9 +164,9 @@ struct Step {
     is_first: bool,
 }
 
-/// Notes a log message of its context. Answers how many are missing before it, where each context counts its own.
-fn note_context(contexts: &mut HashMap<Context, Latest>, entry: &Entry) -> Result<u8, OutOfMemory>
-    ensures { (es : List Entry) → KeepsContexts contexts.old es → IfOk result (λ missing. NotedContext es entry.now missing contexts.new) }
+/// Notes a message of its context. Answers what it is to it.
+fn note_context(contexts: &mut HashMap<Context, Latest>, entry: &Entry) -> Result<Turn, OutOfMemory>
+    ensures { (es : List Entry) → KeepsContexts contexts.old es → IfOk result (λ turn. NotedContext es entry.now turn contexts.new) }
 {
     let context = Context {
         ecu: entry.session.ecu,
@@ -112,7 +175,7 @@ fn note_context(contexts: &mut HashMap<Context, Latest>, entry: &Entry) -> Resul
         ctid: entry.ctid,
     };
     let last = contexts.insert(context, latest_of(entry))?;
-    Ok(gap(last, entry))
+    Ok(turn(last, entry))
 }
 
 /// What is counted of a session so far.
@@ -125,40 +188,28 @@ fn totals_so_far(totals: &HashMap<Session, Totals>, session: &Session) -> Totals
     }
 }
 
-/// Notes a log message of its session.
+/// Notes a message of its session.
 fn note_session(
     totals: &mut HashMap<Session, Totals>,
     entry: &Entry,
-    by_context: u8,
+    turn: Turn,
 ) -> Result<Step, OutOfMemory>
-    ensures { (es : List Entry) → KeepsTotals totals.old es → by_context ≡ gap_in_context es entry.now → IfOk result (λ step. NotedSession es entry.now step totals.new) }
+    ensures { (es : List Entry) → KeepsTotals totals.old es → turn ≡ turn_of es entry.now → IfOk result (λ step. NotedSession es entry.now step totals.new) }
 {
     let old = totals_so_far(totals, &entry.session);
     let step = Step {
         by_session: gap(old.last, entry),
         is_first: old.last.is_none(),
     };
-    totals.insert(entry.session, noted(&old, entry, by_context))?;
+    totals.insert(entry.session, noted(&old, entry, turn))?;
     Ok(step)
 }
 
-/// How many messages an application reported as lost so far.
-fn lost_so_far(lost: &HashMap<Source, u64>, source: &Source) -> u64
-    ensures { result ≡ unwrap_or (hash.get same_source lost.now source.now) 0 }
+/// Whether messages are missing, by one of the countings.
+fn is_missing(by_session: u8, by_context: u8) -> bool
+    ensures { result ≡ not (nat_eq by_session 0 && nat_eq by_context 0) }
 {
-    match lost.get(source) {
-        Some(count) => *count,
-        None => 0,
-    }
-}
-
-/// Notes a report of lost messages.
-fn note_lost(lost: &mut HashMap<Source, u64>, report: &Lost) -> Result<(), OutOfMemory>
-    ensures { (stream : List Told) → KeepsLost lost.old stream → OnOk result (KeepsLost lost.new (stream ++ told.Lost report.now ∷ [])) }
-{
-    let old = lost_so_far(lost, &report.source);
-    lost.insert(report.source, old.saturating_add(report.count as u64))?;
-    Ok(())
+    by_session != 0 || by_context != 0
 }
 
 /// Adds a session that is the first time there.
@@ -179,7 +230,7 @@ fn push_first(
 fn push_hole(holes: &mut Vec<Hole>, hole: Hole) -> Result<(), OutOfMemory>
     ensures { OnOk result (holes.new.items ≡ holes.old.items ++ hole_if hole) }
 {
-    if hole.by_session != 0 || hole.by_context != 0 {
+    if is_missing(hole.by_session, hole.by_context) {
         holes.push(hole)?;
     }
     Ok(())
@@ -189,57 +240,90 @@ fn push_hole(holes: &mut Vec<Hole>, hole: Hole) -> Result<(), OutOfMemory>
 fn push_holes(
     text: &mut Vec<u8>,
     totals: &HashMap<Session, Totals>,
+    applications: &Applications,
     holes: &[Hole],
 ) -> Result<(), OutOfMemory>
-    ensures { OnOk result (text.new.items ≡ text.old.items ++ flat_map (hole_by totals.now) holes.now) }
+    ensures { OnOk result (text.new.items ≡ text.old.items ++ flat_map (hole_by totals.now applications.now) holes.now) }
 {
     for hole in holes {
-        push_hole_line(text, &totals_so_far(totals, &hole.entry.session), hole)?;
+        let position = Position {
+            source: source_of(&hole.entry.session),
+            number: hole.number,
+        };
+        let told = applications.told(&position);
+        let counted = totals_so_far(totals, &hole.entry.session);
+        push_hole_line(text, &counted, hole, told)?;
     }
     Ok(())
-}
-
-/// Adds the line of a session, by what is counted of it and what was reported as lost.
-fn push_session(
-    text: &mut Vec<u8>,
-    totals: &HashMap<Session, Totals>,
-    lost: &HashMap<Source, u64>,
-    session: &Session,
-) -> Result<(), OutOfMemory>
-    ensures { OnOk result (text.new.items ≡ text.old.items ++ session_by totals.now lost.now session.now) }
-{
-    let counted = totals_so_far(totals, session);
-    let ring = Source {
-        ecu: session.ecu,
-        apid: session.apid,
-    };
-    let buffer = Source {
-        ecu: session.ecu,
-        apid: Id::from_bytes(DAEMON),
-    };
-    push_totals(text, session, &counted)?;
-    push_verdict(
-        text,
-        &session.apid,
-        &counted,
-        lost_so_far(lost, &ring),
-        lost_so_far(lost, &buffer),
-    )
 }
 
 /// Adds the lines of sessions.
 fn push_sessions(
     text: &mut Vec<u8>,
     totals: &HashMap<Session, Totals>,
-    lost: &HashMap<Source, u64>,
     sessions: &[Session],
 ) -> Result<(), OutOfMemory>
-    ensures { OnOk result (text.new.items ≡ text.old.items ++ flat_map (session_by totals.now lost.now) sessions.now) }
+    ensures { OnOk result (text.new.items ≡ text.old.items ++ flat_map (session_by totals.now) sessions.now) }
 {
     for session in sessions {
-        push_session(text, totals, lost, session)?;
+        push_totals(text, session, &totals_so_far(totals, session))?;
     }
     Ok(())
+}
+
+/// Whether a session is of this application.
+fn is_of_source(source: &Source, session: &Session) -> bool
+    ensures { result ≡ same_source (source_of session.now) source.now }
+{
+    session.ecu == source.ecu && session.apid == source.apid
+}
+
+/// How many messages of a session are missing, where it is of this application.
+fn missing_of(totals: &HashMap<Session, Totals>, source: &Source, session: &Session) -> u64
+    ensures { result ≡ missing_of totals.now source.now session.now }
+{
+    if is_of_source(source, session) {
+        missing(&totals_so_far(totals, session))
+    } else {
+        0
+    }
+}
+
+/// How many messages of an application are missing in its sessions.
+fn missing_in(totals: &HashMap<Session, Totals>, source: &Source, sessions: &[Session]) -> u64
+    ensures { result ≡ missing_by totals.now source.now sessions.now }
+{
+    let mut total: u64 = 0;
+    for session in sessions {
+        total = total.saturating_add(missing_of(totals, source, session));
+    }
+    total
+}
+
+/// What was told of an application's lost messages, and of those that the buffer of its ECU refused.
+fn losses_of(applications: &Applications, source: &Source) -> Losses
+    ensures { result ≡ losses_by applications.now source.now }
+{
+    let tally = applications.tally(source);
+    let buffer = Source {
+        ecu: source.ecu,
+        apid: Id::from_bytes(DAEMON),
+    };
+    let first = Position {
+        source: *source,
+        number: 1,
+    };
+    let next = Position {
+        source: *source,
+        number: next_number(&tally),
+    };
+    Losses {
+        messages: tally.messages,
+        told: tally.lost,
+        before: applications.told(&first),
+        behind: applications.told(&next),
+        buffer: applications.tally(&buffer).lost,
+    }
 }
 
 impl Account {
@@ -250,26 +334,29 @@ impl Account {
         Account {
             totals: HashMap::new(alloc),
             contexts: HashMap::new(alloc),
-            lost: HashMap::new(alloc),
+            applications: Applications::new(alloc),
             sessions: Vec::new(alloc),
             holes: Vec::new(alloc),
             messages: 0,
         }
     }
 
-    /// Notes a log message.
+    /// Notes a message of a session.
     fn note_log(&mut self, entry: &Entry) -> Result<(), OutOfMemory>
         ensures { (stream : List Told) → IsAfter stream self.old → OnOk result (IsAfter (stream ++ told.Log entry.now ∷ []) self.new) }
     {
-        let by_context = note_context(&mut self.contexts, entry)?;
-        let step = note_session(&mut self.totals, entry, by_context)?;
+        let turn = note_context(&mut self.contexts, entry)?;
+        let step = note_session(&mut self.totals, entry, turn)?;
         push_first(&mut self.sessions, step.is_first, &entry.session)?;
+        let is_behind_hole = is_missing(step.by_session, turn.missing);
+        let number = self.applications.note_message(entry, is_behind_hole)?;
         self.messages = self.messages.saturating_add(1);
         let hole = Hole {
             place: self.messages,
+            number,
             entry: *entry,
             by_session: step.by_session,
-            by_context,
+            by_context: turn.missing,
         };
         push_hole(&mut self.holes, hole)
     }
@@ -282,7 +369,7 @@ impl Account {
             Told::Log(entry) => self.note_log(entry),
             Told::Lost(report) => {
                 self.messages = self.messages.saturating_add(1);
-                note_lost(&mut self.lost, report)
+                self.applications.note_report(report)
             }
             Told::Other => {
                 self.messages = self.messages.saturating_add(1);
@@ -312,12 +399,33 @@ impl Account {
         totals_so_far(&self.totals, session)
     }
 
+    /// Adds the line of an application.
+    fn push_application(&self, text: &mut Vec<u8>, source: &Source) -> Result<(), OutOfMemory>
+        ensures { OnOk result (text.new.items ≡ text.old.items ++ application_by self.now source.now) }
+    {
+        let missing = missing_in(&self.totals, source, &self.sessions);
+        let losses = losses_of(&self.applications, source);
+        push_application_line(text, source, missing, &losses)
+    }
+
+    /// Adds the lines of applications.
+    fn push_applications(&self, text: &mut Vec<u8>) -> Result<(), OutOfMemory>
+        ensures { OnOk result (text.new.items ≡ text.old.items ++ flat_map (application_by self.now) self.now.applications.sources.items) }
+    {
+        let sources = self.applications.sources();
+        for source in sources {
+            self.push_application(text, source)?;
+        }
+        Ok(())
+    }
+
     /// Adds the text of the account.
     pub fn print(&self, text: &mut Vec<u8>) -> Result<(), OutOfMemory>
         ensures { (stream : List Told) → IsAfter stream self.now → OnOk result (text.new.items ≡ text.old.items ++ printed stream) }
     {
-        push_holes(text, &self.totals, &self.holes)?;
-        push_sessions(text, &self.totals, &self.lost, &self.sessions)
+        push_holes(text, &self.totals, &self.applications, &self.holes)?;
+        push_sessions(text, &self.totals, &self.sessions)?;
+        self.push_applications(text)
     }
 }
 

@@ -1,4 +1,4 @@
-//! Plain types: sessions, what a message tells of them, and what is counted.
+//! Plain types: sessions and applications, what a message tells of them, and what is counted.
 
 use dl_bytes::Id;
 
@@ -35,7 +35,16 @@ pub struct Context {
     pub ctid: Id,
 }
 
-/// What a log message tells.
+/// A message of an application by its number among them.
+#[derive(Clone, Copy, Debug, PartialEq, Eq, Hash)]
+pub struct Position {
+    /// The application.
+    pub source: Source,
+    /// The number of the message, from 1.
+    pub number: u64,
+}
+
+/// What a message of a session tells.
 #[derive(Clone, Copy, Debug, PartialEq, Eq)]
 pub struct Entry {
     /// Its session.
@@ -57,7 +66,7 @@ pub struct Lost {
     pub count: u32,
 }
 
-/// What is kept of the last log message.
+/// What is kept of a message of a session.
 #[derive(Clone, Copy, Debug, PartialEq, Eq)]
 pub struct Latest {
     /// MCNT: its message counter.
@@ -69,12 +78,21 @@ pub struct Latest {
 /// What a message tells an account.
 #[derive(Clone, Copy, Debug, PartialEq, Eq)]
 pub enum Told {
-    /// A log message of a session.
+    /// A message of a session: a log message, or another one that takes a message counter (MSTP 1 to 3).
     Log(Entry),
     /// The report of lost messages.
     Lost(Lost),
-    /// Any other message: nothing.
+    /// A message that tells no session: nothing.
     Other,
+}
+
+/// What a message is to its context.
+#[derive(Clone, Copy, Debug, PartialEq, Eq)]
+pub struct Turn {
+    /// How many are missing before it, where each context counts its own: modulo 256.
+    pub missing: u8,
+    /// Whether its counter goes on from the context's last one, or is the first, 0, of a new context.
+    pub goes_on: bool,
 }
 
 /// What is counted of a session.
@@ -82,14 +100,48 @@ pub enum Told {
 pub struct Totals {
     /// How many messages it has.
     pub messages: u64,
-    /// The timestamp of the first.
-    pub first: Option<u32>,
+    /// The first.
+    pub first: Option<Latest>,
     /// The last.
     pub last: Option<Latest>,
     /// How many are missing, where the session counts its messages.
     pub by_session: u64,
     /// How many are missing, where each context counts its own.
     pub by_context: u64,
+    /// How many messages go on from the session's last counter, and not from their context's.
+    pub of_session: u64,
+    /// How many messages go on from their context's last counter, and step back or stand still in the session.
+    pub of_context: u64,
+    /// How often who counts has begun anew.
+    pub anew: u64,
+}
+
+/// What is counted of an application.
+#[derive(Clone, Copy, Debug, PartialEq, Eq)]
+pub struct Tally {
+    /// How many messages it has.
+    pub messages: u64,
+    /// How many reports of lost messages.
+    pub reports: u64,
+    /// How many messages these tell as lost.
+    pub lost: u64,
+    /// Whether messages are missing before its last message, by one of the countings.
+    pub has_hole: bool,
+}
+
+/// What reports tell of lost messages of an application.
+#[derive(Clone, Copy, Debug, PartialEq, Eq)]
+pub struct Losses {
+    /// How many messages it has.
+    pub messages: u64,
+    /// How many were reported as lost.
+    pub told: u64,
+    /// How many of these before its first message.
+    pub before: u64,
+    /// How many of these behind its last one.
+    pub behind: u64,
+    /// How many messages the buffer of its ECU's daemon was reported to have refused.
+    pub buffer: u64,
 }
 
 /// A place in the stream where messages are missing.
@@ -97,6 +149,8 @@ pub struct Totals {
 pub struct Hole {
     /// The number of the message before which they are missing, from 1.
     pub place: u64,
+    /// The number of that message among those of its application, from 1.
+    pub number: u64,
     /// What that message tells.
     pub entry: Entry,
     /// How many are missing, where the session counts its messages: modulo 256.

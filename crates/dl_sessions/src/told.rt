@@ -3,35 +3,48 @@
 ghost use Rattle.std.specs.Prelude.{◌≡◌, length, None};
 ghost use Rattle.dl_bytes.specs.Htyp.{len_of};
 ghost use Rattle.dl_headers.specs.Reading.{front_fault};
-ghost use Rattle.dl_sessions.specs.Stream.{told_by, told_of};
+ghost use Rattle.dl_sessions.specs.Stream.{entry_in, told_by, told_of};
 
 use crate::session::{Entry, Lost, Session, Source, Told};
 use dl_bytes::Id;
+use dl_headers::{Extended, Standard};
 use dl_message::read_message;
 use dl_receive::{Kind, kind_of};
 
-/// What a message of this kind tells, of this ECU and with this timestamp.
-fn told_by(kind: Kind, ecu: Id, ticks: u32) -> Told
-    ensures { result ≡ told_by kind ecu ticks }
+/// What a message with these headers tells, of this ECU and with this timestamp: whatever its type, it takes a message counter of its session, where
+/// it tells one.
+fn entry_in(standard: &Standard, extended: Option<Extended>, ecu: Id, ticks: u32) -> Told
+    ensures { result ≡ entry_in standard.now extended ecu ticks }
 {
-    match kind {
-        Kind::Log {
-            seid,
-            mcnt,
-            apid,
-            ctid,
-            len: _,
-        } => Told::Log(Entry {
-            session: Session { ecu, apid, seid },
-            ctid,
-            mcnt,
+    let Some(extended) = extended else {
+        return Told::Other;
+    };
+    match standard.session {
+        Some(seid) => Told::Log(Entry {
+            session: Session {
+                ecu,
+                apid: extended.apid,
+                seid,
+            },
+            ctid: extended.ctid,
+            mcnt: standard.mcnt,
             ticks,
         }),
+        None => Told::Other,
+    }
+}
+
+/// What a message of this kind tells, of this ECU: the report of lost messages, or the entry that any other one is.
+fn told_by(kind: Kind, ecu: Id, entry: Told) -> Told
+    ensures { result ≡ told_by kind ecu entry }
+{
+    match kind {
         Kind::Overflow { apid, counter } => Told::Lost(Lost {
             source: Source { ecu, apid },
             count: counter,
         }),
-        Kind::Other { len: _ } => Told::Other,
+        Kind::Log { .. } => entry,
+        Kind::Other { .. } => entry,
     }
 }
 
@@ -44,7 +57,9 @@ pub fn told_of(ecu: Id, message: &[u8]) -> Told
     let Ok(parts) = read_message(message) else {
         return Told::Other;
     };
-    let own = parts.standard.ecu.unwrap_or(ecu);
-    let ticks = parts.standard.ticks.unwrap_or(0);
-    told_by(kind_of(message), own, ticks)
+    let standard = parts.standard;
+    let own = standard.ecu.unwrap_or(ecu);
+    let ticks = standard.ticks.unwrap_or(0);
+    let entry = entry_in(&standard, parts.extended, own, ticks);
+    told_by(kind_of(message), own, entry)
 }

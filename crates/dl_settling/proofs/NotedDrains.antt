@@ -20,7 +20,7 @@ use Rattle.dl_model.specs.Report.{why_of}
 use Rattle.dl_hub.specs.State.{Client as HubClient, client_of, outbox_of}
 use Rattle.dl_core.specs.Follows.{IsAfter, Run, source_of}
 use Rattle.dl_core.specs.State.{Core}
-use Rattle.dl_well_formed.proofs.OpenClients.{its_stream}
+use Rattle.dl_core.proofs.OpenClients.{its_stream}
 use Rattle.dl_admission.specs.Slow.{TellRooms, TellsRoom}
 use Rattle.dl_turns.specs.Sent.{HasCut}
 use Rattle.dl_turns.specs.State as turns

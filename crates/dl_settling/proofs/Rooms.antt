@@ -10,19 +10,19 @@ use Rattle.dl_bytes.specs.declared.item.Item.{Item}
 use Rattle.dl_events.specs.declared.record.Record.{Record}
 use Rattle.dl_events.specs.declared.record.Answer.{Answer}
 use Rattle.dl_events.specs.declared.record.Answer.TheVariants as answer
-use Rattle.dl_losses.specs.Losses.{counted_of, reported_of}
-use Rattle.dl_losses.proofs.Sums.{counted-append}
+use Rattle.dl_cells.specs.Losses.{counted_of, reported_of}
+use Rattle.dl_cells.proofs.LossSums.{counted-append}
 use Rattle.dl_model.specs.Accounts.{with_answer}
 use Rattle.dl_model.specs.Report.{is_answer}
 use Rattle.dl_ring.specs.Items.{calls_in, claims_in}
-use Rattle.dl_thread_rules.specs.Views.{bit, times, total}
+use Rattle.dl_cells.specs.Views.{bit, times, total}
 use Rattle.dl_writer.specs.Records.{TellAll}
 use Rattle.dl_writer.specs.State.{BookState, IsWhole}
-use Rattle.dl_lib.specs.Books.{books_of, claimed_of, lost_of}
-use Rattle.dl_lib.specs.Known.{AreClaimed, AreGathered, taken_of}
-use Rattle.dl_lib.specs.State.{ClosingState}
-use Rattle.dl_lib.proofs.Accounting.{all_tell}
-use Rattle.dl_lib.proofs.Apart.{once_there}
+use Rattle.dl_account.specs.Books.{books_of, claimed_of, lost_of}
+use Rattle.dl_account.specs.Known.{AreClaimed, AreGathered, taken_of}
+use Rattle.dl_account.specs.State.{ClosingState}
+use Rattle.dl_account.proofs.Accounting.{all_tell}
+use Rattle.dl_account.proofs.Apart.{once_there}
 use Rattle.dl_taking.specs.Draining.{all_claims_left, all_to_note, calls_pushed, claims_left_from, claims_pushed, closing_took, to_note, to_note_from}
 use Rattle.dl_taking.specs.Took.{Took}
 use Rattle.dl_taking.proofs.PushedItems.{AreFewer, fewer_taken}

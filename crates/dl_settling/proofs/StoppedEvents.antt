@@ -7,8 +7,8 @@ use Rattle.std.proofs.lemmas.List.Sums.{sum_by-append}
 use Rattle.dl_bytes.specs.declared.conf.AppSpec.{AppSpec}
 use Rattle.dl_events.specs.declared.event.Event.{Event}
 use Rattle.dl_events.specs.declared.event.Event.TheVariants as event
-use Rattle.dl_levels.specs.declared.history.Change.{Change}
-use Rattle.dl_losses.specs.Losses.{reported_of}
+use Rattle.dl_cells.specs.declared.level_history.Change.{Change}
+use Rattle.dl_cells.specs.Losses.{reported_of}
 use Rattle.dl_model.specs.Accounts.{takes, took_of}
 use Rattle.dl_model.specs.Accounts as model
 use Rattle.dl_model.specs.Journal.{IsWellFormed}
@@ -18,12 +18,12 @@ use Rattle.dl_outside.specs.Outside.{Grows, Stays}
 use Rattle.dl_hub.specs.State.{Hub, outbox_of}
 use Rattle.dl_outside.specs.Told.{FolderTold, LinkTold}
 use Rattle.dl_desk.specs.Told.{PostTold}
-use Rattle.dl_lib.specs.Known.{taken_of}
-use Rattle.dl_lib.specs.Settled.{account_of}
-use Rattle.dl_lib.specs.State.{AccountState, ClosingState}
-use Rattle.dl_lib.proofs.Resting.{taken_rest}
+use Rattle.dl_account.specs.Known.{taken_of}
+use Rattle.dl_account.specs.Settled.{account_of}
+use Rattle.dl_account.specs.State.{AccountState, ClosingState}
+use Rattle.dl_account.proofs.Resting.{taken_rest}
 use Rattle.dl_core.specs.Follows.{HoldsTrace, IsAfter, Run, source_of}
-use Rattle.dl_well_formed.proofs.Following.{stays_formed}
+use Rattle.dl_core.proofs.Following.{stays_formed}
 use Rattle.dl_taking.specs.Drained.{GivesTook, IsDrain, IsOfDrain}
 use Rattle.dl_taking.specs.Draining.{closing_told, closing_took}
 use Rattle.dl_taking.specs.Takes.{TellAllTaken}

@@ -16,11 +16,11 @@ use Rattle.dl_outside.specs.Links.{Links}
 use Rattle.dl_outside.specs.Outside.{Stays}
 use Rattle.dl_outside.specs.Told.{FolderTold, LinkTold}
 use Rattle.dl_laws.proofs.Rotation.{length-concat}
-use Rattle.dl_lib.specs.State.{AccountState, ClosingState}
+use Rattle.dl_account.specs.State.{AccountState, ClosingState}
 use Rattle.dl_hub.specs.State.{Client as HubClient, Hub, client_of}
 use Rattle.dl_core.specs.Follows.{IsAfter, Run, source_of}
 use Rattle.dl_core.specs.State.{Core}
-use Rattle.dl_well_formed.proofs.OpenClients.{its_stream}
+use Rattle.dl_core.proofs.OpenClients.{its_stream}
 use Rattle.dl_taking.specs.Drained.{GivesTook, IsDrain}
 use Rattle.dl_taking.specs.Draining.{closing_took}
 use Rattle.dl_taking.specs.Took.{Took}

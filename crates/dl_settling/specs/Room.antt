@@ -1,8 +1,8 @@
 -- How many events there are of calls, losses and claims, and how many there may be.
 use Rattle.std.specs.Prelude.{ℕ, zero, suc, ◌+◌, ◌≤◌, List, length}
-use Rattle.dl_losses.specs.Losses.{reported_of}
+use Rattle.dl_cells.specs.Losses.{reported_of}
 use Rattle.dl_ring.specs.Items.{calls_in, claims_in}
-use Rattle.dl_thread_rules.specs.Views.{total}
+use Rattle.dl_cells.specs.Views.{total}
 use Rattle.dl_writer.specs.State.{BookState}
 use Rattle.dl_taking.specs.Took.{Took}
 

@@ -3,9 +3,9 @@ use Rattle.std.specs.Prelude.{◌≡◌, ℕ, map, None}
 use Rattle.dl_outside.specs.Links.{Links}
 use Rattle.dl_outside.specs.Told.{FolderTold, LinkTold}
 use Rattle.dl_desk.specs.Posting.{rest_of}
-use Rattle.dl_lib.specs.Known.{IsDrained}
-use Rattle.dl_lib.specs.Settled.{account_of}
-use Rattle.dl_lib.specs.State.{AccountState, ClosingState}
+use Rattle.dl_account.specs.Known.{IsDrained}
+use Rattle.dl_account.specs.Settled.{account_of}
+use Rattle.dl_account.specs.State.{AccountState, ClosingState}
 use Rattle.dl_hub.specs.State.{outbox_of}
 use Rattle.dl_taking.specs.Draining.{DrainsAll, SameButTaken, closing_told}
 use Rattle.dl_turns.specs.Gone.{TellOver}

@@ -3,7 +3,7 @@ use Rattle.std.specs.Prelude.{List, Some, length, map}
 use Rattle.dl_events.specs.Journal.{Journaled}
 use Rattle.dl_outside.specs.Links.{Links}
 use Rattle.dl_outside.specs.Told.{FolderTold, LinkTold}
-use Rattle.dl_lib.specs.State.{ClosingState}
+use Rattle.dl_account.specs.State.{ClosingState}
 use Rattle.dl_core.specs.State.{Core}
 use Rattle.dl_admission.specs.Part.{part}
 use Rattle.dl_taking.specs.Draining.{closing_told, closing_took}

@@ -3,14 +3,14 @@
 ghost use Rattle.std.specs.Prelude.{◌≡◌, ◌≤◌, [], length, vec_capacity};
 ghost use Rattle.dl_settling.specs.Ends.{end_in, ends_in, trace_told};
 
-use dl_bytes::{LinkEnd, OutOfMemory, Sequence, TraceState};
+use dl_bytes::{CLIENT_LIMIT, LinkEnd, OutOfMemory, Sequence, TraceState};
 use dl_core::Core;
 use dl_hub::Hub;
 use std::alloc::Global;
 use std::marker::Model;
 
 /// The most clients that come to a daemon which stops.
-const CLIENT_LIMIT: usize = 32;
+const CLIENTS: usize = CLIENT_LIMIT as usize;
 
 /// Room for the ends of 32 links: its memory is taken once, when it is made.
 #[derive(Debug, Drop)]
@@ -33,7 +33,7 @@ impl EndRoom {
     /// Such room.
     pub fn make(alloc: Global) -> Result<EndRoom, OutOfMemory> {
         Ok(EndRoom {
-            ends: Vec::with_capacity(alloc, CLIENT_LIMIT)?,
+            ends: Vec::with_capacity(alloc, CLIENTS)?,
         })
     }
 

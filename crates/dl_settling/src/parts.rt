@@ -1,9 +1,9 @@
 //! What a stop is handed.
 
 use crate::ends::EndRoom;
+use dl_account::Closing;
 use dl_core::Core;
 use dl_events::Kept;
-use dl_lib::Closing;
 use dl_outside::LinkList;
 use dl_rounds::Seats;
 use dl_taking::Batch;

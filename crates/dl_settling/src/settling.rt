@@ -2,7 +2,7 @@
 
 ghost use Rattle.std.specs.Prelude.{◌≡◌, ◌≤◌, ◌<◌, ℕ, All, length};
 ghost use Rattle.dl_writer.specs.State.{IsWhole};
-ghost use Rattle.dl_lib.specs.Settled.{IsSettled, TellsClaimed, TellsLosses, TellsQueued};
+ghost use Rattle.dl_account.specs.Settled.{IsSettled, TellsClaimed, TellsLosses, TellsQueued};
 ghost use Rattle.dl_bytes.specs.Limits.{client_limit};
 ghost use Rattle.dl_rounds.specs.Ready.{AreHeard, AreLinked};
 ghost use Rattle.dl_taking.specs.Draining.{MayNote, all_claims_left, all_to_note, closing_told};
@@ -11,8 +11,8 @@ ghost use Rattle.dl_settling.specs.State.{stopping_of};
 
 use crate::ends::trace_told;
 use crate::parts::Parts;
+use dl_account::Account;
 use dl_bytes::Ends;
-use dl_lib::Account;
 use dl_outside::{Clock, Folder, Link, LinkList};
 use dl_rounds::{close_all, shut_gone};
 use dl_taking::{Budget, drain_all};

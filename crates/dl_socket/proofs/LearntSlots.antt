@@ -1,6 +1,6 @@
 -- Slots that were learnt, one after the other.
 use Rattle.std.proofs.Common.{◌≡◌, ℕ, ◌<◌, Some, slice_get}
-use Rattle.dl_levels.specs.History.{current_version}
+use Rattle.dl_cells.specs.LevelHistory.{current_version}
 use Rattle.dl_registry.specs.Kept.{Kept, slots}
 use Rattle.dl_socket.specs.Messenger.{Messenger}
 use Rattle.dl_socket.specs.Ways.{way_of}

@@ -22,7 +22,7 @@ use Rattle.dl_outside.specs.declared.link.Gave.TheVariants as gave
 use Rattle.dl_registry.specs.Kept.{channel_at, position_at}
 use Rattle.dl_user.specs.Channel as cutter
 use Rattle.dl_user.specs.Channel.{unfed}
-use Rattle.dl_levels.specs.declared.history.Change.{Change}
+use Rattle.dl_cells.specs.declared.level_history.Change.{Change}
 use Rattle.dl_socket.specs.declared.ways.Way.{Way}
 use Rattle.dl_socket.specs.Ways.{sent_along, sent_each}
 use Rattle.dl_socket.specs.Channels.{Channels, Fits, inbox_of, with_channel, without_inbox}

@@ -1,8 +1,8 @@
 -- A level that is set, and goes its way.
 use Rattle.std.proofs.Common.{◌≡◌, ◌<◌, ℕ, zero, suc, List, [], ◌∷◌, ◌++◌, length, Option, Some, slice_get, get_or, refl, sym, ap, ◌∙◌, arith}
 use Rattle.dl_channel.specs.State.{Outbox}
-use Rattle.dl_levels.specs.History.{change}
-use Rattle.dl_levels.specs.declared.history.Change.{Change}
+use Rattle.dl_cells.specs.LevelHistory.{change}
+use Rattle.dl_cells.specs.declared.level_history.Change.{Change}
 use Rattle.dl_socket.specs.declared.ways.Way.{Way}
 use Rattle.dl_socket.specs.Messenger.{HasSent}
 use Rattle.dl_socket.specs.Ways.{sent_along, sent_by}

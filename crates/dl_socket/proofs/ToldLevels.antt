@@ -3,10 +3,9 @@ use Rattle.std.proofs.Common.{◌≡◌, ◌<◌, ◌/◌, ℕ, List, [], ◌∷
 use Rattle.dl_bytes.specs.Limits.{context_limit}
 use Rattle.dl_channel.specs.State.{Outbox}
 use Rattle.dl_channel_turns.specs.Levels.{put_for, told}
-use Rattle.dl_levels.specs.declared.history.Change.{Change}
-use Rattle.dl_model.specs.Registry.{Registry}
-use Rattle.dl_model.specs.Registry.{IsInOrder}
-use Rattle.dl_levels.specs.History.{current_version}
+use Rattle.dl_cells.specs.declared.level_history.Change.{Change}
+use Rattle.dl_model.specs.Registry.{Registry, IsInOrder}
+use Rattle.dl_cells.specs.LevelHistory.{current_version}
 use Rattle.dl_registry.specs.Kept.{Kept, channel_at, position_at, slots}
 use Rattle.dl_turns.specs.Events.{IsDeskOf}
 use Rattle.dl_socket.specs.Messenger.{HasSent, Messenger, told_by}

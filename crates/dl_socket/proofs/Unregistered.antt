@@ -80,11 +80,6 @@ pub one_more : (channel : ℕ) (moment : Moment) (start old between : Side) (api
     → (apids : List (List ℕ)) (new : Side) → UnregistersEach channel moment apids between new → HasUnregistered channel moment start new
 one_more channel moment start old between apid rest first serves apids new others = rest (apid ∷ apids) new (first, between, serves, others)
 
--- where memory was wanting for one, those before it were unregistered
-pub stops_here : (channel : ℕ) (moment : Moment) (start old new : Side)
-    → ((apids : List (List ℕ)) (new : Side) → UnregistersEach channel moment apids old new → HasUnregistered channel moment start new) → new ≡ old → HasUnregistered channel moment start new
-stops_here channel moment start old new rest same = rest [] new same
-
 -- the same channels are open
 each_open : (channel : ℕ) (moment : Moment) (apids : List (List ℕ)) (old new : Side) → UnregistersEach channel moment apids old new → AreOpenAs old.outboxes new.outboxes
 each_open channel moment [] old new same other = ap (λ (s : Side). is_some (outbox_of s.outboxes other)) same

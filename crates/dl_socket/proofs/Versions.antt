@@ -3,9 +3,9 @@ use Rattle.std.proofs.Common.{◌≡◌, ◌≢◌, ℕ, zero, suc, ◌+◌, ◌
 use Rattle.std.proofs.lemmas.List.{get_or-replicate}
 use mathlib.Core.Logic.{dite}
 use native.Mathlib.Decide.{ℕ_discrete}
-use Rattle.dl_levels.specs.declared.history.Change.{Change}
-use Rattle.dl_levels.specs.History.{change, levels_set, current_version}
-use Rattle.dl_levels.proofs.Histories.{levels_set-append}
+use Rattle.dl_cells.specs.declared.level_history.Change.{Change}
+use Rattle.dl_cells.specs.LevelHistory.{change, levels_set, current_version}
+use Rattle.dl_cells.proofs.LevelHistories.{levels_set-append}
 use Rattle.dl_socket.specs.History.{with_version}
 use Rattle.dl_socket.specs.Messenger.{AreCounted}
 
@@ -74,7 +74,3 @@ counts_resumed slot version sets versions long within fits before k lt = dite (�
     let now = resumed slot version sets in omega arith))
     (λ apart. let there : get_or (set versions slot version) k 0 ≡ get_or versions k 0 = get_or-set_other versions slot k version 0 (λ e. apart e) in
     there ∙ before k lt ∙ ap (λ n. min n (2 ^ 64 - 1)) (sym (others_stand slot k version sets (λ e. apart e))))
-
--- at the beginning
-pub counts_none : (versions : List ℕ) → versions ≡ replicate 1024 0 → AreCounted [] versions
-counts_none versions are slot within = ap (λ (vs : List ℕ). get_or vs slot 0) are ∙ get_or-replicate 1024 slot 0 0 within

@@ -1,8 +1,8 @@
 -- What contracts are told of the levels that were set.
 use Rattle.std.specs.Prelude.{◌≡◌, ◌==◌, ℕ, not, List, [], ◌∷◌, ◌++◌, filter, replicate}
 use Rattle.atomic_table.specs.Table.{Me, Step}
-use Rattle.dl_levels.specs.History.{change}
-use Rattle.dl_levels.specs.declared.history.Change.{Change}
+use Rattle.dl_cells.specs.LevelHistory.{change}
+use Rattle.dl_cells.specs.declared.level_history.Change.{Change}
 use Rattle.dl_socket.specs.declared.history.Knows.{Knows}
 
 -- nothing was set and nothing was refused

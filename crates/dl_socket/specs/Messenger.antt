@@ -4,8 +4,8 @@ use Rattle.dl_bytes.specs.Limits.{app_limit, injection_limit}
 use Rattle.dl_bytes.specs.declared.item.Injection.{Injection}
 use Rattle.dl_channel.specs.State.{Outbox}
 use Rattle.dl_desk.specs.Told.{PostTold}
-use Rattle.dl_levels.specs.History.{current_version}
-use Rattle.dl_levels.specs.declared.history.Change.{Change}
+use Rattle.dl_cells.specs.LevelHistory.{current_version}
+use Rattle.dl_cells.specs.declared.level_history.Change.{Change}
 use Rattle.dl_socket.specs.declared.ways.Way.{Way}
 use Rattle.dl_socket.specs.Ways.{AreInSlots, sent_each}
 

@@ -1,7 +1,7 @@
 -- Levels that go their ways, one list behind another.
 use Rattle.std.proofs.Common.{◌≡◌, ℕ, List, [], ◌∷◌, ◌++◌, Option, slice_get, sym, refl, ap, ◌∙◌, append-nil, append_assoc}
 use Rattle.dl_channel.specs.State.{Outbox}
-use Rattle.dl_levels.specs.declared.history.Change.{Change}
+use Rattle.dl_cells.specs.declared.level_history.Change.{Change}
 use Rattle.dl_socket.specs.declared.ways.Way.{Way}
 use Rattle.dl_socket.specs.Messenger.{Messenger, HasSent}
 use Rattle.dl_socket.specs.Ways.{AreInSlots, sent_along, sent_each}

@@ -11,7 +11,7 @@ use Rattle.dl_core.specs.State.{Core}
 use Rattle.dl_desk.specs.Told.{PostTold}
 use Rattle.dl_events.specs.declared.event.Event.{Event}
 use Rattle.dl_events.specs.declared.event.Why.{Why}
-use Rattle.dl_levels.specs.declared.history.Change.{Change}
+use Rattle.dl_cells.specs.declared.level_history.Change.{Change}
 use Rattle.dl_message.specs.Cutting.{Cutting}
 use Rattle.dl_model.specs.Registry.{Registry}
 use Rattle.dl_outside.specs.Told.{FolderTold, LinkTold}

@@ -2,7 +2,7 @@
 use Rattle.std.specs.Prelude.{◌≡◌, ◌/◌, ◌<◌, ℕ, List, [], ◌∷◌, slice_get, Option, Some, None}
 use Rattle.std.specs.List.{AllByRecursion}
 use Rattle.dl_bytes.specs.Limits.{context_limit}
-use Rattle.dl_levels.specs.declared.history.Change.{Change}
+use Rattle.dl_cells.specs.declared.level_history.Change.{Change}
 use Rattle.dl_model.specs.Registry.{Registry}
 use Rattle.dl_registry.specs.Kept.{channel_at, position_at}
 use Rattle.dl_channel.specs.Levels.{with_level}

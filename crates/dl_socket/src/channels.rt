@@ -16,7 +16,7 @@ ghost use Rattle.dl_socket.specs.Turns.{HasAsked, HasPumped, HasTurned, seen, si
 use crate::closing::unregister_all;
 use crate::fault::ChannelFault;
 use crate::messenger::Messenger;
-use dl_bytes::{Moment, OutOfMemory};
+use dl_bytes::{CHANNEL_LIMIT, Moment, OPEN_CHANNEL_LIMIT, OutOfMemory};
 use dl_channel::{ChannelEnd, Inbox, Outbox};
 use dl_core::Core;
 use dl_events::{Journal, Why};
@@ -28,12 +28,6 @@ use indexmap::IndexMap;
 use std::alloc::Global;
 use std::marker::Model;
 use std::sync::Wait;
-
-/// The most channels that are open at once, in a run that ends.
-const OPEN_CHANNEL_LIMIT: u16 = 16;
-
-/// The most channels of a run that ends.
-const CHANNEL_LIMIT: u16 = 256;
 
 /// The channels that are open, each of a program outside this process that logs over a link. They have the numbers 1, 2 and so on, each used once.
 #[derive(Drop)]

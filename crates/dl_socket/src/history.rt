@@ -1,18 +1,18 @@
 //! The levels that were set and the injections that were refused, as contracts see them. No list of them is kept: it costs a swap each.
 
 ghost use Rattle.std.specs.Prelude.{◌≡◌, ◌<◌, ◌++◌, ◌∷◌, [], IfOk};
-ghost use Rattle.dl_levels.specs.History.{change};
+ghost use Rattle.dl_cells.specs.LevelHistory.{change};
 ghost use Rattle.dl_socket.specs.History.{nothing, with_version};
 
 use atomic_table::{Play, Seat, Table, TableRule};
-use dl_bytes::{Level, OutOfMemory};
-use dl_levels::Change;
+use dl_bytes::{Level, OutOfMemory, SLOTS};
+use dl_cells::Change;
 use std::alloc::Global;
 use std::collections::LinkedList;
 use std::marker::Model;
 
-/// How many slots there are.
-const SLOTS: usize = 1024;
+/// A word for each slot.
+const ROW_LEN: usize = SLOTS as usize;
 
 /// What the one seat at the words knows. No value of it is made.
 pub struct Knows {
@@ -83,7 +83,7 @@ impl History {
     pub fn make(alloc: Global) -> Result<History, OutOfMemory>
         ensures { IfOk result (λ history. history ≡ nothing) }
     {
-        let row = Vec::from_elem(alloc, 0, SLOTS)?;
+        let row = Vec::from_elem(alloc, 0, ROW_LEN)?;
         let (words, seat) = Table::of_words(alloc, &row, &())?;
         Ok(History { words, seat })
     }

@@ -8,27 +8,24 @@ ghost use Rattle.dl_channel_turns.specs.Messages.{ServesOne};
 ghost use Rattle.dl_channel_turns.specs.Pumping.{PumpsOne};
 ghost use Rattle.dl_channel_turns.specs.State.{outbox_of, seen, side, without};
 ghost use Rattle.dl_channel_turns.specs.Turns.{IsTurn, Stays};
-ghost use Rattle.dl_levels.specs.History.{current_version};
+ghost use Rattle.dl_cells.specs.LevelHistory.{current_version};
 ghost use Rattle.dl_registry.specs.Kept.{owed_change, slots};
 ghost use Rattle.dl_socket.specs.Ways.{AreWaysOf, way_of};
 
 use crate::history::History;
 use crate::ways::{Way, way_in};
-use dl_bytes::{Injection, LAST_VERSION, Level, Moment, OutOfMemory, UserMsg};
+use dl_bytes::{Injection, LAST_VERSION, Level, Moment, OutOfMemory, SLOTS, UserMsg};
+use dl_cells::Worn;
 use dl_channel::{ChannelEnd, Inbox, Outbox};
 use dl_channel_turns::{Gathered, Outboxes, hear, serve_one};
 use dl_core::Core;
 use dl_desk::Post;
 use dl_events::Journal;
-use dl_levels::Worn;
 use dl_outside::{Folder, Link};
 use dl_registry::Registry;
 use std::alloc::Global;
 use std::marker::Model;
 use std::sync::Wait;
-
-/// How many slots there are.
-const SLOTS: u16 = 1024;
 
 /// What waits for the channels, and what puts the levels there that requests of the daemon's clients set.
 #[derive(Drop)]

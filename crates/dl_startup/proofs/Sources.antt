@@ -8,30 +8,12 @@ use Rattle.dl_text.specs.Faults.{size_limit}
 use Rattle.dl_startup.specs.Input.{GaveAtMost, HasRead}
 use Rattle.dl_lemmas.proofs.Options.{if_some_of}
 
-pub begun : (old : Option (List ℕ)) → HasRead old old []
-begun None = tt
-begun (Some all) = (all, refl, refl)
-
-pub unread : (old before new : Option (List ℕ)) (text : List ℕ) → HasRead old before text → Stays before new → HasRead old new text
-unread None before new text h e = tt
-unread (Some all) before new text h e = (h.0, if_some_of before h.0 (λ bytes. new ≡ Some bytes) h.1 e, h.2)
-
 pub read_more : (old before new : Option (List ℕ)) (text into : List ℕ) (n : ℕ) → HasRead old before text → Reads before new (got.Bytes n) into → HasRead old new (text ++ take n into)
 read_more None before new text into n h r = tt
 read_more (Some all) before new text into n h r =
     let step = if_some_of before h.0 (λ bytes. (n ≤ length bytes) × (take n into ≡ take n bytes) × (new ≡ Some (drop n bytes))) h.1 r.2 in
     (drop n h.0, step.2, ap (λ t. (text ++ t) ++ drop n h.0) step.1 ∙ append_assoc text (take n h.0) (drop n h.0) ∙ ap (λ t. text ++ t) (take-append-drop n h.0) ∙ h.2)
 
-pub read_all : (old before new : Option (List ℕ)) (text into : List ℕ) → HasRead old before text → Reads before new got.End into → IfSome old (λ all. (text ≡ all) × (new ≡ Some []))
-read_all None before new text into h r = tt
-read_all (Some all) before new text into h r =
-    let nothing : h.0 ≡ [] = if_some_of before h.0 (λ bytes. bytes ≡ []) h.1 r.1 in
-    (sym (append-nil text) ∙ ap (λ t. text ++ t) (sym nothing) ∙ h.2, if_some_of before h.0 (λ bytes. new ≡ Some bytes) h.1 r.0 ∙ ap Some nothing)
-
 pub gave : (old new : Option (List ℕ)) (text : List ℕ) → HasRead old new text → length text ≤ size_limit + 1 → GaveAtMost old new
 gave None new text h small = tt
 gave (Some all) new text h small = (length text, small, h.1 ∙ ap Some (sym (drop_at text h.0 (length text) refl)) ∙ ap (λ t. Some (drop (length text) t)) h.2)
-
-pub too_long : (old new : Option (List ℕ)) (text : List ℕ) → HasRead old new text → size_limit < length text → IfSome old (λ all. size_limit < length all)
-too_long None new text h long = tt
-too_long (Some all) new text h long = omega (arith, ap length h.2, length-append text h.0, long)

@@ -8,7 +8,7 @@ use Rattle.dl_script.specs.declared.error.ScriptError.{ScriptError}
 use Rattle.dl_script.specs.declared.error.ScriptError.TheVariants as bad
 use Rattle.dl_script_fields.specs.declared.kind.ScriptKind.{ScriptKind}
 use Rattle.dl_script_fields.specs.declared.kind.ScriptKind.TheVariants.{Missing}
-use Rattle.dl_script_lines.specs.declared.scenario.ScenarioLine.{ScenarioLine}
+use Rattle.dl_script_model.specs.declared.scenario.ScenarioLine.{ScenarioLine}
 use Rattle.dl_startup.specs.declared.setup.SetupError.{SetupError}
 use Rattle.dl_startup.specs.declared.setup.SetupError.TheVariants.{Fault, Folder, OutOfMemory}
 

@@ -3,12 +3,10 @@
 ghost use Rattle.std.specs.Prelude.{◌≡◌, OnOk, IfOk, IfErr};
 ghost use Rattle.dl_startup.specs.Input.{FailsToRead, GaveAtMost, IsWhole};
 
+use dl_bytes::INPUT_PIECE;
 use dl_outside::{Got, Source};
 use dl_text::SIZE_LIMIT;
 use std::alloc::Global;
-
-/// How many bytes are asked for at once.
-const PIECE: usize = 8192;
 
 /// Why a text could not be read.
 #[derive(Clone, Copy, Debug)]
@@ -29,9 +27,9 @@ pub fn read_text<I: Source>(alloc: Global, input: &mut I) -> Result<Vec<u8>, Rea
     ensures at_most { GaveAtMost (I.told input.old).left (I.told input.new).left }
 {
     let mut text = Vec::new(alloc);
-    let mut buffer = [0; PIECE];
+    let mut buffer = [0; INPUT_PIECE];
     loop {
-        let want = (SIZE_LIMIT + 1 - text.len()).min(PIECE);
+        let want = (SIZE_LIMIT + 1 - text.len()).min(INPUT_PIECE);
         let n = match input.read(&mut buffer[..want]) {
             Got::Bytes(n) => n,
             Got::End => return Ok(text),

@@ -11,7 +11,7 @@ use dl_outside::{Folder, FolderFault};
 use dl_script::laws::what_is_read_can_be_run;
 use dl_script::{ScriptError, read_scenario};
 use dl_script_fields::ScriptKind;
-use dl_script_lines::Scenario;
+use dl_script_model::Scenario;
 use std::alloc::Global;
 
 /// The scenario of this name. Where there is none, that is a fault of line 0.

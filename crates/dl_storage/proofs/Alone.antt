@@ -8,7 +8,7 @@ use Rattle.dl_outside.specs.Told.{FolderTold}
 use Rattle.dl_model.specs.TraceFiles.{StoredFile, is_spent, trace_files}
 use Rattle.dl_trace.specs.Stands.{ChangesTraceFiles, HasFiles}
 use Rattle.dl_trace.specs.State.{Trace}
-use Rattle.dl_storage_text.specs.declared.filter.Filter.{Filter}
+use Rattle.dl_storage.specs.declared.filter.Filter.{Filter}
 use Rattle.dl_storage.specs.Beginning.{IsFiltersTrace}
 use Rattle.dl_storage.specs.Passing.{directory_of}
 use Rattle.dl_storage.specs.Storing.{EndsAs, HoldsFiles, IsStored}
@@ -56,7 +56,3 @@ stored_alone filter trace frames start last w fit is = record {
   bytes_are = is.bytes_are;
   ends = ends_as filter trace frames start last w fit is w.trace.state.end refl;
 }
-
-pub changed_alone : (filter : Filter) (trace : Trace) (frames : List (List ℕ)) (start last : FolderTold) (w : Writing) (fit : IsFiltersTrace filter trace start)
-    → IsAfterFrames trace fit.stood frames start last w → ChangesTraceFiles (directory_of filter) start.files last.files
-changed_alone filter trace frames start last w fit is = subst (λ (d : List ℕ). ChangesTraceFiles d start.files last.files) fit.directory is.others

@@ -4,7 +4,7 @@ use Rattle.std.specs.Prelude.{codes}
 use Rattle.std.specs.List.{list_all}
 use Rattle.std.proofs.lemmas.Bool.Decides.{nat_tests}
 use Rattle.dl_bytes.specs.Conf.{is_printable}
-use Rattle.dl_storage_text.specs.Line.{are_sizes, is_name, is_name_letter}
+use Rattle.dl_storage.specs.FilterLine.{are_sizes, is_name, is_name_letter}
 
 letter : (b : ℕ) → is_name_letter b ≡ true → is_printable b ≡ true
 letter b is = grind (arith, nat_tests)

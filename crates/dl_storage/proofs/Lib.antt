@@ -6,3 +6,4 @@ mod Steps
 mod Alone
 mod Chain
 mod LastLines
+pub mod FilterNames

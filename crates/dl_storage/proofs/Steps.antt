@@ -1,8 +1,7 @@
 -- One frame more of a filter.
 use Rattle.std.proofs.Common.{◌≡◌, ℕ, ◌+◌, ◌-◌, ◌<◌, Bool, true, false, cond, leb, List, [], ◌∷◌, ◌++◌, length, Option, Some, None, Err, refl, sym, ap, subst, ◌∙◌, append_assoc, arith}
 use Rattle.std.specs.Prelude.{◌^◌, min, IfSome, IsSomeAnd}
-use Rattle.std.specs.List.{AllByRecursion, cons_option}
-use Rattle.std.specs.List.{concat}
+use Rattle.std.specs.List.{AllByRecursion, cons_option, concat}
 use Rattle.std.specs.Option.{option_to_list}
 use Rattle.std.proofs.lemmas.Option.{IfSome_then}
 use Rattle.std.proofs.lemmas.Bool.Decides.{nat_tests}
@@ -22,7 +21,7 @@ use Rattle.dl_trace.specs.Storing.{HasCause, IsStored, Leaves, Stops}
 use Rattle.dl_events.specs.declared.event.Event.{Event}
 use Rattle.dl_events.specs.declared.record.Record.{Record}
 use Rattle.dl_trace.proofs.Spent.{spent_later}
-use Rattle.dl_storage_text.specs.declared.filter.Filter.{Filter}
+use Rattle.dl_storage.specs.declared.filter.Filter.{Filter}
 use Rattle.dl_storage.specs.Passing.{frame_for, frames_for}
 use Rattle.dl_storage.specs.Ended.{EndHasCause}
 use Rattle.dl_storage.specs.Writing.{Begins, HasNotFailed, Holds, IsAfterFrames, IsSized, IsUntouched, Writes, WritesAny, WritesTill, counted}

@@ -4,7 +4,7 @@ use Rattle.dl_bytes.specs.declared.conf.Conf.{Conf}
 use Rattle.dl_outside.specs.Told.{FolderTold}
 use Rattle.dl_model.specs.TraceFiles.{StoredFile}
 use Rattle.dl_trace.specs.State.{Trace}
-use Rattle.dl_storage_text.specs.declared.filter.Filter.{Filter}
+use Rattle.dl_storage.specs.declared.filter.Filter.{Filter}
 use Rattle.dl_storage.specs.Passing.{directory_of}
 use Rattle.dl_storage.specs.Writing.{Begins}
 

@@ -4,3 +4,8 @@ pub mod Storing
 pub mod Writing
 pub mod Beginning
 pub mod Text
+pub mod FilterCutting
+pub mod FilterLine
+pub mod FilterWhole
+pub mod FiltersApart
+pub mod FiltersHeld

@@ -12,7 +12,7 @@ use Rattle.dl_events.specs.declared.event.Event.TheVariants as event
 use Rattle.dl_events.specs.declared.record.Record.{Record}
 use Rattle.dl_model.specs.Frames.{stored}
 use Rattle.dl_model.specs.WholeAccounts.{record_named}
-use Rattle.dl_storage_text.specs.declared.filter.Filter.{Filter}
+use Rattle.dl_storage.specs.declared.filter.Filter.{Filter}
 
 -- the id is the one that is wanted; where none is, each is
 abbrev pub is_meant : Option (List ℕ) → List ℕ → Bool

@@ -10,7 +10,7 @@ use Rattle.dl_outside.specs.Folder.{Files}
 use Rattle.dl_model.specs.Backlog.{size_of}
 use Rattle.dl_model.specs.TraceFiles.{StoredFile, is_spent, trace_files}
 use Rattle.dl_trace.specs.Stands.{HasFiles, IsTraceName}
-use Rattle.dl_storage_text.specs.declared.filter.Filter.{Filter}
+use Rattle.dl_storage.specs.declared.filter.Filter.{Filter}
 use Rattle.dl_storage.specs.Ended.{EndHasCause}
 use Rattle.dl_storage.specs.Passing.{directory_of, frames_for}
 use Rattle.dl_storage.specs.declared.ends.StoreEnd.{StoreEnd}

@@ -5,8 +5,8 @@ ghost use Rattle.dl_model.specs.Report.{end_word};
 ghost use Rattle.dl_storage.specs.Text.{ended_line, storage_lines, stored_line};
 
 use crate::ends::{StoreEnd, StoreEnds};
+use crate::{Filter, FilterList};
 use dl_bytes::{Bytes, OutOfMemory, TraceEnd};
-use dl_storage_text::{Filter, FilterList};
 use itoa::{Buffer, Integer};
 use std::alloc::Global;
 

@@ -5,10 +5,10 @@ ghost use Rattle.dl_model.specs.Frames.{stored};
 ghost use Rattle.dl_message.specs.Frames.{log_message};
 ghost use Rattle.dl_storage.specs.Passing.{frame_for, is_meant, passes_filter, passing};
 
+use crate::Filter;
 use crate::calls::Calls;
 use dl_bytes::{Id, Item, Moment};
 use dl_events::{Event, Record};
-use dl_storage_text::Filter;
 
 /// A log call that passes, and when it came.
 #[derive(Clone, Copy, Debug)]

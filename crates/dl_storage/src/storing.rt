@@ -12,10 +12,10 @@ ghost use Rattle.dl_storage.specs.Storing.{AreStored, ChangesFiltersFiles, IsSto
 use crate::calls::Calls;
 use crate::ends::{StoreEnd, StoreEnds};
 use crate::writing::{Pen, write_events};
+use crate::{Filter, FilterList};
 use dl_bytes::{Bytes, Conf, Id, Level, OutOfMemory, Sequence, Severity, TraceEnd};
 use dl_events::{Event, RecordList};
 use dl_outside::Folder;
-use dl_storage_text::{Filter, FilterList};
 use dl_trace::{Trace, TraceFault};
 use std::alloc::Global;
 

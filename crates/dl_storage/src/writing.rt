@@ -9,6 +9,7 @@ ghost use Rattle.dl_model.specs.TraceFiles.{StoredFile};
 ghost use Rattle.dl_storage.specs.Passing.{frame_for, frames_for};
 ghost use Rattle.dl_storage.specs.Writing.{Begins, IsAfterFrames, IsSized, IsUntouched, Writes, WritesAny};
 
+use crate::Filter;
 use crate::calls::Calls;
 use crate::ends::StoreEnd;
 use crate::passing::{PassingCall, passing_call};
@@ -16,7 +17,6 @@ use dl_bytes::{Frame, Id, OutOfMemory};
 use dl_events::Event;
 use dl_message::write_log_frame;
 use dl_outside::Folder;
-use dl_storage_text::Filter;
 use dl_trace::{StoredBatch, Trace};
 use std::alloc::Global;
 

@@ -3,7 +3,7 @@ use Rattle.std.proofs.Common.{◌≡◌, ℕ, zero, suc, ◌+◌, ◌<◌, ◌�
 use Rattle.dl_bytes.specs.declared.conf.AppSpec.{AppSpec}
 use Rattle.dl_bytes.specs.declared.moment.Moment.{Moment}
 use Rattle.dl_model.specs.declared.registry.LevelChange.{LevelChange}
-use Rattle.dl_thread_rules.specs.Views.{bit}
+use Rattle.dl_cells.specs.Views.{bit}
 use Rattle.dl_hub.specs.State.{Hub, is_open}
 use Rattle.dl_core.specs.Admission.{lost_frames}
 use Rattle.dl_core.specs.State.{Core}

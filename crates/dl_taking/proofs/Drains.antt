@@ -5,19 +5,19 @@ use Rattle.std.proofs.lemmas.Bool.{cases_lt}
 use Rattle.std.proofs.lemmas.Bool.Decides.{eqb_tells}
 use Rattle.dl_bytes.specs.Claim.{Claimed}
 use Rattle.dl_bytes.specs.declared.conf.AppSpec.{AppSpec}
-use Rattle.dl_losses.specs.Losses.{reported_of}
-use Rattle.dl_losses.specs.declared.keeper.Report.{Report}
-use Rattle.dl_losses.proofs.Sums.{reported_else, reported_more}
+use Rattle.dl_cells.specs.Losses.{reported_of}
+use Rattle.dl_cells.specs.declared.loss_keeper.Report.{Report}
+use Rattle.dl_cells.proofs.LossSums.{reported_else, reported_more}
 use Rattle.dl_ring.specs.declared.item.RingItem.{RingItem}
 use Rattle.dl_ring.specs.declared.item.RingItem.TheVariants.{Log, Register}
 use Rattle.dl_ring.specs.Items.{calls_in, claims_in}
 use Rattle.dl_ring.proofs.Items.{calls_in-append, claims_in-append, length-calls_in}
-use Rattle.dl_thread_rules.specs.Views.{bit}
+use Rattle.dl_cells.specs.Views.{bit}
 use Rattle.dl_desk.specs.Told.{PostTold}
 use Rattle.dl_writer.specs.State.{BookState}
-use Rattle.dl_lib.specs.Books.{lost_of, items_pushed_of}
-use Rattle.dl_lib.specs.Known.{AreGathered, IsEmpty, IsTold, taken_of}
-use Rattle.dl_lib.specs.State.{ClosingState}
+use Rattle.dl_account.specs.Books.{lost_of, items_pushed_of}
+use Rattle.dl_account.specs.Known.{AreGathered, IsEmpty, IsTold, taken_of}
+use Rattle.dl_account.specs.State.{ClosingState}
 use Rattle.dl_registry.specs.Kept.{Kept, owed_change}
 use Rattle.dl_hub.specs.State.{Hub}
 use Rattle.dl_core.specs.State.{Core}
@@ -113,9 +113,6 @@ none_of new app fewer empty = (
   omega (arith, fewer.calls, fewer.claims, empty, length-calls_in (taken_of new.handles app), pushed_parts app new.books),
 )
 
-pub apart_of : (a b : ℕ) → eqb a b ≡ false → a ≢ b
-apart_of a b is = λ same. absurd (true≢false (sym (eq-eqb a b same) ∙ is))
-
 -- a batch without a claim that is not full was cut short by the ring, or by the events that may be noted
 pub by_count : (got : Got) (most : ℕ) (new : ClosingState) (app : ℕ) → got.calls ≤ most → (got.calls < most → IsEmpty new app) → (got.calls ≡ most → IsEmpty new app) → IsEmpty new app
 by_count got most new app few short all = elim (cases_lt got.calls most) [
@@ -135,31 +132,7 @@ may_step specs app most got old new within takes left left_now claims claims_now
       few = omega (arith, step.drain.admitted, step.frames_so, used, claims_used, may.few);
     }
 
--- after losses were told
-pub may_after : (count frames left left_now claims reports reports_now : ℕ) (old new : Hub) (n0 n1 s0 s1 : ℕ) → Uses count old new n0 n1 s0 s1 → new.admitted ≡ old.admitted + frames
-    → left_now + count ≡ left → frames + 32769 * reports_now ≤ count + 32769 * reports → MayNote left claims reports old s0 → MayNote left_now claims reports_now new s1
-may_after count frames left left_now claims reports reports_now old new n0 n1 s0 s1 uses admitted used few may = record {
-  spare_so = omega (arith, uses.clients, uses.spare_so, used, may.spare_so);
-  few = omega (arith, admitted, used, few, may.few);
-}
-
-pub still_settled : (es : List Entry) (Gives : Run → Type 0) (n : ℕ) (old new : Part) → Admits es Gives n old new → owed_change old.core.registry ≡ None → owed_change new.core.registry ≡ None
-still_settled es Gives n old new admits settled = ap (λ (k : Core). owed_change k.registry) admits.rest ∙ settled
-
-pub still_desk : (es : List Entry) (Gives : Run → Type 0) (n : ℕ) (old new : Part) (desk desk_now : PostTold) → Admits es Gives n old new → desk_now ≡ desk → IsDeskOf old.core.registry desk
-    → IsDeskOf new.core.registry desk_now
-still_desk es Gives n old new desk desk_now admits same is =
-    subst (λ (k : Kept). IsDeskOf k desk_now) (sym (ap (λ (k : Core). k.registry) admits.rest)) (subst (λ (d : PostTold). IsDeskOf old.core.registry d) (sym same) is)
-
 -- ---- losses
-
--- none is left of those that a report told
-pub told_left : (books books_now : List BookState) (app count : ℕ) (took took_now : Took) → took_now ≡ with_losses app count took → books_now ≡ books
-    → reported_of app took_now.reported ≡ lost_of app books_now → losses_left books took app ≡ count
-told_left books books_now app count took took_now is same all =
-    let more : reported_of app took_now.reported ≡ reported_of app took.reported + count = ap (λ (t : Took). reported_of app t.reported) is ∙ reported_more app count took.reported in
-    let lost : lost_of app books_now ≡ lost_of app books = ap (lost_of app) same in
-    omega (arith, more, lost, all)
 
 losses_still : (books books_now : List BookState) (app : ℕ) (reports reports_now : List Report) → books_now ≡ books → reports_now ≡ reports
     → lost_of app books_now - reported_of app reports_now ≡ lost_of app books - reported_of app reports

@@ -9,10 +9,10 @@ use Rattle.dl_ring.specs.declared.item.RingItem.TheVariants as ring
 use Rattle.dl_ring.specs.Items.{calls_in, claims_in}
 use Rattle.dl_ring.specs.Order.{of, writer_of}
 use Rattle.dl_ring.proofs.Items.{length-calls_in}
-use Rattle.dl_thread_rules.specs.Views.{bit, times, total}
+use Rattle.dl_cells.specs.Views.{bit, times, total}
 use Rattle.dl_writer.specs.State.{BookState, numbers}
-use Rattle.dl_lib.specs.Books.{books_of, items_pushed_of}
-use Rattle.dl_lib.specs.Known.{IsAllOf}
+use Rattle.dl_account.specs.Books.{books_of, items_pushed_of}
+use Rattle.dl_account.specs.Known.{IsAllOf}
 use Rattle.dl_taking.specs.Draining.{calls_pushed, claims_pushed}
 
 -- ---- by a weight

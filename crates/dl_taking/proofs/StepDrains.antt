@@ -8,15 +8,15 @@ use Rattle.dl_bytes.specs.declared.item.Item.{Item}
 use Rattle.dl_bytes.specs.declared.moment.Moment.{Moment}
 use Rattle.dl_events.specs.declared.event.Event.{Event}
 use Rattle.dl_events.specs.declared.event.Event.TheVariants as event
-use Rattle.dl_levels.specs.declared.history.Change.{Change}
-use Rattle.dl_losses.specs.Losses.{reported_of}
-use Rattle.dl_losses.proofs.Sums.{reported_else}
+use Rattle.dl_cells.specs.declared.level_history.Change.{Change}
+use Rattle.dl_cells.specs.Losses.{reported_of}
+use Rattle.dl_cells.proofs.LossSums.{reported_else}
 use Rattle.dl_model.specs.Backlog.{size_of}
 use Rattle.dl_model.specs.Journal.{IsInTurn, IsRunning}
 use Rattle.dl_model.specs.Report.{closed_of}
 use Rattle.dl_model.specs.declared.registry.LevelChange.{LevelChange}
 use Rattle.dl_outside.specs.Told.{FolderTold}
-use Rattle.dl_promises.proofs.LongerJournals.{goes_on}
+use Rattle.dl_laws.proofs.LongerJournals.{goes_on}
 use Rattle.dl_ring.specs.declared.item.RingItem.{RingItem}
 use Rattle.dl_ring.specs.declared.item.RingItem.TheVariants.{Log, Register}
 use Rattle.dl_ring.specs.Items.{calls_in}
@@ -27,7 +27,7 @@ use Rattle.dl_trace.specs.State.{Trace}
 use Rattle.dl_core.specs.Admission.{AddsEach, GivesApid, GivesFrame, GivesFrames, lost_frames}
 use Rattle.dl_core.specs.Follows.{Adds, AddsAlone, IsAfter, Run, source_of}
 use Rattle.dl_core.specs.State.{Core}
-use Rattle.dl_well_formed.proofs.InTurn.{claim_in_turn, level_in_turn}
+use Rattle.dl_core.proofs.InTurn.{claim_in_turn, level_in_turn}
 use Rattle.dl_admission.specs.Admission.{Admits, AreNoted, Entry, KeepsClients, call_entry, loss_entries}
 use Rattle.dl_admission.specs.Kept.{KeepsTrace}
 use Rattle.dl_admission.specs.Slow.{Slow, TellsRoom, slow_close}

@@ -20,9 +20,6 @@ use Rattle.dl_lemmas.proofs.Bools.{and_false}
 
 -- ---- a batch
 
-pub fills_none : (app most : ℕ) (took : Took) (batch : List Item) → batch ≡ [] → Fills app most None took took batch
-fills_none app most took batch nothing = record { items = []; taken = sym (items_none app took); few = omega arith; batch_is = nothing }
-
 -- one call more
 pub fills_more : (app most : ℕ) (took took_now took_new : Took) (batch batch_new : List Item) (item : Item) → Fills app most None took took_now batch → took_new ≡ with_items app (Log item ∷ []) took_now
     → batch_new ≡ batch ++ owned app item ∷ [] → length batch < most → Fills app most None took took_new batch_new
@@ -48,14 +45,6 @@ fills_claim app most claim took took_now took_new batch batch_new so taken same 
       few = omega (arith, as_many, within);
       batch_is = same ∙ so.batch_is;
     }
-
-pub fills_still : (app most : ℕ) (took took_now took_new : Took) (batch batch_new : List Item) → Fills app most None took took_now batch → took_new ≡ took_now → batch_new ≡ batch → Fills app most None took took_new batch_new
-fills_still app most took took_now took_new batch batch_new so same_took same = record {
-  items = so.items;
-  taken = same_took ∙ so.taken;
-  few = so.few;
-  batch_is = same ∙ so.batch_is;
-}
 
 -- ---- whether the last take found the ring empty
 

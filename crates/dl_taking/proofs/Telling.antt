@@ -10,14 +10,14 @@ use Rattle.dl_bytes.specs.declared.item.Item.{Item}
 use Rattle.dl_bytes.specs.declared.moment.Moment.{Moment}
 use Rattle.dl_events.specs.declared.event.Event.{Event}
 use Rattle.dl_events.specs.declared.event.Event.TheVariants as event
-use Rattle.dl_losses.specs.Losses.{report, reported_of}
-use Rattle.dl_losses.proofs.Sums.{reported_else, reported_more}
+use Rattle.dl_cells.specs.Losses.{report, reported_of}
+use Rattle.dl_cells.proofs.LossSums.{reported_else, reported_more}
 use Rattle.dl_model.specs.Accounts as accounts
 use Rattle.dl_model.specs.Accounts.{TookCall, TookClaim, name_of, order, took_of, takes}
 use Rattle.dl_model.specs.Report.{lost_of, reported}
 use Rattle.dl_ring.specs.declared.item.RingItem.{RingItem}
 use Rattle.dl_ring.specs.declared.item.RingItem.TheVariants.{Log, Register}
-use Rattle.dl_lib.specs.Known.{told_as}
+use Rattle.dl_account.specs.Known.{told_as}
 use Rattle.dl_admission.specs.Telling.{IsTaken, TellOf}
 use Rattle.dl_admission.proofs.Told.{calls_tell, losses_tell}
 use Rattle.dl_admission.specs.Admission.{AreNoted, call_entry, loss_entries}

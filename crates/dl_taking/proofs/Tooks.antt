@@ -6,8 +6,8 @@ use Rattle.std.proofs.lemmas.Bool.Decides.{eqb_tells}
 use Rattle.std.proofs.lemmas.Simd.{map-map}
 use Rattle.dl_bytes.specs.declared.item.Injection.{Injection}
 use Rattle.dl_bytes.specs.declared.item.Item.{Item}
-use Rattle.dl_losses.specs.Losses.{reported_of}
-use Rattle.dl_losses.proofs.Sums.{reported_more}
+use Rattle.dl_cells.specs.Losses.{reported_of}
+use Rattle.dl_cells.proofs.LossSums.{reported_more}
 use Rattle.dl_ring.specs.declared.item.RingItem.{RingItem}
 use Rattle.dl_ring.specs.declared.item.RingItem.TheVariants.{Log}
 use Rattle.dl_ring.specs.Items.{calls_in, claims_in}
@@ -18,9 +18,9 @@ use Rattle.dl_desk.specs.Posting.{without_pushes}
 use Rattle.dl_desk.specs.State.{DeskState}
 use Rattle.dl_desk.specs.Told.{told_by}
 use Rattle.dl_desk.proofs.Places.{map-changed_at}
-use Rattle.dl_lib.specs.Books.{lost_of}
-use Rattle.dl_lib.specs.Known.{IsEmpty, IsTold, taken_of}
-use Rattle.dl_lib.specs.State.{ClosingState}
+use Rattle.dl_account.specs.Books.{lost_of}
+use Rattle.dl_account.specs.Known.{IsEmpty, IsTold, taken_of}
+use Rattle.dl_account.specs.State.{ClosingState}
 use Rattle.dl_taking.specs.Took.{Took, empties_of, took_by, untaken, with_empty, with_items, without_takes}
 
 -- ---- calls and claims behind others
@@ -209,7 +209,3 @@ module _ (old new : ClosingState) (app : ℕ) where
   pub empty_now : (x : Option RingItem) → IfNone x (new ≡ record old { handles = with_empty_take old.handles app }) → IsNone x ↔ IsEmpty old app → IfNone x (IsEmpty new app)
   empty_now (Some item) none empty = tt
   empty_now None none empty = subst (λ (c : ClosingState). IsEmpty c app) (sym none) (ap (λ (t : Took). length (t.taken app)) (took_empty old.handles app) ∙ empty.0 refl)
-
-pub told_now : (old new : ClosingState) (app count : ℕ) → new ≡ record old { handles = with_report old.handles app count }
-    → reported_of app old.handles.losses.reported + count ≡ lost_of app old.books → IsTold new app
-told_now old new app count is all = subst (λ (c : ClosingState). IsTold c app) (sym is) (reported_more app count old.handles.losses.reported ∙ all)

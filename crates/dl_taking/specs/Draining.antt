@@ -2,13 +2,13 @@
 use Rattle.std.specs.Prelude.{◌≡◌, ℕ, zero, suc, ◌+◌, ◌-◌, ◌*◌, ◌≤◌, min, List, length, count_by}
 use Rattle.dl_bytes.specs.Limits.{admitted_limit}
 use Rattle.dl_bytes.specs.declared.conf.AppSpec.{AppSpec}
-use Rattle.dl_losses.specs.Losses.{reported_of}
+use Rattle.dl_cells.specs.Losses.{reported_of}
 use Rattle.dl_ring.specs.Items.{calls_in, claims_in}
-use Rattle.dl_thread_rules.specs.Views.{total}
+use Rattle.dl_cells.specs.Views.{total}
 use Rattle.dl_desk.specs.Told.{PostTold, told_by}
 use Rattle.dl_writer.specs.State.{BookState}
-use Rattle.dl_lib.specs.Books.{books_of, lost_of}
-use Rattle.dl_lib.specs.State.{ClosingState}
+use Rattle.dl_account.specs.Books.{books_of, lost_of}
+use Rattle.dl_account.specs.State.{ClosingState}
 use Rattle.dl_hub.specs.State.{Hub, is_open}
 use Rattle.dl_taking.specs.Side.{Side}
 use Rattle.dl_taking.specs.Takes.{Reports, TakesSome}

@@ -6,14 +6,14 @@ use Rattle.dl_bytes.specs.declared.conf.AppSpec.{AppSpec}
 use Rattle.dl_bytes.specs.declared.item.Item.{Item}
 use Rattle.dl_bytes.specs.declared.moment.Moment.{Moment}
 use Rattle.dl_events.specs.declared.event.Event.{Event}
-use Rattle.dl_losses.specs.Losses.{reported_of}
+use Rattle.dl_cells.specs.Losses.{reported_of}
 use Rattle.dl_model.specs.Accounts.{takes}
 use Rattle.dl_model.specs.Registry.{apid_numbered, app_of, claimed}
 use Rattle.dl_model.specs.Report.{reported}
 use Rattle.dl_ring.specs.declared.item.RingItem.TheVariants.{Log, Register}
-use Rattle.dl_thread_rules.specs.Views.{bit}
+use Rattle.dl_cells.specs.Views.{bit}
 use Rattle.dl_desk.specs.Lists.{At}
-use Rattle.dl_lib.specs.Known.{told_as}
+use Rattle.dl_account.specs.Known.{told_as}
 use Rattle.dl_registry.specs.Kept.{Claims, Kept, owed_change, slots, with_registry}
 use Rattle.dl_core.specs.Admission.{more_noted}
 use Rattle.dl_core.specs.Noting.{NotesClaim}

@@ -1,15 +1,15 @@
 -- What was taken of the rings and loss words of applications.
 use Rattle.std.specs.Prelude.{ℕ, ◌+◌, ◌<◌, ◌==◌, Bool, List, [], ◌∷◌, ◌++◌, map, slice_get, unwrap_or, if◌then◌else◌}
 use Rattle.std.specs.Option.{option_map}
-use Rattle.dl_losses.specs.Losses.{report, reported_of}
-use Rattle.dl_losses.specs.declared.keeper.Report.{Report}
+use Rattle.dl_cells.specs.Losses.{report, reported_of}
+use Rattle.dl_cells.specs.declared.loss_keeper.Report.{Report}
 use Rattle.dl_ring.specs.declared.item.RingItem.{RingItem}
 use Rattle.dl_desk.specs.declared.app_handles.AppHandles.{AppHandles}
 use Rattle.dl_desk.specs.Handles.{HandlesState}
 use Rattle.dl_desk.specs.Posting.{rest_of}
-use Rattle.dl_lib.specs.Books.{lost_of}
-use Rattle.dl_lib.specs.Known.{taken_of}
-use Rattle.dl_lib.specs.State.{ClosingState}
+use Rattle.dl_account.specs.Books.{lost_of}
+use Rattle.dl_account.specs.Known.{taken_of}
+use Rattle.dl_account.specs.State.{ClosingState}
 
 -- the calls and claims that were taken of each application's ring, in order, and the losses that were reported
 pub record Took : Type 0 where

@@ -6,14 +6,11 @@ ghost use Rattle.dl_taking.specs.Filling.{FillsOne};
 ghost use Rattle.dl_taking.specs.Took.{with_empty};
 
 use crate::taker::Taker;
-use dl_bytes::{Id, Item, OutOfMemory, Payload, Severity};
+use dl_bytes::{BATCH_LIMIT, Id, Item, OutOfMemory, Payload, Severity};
 use dl_desk::Taken;
 use std::alloc::Global;
 use std::marker::Model;
 use std::sync::Wait;
-
-/// The most calls of a batch.
-pub const BATCH_LIMIT: usize = 64;
 
 /// At most 64 calls. Their memory is taken once, when the batch is made, and a call is copied into it where it is to lie.
 #[derive(Debug, Drop)]

@@ -1,16 +1,16 @@
 //! What stands for the desk once the writers are back.
 
 use crate::taker::Taker;
+use dl_account::Closing;
 use dl_bytes::{Id, Item};
 use dl_desk::Taken;
-use dl_lib::Closing;
 use std::sync::Wait;
 
 impl Taker for Closing {
     ghost use Rattle.std.specs.Prelude.{◌≡◌, refl};
     ghost use Rattle.std.proofs.Common.{ap, sym, ◌∙◌};
-    ghost use Rattle.dl_lib.specs.Known.{IsEmpty, IsTold};
-    ghost use Rattle.dl_lib.specs.State.{ClosingState};
+    ghost use Rattle.dl_account.specs.Known.{IsEmpty, IsTold};
+    ghost use Rattle.dl_account.specs.State.{ClosingState};
     ghost use Rattle.dl_taking.specs.Resting.{empties_still, took_still};
     ghost use Rattle.dl_taking.specs.Took.{HasLosses, empties_of, took_by, untaken, without_taken};
 

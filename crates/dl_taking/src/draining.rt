@@ -1,19 +1,20 @@
 //! All that is left in rings and loss words, once the writers are back.
 
 ghost use Rattle.std.specs.Prelude.{◌≡◌, ◌≢◌, ◌<◌, ◌≤◌, ◌+◌, ℕ, true, false, None, length, min};
-ghost use Rattle.dl_thread_rules.specs.Views.{bit};
-ghost use Rattle.dl_lib.specs.Known.{IsDrained, IsEmpty, IsTold};
+ghost use Rattle.dl_cells.specs.Views.{bit};
+ghost use Rattle.dl_account.specs.Known.{IsDrained, IsEmpty, IsTold};
 ghost use Rattle.dl_registry.specs.Kept.{owed_change};
 ghost use Rattle.dl_turns.specs.Events.{IsDeskOf};
 ghost use Rattle.dl_taking.specs.Draining.{DrainsAll, DrainsApp, MayNote, SameButTaken, TakesBatch, all_claims_left, all_to_note, calls_left, claims_left, closing_told, closing_took, losses_left, to_note};
 ghost use Rattle.dl_taking.specs.Side.{seen};
 ghost use Rattle.dl_taking.specs.Takes.{Reports};
 
-use crate::batch::{BATCH_LIMIT, Batch};
+use crate::batch::Batch;
 use crate::taking::{Got, report_losses, take_some};
+use dl_account::Closing;
+use dl_bytes::BATCH_LIMIT;
 use dl_core::Core;
 use dl_events::Journal;
-use dl_lib::Closing;
 use dl_outside::{Clock, Folder};
 use std::sync::Wait;
 

@@ -2,7 +2,7 @@
 
 ghost use Rattle.std.specs.Prelude.{◌<◌, ◌==◌, ℕ, List, length, if◌then◌else◌};
 ghost use Rattle.dl_bytes.specs.declared.conf.AppSpec.{AppSpec};
-ghost use Rattle.dl_thread_rules.specs.Views.{bit};
+ghost use Rattle.dl_cells.specs.Views.{bit};
 ghost use Rattle.dl_core.specs.Admission.{lost_frames};
 ghost use Rattle.dl_taking.specs.Drained.{IsDrain, IsTake};
 ghost use Rattle.dl_taking.specs.Draining.{DrainsAll};

@@ -15,7 +15,7 @@ pub mod laws;
 mod taker;
 mod taking;
 
-pub use batch::{BATCH_LIMIT, Batch};
+pub use batch::Batch;
 pub use draining::{Budget, drain_all};
 pub use taker::Taker;
 pub use taking::{Got, report_losses, take_some};

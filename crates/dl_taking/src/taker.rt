@@ -2,7 +2,7 @@
 
 ghost use Rattle.std.specs.Prelude.{◌≡◌, ◌<◌, ◌^◌, ℕ, false, List, ◌∷◌, [], length, IfSome, IfNone, OnSome};
 ghost use Rattle.dl_bytes.specs.declared.conf.AppSpec.{AppSpec as spec_type};
-ghost use Rattle.dl_losses.specs.Losses.{reported_of};
+ghost use Rattle.dl_cells.specs.Losses.{reported_of};
 ghost use Rattle.dl_ring.specs.Items as ring;
 ghost use Rattle.dl_desk.specs.Lists.{At};
 ghost use Rattle.dl_taking.specs.Took.{Took, with_empty, with_items, with_losses};

@@ -6,7 +6,7 @@ use Rattle.dl_lemmas.proofs.Lists.{fold-one}
 use Rattle.dl_lemmas.proofs.Bools.{both}
 use Rattle.dl_picture.specs.declared.chart.Bin.{Bin}
 use Rattle.dl_picture.specs.Tally.{joined, no_bin}
-use Rattle.dl_sessions.specs.Account.{same_session, same_source}
+use Rattle.dl_sessions.specs.Gaps.{same_session, same_source}
 use Rattle.dl_sessions.proofs.OneMore.{session_is, source_is}
 use Rattle.dl_timeline.specs.declared.timeline.Report.{Report}
 use Rattle.dl_timeline.specs.declared.timeline.ReportSpot.{ReportSpot}

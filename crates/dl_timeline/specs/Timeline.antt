@@ -21,8 +21,9 @@ use Rattle.dl_timeline.specs.declared.timeline.ReportSpot.{ReportSpot}
 use Rattle.dl_timeline.specs.declared.timeline.Spot.{Spot}
 use Rattle.dl_timeline.specs.declared.timeline.SpotMark.{SpotMark}
 use Rattle.dl_timeline.specs.declared.timeline.Timeline.{Timeline}
-use Rattle.dl_sessions.specs.Account.{entries, holes, same_session, same_source, sessions, totals_of}
-use Rattle.dl_sessions.specs.Text.{buffer_of, missing, missing_here, missing_words, source_of, time_text}
+use Rattle.dl_sessions.specs.Account.{holes, sessions, totals_of}
+use Rattle.dl_sessions.specs.Gaps.{entries, same_session, same_source, source_of}
+use Rattle.dl_sessions.specs.Text.{buffer_of, missing, missing_here, missing_words, time_text}
 
 -- ---- time
 
@@ -102,7 +103,7 @@ reported spot reports = fold (with_report spot) no_bin reports
 abbrev pub bin_of : List Told → Session → ℕ → Bin
 bin_of stream session column =
     joined (marked (record { session = session; column = column }) (marks_of stream))
-    (joined (reported (record { source = source_of session; column = column }) (reports_of stream)) (reported (record { source = buffer_of session; column = column }) (reports_of stream)))
+    (joined (reported (record { source = source_of session; column = column }) (reports_of stream)) (reported (record { source = buffer_of (source_of session); column = column }) (reports_of stream)))
 
 -- a session by its name
 abbrev pub name_text : Session → List ℕ

@@ -48,9 +48,6 @@ gone_other folder name other apart = get-remove nat_list_cmp_total folder name o
 
 -- ---- no two numbers have one name
 
-digit_same : (a b : ℕ) → 48 + a ≡ 48 + b → a ≡ b
-digit_same a b e = omega arith
-
 six_same : (a b : ℕ) (end : List ℕ) → a ≤ number_limit → b ≤ number_limit → six_digits a ++ end ≡ six_digits b ++ end → a ≡ b
 six_same a b end ha hb e =
     let d0 : 48 + a / 100000 % 10 ≡ 48 + b / 100000 % 10 = ap (λ (xs : List ℕ). get_or xs 0 0) e in

@@ -51,14 +51,6 @@ goes_on frames old new newer told now later sizes bytes appends appends_now appe
       count = omega (arith, far.count, rise, length-append far.before (piece ∷ []));
     }
 
-pub arrives : (frames : List (List ℕ)) (old new : Trace) (told now : Option Files) (sizes bytes : List ℕ) (appends appends_now : ℕ) → SoFar frames old new told now sizes bytes appends appends_now → length sizes ≡ 0 →
-    IsStored frames old new told now × (appends_now ≤ appends + length (pieces_of old frames))
-arrives frames old new told now [] bytes appends appends_now far none = (
-  subst (λ (fs : List (List ℕ)). IsStored fs old new told now) (sym (far.frames_are ∙ append-nil (frames_in far.before))) far.stored,
-  omega (arith, far.count, ap (λ (ps : List (List (List ℕ))). length ps) (far.cut ∙ append-nil far.before)),
-)
-arrives frames old new told now (s ∷ sizes) bytes appends appends_now far none = absurd (omega arith)
-
 pub stops : (frames : List (List ℕ)) (old new newer : Trace) (told now later : Option Files) (sizes bytes : List ℕ) (appends appends_now appends_later : ℕ) (end : TraceEnd) →
     SoFar frames old new told now sizes bytes appends appends_now → Stops end (parted sizes bytes) new newer now later → appends_later ≤ appends_now + 1 →
     Stops end frames old newer told later × (appends_later ≤ appends + length (pieces_of old frames))
@@ -70,15 +62,6 @@ stops frames old new newer told now later sizes bytes appends appends_now append
     )
 
 -- ---- one frame
-
-pub one_part : (frame : List ℕ) (n : ℕ) → n ≡ length frame → parted (n ∷ []) frame ≡ frame ∷ []
-one_part frame n is = ap (λ (k : ℕ). take k frame ∷ []) is ∙ ap (λ (f : List ℕ). take (length frame) f ∷ []) (sym (append-nil frame)) ∙ ap (λ (f : List ℕ). f ∷ []) (take_at frame [] (length frame) refl)
-
-pub one_piece : (trace : Trace) (frame : List ℕ) → length (pieces_of trace (frame ∷ [])) ≡ 1
-one_piece trace frame = by_test (nat_le (length frame) (room_of trace)) where
-  by_test : (b : Bool) → length (cond b ((frame ∷ []) ∷ []) ((frame ∷ []) ∷ [])) ≡ 1
-  by_test true = refl
-  by_test false = refl
 
 pub if_none : {T : Type 0} (o : Option T) (P : Type 0) → o ≡ None → P → IfNone o P
 if_none None P e p = p

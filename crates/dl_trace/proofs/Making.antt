@@ -56,9 +56,6 @@ greatest_from : (most : ℕ) (files : List StoredFile) (file : StoredFile) → f
 greatest_from most [] file = refl
 greatest_from most (f ∷ files) file = greatest_from (max most f.number) files file
 
-pub nothing_found : (directory : List ℕ) (told : Option Files) → AreFound directory told [] [] 0
-nothing_found directory told = record { stood = []; found = refl; files_are = refl; last_is = refl; within = omega arith }
-
 pub one_found : (directory : List ℕ) (told : Option Files) (names : List (List ℕ)) (files : List TraceFile) (last number size : ℕ) (name spelled : List ℕ) → AreFound directory told names files last → 1 ≤ number → number ≤ number_limit →
     name ≡ front_of directory ++ six_digits number ++ codes ".dlt" → spelled ≡ trace_name directory number → IsSize told name size →
     AreFound directory told (names ++ name ∷ []) (files ++ record { name = spelled; bytes = size } ∷ []) (max last number)

@@ -105,11 +105,6 @@ last_named files newest some is =
     sym (ap (λ (o : Option TraceFile). option_map_or (λ (f : TraceFile). f.name) o []) (slice_get-get_or files (length files - 1) newest (omega arith))
     ∙ ap (λ (f : TraceFile). f.name) (sym is))
 
-pub last_sized : (files : List TraceFile) (newest : TraceFile) → 0 < length files → newest ≡ get_or files (length files - 1) newest → newest.bytes ≡ last_size files
-last_sized files newest some is =
-    sym (ap (λ (o : Option TraceFile). option_map_or (λ (f : TraceFile). f.bytes) o 0) (slice_get-get_or files (length files - 1) newest (omega arith))
-    ∙ ap (λ (f : TraceFile). f.bytes) (sym is))
-
 pub extends_by : (told now : Option Files) (name last piece : List ℕ) → name ≡ last → Appends told now (Ok tt) name piece → Extends told now (Ok tt) last piece
 extends_by None now name last piece same step = tt
 extends_by (Some folder) now name last piece same step = step ∙ ap (λ (n : List ℕ). Some (with_more folder n piece)) same

@@ -5,13 +5,10 @@ ghost use Rattle.dl_model.specs.Frames.{stored};
 ghost use Rattle.dl_trace.specs.Batch.{AreSizes, parted};
 
 use arrayvec::ArrayVec;
-use dl_bytes::{FRAME_LIMIT, Frame, Id, Moment, OutOfMemory};
+use dl_bytes::{BATCH_LIMIT, FRAME_LIMIT, Frame, Id, Moment, OutOfMemory};
 use dl_headers::storage_header;
 use std::alloc::Global;
 use std::marker::Model;
-
-/// The most frames of a batch.
-pub const BATCH_LIMIT: usize = 64;
 
 /// The most bytes of a frame behind its storage header.
 pub const STORED_LIMIT: usize = FRAME_LIMIT + 16;

@@ -11,7 +11,7 @@ mod name;
 mod trace;
 mod writer;
 
-pub use batch::{BATCH_LIMIT, STORED_LIMIT, StoredBatch};
+pub use batch::{STORED_LIMIT, StoredBatch};
 pub use dl_bytes::{TraceEnd, TraceFile, TraceState};
 pub use trace::{Trace, TraceFault};
 pub use writer::{TraceWriter, add_to_batch, begin_batch, store, store_batch};

@@ -9,8 +9,8 @@ use Rattle.dl_outside.specs.Told.{LinkTold}
 use Rattle.dl_outside.specs.declared.link.Gave.{Gave}
 use Rattle.dl_outside.specs.declared.link.Gave.TheVariants as gave
 use Rattle.dl_core.specs.State.{Core}
-use Rattle.dl_well_formed.specs.Next.{CanEnd, ComesInTurn}
-use Rattle.dl_well_formed.proofs.InTurn.{close_at_reply, other_close}
+use Rattle.dl_core.specs.Next.{CanEnd, ComesInTurn}
+use Rattle.dl_core.proofs.InTurn.{close_at_reply, other_close}
 use Rattle.dl_turns.specs.State.{Side}
 use Rattle.dl_turns.specs.Stopping.{IsStop}
 use Rattle.dl_turns.specs.Turns.{ClosesFor, Heeds, Refuses, SendsRightly, ServesEach}

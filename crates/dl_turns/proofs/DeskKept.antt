@@ -6,12 +6,13 @@ use Rattle.std.specs.Map.{lookup}
 use Rattle.std.specs.Option.{option_and_then, option_map}
 use Rattle.std.specs.Result.{result_ok}
 use Rattle.std.specs.Str.{bytes_eq}
+use Rattle.dl_bytes.specs.Id.{zero_id}
 use Rattle.dl_bytes.specs.Level.{own_level_of}
 use Rattle.dl_bytes.specs.Payload.{Arguments}
 use Rattle.dl_bytes.specs.declared.outcome.Done.{Done}
 use Rattle.dl_bytes.specs.declared.outcome.Done.TheVariants as done
 use Rattle.dl_control.specs.declared.request.Request.{Request}
-use Rattle.dl_control.specs.declared.request.Request.TheVariants.{SetLogLevel, GetLogInfo, GetDefault, Store, Reset, SetDefault, Version, Inject, Other}
+use Rattle.dl_control.specs.declared.request.Request.TheVariants.{SetLogLevel, GetLogInfo, GetDefault, Store, Reset, SetDefault, Version, SetAllLogLevel, Inject, Other}
 use Rattle.dl_control.specs.declared.request.RequestFault.{RequestFault}
 use Rattle.dl_model.specs.Registry.{App, Registry, app_of, context_of, default_set, keep_own, matching, no_own, nothing_stored, numbers, own_set, releveled, set_matching, unless_worn, wears}
 use Rattle.dl_model.specs.Reply.{apid_of, asked, ctid_of, default_requested, now_stored, own_requested, reset_requested, served, where_done}
@@ -67,6 +68,7 @@ where_done-keeps done.NoMemory new old is = refl
 
 served-keeps : (s : Setting) (slots : ℕ → Slot) (r : Registry) (request : Result Request RequestFault) (answer : Done) → KeepsNumbers r (served s slots r request answer)
 served-keeps s slots r (Ok (SetLogLevel apid ctid level)) answer = some_or (own_requested slots r apid ctid level) r (own_requested-keeps slots r apid ctid (own_level_of level))
+served-keeps s slots r (Ok (SetAllLogLevel level)) answer = some_or (own_requested slots r zero_id zero_id level) r (own_requested-keeps slots r zero_id zero_id (own_level_of level))
 served-keeps s slots r (Ok (SetDefault level)) answer = some_or (default_requested slots r level) r (default_requested-keeps slots r level (nat_le level 6))
 served-keeps s slots r (Ok Store) answer = where_done-keeps answer (now_stored r) r refl
 served-keeps s slots r (Ok Reset) answer = where_done-keeps answer (unwrap_or (reset_requested s slots r) r) r (some_or (reset_requested s slots r) r (reset_requested-keeps s slots r))

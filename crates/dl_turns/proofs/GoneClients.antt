@@ -16,7 +16,7 @@ use Rattle.dl_hub.specs.Follows.{took_more}
 use Rattle.dl_hub.specs.State.{Client, client_of}
 use Rattle.dl_core.specs.Follows.{IsAfter, Run, source_of}
 use Rattle.dl_core.specs.State.{Core}
-use Rattle.dl_well_formed.proofs.OpenClients.{its_stream}
+use Rattle.dl_core.proofs.OpenClients.{its_stream}
 use Rattle.dl_turns.specs.Gone.{IsShown}
 use Rattle.dl_turns.specs.Later.{HasHeard, IsCalm, IsLater, IsLaterStage, IsOpenWith, LeavesSo, close_of}
 use Rattle.dl_turns.specs.State.{Side, Stage}

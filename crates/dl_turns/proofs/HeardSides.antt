@@ -26,7 +26,7 @@ use Rattle.dl_hub.specs.State.{Client, client_of}
 use Rattle.dl_core.specs.Follows.{IsAfter, Run, source_of}
 use Rattle.dl_core.specs.State.{Core}
 use Rattle.dl_core.proofs.Answered.{replies_are}
-use Rattle.dl_well_formed.proofs.Replies.{reply_is}
+use Rattle.dl_core.proofs.Replies.{reply_is}
 use Rattle.dl_turns.specs.Events.{ServesOne, SetsLevels}
 use Rattle.dl_turns.specs.Later.{AsksOf, HasHeard}
 use Rattle.dl_turns.specs.Sent.{HasCut, is_bad}

@@ -7,7 +7,7 @@ use Rattle.std.proofs.lemmas.List.Elements.{filter_map-append}
 use Rattle.dl_events.specs.declared.event.Event.{Event}
 use Rattle.dl_events.specs.declared.event.Event.TheVariants as event
 use Rattle.dl_events.specs.declared.event.Why.{Why}
-use Rattle.dl_levels.specs.declared.history.Change.{Change}
+use Rattle.dl_cells.specs.declared.level_history.Change.{Change}
 use Rattle.dl_model.specs.declared.registry.LevelChange.{LevelChange}
 use Rattle.dl_outside.specs.Told.{FolderTold}
 use Rattle.dl_desk.specs.Told.{PostTold}
@@ -20,10 +20,10 @@ use Rattle.dl_core.specs.Follows.{Adds, HoldsTrace, IsAfter}
 use Rattle.dl_core.specs.Serving.{reply_now}
 use Rattle.dl_core.specs.State.{Core}
 use Rattle.dl_core.proofs.Noted.{added_one}
-use Rattle.dl_well_formed.specs.Next.{ComesInTurn}
-use Rattle.dl_well_formed.proofs.Asking.{request_in_turn}
-use Rattle.dl_well_formed.proofs.Following.{both_come, one_comes}
-use Rattle.dl_well_formed.proofs.InTurn.{level_in_turn}
+use Rattle.dl_core.specs.Next.{ComesInTurn}
+use Rattle.dl_core.proofs.Asking.{request_in_turn}
+use Rattle.dl_core.proofs.Following.{both_come, one_comes}
+use Rattle.dl_core.proofs.InTurn.{level_in_turn}
 use Rattle.dl_turns.specs.Events.{Asks, Closes, ServesOne, SetsLevel, SetsLevels}
 use Rattle.dl_turns.specs.Later.{AddsSending, IsCalm, IsDeskLater, IsLater, close_of, level_in}
 use Rattle.dl_turns.specs.State.{Side}

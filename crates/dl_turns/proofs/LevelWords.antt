@@ -12,10 +12,10 @@ use Rattle.dl_events.specs.declared.event.Event.{Event}
 use Rattle.dl_events.specs.Journal as notes
 use Rattle.dl_events.specs.Journal.{one_more}
 use Rattle.dl_events.specs.declared.event.Event.TheVariants as event
-use Rattle.dl_levels.specs.History as words
-use Rattle.dl_levels.specs.History.{change}
-use Rattle.dl_levels.specs.declared.keeper.Worn.{Worn}
-use Rattle.dl_levels.proofs.Histories.{current_version-other, current_version-same}
+use Rattle.dl_cells.specs.LevelHistory as words
+use Rattle.dl_cells.specs.LevelHistory.{change}
+use Rattle.dl_cells.specs.declared.level_keeper.Worn.{Worn}
+use Rattle.dl_cells.proofs.LevelHistories.{current_version-other, current_version-same}
 use Rattle.dl_outside.specs.Told.{FolderTold}
 use Rattle.dl_desk.specs.Told.{PostTold, with_set}
 use Rattle.dl_bytes.specs.Limits.{last_version}
@@ -24,7 +24,7 @@ use Rattle.dl_model.specs.declared.context.Context.{Context}
 use Rattle.dl_model.specs.declared.registry.LevelChange.{LevelChange}
 use Rattle.dl_model.specs.declared.registry.Slot.{Slot}
 use Rattle.dl_registry.specs.Kept.{Kept, owed_change, slots, with_change}
-use Rattle.dl_slots.specs.Table.{raised, unset}
+use Rattle.dl_registry.specs.Table.{raised, unset}
 use Rattle.dl_registry.proofs.Following.{change_is_level}
 use Rattle.dl_core.specs.Admission.{more_noted}
 use Rattle.dl_core.specs.Follows.{AddsAlone}

@@ -97,6 +97,3 @@ served_pumped client served count old new is has =
 pub turn_by : (client : ℕ) (why : Option Why) (old : Stage) (link : LinkTold) (cutter cutter_now : Cutting) (now : Side) → cutter_now ≡ cutter
     → IsTurn client why old (record { link = link; cutter = cutter; side = now }) → IsTurn client why old (record { link = link; cutter = cutter_now; side = now })
 turn_by client why old link cutter cutter_now now same turn = subst (λ (c : Cutting). IsTurn client why old (record { link = link; cutter = c; side = now })) (sym same) turn
-
-pub served_by : (client served served_now : ℕ) (core : Core) → served_now ≡ served → HasServed client served core → HasServed client served_now core
-served_by client served served_now core same has = subst (λ (n : ℕ). HasServed client n core) (sym same) has

@@ -5,7 +5,7 @@ use Rattle.dl_bytes.specs.Limits.{request_limit}
 use Rattle.dl_bytes.specs.declared.outcome.Done.{Done}
 use Rattle.dl_events.specs.declared.event.Event.TheVariants as event
 use Rattle.dl_events.specs.declared.event.Why.{Why}
-use Rattle.dl_levels.specs.History.{current_version}
+use Rattle.dl_cells.specs.LevelHistory.{current_version}
 use Rattle.dl_model.specs.Backlog.{outbox_limit}
 use Rattle.dl_model.specs.Registry.{numbers}
 use Rattle.dl_model.specs.declared.registry.LevelChange.{LevelChange}

@@ -6,8 +6,8 @@ use Rattle.dl_events.specs.declared.event.Event.{Event}
 use Rattle.dl_events.specs.declared.event.Event.TheVariants as event
 use Rattle.dl_events.specs.declared.event.Why.{Why}
 use Rattle.dl_events.specs.declared.event.Why.TheVariants.{Slow, Malformed, TooMany, Stuck, Stopped}
-use Rattle.dl_levels.specs.History.{change}
-use Rattle.dl_levels.specs.declared.history.Change.{Change}
+use Rattle.dl_cells.specs.LevelHistory.{change}
+use Rattle.dl_cells.specs.declared.level_history.Change.{Change}
 use Rattle.dl_message.specs.Requests.{requests}
 use Rattle.dl_model.specs.Backlog.{outbox_limit}
 use Rattle.dl_model.specs.ClientEnds.{HasAsked, IsMalformed, asked_by}
@@ -18,7 +18,7 @@ use Rattle.dl_hub.specs.Follows.{took_more}
 use Rattle.dl_hub.specs.State.{Hub, client_of}
 use Rattle.dl_core.specs.Admission.{AddsEach}
 use Rattle.dl_core.specs.Follows.{HoldsTrace, IsAfter, Run, source_of}
-use Rattle.dl_well_formed.specs.Next.{ComeInTurn}
+use Rattle.dl_core.specs.Next.{ComeInTurn}
 use Rattle.dl_turns.specs.Injected.{HasPosted}
 use Rattle.dl_turns.specs.Sent.{HasCut}
 use Rattle.dl_turns.specs.State.{Side, Stage}

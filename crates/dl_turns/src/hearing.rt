@@ -11,15 +11,13 @@ ghost use Rattle.dl_turns.specs.Turns.{HasGiven, Listens};
 
 use crate::client::Client;
 use crate::serving::serve_each;
+use dl_bytes::LINK_PIECE;
 use dl_core::Core;
 use dl_desk::Post;
 use dl_events::{Journal, Why};
 use dl_outside::{Folder, Gave, Link};
 use std::alloc::Global;
 use std::sync::Wait;
-
-/// How many bytes a link is asked for at once.
-const PIECE: usize = 4096;
 
 /// Asks a client's link once for at most 4096 bytes, and serves the requests that they make whole. Answers whether the link gave any;
 /// an error is the cause to close the client.
@@ -46,7 +44,7 @@ pub fn listen<R: Wait, D: Post, J: Journal, L: Link, F: Folder>(
     ensures same { IsSame client.old client.new }
     ensures rest { D.same_rest desk.old desk.new }
 {
-    let mut buffer = [0; PIECE];
+    let mut buffer = [0; LINK_PIECE];
     match link.recv(&mut buffer) {
         Gave::Bytes(count) => {
             let piece = &buffer[..count];

@@ -27,10 +27,6 @@ use Rattle.dl_user.proofs.Messages.{kind_reads}
 use Rattle.dl_user.proofs.LogKind.{too_few, bad_head, too_long, within_limit, inner_case, inner_len-append, inner_enough}
 use Rattle.dl_user.proofs.Refusals.{registered_refuses, registered_gives}
 
-not_true : (b : Bool) → not b ≡ true → b ≡ false
-not_true true e = absurd cc
-not_true false e = refl
-
 abbrev refused : {A : Type 0} → UserFault → Reading A
 refused fault = Err (Bad fault)
 

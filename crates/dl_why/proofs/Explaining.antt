@@ -4,18 +4,18 @@ use Rattle.std.specs.Prelude.{◌^◌, count_by}
 use Rattle.dl_bytes.specs.declared.conf.AppSpec.{AppSpec}
 use Rattle.dl_bytes.specs.declared.outcome.Backlog.{Backlog}
 use Rattle.dl_bytes.specs.declared.outcome.Ends.{Ends}
-use Rattle.dl_call_lines.specs.Calls.{calls_in}
-use Rattle.dl_call_lines.specs.Claims.{claims_in}
-use Rattle.dl_call_lines.specs.Told.{owners_in}
+use Rattle.dl_fates.specs.Calls.{calls_in}
+use Rattle.dl_fates.specs.ClaimLines.{claims_in}
+use Rattle.dl_fates.specs.Told.{owners_in}
 use Rattle.dl_call_timeline.specs.Timeline.{timeline}
 use Rattle.dl_events.specs.declared.event.Event.{Event}
 use Rattle.dl_events.specs.declared.record.Record.{Record}
-use Rattle.dl_script_lines.specs.declared.step.Step.{Step}
-use Rattle.dl_model.specs.Marks.{journal, records}
-use Rattle.dl_model.specs.Replay.{ends_of, specs_of}
+use Rattle.dl_script_model.specs.declared.step.Step.{Step}
+use Rattle.dl_script_model.specs.Marks.{journal, records}
+use Rattle.dl_script_model.specs.Replay.{ends_of, specs_of}
 use Rattle.dl_model.specs.Report.{report}
 use Rattle.dl_model.specs.Setting.{Setting}
-use Rattle.dl_model.specs.Steps.{run}
+use Rattle.dl_script_model.specs.Steps.{run}
 use Rattle.dl_model.specs.TraceFiles.{StoredFile}
 use Rattle.dl_model.specs.WholeAccounts.{source_of_records}
 use Rattle.dl_outside.specs.Told.{FolderTold}
@@ -24,9 +24,9 @@ use Rattle.dl_world.specs.Played.{IsPlayed, failures, is_failed}
 use Rattle.dl_world.specs.declared.played.Played.{Played}
 use Rattle.dl_replay.proofs.Answering.{said_yes}
 use Rattle.dl_picture.specs.Picture.{picture}
-use Rattle.dl_call_fates.specs.Cases.{cases_of}
+use Rattle.dl_fates.specs.Cases.{cases_of}
 use Rattle.dl_why.specs.Explained.{drawn, drawn_of, explained, explained_of, no_trace}
-use Rattle.dl_call_fates.specs.Rows.{more_words, rows_of}
+use Rattle.dl_fates.specs.Rows.{more_words, rows_of}
 
 -- the text of what a run left
 abbrev pub text_by : Setting → List StoredFile → List ℕ → List Step → List (List Record) → List Event → List AppSpec → Ends → Backlog → List ℕ

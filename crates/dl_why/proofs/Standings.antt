@@ -7,11 +7,11 @@ use Rattle.dl_model.specs.Setting.{Setting}
 use Rattle.dl_model.specs.TraceFiles.{StoredFile, greatest, number_limit}
 use Rattle.dl_outside.specs.Folder.{Files}
 use Rattle.dl_startup.specs.Setup.{IsBegun}
-use Rattle.dl_stored_in.specs.declared.calls.Rotation.{Rotation}
+use Rattle.dl_fates.specs.declared.stored_calls.Rotation.{Rotation}
 use Rattle.dl_trace.specs.Stands.{AreRising}
 use Rattle.dl_trace.specs.State.{Trace, listed}
 use Rattle.dl_why.specs.Program.{Standing}
-use Rattle.dl_call_fates.specs.Written.{IsRotating}
+use Rattle.dl_fates.specs.Written.{IsRotating}
 
 abbrev IsNamed : StoredFile → Type 0
 IsNamed file = file.number ≤ number_limit

@@ -1,20 +1,20 @@
 -- What is printed of a run of steps, and what its picture shows.
 use Rattle.std.specs.Prelude.{ℕ, false, List, [], ◌++◌, None}
 use Rattle.dl_bytes.specs.declared.outcome.TraceState.{TraceState}
-use Rattle.dl_script_lines.specs.declared.step.Step.{Step}
-use Rattle.dl_call_lines.specs.Calls.{calls_in}
-use Rattle.dl_call_lines.specs.Claims.{claims_in}
-use Rattle.dl_call_lines.specs.Told.{owners_in}
+use Rattle.dl_script_model.specs.declared.step.Step.{Step}
+use Rattle.dl_fates.specs.Calls.{calls_in}
+use Rattle.dl_fates.specs.ClaimLines.{claims_in}
+use Rattle.dl_fates.specs.Told.{owners_in}
 use Rattle.dl_call_timeline.specs.Timeline.{timeline}
-use Rattle.dl_model.specs.Marks.{Mark, journal, records}
-use Rattle.dl_model.specs.Replay.{report_of, specs_of}
+use Rattle.dl_script_model.specs.Marks.{Mark, journal, records}
+use Rattle.dl_script_model.specs.Replay.{report_of, specs_of}
 use Rattle.dl_model.specs.Setting.{Setting}
-use Rattle.dl_model.specs.Steps.{run}
+use Rattle.dl_script_model.specs.Steps.{run}
 use Rattle.dl_model.specs.TraceFiles.{StoredFile}
 use Rattle.dl_model.specs.WholeAccounts.{source_of_records}
 use Rattle.dl_picture.specs.Picture.{picture}
-use Rattle.dl_call_fates.specs.Cases.{cases_of}
-use Rattle.dl_call_fates.specs.Rows.{rows_of_run}
+use Rattle.dl_fates.specs.Cases.{cases_of}
+use Rattle.dl_fates.specs.Rows.{rows_of_run}
 
 -- the run stores nothing itself, so its report tells nothing of a trace
 abbrev pub no_trace : TraceState

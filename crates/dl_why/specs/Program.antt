@@ -17,7 +17,7 @@ use Rattle.dl_startup.specs.Unchanged.{IsQuiet, IsUnchanged}
 use Rattle.dl_startup.specs.declared.configuration.Setup.{Setup}
 use Rattle.dl_startup.specs.declared.status.Status.{Status}
 use Rattle.dl_startup.specs.declared.status.Status.TheVariants as end
-use Rattle.dl_stored_in.specs.declared.calls.Rotation.{Rotation}
+use Rattle.dl_fates.specs.declared.stored_calls.Rotation.{Rotation}
 use Rattle.dl_trace.specs.Stands.{HasFiles}
 use Rattle.dl_trace_files.specs.Files.{files_asked}
 use Rattle.dl_trace_why.specs.Account as trace
@@ -30,7 +30,7 @@ use Rattle.dl_why_words.specs.declared.words.WhyWords.{WhyWords}
 use Rattle.dl_why.specs.Drawing.{Draws, Keeps}
 use Rattle.dl_why.specs.Explained.{drawn, explained}
 use Rattle.dl_why.specs.StepsStatus.{number}
-use Rattle.dl_call_fates.specs.Written.{IsRotating}
+use Rattle.dl_fates.specs.Written.{IsRotating}
 use Rattle.dl_why.specs.declared.program.Start.{Start}
 use Rattle.dl_why.specs.declared.script.Script.{Script}
 use Rattle.dl_why.specs.declared.steps_status.StepsStatus.{StepsStatus}

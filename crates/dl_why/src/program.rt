@@ -12,16 +12,16 @@ ghost use Rattle.dl_trace_files.specs.Files.{files_asked};
 ghost use Rattle.dl_trace_why.specs.Account.{Runs, sides};
 ghost use Rattle.dl_why_words.specs.Words.{said};
 ghost use Rattle.dl_why.specs.Program.{AnswersFault, Begins, Ends, Helps, LooksAt, Prints, RunsAsked, RunsNot, RunsSteps, SaysSteps, Standing, TellsWhy, Writes, help, told};
-ghost use Rattle.dl_call_fates.specs.Written.{IsRotating};
+ghost use Rattle.dl_fates.specs.Written.{IsRotating};
 
 use crate::drawing::put_where_wanted;
 use crate::explanation::explain;
 use crate::script::{Script, read_script};
 use crate::steps_status::StepsStatus;
 use dl_bytes::Conf;
+use dl_fates::{Rotation, newest_number};
 use dl_outside::{Folder, Sink, Source, write_text};
 use dl_startup::{CONF_NAME, Setup, Status, set_up, trace_over};
-use dl_stored_in::{Rotation, newest_number};
 use dl_trace::{Trace, TraceFault};
 use dl_trace_why::{Wanted, Which, account};
 use dl_why_words::{WhyFault, WhyWords, why_words};

@@ -7,7 +7,7 @@ ghost use Rattle.dl_why.specs.Program.{ReadsScript};
 use dl_outside::Source;
 use dl_script::laws::what_is_read_can_be_played;
 use dl_script::{ScriptError, ScriptKind, read_steps};
-use dl_script_lines::StepList;
+use dl_script_model::StepList;
 use dl_startup::{ReadError, Status, read_text};
 use std::alloc::Global;
 

@@ -7,9 +7,9 @@ use Rattle.dl_events.specs.declared.event.Event.TheVariants as event
 use Rattle.dl_events.specs.declared.event.Why.TheVariants as why
 use Rattle.dl_model.specs.Setting.{Setting}
 use Rattle.dl_model.specs.Journal.{is_request_of}
-use Rattle.dl_model.specs.Marks.{Mark, journal}
-use Rattle.dl_model.specs.Steps as steps
-use Rattle.dl_model.specs.Steps.{Act, ask, close, in_sequence, when, note_levels, note_levels_now, request_now}
+use Rattle.dl_script_model.specs.Marks.{Mark, journal}
+use Rattle.dl_script_model.specs.Steps as steps
+use Rattle.dl_script_model.specs.Steps.{Act, ask, close, in_sequence, when, note_levels, note_levels_now, request_now}
 use Rattle.dl_hub.specs.State as hub
 use Rattle.dl_hub.specs.State.{client_of, outbox_of}
 use Rattle.dl_hub.proofs.Keeping.{found}
@@ -17,7 +17,7 @@ use Rattle.dl_core.specs.Follows.{Run}
 use Rattle.dl_core.proofs.Answered.{replies_are}
 use Rattle.dl_outside.specs.Told.{FolderTold}
 use Rattle.dl_world.specs.Follows.{IsAfter, Deed, Does, Doing}
-use Rattle.dl_world_links.specs.State.{taken_by}
+use Rattle.dl_world.specs.State.{taken_by}
 use Rattle.dl_world.specs.declared.world.World.{World}
 use Rattle.dl_world.proofs.Composing.{both, does_both}
 use Rattle.dl_world.proofs.Declared.{does_two}

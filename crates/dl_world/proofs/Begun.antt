@@ -7,14 +7,14 @@ use Rattle.std.proofs.Math.Bridge.{le_prop}
 use Rattle.dl_bytes.specs.Limits.{client_limit}
 use Rattle.dl_bytes.specs.declared.moment.Moment.{Moment}
 use Rattle.dl_user.proofs.Cuts.{nothing_read}
-use Rattle.dl_model.specs.Marks.{moment_at}
+use Rattle.dl_script_model.specs.Marks.{moment_at}
 use Rattle.dl_user.proofs.FrontLemmas.{open_is}
 use Rattle.dl_world_calls.specs.Follows as calls
 use Rattle.dl_world_calls.specs.Injections.{AreAfter}
 use Rattle.dl_core.specs.Follows as core
 use Rattle.dl_core.specs.Follows.{Run}
-use Rattle.dl_world_links.specs.State.{Client, Channel, client_at, channel_at, taken_by}
-use Rattle.dl_world_links.specs.Fed.{IsFedBy, IsHeardBy}
+use Rattle.dl_world.specs.State.{Client, Channel, client_at, channel_at, taken_by}
+use Rattle.dl_world.specs.Fed.{IsFedBy, IsHeardBy}
 use Rattle.dl_world.specs.Follows.{IsAfter, stream_in}
 use Rattle.dl_world.specs.declared.world.World.{World}
 

@@ -8,7 +8,7 @@ use Rattle.std.proofs.lemmas.List.{length-set}
 use Rattle.std.proofs.lemmas.Option.{slice_get_past}
 use Rattle.dl_hub.specs.State as hub
 use Rattle.dl_hub.specs.State.{Hub, client_of, outbox_of, changed}
-use Rattle.dl_world_links.specs.State.{Client, client_at, with_client}
+use Rattle.dl_world.specs.State.{Client, client_at, with_client}
 
 -- ---- any list, by places
 

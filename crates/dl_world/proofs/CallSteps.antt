@@ -5,18 +5,18 @@ use Rattle.std.specs.List.{filter_map, flat_map, AllByRecursion}
 use Rattle.std.proofs.lemmas.List.{append-nil}
 use Rattle.dl_bytes.specs.Level.{passes}
 use Rattle.dl_bytes.specs.Claim.{Claimed}
-use Rattle.dl_script_lines.specs.declared.line.CallLine.{CallLine}
-use Rattle.dl_script_lines.specs.declared.line.ClaimLine.{ClaimLine}
+use Rattle.dl_script_model.specs.declared.line.CallLine.{CallLine}
+use Rattle.dl_script_model.specs.declared.line.ClaimLine.{ClaimLine}
 use Rattle.dl_model.specs.Setting.{Setting}
-use Rattle.dl_model.specs.Marks.{Call, Mark, Filtered, Passed, Queued, Refused, Counted, HasClaim, Announced, HeldBack, event_of, app_of, clocked, waits_of, fed_of, heard_of, journal, to_push, to_count, to_announce, unannounced, is_full}
-use Rattle.dl_model.specs.Steps.{Act, just, for_some, loaded, load, push, count, finish, begin_call, claim_made, claim, announce, announce_upto, announce_all, is_held_back}
-use Rattle.dl_laws.proofs.Founded.{finished}
+use Rattle.dl_script_model.specs.Marks.{Call, Mark, Filtered, Passed, Queued, Refused, Counted, HasClaim, Announced, HeldBack, event_of, app_of, clocked, waits_of, fed_of, heard_of, journal, to_push, to_count, to_announce, unannounced, is_full}
+use Rattle.dl_script_model.specs.Steps.{Act, just, for_some, loaded, load, push, count, finish, begin_call, claim_made, claim, announce, announce_upto, announce_all, is_held_back}
+use Rattle.dl_runs.proofs.Founded.{finished}
 use Rattle.dl_world_calls.specs.Follows as calls
 use Rattle.dl_world_calls.specs.Injections.{AreAfter, is_no_injection}
 use Rattle.dl_world_calls.specs.State.{Calls}
 use Rattle.dl_world_calls.proofs.InjectionCounts.{no-injection-stays}
 use Rattle.dl_core.specs.Follows.{Run, HoldsTrace}
-use Rattle.dl_folders.specs.Standing.{KeepsTrace}
+use Rattle.dl_core.specs.Standing.{KeepsTrace}
 use Rattle.dl_world.specs.Follows.{IsAfter, Doing, Loads}
 use Rattle.dl_world.specs.declared.world.World.{World}
 use Rattle.dl_world.proofs.Doings.{ComesTo, doing_by}

@@ -12,9 +12,9 @@ use Rattle.dl_model.specs.Setting.{Setting}
 use Rattle.dl_model.specs.History.{level_for}
 use Rattle.dl_model.specs.Registry.{Registry, level_at, change_at}
 use Rattle.dl_model.specs.Journal.{registry_of, slots_of, owed}
-use Rattle.dl_model.specs.Steps.{changes}
+use Rattle.dl_script_model.specs.Steps.{changes}
 use Rattle.dl_model.proofs.OneMore.{registry-one, slot-one, slot-other}
-use Rattle.dl_laws.proofs.Owed.{owed_first}
+use Rattle.dl_runs.proofs.Owed.{owed_first}
 use Rattle.dl_laws.proofs.SlotChanges.{change_is, no_change, same_change}
 
 -- ---- all slots, where one after the other is asked

@@ -11,19 +11,19 @@ use Rattle.dl_events.specs.declared.event.Event.TheVariants as event
 use Rattle.dl_events.specs.Journal as notes
 use Rattle.dl_events.specs.Journal.{Journaled}
 use Rattle.dl_model.specs.ClientStream.{stream, traffic}
-use Rattle.dl_model.specs.Marks.{Mark, Noted, Pushed, OfCall, OfClaim, journal, moment, pushes, taken}
-use Rattle.dl_model.specs.Steps.{just}
+use Rattle.dl_script_model.specs.Marks.{Mark, Noted, Pushed, OfCall, OfClaim, journal, moment, pushes, taken}
+use Rattle.dl_script_model.specs.Steps.{just}
 use Rattle.dl_world_calls.specs.State.{Calls, as_held, claim_held, next_claim}
 use Rattle.dl_world_calls.specs.Follows as calls
 use Rattle.dl_world_calls.proofs.Changing.{next_tells}
-use Rattle.dl_frames.proofs.FramesBehind.{traffic-append}
+use Rattle.dl_laws.proofs.FramesBehind.{traffic-append}
 use Rattle.dl_core.specs.Follows.{Run, AddsAlone, HoldsTrace, source_of}
 use Rattle.dl_core.specs.State.{Core}
 use Rattle.dl_outside.specs.Told.{FolderTold}
-use Rattle.dl_folders.specs.Standing.{KeepsTrace}
-use Rattle.dl_folders.proofs.StandingFiles.{keeps_quiet, kept_same}
+use Rattle.dl_core.specs.Standing.{KeepsTrace}
+use Rattle.dl_core.proofs.StandingFiles.{keeps_quiet, kept_same}
 use Rattle.dl_world.specs.Follows.{IsAfter, Doing, noting}
-use Rattle.dl_world_links.specs.State.{taken_by}
+use Rattle.dl_world.specs.State.{taken_by}
 use Rattle.dl_world.specs.declared.world.World.{World}
 use Rattle.dl_world.proofs.Doings.{ComesTo, after_quiet_event, doing_by, nothing_told, the_events}
 use Rattle.dl_world.proofs.LoggedEvents.{pushed_at}

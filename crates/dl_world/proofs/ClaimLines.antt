@@ -6,13 +6,13 @@ use Rattle.std.specs.Option.{option_and_then, option_map}
 use Rattle.std.proofs.lemmas.List.{append-nil, length-map}
 use Rattle.std.proofs.lemmas.List.Elements.{filter_map-append}
 use Rattle.dl_bytes.specs.Claim.{Claimed}
-use Rattle.dl_script_lines.specs.declared.line.AppLine.{AppLine}
-use Rattle.dl_script_lines.specs.declared.line.ClaimLine.{ClaimLine}
-use Rattle.dl_script_lines.specs.declared.line.ContextLine.{ContextLine}
-use Rattle.dl_script_lines.specs.declared.step.Step.TheVariants as line
-use Rattle.dl_model.specs.Marks.{Mark, app_of, claim_of, context_of, writer_of as writer_marked, apps, writers, number_of, contexts_of}
-use Rattle.dl_model.specs.Steps.{finish, claim, announce, announce_all, act_of}
-use Rattle.dl_model.proofs.Marks.{in_sequence-one}
+use Rattle.dl_script_model.specs.declared.line.AppLine.{AppLine}
+use Rattle.dl_script_model.specs.declared.line.ClaimLine.{ClaimLine}
+use Rattle.dl_script_model.specs.declared.line.ContextLine.{ContextLine}
+use Rattle.dl_script_model.specs.declared.step.Step.TheVariants as line
+use Rattle.dl_script_model.specs.Marks.{Mark, app_of, claim_of, context_of, writer_of as writer_marked, apps, writers, number_of, contexts_of}
+use Rattle.dl_script_model.specs.Steps.{finish, claim, announce, announce_all, act_of}
+use Rattle.dl_script_model.proofs.Marks.{in_sequence-one}
 use Rattle.dl_world_calls.specs.Follows as calls
 use Rattle.dl_world_calls.specs.Follows.{no_app, is_named}
 use Rattle.dl_world_calls.specs.State.{App, Calls, Writer, owner_of, writer_of}

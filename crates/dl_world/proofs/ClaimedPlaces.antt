@@ -8,7 +8,7 @@ use Rattle.std.proofs.lemmas.List.Elements.{filter-append}
 use Rattle.std.proofs.lemmas.List.Folds.{prefix_len-append}
 use Rattle.std.proofs.lemmas.List.Quantifiers.{position-Some}
 use Rattle.dl_bytes.specs.Claim.{Claimed}
-use Rattle.dl_script_lines.specs.declared.line.AppLine.{AppLine}
+use Rattle.dl_script_model.specs.declared.line.AppLine.{AppLine}
 use Rattle.dl_script.specs.Earlier.{is_on}
 use Rattle.dl_script.specs.declared.claim.PlaceName.{PlaceName}
 use Rattle.dl_model.proofs.Presence.{bytes_tell}

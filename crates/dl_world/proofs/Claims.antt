@@ -7,14 +7,14 @@ use Rattle.std.specs.Str.{bytes_eq}
 use Rattle.std.proofs.lemmas.Bool.{lt-ltb}
 use Rattle.std.proofs.lemmas.List.{length-map}
 use Rattle.std.proofs.lemmas.List.Sums.{length-filter}
-use Rattle.dl_script_lines.specs.declared.line.AppLine.{AppLine}
-use Rattle.dl_script_lines.specs.declared.line.ContextLine.{ContextLine}
+use Rattle.dl_script_model.specs.declared.line.AppLine.{AppLine}
+use Rattle.dl_script_model.specs.declared.line.ContextLine.{ContextLine}
 use Rattle.dl_script_fields.specs.declared.kind.ScriptKind.{ScriptKind}
 use Rattle.dl_script_fields.specs.declared.kind.ScriptKind.TheVariants.{Order, Unknown, Twice, Limit}
 use Rattle.dl_script.specs.Earlier.{Declared, first_of, numbered as numbers, places_on, refusal, is_app, is_claimed_on, is_context, is_of}
 use Rattle.dl_script.specs.declared.claim.Claim.TheVariants as claim
 use Rattle.dl_script.specs.declared.claim.ContextName.{ContextName}
-use Rattle.dl_model.specs.Marks.{Mark, apps, app_of_writer, number_of, context_of, contexts_of}
+use Rattle.dl_script_model.specs.Marks.{Mark, apps, app_of_writer, number_of, context_of, contexts_of}
 use Rattle.dl_world_calls.specs.Follows as calls
 use Rattle.dl_world_calls.specs.Follows.{no_app, is_named}
 use Rattle.dl_world_calls.specs.State.{App, Calls, numbered, app_named, writer_of}

@@ -15,22 +15,22 @@ use Rattle.dl_model.specs.Along.{last_that}
 use Rattle.dl_model.specs.ClientStream.{traffic}
 use Rattle.dl_model.specs.Traffic as traffic
 use Rattle.dl_model.specs.Journal.{is_connect, is_close, comes_or_goes}
-use Rattle.dl_model.specs.Marks.{Mark, Noted, journal, fed}
+use Rattle.dl_script_model.specs.Marks.{Mark, Noted, journal, fed}
 use Rattle.dl_laws.proofs.Lists.{count_by-append, last_that-one}
 use Rattle.dl_world_calls.proofs.Changing.{no-call-stays}
-use Rattle.dl_frames.proofs.Quiet.{open_in_journal, not_yet}
+use Rattle.dl_laws.proofs.Quiet.{open_in_journal, not_yet}
 use Rattle.dl_hub.specs.State as hub
 use Rattle.dl_hub.specs.Follows as hub_after
 use Rattle.dl_hub.proofs.Following.{one_more_number}
 use Rattle.dl_core.specs.Follows as core
 use Rattle.dl_core.specs.Follows.{Run, AddsAlone, HoldsTrace, source_of}
 use Rattle.dl_core.specs.State.{Core}
-use Rattle.dl_world_links.specs.Fed.{IsFedBy}
+use Rattle.dl_world.specs.Fed.{IsFedBy}
 use Rattle.dl_outside.specs.Told.{FolderTold}
-use Rattle.dl_folders.specs.Standing.{KeepsTrace}
-use Rattle.dl_folders.proofs.StandingFiles.{keeps_by, keeps_quiet, kept_same}
+use Rattle.dl_core.specs.Standing.{KeepsTrace}
+use Rattle.dl_core.proofs.StandingFiles.{keeps_by, keeps_quiet, kept_same}
 use Rattle.dl_world.specs.Follows.{IsAfter, IsBefore, Doing, noting, stream_in}
-use Rattle.dl_world_links.specs.State.{Client, new_client, client_at, taken_by}
+use Rattle.dl_world.specs.State.{Client, new_client, client_at, taken_by}
 use Rattle.dl_world.specs.declared.world.World.{World}
 use Rattle.dl_world.proofs.ByNumber.{at_past, at-more, at-last}
 use Rattle.dl_world.proofs.Doings.{ComesTo, doing_by, holds_by, the_events, nothing_told}

@@ -6,13 +6,13 @@ use Rattle.std.proofs.lemmas.List.{append-nil}
 use Rattle.std.proofs.lemmas.List.Elements.{filter_map-append}
 use Rattle.dl_bytes.specs.declared.outcome.Done.{Done}
 use Rattle.dl_model.specs.Setting.{Setting}
-use Rattle.dl_model.specs.Marks.{Call, Mark, apps, app_of, call_of, journal}
-use Rattle.dl_model.specs.Steps.{Act, in_sequence}
+use Rattle.dl_script_model.specs.Marks.{Call, Mark, apps, app_of, call_of, journal}
+use Rattle.dl_script_model.specs.Steps.{Act, in_sequence}
 use Rattle.dl_laws.proofs.Lists.{count_by-append}
 use Rattle.dl_core.specs.Follows.{Run, HoldsTrace}
-use Rattle.dl_frames.proofs.KeptIds.{kept_id}
+use Rattle.dl_runs.proofs.KeptIds.{kept_id}
 use Rattle.dl_outside.specs.Told.{FolderTold}
-use Rattle.dl_folders.specs.Standing.{KeepsTrace}
+use Rattle.dl_core.specs.Standing.{KeepsTrace}
 use Rattle.dl_world.specs.Follows.{GivesCall, IsRunOf, IsAfter, BeginWith, answers_in, is_failure, Deed, Goes, Does, Doing}
 use Rattle.dl_world.specs.Stored.{HoldsStored}
 use Rattle.dl_world.specs.declared.world.World.{World}

@@ -4,11 +4,11 @@ use Rattle.std.specs.List.{filter_map}
 use Rattle.std.proofs.lemmas.List.{length-map}
 use Rattle.std.proofs.lemmas.List.Elements.{filter_map-append}
 use Rattle.dl_bytes.specs.declared.outcome.Done.{Done}
-use Rattle.dl_script_lines.specs.declared.line.AppLine.{AppLine}
-use Rattle.dl_script_lines.specs.declared.line.ContextLine.{ContextLine}
+use Rattle.dl_script_model.specs.declared.line.AppLine.{AppLine}
+use Rattle.dl_script_model.specs.declared.line.ContextLine.{ContextLine}
 use Rattle.dl_model.specs.Setting.{Setting}
-use Rattle.dl_model.specs.Marks.{Mark, HasApp, HasContext, HasWriter, app_of, apps, clocked, waits_of}
-use Rattle.dl_model.specs.Steps.{Act, just, in_sequence}
+use Rattle.dl_script_model.specs.Marks.{Mark, HasApp, HasContext, HasWriter, app_of, apps, clocked, waits_of}
+use Rattle.dl_script_model.specs.Steps.{Act, just, in_sequence}
 use Rattle.dl_world_calls.specs.Follows as calls
 use Rattle.dl_world_calls.specs.Follows.{line_of}
 use Rattle.dl_world_calls.specs.State.{Calls}

@@ -6,17 +6,17 @@ use Rattle.std.proofs.lemmas.Grind.{flat_map-append}
 use Rattle.dl_bytes.specs.declared.outcome.Done.{Done}
 use Rattle.dl_events.specs.declared.event.Event.{Event}
 use Rattle.dl_model.specs.Setting.{Setting}
-use Rattle.dl_model.specs.Marks.{Mark, event_of, apps, journal, moment, is_later, fed, fed_of, heard, heard_of}
-use Rattle.dl_model.specs.Steps.{Act}
+use Rattle.dl_script_model.specs.Marks.{Mark, event_of, apps, journal, moment, is_later, fed, fed_of, heard, heard_of}
+use Rattle.dl_script_model.specs.Steps.{Act}
 use Rattle.dl_world_calls.specs.Follows as calls
 use Rattle.dl_world_calls.specs.Injections.{AreAfter}
 use Rattle.dl_core.specs.Follows as core
 use Rattle.dl_core.specs.Follows.{Run, HoldsTrace}
 use Rattle.dl_outside.specs.Told.{FolderTold}
-use Rattle.dl_folders.specs.Standing.{KeepsTrace}
+use Rattle.dl_core.specs.Standing.{KeepsTrace}
 use Rattle.dl_world.specs.Follows.{IsRunOf, IsSoFar, IsAfter, answer_of, answers_in, Deed, Goes, Does, Doing}
 use Rattle.dl_world.specs.Stored.{HoldsStored}
-use Rattle.dl_world_links.specs.State.{Client, client_at, taken_by}
+use Rattle.dl_world.specs.State.{Client, client_at, taken_by}
 use Rattle.dl_world.specs.declared.world.World.{World}
 
 -- ---- deeds

@@ -10,9 +10,9 @@ use Rattle.std.proofs.lemmas.List.Folds.{concat-append}
 use Rattle.dl_events.specs.declared.event.Event.{Event}
 use Rattle.dl_model.specs.ClientStream.{traffic}
 use Rattle.dl_model.specs.Traffic.{Traffic}
-use Rattle.dl_model.specs.Marks.{Mark, journal}
-use Rattle.dl_frames.specs.Frames.{TellsLen}
-use Rattle.dl_frames.specs.FramesPut.{IsPut}
+use Rattle.dl_script_model.specs.Marks.{Mark, journal}
+use Rattle.dl_laws.specs.Frames.{TellsLen}
+use Rattle.dl_laws.specs.FramesPut.{IsPut}
 use Rattle.dl_hub.specs.State as hub
 use Rattle.dl_hub.specs.State.{Hub, Waiting, client_of, outbox_of, changed, without, consumed, bytes_before, is_open}
 use Rattle.dl_hub.specs.Follows.{took_more}
@@ -24,9 +24,9 @@ use Rattle.dl_hub.proofs.Pumping.{outbox-after}
 use Rattle.dl_core.specs.Follows as core
 use Rattle.dl_core.specs.Follows.{Run, source_of}
 use Rattle.dl_core.specs.State.{Core}
-use Rattle.dl_world_links.specs.Fed.{IsFedBy}
+use Rattle.dl_world.specs.Fed.{IsFedBy}
 use Rattle.dl_world.specs.Follows.{IsSoFar, IsAfter, IsBefore, IsBehind, HasTaken, IsDelivered, stream_in}
-use Rattle.dl_world_links.specs.State.{Client, client_at, with_client, with_frames, taken_by, cutters_of}
+use Rattle.dl_world.specs.State.{Client, client_at, with_client, with_frames, taken_by, cutters_of}
 use Rattle.dl_world.specs.declared.world.World.{World}
 use Rattle.dl_world.proofs.ByNumber.{at_zero, at_past, at_place, at_there, with_same, with_other, with_long, outbox_other}
 
@@ -179,7 +179,7 @@ module _ (old : World) (number : ℕ) (bytes : List ℕ) (core_now : Core) (link
       lengths_so = is.so_far.lengths_so;
       came_so = long_now ∙ is.so_far.came_so ∙ sym hub_long;
       gone_so = omega (arith, opens, hub_long, is.so_far.gone_so);
-      fed_so = λ other. fed_other (λ client. IsFedBy (Rattle.dl_model.specs.Marks.fed other done) client.cutter) other (λ c fed. fed) (is.so_far.fed_so other);
+      fed_so = λ other. fed_other (λ client. IsFedBy (Rattle.dl_script_model.specs.Marks.fed other done) client.cutter) other (λ c fed. fed) (is.so_far.fed_so other);
       unfed_so = λ other none. is.so_far.unfed_so other (unfed_other other none);
       heard_so = is.so_far.heard_so;
       moment_so = is.so_far.moment_so;

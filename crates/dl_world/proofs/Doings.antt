@@ -12,21 +12,21 @@ use Rattle.dl_outside.specs.Folder.{Files}
 use Rattle.dl_outside.specs.Told.{FolderTold}
 use Rattle.dl_model.specs.declared.registry.LevelChange.{LevelChange}
 use Rattle.dl_model.specs.Setting.{Setting}
-use Rattle.dl_model.specs.Marks.{Mark, Noted, journal}
-use Rattle.dl_model.specs.Steps.{Act, changes, level_noted}
+use Rattle.dl_script_model.specs.Marks.{Mark, Noted, journal}
+use Rattle.dl_script_model.specs.Steps.{Act, changes, level_noted}
 use Rattle.dl_model.specs.ClientStream.{traffic, stream}
-use Rattle.dl_laws.proofs.Owed.{owed_first}
+use Rattle.dl_runs.proofs.Owed.{owed_first}
 use Rattle.dl_registry.specs.Kept.{owed_change}
 use Rattle.dl_registry.proofs.Following.{change_is_owed}
 use Rattle.dl_world_calls.proofs.Changing.{no-call-stays}
-use Rattle.dl_frames.proofs.FramesBehind.{traffic-append}
+use Rattle.dl_laws.proofs.FramesBehind.{traffic-append}
 use Rattle.dl_trace.specs.State.{Trace}
 use Rattle.dl_core.specs.Follows.{Run, HoldsTrace, HoldsFiles, AddsAlone, source_of, stored_by}
 use Rattle.dl_core.specs.State.{Core}
-use Rattle.dl_folders.specs.Standing.{KeepsTrace}
-use Rattle.dl_folders.proofs.StandingFiles.{keeps_quiet, kept_same}
+use Rattle.dl_core.specs.Standing.{KeepsTrace}
+use Rattle.dl_core.proofs.StandingFiles.{keeps_quiet, kept_same}
 use Rattle.dl_world.specs.Follows.{IsRunOf, IsSoFar, IsAfter, answer_of, answers_in, Doing, next_level, stream_in}
-use Rattle.dl_world_links.specs.State.{Client, client_at, taken_by}
+use Rattle.dl_world.specs.State.{Client, client_at, taken_by}
 use Rattle.dl_world.specs.declared.world.World.{World}
 use Rattle.dl_world.proofs.Quiet.{goes_on, held}
 use Rattle.dl_world.proofs.StoredFiles.{asked_in, holds_same, stored_unasked, unanswered}

@@ -4,10 +4,10 @@ use Rattle.std.specs.Prelude.{slice_get, replicate, option_map}
 use Rattle.std.specs.List.{range_with_len}
 use Rattle.std.proofs.lemmas.List.{append-nil}
 use Rattle.std.proofs.lemmas.Option.{slice_get-map}
-use Rattle.dl_script_lines.specs.declared.line.CallLine.{CallLine}
-use Rattle.dl_script_lines.specs.declared.step.Step.TheVariants as line
-use Rattle.dl_model.specs.Marks.{Mark, app_of_writer, number_of, writers, held_by}
-use Rattle.dl_model.specs.Steps.{Act, in_sequence, for_some, on_app, act_of, take_log, take_losses, drain, whole_call}
+use Rattle.dl_script_model.specs.declared.line.CallLine.{CallLine}
+use Rattle.dl_script_model.specs.declared.step.Step.TheVariants as line
+use Rattle.dl_script_model.specs.Marks.{Mark, app_of_writer, number_of, writers, held_by}
+use Rattle.dl_script_model.specs.Steps.{Act, in_sequence, for_some, on_app, act_of, take_log, take_losses, drain, whole_call}
 use Rattle.dl_world_calls.specs.Follows as calls
 use Rattle.dl_world_calls.specs.Follows.{no_writer, IsOwned}
 use Rattle.dl_world_calls.specs.State.{Writer, Calls, writer_of}

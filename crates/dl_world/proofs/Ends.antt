@@ -6,9 +6,9 @@ use Rattle.std.specs.List.{range_with_len}
 use Rattle.std.proofs.lemmas.List.FromFn.{length-range_with_len}
 use Rattle.dl_events.specs.declared.event.Why.TheVariants as why
 use Rattle.dl_model.specs.Journal.{is_connect}
-use Rattle.dl_model.specs.Marks.{Mark, apps, journal, writer_numbers}
-use Rattle.dl_model.specs.Steps.{in_sequence, finish, drain, note_levels, close, end_of}
-use Rattle.dl_frames.proofs.Quiet.{came_in_journal}
+use Rattle.dl_script_model.specs.Marks.{Mark, apps, journal, writer_numbers}
+use Rattle.dl_script_model.specs.Steps.{in_sequence, finish, drain, note_levels, close, end_of}
+use Rattle.dl_laws.proofs.Quiet.{came_in_journal}
 use Rattle.dl_world_calls.specs.State.{Writer}
 use Rattle.dl_world_calls.specs.Follows.{line_of}
 use Rattle.dl_core.specs.Follows.{Run, source_of}

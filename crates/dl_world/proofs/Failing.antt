@@ -10,10 +10,10 @@ use Rattle.dl_trace.specs.Written.{StoresTill, StoresIn, StoresEach, ChangesTrac
 use Rattle.dl_core.specs.State.{Core}
 use Rattle.dl_outside.specs.Folder.{Files}
 use Rattle.dl_outside.specs.Told.{FolderTold}
-use Rattle.dl_folders.specs.Files.{Leaves}
-use Rattle.dl_folders.specs.Later.{trace_failures}
-use Rattle.dl_folders.proofs.StandingFiles.{GoesOn, each_goes_on, in_goes_on}
-use Rattle.dl_folders.proofs.TracedFiles.{own_files}
+use Rattle.dl_core.specs.Files.{Leaves}
+use Rattle.dl_core.specs.Later.{trace_failures}
+use Rattle.dl_core.proofs.StandingFiles.{GoesOn, each_goes_on, in_goes_on}
+use Rattle.dl_core.proofs.TracedFiles.{own_files}
 
 abbrev pub failed_in : Option Trace → ℕ
 failed_in trace = option_map_or (λ (t : Trace). trace_failures t.state.end) trace 0

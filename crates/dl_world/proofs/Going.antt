@@ -19,15 +19,15 @@ use Rattle.dl_model.specs.ClientStream.{traffic, stream}
 use Rattle.dl_model.specs.Traffic as traffic
 use Rattle.dl_model.specs.Traffic.{Traffic, Connected, Admitted, Reply, Closed, comer_of, clients, is_coming, comes_or_goes}
 use Rattle.dl_model.specs.Journal.{is_close}
-use Rattle.dl_model.specs.Marks.{Mark, Noted, journal}
-use Rattle.dl_model.specs.Steps as steps
+use Rattle.dl_script_model.specs.Marks.{Mark, Noted, journal}
+use Rattle.dl_script_model.specs.Steps as steps
 use Rattle.dl_laws.proofs.Lists.{count_by-append}
 use Rattle.dl_laws.proofs.ClientStreams.{is_open-one}
 use Rattle.dl_world_calls.proofs.Changing.{no-call-stays}
-use Rattle.dl_frames.specs.FramesPut.{IsPut}
-use Rattle.dl_frames.specs.FrameLengths.{CarriesLen}
-use Rattle.dl_frames.proofs.FramesBehind.{put_by_events}
-use Rattle.dl_frames.proofs.Quiet.{open_in_journal, closes_quietly}
+use Rattle.dl_laws.specs.FramesPut.{IsPut}
+use Rattle.dl_laws.specs.FrameLengths.{CarriesLen}
+use Rattle.dl_laws.proofs.FramesBehind.{put_by_events}
+use Rattle.dl_laws.proofs.Quiet.{open_in_journal, closes_quietly}
 use Rattle.dl_hub.specs.State as hub
 use Rattle.dl_hub.specs.State.{Waiting, client_of, outbox_of, changed, shut}
 use Rattle.dl_hub.specs.Follows as hub_after
@@ -36,10 +36,10 @@ use Rattle.dl_core.specs.Closing.{MayEnd}
 use Rattle.dl_core.specs.Follows as core
 use Rattle.dl_core.specs.Follows.{Run, AddsAlone, HoldsTrace, source_of}
 use Rattle.dl_core.specs.State.{Core}
-use Rattle.dl_folders.specs.Standing.{KeepsTrace}
-use Rattle.dl_folders.proofs.StandingFiles.{keeps_quiet, kept_same}
+use Rattle.dl_core.specs.Standing.{KeepsTrace}
+use Rattle.dl_core.proofs.StandingFiles.{keeps_quiet, kept_same}
 use Rattle.dl_world.specs.Follows.{IsAfter, IsBefore, IsBehind, HasTaken, IsPlain, Doing, noting, stream_in}
-use Rattle.dl_world_links.specs.State.{Client, client_at, taken_by}
+use Rattle.dl_world.specs.State.{Client, client_at, taken_by}
 use Rattle.dl_world.specs.declared.world.World.{World}
 use Rattle.dl_world.proofs.ByNumber.{at_place, at_zero}
 use Rattle.dl_world.proofs.Noting.{journal_noted, noted_where, missing}
@@ -154,17 +154,6 @@ known_by_hub run done world client is there =
     (it.4, omega (arith, Rattle.std.proofs.lemmas.Option.slice_get_within world.core.hub.clients (client - 1) it.0 it.2, is.so_far.came_so, it.4))
 
 -- ---- a client goes
-
--- a cause that says nothing of the outbox may be told where that is empty
-pub plain_ends : (h : hub.Hub) (client : ℕ) (cause : Why) → IsPlain cause → IsSomeAnd (outbox_of h client) (λ outbox. outbox.bytes ≡ []) → MayEnd h client cause
-plain_ends h client (why.Slow room need) plain empty = absurd plain
-plain_ends h client (why.Stuck left) plain empty = absurd plain
-plain_ends h client why.Stopped plain empty = empty
-plain_ends h client why.Left plain empty = tt
-plain_ends h client why.Broken plain empty = tt
-plain_ends h client why.Malformed plain empty = tt
-plain_ends h client why.TooMany plain empty = tt
-plain_ends h client why.NoMemory plain empty = tt
 
 -- it is open no longer
 one_shut : (h : hub.Hub) (client : ℕ) → IsSome (outbox_of h client) → (count_by hub.is_open (changed client shut h).clients + 1 ≡ count_by hub.is_open h.clients) × (length (changed client shut h).clients ≡ length h.clients)

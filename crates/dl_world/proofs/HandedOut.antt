@@ -1,10 +1,10 @@
 -- An application takes an injection.
 use Rattle.std.proofs.Common.{◌≡◌, ◌<◌, ℕ, Bool, false, List, [], ◌∷◌, refl, sym, ap, subst, ◌∙◌}
 use Rattle.std.specs.Prelude.{slice_index, nat_lt}
-use Rattle.dl_model.specs.Marks.{Mark, Handed, injections, journal}
-use Rattle.dl_model.specs.Steps.{just, when, take_injection}
+use Rattle.dl_script_model.specs.Marks.{Mark, Handed, injections, journal}
+use Rattle.dl_script_model.specs.Steps.{just, when, take_injection}
 use Rattle.dl_core.specs.Follows.{Run, HoldsTrace}
-use Rattle.dl_folders.specs.Standing.{KeepsTrace}
+use Rattle.dl_core.specs.Standing.{KeepsTrace}
 use Rattle.dl_world_calls.specs.Injections.{Counts}
 use Rattle.dl_world.specs.Follows.{IsAfter, Doing}
 use Rattle.dl_world.specs.declared.world.World.{World}

@@ -6,9 +6,9 @@ use Rattle.dl_events.specs.declared.event.Event.{Event}
 use Rattle.dl_model.specs.declared.registry.LevelChange.{LevelChange}
 use Rattle.dl_model.specs.Setting.{Setting}
 use Rattle.dl_model.specs.Journal.{owed}
-use Rattle.dl_model.specs.Marks.{Mark, journal, is_later}
-use Rattle.dl_model.specs.Steps.{changes, level_noted, note_levels, note_levels_now}
-use Rattle.dl_laws.proofs.Owed.{owed_first}
+use Rattle.dl_script_model.specs.Marks.{Mark, journal, is_later}
+use Rattle.dl_script_model.specs.Steps.{changes, level_noted, note_levels, note_levels_now}
+use Rattle.dl_runs.proofs.Owed.{owed_first}
 use Rattle.dl_registry.specs.Kept.{owed_change}
 use Rattle.dl_registry.proofs.Following.{change_is_owed}
 use Rattle.dl_world.specs.Follows.{Doing, next_level}

@@ -18,14 +18,14 @@ use Rattle.dl_events.specs.declared.event.Event.{Event}
 use Rattle.dl_events.specs.declared.event.Event.TheVariants as event
 use Rattle.dl_events.specs.declared.event.Why.{Why}
 use Rattle.dl_events.specs.declared.event.Why.TheVariants as why
-use Rattle.dl_script_lines.specs.declared.line.AppLine.{AppLine}
-use Rattle.dl_script_lines.specs.declared.line.CallLine.{CallLine}
-use Rattle.dl_script_lines.specs.declared.line.ClaimLine.{ClaimLine}
-use Rattle.dl_script_lines.specs.declared.line.ContextLine.{ContextLine}
-use Rattle.dl_script_lines.specs.declared.step.Step.{Step}
-use Rattle.dl_script_lines.specs.declared.step.Step.TheVariants as line
-use Rattle.dl_script_lines.specs.declared.step.LevelEvents.TheVariants as levels
-use Rattle.dl_model.proofs.Marks.{in_sequence-one}
+use Rattle.dl_script_model.specs.declared.line.AppLine.{AppLine}
+use Rattle.dl_script_model.specs.declared.line.CallLine.{CallLine}
+use Rattle.dl_script_model.specs.declared.line.ClaimLine.{ClaimLine}
+use Rattle.dl_script_model.specs.declared.line.ContextLine.{ContextLine}
+use Rattle.dl_script_model.specs.declared.step.Step.{Step}
+use Rattle.dl_script_model.specs.declared.step.Step.TheVariants as line
+use Rattle.dl_script_model.specs.declared.step.LevelEvents.TheVariants as levels
+use Rattle.dl_script_model.proofs.Marks.{in_sequence-one}
 use Rattle.dl_script.specs.Earlier.{Declared, nothing, noted, numbered, refusal}
 use Rattle.dl_script.specs.Spelled.{MayFollow, step_claim}
 use Rattle.dl_script.specs.declared.claim.Claim.TheVariants as claims
@@ -33,10 +33,10 @@ use Rattle.dl_script.specs.declared.claim.ContextName.{ContextName}
 use Rattle.dl_script.specs.declared.claim.PlaceName.{PlaceName}
 use Rattle.dl_model.specs.declared.registry.LevelChange.{LevelChange}
 use Rattle.dl_model.specs.Setting.{Setting}
-use Rattle.dl_model.specs.Marks.{Call, Mark, HasApp, HasContext, HasWriter, Filtered, Passed, Queued, Refused, Counted, HasClaim, Announced, HeldBack, Noted, Fed, Heard, Injected, Handed, app_of, claim_of, context_of, writer_of, apps, writers, journal, number_of, app_of_writer, next_place, to_push, to_count, to_announce, unannounced, pushes as all_pushed, taken, is_full, pending, moment, is_later, fed, injections}
+use Rattle.dl_script_model.specs.Marks.{Call, Mark, HasApp, HasContext, HasWriter, Filtered, Passed, Queued, Refused, Counted, HasClaim, Announced, HeldBack, Noted, Fed, Heard, Injected, Handed, app_of, claim_of, context_of, writer_of, apps, writers, journal, number_of, app_of_writer, next_place, to_push, to_count, to_announce, unannounced, pushes as all_pushed, taken, is_full, pending, moment, is_later, fed, injections}
 use Rattle.dl_model.specs.Journal.{is_connect, is_close, is_request_of, need_after}
 use Rattle.dl_model.specs.Reply.{Need, Nothing, Folder, Queue}
-use Rattle.dl_model.specs.Steps.{Act, in_sequence, just, for_some, when, changes, level_noted, note_levels, note_levels_now, note, loaded, load, push, count, finish, begin_call, whole_call, claim, announce, announce_upto, announce_all, is_held_back, event_taken, take_log, take_losses, is_open, close, connect, served, request_now, ask, new_requests, close_malformed, receive, new_messages, tell, hear, take_injection, on_app, act_of}
+use Rattle.dl_script_model.specs.Steps.{Act, in_sequence, just, for_some, when, changes, level_noted, note_levels, note_levels_now, note, loaded, load, push, count, finish, begin_call, whole_call, claim, announce, announce_upto, announce_all, is_held_back, event_taken, take_log, take_losses, is_open, close, connect, served, request_now, ask, new_requests, close_malformed, receive, new_messages, tell, hear, take_injection, on_app, act_of}
 use Rattle.dl_world.specs.Known.{IsKnown, name_of}
 use Rattle.dl_world.proofs.ClaimedPlaces.{Covers, covers_nothing, covers_same, covers_app, covers_name, covers_claim}
 

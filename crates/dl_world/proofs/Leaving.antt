@@ -11,18 +11,18 @@ use Rattle.std.proofs.lemmas.Simd.{map-map}
 use Rattle.dl_bytes.specs.declared.conf.AppSpec.{AppSpec}
 use Rattle.dl_bytes.specs.declared.outcome.Backlog.{Backlog}
 use Rattle.dl_bytes.specs.declared.outcome.LinkEnd.{LinkEnd}
-use Rattle.dl_script_lines.specs.declared.line.AppLine.{AppLine}
+use Rattle.dl_script_model.specs.declared.line.AppLine.{AppLine}
 use Rattle.dl_model.specs.Backlog.{fitting, left, refused, size_of, waiting}
 use Rattle.dl_model.specs.ClientStream.{sent, traffic}
-use Rattle.dl_model.specs.Marks.{Mark, announced_by, claims, journal, records, records_of}
-use Rattle.dl_model.specs.Replay.{clients, specs_of}
+use Rattle.dl_script_model.specs.Marks.{Mark, announced_by, claims, journal, records, records_of}
+use Rattle.dl_script_model.specs.Replay.{clients, specs_of}
 use Rattle.dl_laws.proofs.Rotation.{length-concat}
 use Rattle.dl_world_calls.specs.State.{App, Writer}
 use Rattle.dl_world_calls.specs.Follows.{no_writer, writer_at, line_of}
 use Rattle.dl_hub.specs.State as state
 use Rattle.dl_hub.specs.State.{Hub, client_of}
 use Rattle.dl_core.specs.Follows.{Run, source_of}
-use Rattle.dl_world_links.specs.State.{Client, new_client}
+use Rattle.dl_world.specs.State.{Client, new_client}
 use Rattle.dl_world.specs.Follows.{IsAfter, stream_in}
 use Rattle.dl_world.specs.Left.{link_in, links_in, link_after}
 use Rattle.dl_world.specs.declared.world.World.{World}

@@ -41,3 +41,8 @@ pub mod Drains
 pub mod ToldEvents
 pub mod ClaimEvents
 pub mod ClaimLines
+pub mod FedClients
+pub mod FedStreams
+pub mod HeardChannels
+pub mod ClientPlaces
+pub mod ChannelPlaces

@@ -3,10 +3,10 @@ use Rattle.std.proofs.Common.{◌≡◌, ℕ, ◌+◌, ◌<◌, ◌≤◌, get_o
 use Rattle.std.specs.Prelude.{slice_get, Some}
 use Rattle.std.proofs.lemmas.List.{map-append, take_all, take_more}
 use Rattle.std.proofs.lemmas.Option.{slice_get-get_or}
-use Rattle.dl_script_lines.specs.declared.step.Step.{Step}
-use Rattle.dl_model.specs.Steps.{Act, in_sequence, act_of, end_of}
+use Rattle.dl_script_model.specs.declared.step.Step.{Step}
+use Rattle.dl_script_model.specs.Steps.{Act, in_sequence, act_of, end_of}
 use Rattle.dl_outside.specs.Told.{FolderTold}
-use Rattle.dl_model.proofs.Marks.{in_sequence-one}
+use Rattle.dl_script_model.proofs.Marks.{in_sequence-one}
 use Rattle.dl_world.specs.Follows.{Deed, Does}
 use Rattle.dl_world.specs.declared.world.World.{World}
 use Rattle.dl_world.proofs.Composing.{both, does_both}

@@ -1,12 +1,12 @@
 -- The load of a log call.
 use Rattle.std.proofs.Common.{◌≡◌, ℕ, List, [], ◌++◌, None, refl, sym, ap, subst, ◌∙◌}
 use Rattle.std.proofs.lemmas.List.{append-nil}
-use Rattle.dl_script_lines.specs.declared.line.CallLine.{CallLine}
+use Rattle.dl_script_model.specs.declared.line.CallLine.{CallLine}
 use Rattle.dl_model.specs.declared.registry.Slot.{Slot}
 use Rattle.dl_model.specs.Setting.{Setting}
 use Rattle.dl_model.specs.Journal.{slots_of}
-use Rattle.dl_model.specs.Marks.{Mark, journal, to_push, to_count}
-use Rattle.dl_model.specs.Steps.{load}
+use Rattle.dl_script_model.specs.Marks.{Mark, journal, to_push, to_count}
+use Rattle.dl_script_model.specs.Steps.{load}
 use Rattle.dl_world_calls.specs.Follows as calls
 use Rattle.dl_world_calls.specs.State.{Calls, named}
 use Rattle.dl_world_calls.proofs.Loading.{nothing_named}

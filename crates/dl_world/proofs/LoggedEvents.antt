@@ -16,31 +16,31 @@ use Rattle.dl_events.specs.declared.event.Event.TheVariants as event
 use Rattle.dl_events.specs.Journal as notes
 use Rattle.dl_events.specs.Journal.{Journaled}
 use Rattle.dl_message.specs.Frames.{log_message}
-use Rattle.dl_model.specs.Marks.{Mark, Queued, Announced, Noted, Pushed, OfCall, OfClaim, pushed_of, pushes, taken, journal, moment, apps, apid_of}
+use Rattle.dl_script_model.specs.Marks.{Mark, Queued, Announced, Noted, Pushed, OfCall, OfClaim, pushed_of, pushes, taken, journal, moment, apps, apid_of}
 use Rattle.dl_model.specs.Frames.{stored, stored_of}
-use Rattle.dl_model.specs.Steps.{just}
-use Rattle.dl_frames.specs.Frames.{TellsLen}
+use Rattle.dl_script_model.specs.Steps.{just}
+use Rattle.dl_laws.specs.Frames.{TellsLen}
 use Rattle.dl_world_calls.specs.State.{Calls, as_held, item_held, next_item}
 use Rattle.dl_world_calls.specs.Follows as calls
 use Rattle.dl_world_calls.proofs.Places.{there}
-use Rattle.dl_script_lines.specs.declared.line.AppLine.{AppLine}
+use Rattle.dl_script_model.specs.declared.line.AppLine.{AppLine}
 use Rattle.dl_world_calls.proofs.Changing.{next_tells}
-use Rattle.dl_frames.proofs.OneCall.{given_in_rings}
-use Rattle.dl_frames.proofs.Spellings.{log_tells}
+use Rattle.dl_runs.proofs.OneCall.{given_in_rings}
+use Rattle.dl_laws.proofs.Spellings.{log_tells}
 use Rattle.dl_core.specs.Admission.{log_event, lost_frames, GivesFrame, GivesApid}
 use Rattle.dl_core.specs.Follows.{Run, Adds, HoldsTrace, source_of, stored_by}
 use Rattle.dl_core.specs.State.{Core}
-use Rattle.dl_folders.specs.Standing.{KeepsTrace}
-use Rattle.dl_folders.proofs.StandingFiles.{keeps_by, keeps_storing}
+use Rattle.dl_core.specs.Standing.{KeepsTrace}
+use Rattle.dl_core.proofs.StandingFiles.{keeps_by, keeps_storing}
 use Rattle.dl_outside.specs.Told.{FolderTold}
 use Rattle.dl_world.specs.Follows.{IsRunOf, IsAfter, IsBefore, Does, noting}
-use Rattle.dl_world_links.specs.State.{taken_by}
+use Rattle.dl_world.specs.State.{taken_by}
 use Rattle.dl_world.specs.declared.world.World.{World}
 use Rattle.dl_world.proofs.Composing.{run_before}
 use Rattle.dl_world.proofs.Doings.{holds_by, the_events, no_answers}
 use Rattle.dl_world.proofs.Failing.{Fails}
 use Rattle.dl_world.proofs.Noting.{IsNoTurn, noted_before, journal_noted}
-use Rattle.dl_folders.specs.Files.{KeepsStored}
+use Rattle.dl_core.specs.Files.{KeepsStored}
 use Rattle.dl_world.proofs.StoredFiles.{asked_in, holds_on, stored_unasked}
 
 -- ---- an event that the folder may see

@@ -3,8 +3,8 @@ use Rattle.std.proofs.Common.{◌≡◌, ℕ, ◌<◌, ◌≤◌, ◌⊎◌, inl
 use Rattle.std.specs.Prelude.{nat_lt}
 use Rattle.std.proofs.lemmas.List.{length-map}
 use Rattle.dl_model.specs.Setting.{Setting}
-use Rattle.dl_model.specs.Marks.{Mark, number_of}
-use Rattle.dl_model.specs.Steps.{Act, for_some, on_app, take_injection}
+use Rattle.dl_script_model.specs.Marks.{Mark, number_of}
+use Rattle.dl_script_model.specs.Steps.{Act, for_some, on_app, take_injection}
 use Rattle.dl_world_calls.specs.State.{numbered}
 use Rattle.dl_world_calls.specs.Follows.{line_of}
 use Rattle.dl_world_calls.proofs.Declaring.{number_is}

@@ -14,24 +14,24 @@ use Rattle.dl_model.specs.Journal.{is_close, is_connect, comes_or_goes}
 use Rattle.dl_model.specs.Traffic as traffic
 use Rattle.dl_model.specs.Traffic.{Traffic, clients}
 use Rattle.dl_model.specs.ClientStream.{traffic, stream}
-use Rattle.dl_model.specs.Marks.{Mark, Noted, event_of, journal, fed}
+use Rattle.dl_script_model.specs.Marks.{Mark, Noted, event_of, journal, fed}
 use Rattle.dl_laws.proofs.Lists.{last_that-one, count_by-append}
 use Rattle.dl_world_calls.specs.Follows as calls
 use Rattle.dl_world_calls.proofs.InjectionCounts.{no-injection-stays}
 use Rattle.dl_hub.specs.State as hub
 use Rattle.dl_hub.specs.State.{Hub, Waiting, client_of, outbox_of}
 use Rattle.dl_hub.specs.Follows as hub_after
-use Rattle.dl_frames.specs.FrameLengths.{CarriesLen, GivesLengths}
-use Rattle.dl_frames.specs.FramesPut.{IsPut}
-use Rattle.dl_frames.proofs.FramesBehind.{put_by_events}
-use Rattle.dl_frames.proofs.Traffics.{journal_goes_on}
-use Rattle.dl_frames.proofs.Quiet.{open_in_journal, came_in_journal, shut_after}
+use Rattle.dl_laws.specs.FrameLengths.{CarriesLen, GivesLengths}
+use Rattle.dl_laws.specs.FramesPut.{IsPut}
+use Rattle.dl_laws.proofs.FramesBehind.{put_by_events}
+use Rattle.dl_laws.proofs.Traffics.{journal_goes_on}
+use Rattle.dl_laws.proofs.Quiet.{open_in_journal, came_in_journal, shut_after}
 use Rattle.dl_core.specs.Follows as core
 use Rattle.dl_core.specs.Follows.{Run, source_of}
 use Rattle.dl_core.specs.State.{Core}
-use Rattle.dl_world_links.specs.Fed.{IsFedBy}
+use Rattle.dl_world.specs.Fed.{IsFedBy}
 use Rattle.dl_world.specs.Follows.{IsAfter, IsBefore, IsBehind, stream_in}
-use Rattle.dl_world_links.specs.State.{Client, client_at, taken_by}
+use Rattle.dl_world.specs.State.{Client, client_at, taken_by}
 use Rattle.dl_world.specs.declared.world.World.{World}
 use Rattle.dl_world.proofs.Quiet.{apps_same, fed_same, heard_same, moment_same, later_same}
 use Rattle.dl_lemmas.proofs.Options.{if_some}

@@ -6,16 +6,16 @@ use Rattle.std.proofs.lemmas.List.{append-nil}
 use Rattle.std.proofs.lemmas.List.Elements.{filter_map-append}
 use Rattle.std.proofs.Math.Bridge.{le_prop}
 use Rattle.dl_bytes.specs.declared.moment.Moment.{Moment}
-use Rattle.dl_script_lines.specs.declared.line.AppLine.{AppLine}
+use Rattle.dl_script_model.specs.declared.line.AppLine.{AppLine}
 use Rattle.dl_model.specs.Along.{last_that}
-use Rattle.dl_model.specs.Marks.{Mark, Clocked, LevelsWait, app_of, apps, clocked, waits_of, moment_at, moment, is_later}
+use Rattle.dl_script_model.specs.Marks.{Mark, Clocked, LevelsWait, app_of, apps, clocked, waits_of, moment_at, moment, is_later}
 use Rattle.dl_laws.proofs.Lists.{last_that-one}
 use Rattle.dl_world_calls.specs.Follows as calls
 use Rattle.dl_world_calls.specs.Follows.{is_no_call}
 use Rattle.dl_world_calls.specs.Injections.{AreAfter, is_no_injection}
 use Rattle.dl_world_calls.proofs.Changing.{no-call-stays}
 use Rattle.dl_world_calls.proofs.InjectionCounts.{no-injection-stays}
-use Rattle.dl_model.specs.Steps.{just}
+use Rattle.dl_script_model.specs.Steps.{just}
 use Rattle.dl_core.specs.Follows.{Run}
 use Rattle.dl_world.specs.Follows.{IsAfter, Doing}
 use Rattle.dl_world.specs.declared.world.World.{World}

@@ -9,16 +9,16 @@ use Rattle.dl_bytes.specs.declared.moment.Moment.{Moment}
 use Rattle.dl_bytes.specs.declared.outcome.Done.{Done}
 use Rattle.dl_events.specs.declared.event.Event.{Event}
 use Rattle.dl_model.specs.Along.{last_that}
-use Rattle.dl_model.specs.Marks.{Mark, Clocked, LevelsWait, Answered, Injected, Handed, event_of, app_of, clocked, waits_of, fed_of, heard_of, journal, apps, moment, moment_at, is_later, fed, heard}
+use Rattle.dl_script_model.specs.Marks.{Mark, Clocked, LevelsWait, Answered, Injected, Handed, event_of, app_of, clocked, waits_of, fed_of, heard_of, journal, apps, moment, moment_at, is_later, fed, heard}
 use Rattle.dl_laws.proofs.Lists.{last_that-one}
 use Rattle.dl_world_calls.specs.Follows as calls
 use Rattle.dl_world_calls.specs.Injections.{AreAfter}
 use Rattle.dl_world_calls.proofs.Changing.{no-call-stays}
 use Rattle.dl_world_calls.proofs.InjectionCounts.{no-injection-stays}
 use Rattle.dl_core.specs.Follows.{Run}
-use Rattle.dl_world_links.specs.Fed.{IsFedBy, IsHeardBy}
+use Rattle.dl_world.specs.Fed.{IsFedBy, IsHeardBy}
 use Rattle.dl_world.specs.Follows.{IsAfter, stream_in}
-use Rattle.dl_world_links.specs.State.{Client, client_at, channel_at, taken_by}
+use Rattle.dl_world.specs.State.{Client, client_at, channel_at, taken_by}
 use Rattle.dl_world.specs.declared.world.World.{World}
 
 -- ---- part by part

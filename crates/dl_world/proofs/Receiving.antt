@@ -17,20 +17,20 @@ use Rattle.dl_message.specs.Cut.{rest_fault, rest_of}
 use Rattle.dl_model.specs.declared.registry.LevelChange.{LevelChange}
 use Rattle.dl_model.specs.Setting.{Setting}
 use Rattle.dl_model.specs.Journal.{is_request_of, need_after}
-use Rattle.dl_model.specs.Marks.{Mark, Noted, Fed, Injected, fed, fed_of, injections, is_later, journal}
+use Rattle.dl_script_model.specs.Marks.{Mark, Noted, Fed, Injected, fed, fed_of, injections, is_later, journal}
 use Rattle.dl_model.specs.Reply.{asked, Need}
 use Rattle.dl_model.specs.Reply as needs
-use Rattle.dl_model.specs.Steps as steps
-use Rattle.dl_model.specs.Steps.{Act, in_sequence, ask, changes, close, close_malformed, note_levels, note_levels_now, just, level_noted, new_requests, note, receive, request_now, served, when}
-use Rattle.dl_model.proofs.Marks.{in_sequence-one}
+use Rattle.dl_script_model.specs.Steps as steps
+use Rattle.dl_script_model.specs.Steps.{Act, in_sequence, ask, changes, close, close_malformed, note_levels, note_levels_now, just, level_noted, new_requests, note, receive, request_now, served, when}
+use Rattle.dl_script_model.proofs.Marks.{in_sequence-one}
 use Rattle.dl_world_calls.proofs.Changing.{no-call-stays}
 use Rattle.dl_world_calls.proofs.InjectionCounts.{no-injection-stays}
 use Rattle.dl_core.specs.Follows.{Run, HoldsTrace}
-use Rattle.dl_folders.specs.Standing.{KeepsTrace}
-use Rattle.dl_world_links.specs.Fed.{Asks, IsFedBy}
+use Rattle.dl_core.specs.Standing.{KeepsTrace}
+use Rattle.dl_world.specs.Fed.{Asks, IsFedBy}
 use Rattle.dl_outside.specs.Told.{FolderTold}
 use Rattle.dl_world.specs.Follows.{IsAfter, Deed, Does, Doing, stream_in}
-use Rattle.dl_world_links.specs.State.{Client, client_at, taken_by, with_client, with_cutter}
+use Rattle.dl_world.specs.State.{Client, client_at, taken_by, with_client, with_cutter}
 use Rattle.dl_world.specs.declared.world.World.{World}
 use Rattle.dl_world.proofs.ByNumber.{at_there, with_long, with_other, with_same}
 use Rattle.dl_world.proofs.Composing.{both, does_both}

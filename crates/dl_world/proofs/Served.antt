@@ -16,8 +16,8 @@ use Rattle.dl_outside.specs.declared.folder.FolderFault.TheVariants as fault
 use Rattle.dl_trace.specs.State.{Trace}
 use Rattle.dl_model.specs.Journal.{registry_of, slots_of, need_after}
 use Rattle.dl_model.specs.Reply.{apid_of, asked, ctid_of, Need, Folder}
-use Rattle.dl_model.specs.Marks.{Mark, Noted, Answered, Injected, event_of, journal, injections, is_answer}
-use Rattle.dl_model.specs.Steps.{request_now, served}
+use Rattle.dl_script_model.specs.Marks.{Mark, Noted, Answered, Injected, event_of, journal, injections, is_answer}
+use Rattle.dl_script_model.specs.Steps.{request_now, served}
 use Rattle.dl_laws.proofs.Lists.{count_by-append}
 use Rattle.dl_world_calls.proofs.Changing.{no-call-stays}
 use Rattle.dl_registry.specs.Kept.{slots}
@@ -25,17 +25,17 @@ use Rattle.dl_hub.specs.State.{Hub, Waiting, HasRoom, outbox_of}
 use Rattle.dl_services.specs.Wish.{needed, wanted}
 use Rattle.dl_services.specs.declared.wish.Want.{Want}
 use Rattle.dl_services.specs.declared.wish.Want.TheVariants as want
-use Rattle.dl_frames.proofs.Answered.{every_reply_tells}
+use Rattle.dl_laws.proofs.Answered.{every_reply_tells}
 use Rattle.dl_core.specs.State.{Core}
 use Rattle.dl_core.specs.Follows.{Run, Adds, HoldsTrace, HoldsFiles, stored_by}
 use Rattle.dl_core.specs.Serving.{Answers, Ready, IsReady, Serves, done_by, injection_in, reply_now, wanted_now}
 use Rattle.dl_core.specs.Settings.{seen}
 use Rattle.dl_core.proofs.Requested.{KeepsTraces, answers_keep}
 use Rattle.dl_outside.specs.Told.{FolderTold}
-use Rattle.dl_folders.specs.Standing.{KeepsTrace}
-use Rattle.dl_folders.proofs.StandingFiles.{keeps_by, keeps_quiet}
+use Rattle.dl_core.specs.Standing.{KeepsTrace}
+use Rattle.dl_core.proofs.StandingFiles.{keeps_by, keeps_quiet}
 use Rattle.dl_world.specs.Follows.{IsAfter, IsBefore, BeginWith, answer_of, answers_in, is_failure, failures_of, Goes, Does, Queues}
-use Rattle.dl_world_links.specs.State.{taken_by}
+use Rattle.dl_world.specs.State.{taken_by}
 use Rattle.dl_world.specs.Stored.{HoldsStored}
 use Rattle.dl_world.specs.declared.world.World.{World}
 use Rattle.dl_world.proofs.Needs.{injection_below, wanted_is}

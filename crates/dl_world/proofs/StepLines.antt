@@ -1,11 +1,11 @@
 -- A line of a script is what its kind says.
 use Rattle.std.proofs.Common.{◌≡◌, [], sym, subst}
 use Rattle.std.specs.Prelude.{Result, OnOk}
-use Rattle.dl_script_lines.specs.declared.step.LevelEvents.{LevelEvents}
-use Rattle.dl_script_lines.specs.declared.step.LevelEvents.TheVariants as levels
-use Rattle.dl_script_lines.specs.declared.step.Step.{Step}
-use Rattle.dl_script_lines.specs.declared.step.Step.TheVariants as line
-use Rattle.dl_model.specs.Steps.{act_of}
+use Rattle.dl_script_model.specs.declared.step.LevelEvents.{LevelEvents}
+use Rattle.dl_script_model.specs.declared.step.LevelEvents.TheVariants as levels
+use Rattle.dl_script_model.specs.declared.step.Step.{Step}
+use Rattle.dl_script_model.specs.declared.step.Step.TheVariants as line
+use Rattle.dl_script_model.specs.Steps.{act_of}
 use Rattle.dl_outside.specs.Told.{FolderTold}
 use Rattle.dl_world.specs.Follows.{Does}
 use Rattle.dl_world.specs.declared.world.World.{World}

@@ -14,7 +14,7 @@ use Rattle.dl_bytes.specs.declared.outcome.Done.TheVariants as did
 use Rattle.dl_events.specs.declared.event.Event.{Event}
 use Rattle.dl_events.specs.declared.event.Event.TheVariants as event
 use Rattle.dl_model.specs.Journal.{registry_of, slots_of}
-use Rattle.dl_model.specs.Marks.{Mark, Noted, Answered, journal}
+use Rattle.dl_script_model.specs.Marks.{Mark, Noted, Answered, journal}
 use Rattle.dl_model.specs.Reply.{apid_of, asked, ctid_of, Folder}
 use Rattle.dl_model.specs.Setting.{Setting}
 use Rattle.dl_outside.specs.Folder.{Files, Puts, Removes}
@@ -25,7 +25,7 @@ use Rattle.dl_services.specs.Wish.{needed, wanted}
 use Rattle.dl_services.specs.declared.wish.Want.{Want}
 use Rattle.dl_services.specs.declared.wish.Want.TheVariants as want
 use Rattle.dl_core.specs.Serving.{Answers, done_by, stored_name}
-use Rattle.dl_folders.specs.Files.{KeepsStored}
+use Rattle.dl_core.specs.Files.{KeepsStored}
 use Rattle.dl_world.specs.Follows.{answer_of, answers_in, is_failure}
 use Rattle.dl_world.specs.Stored.{HoldsStored, file_by, file_from, file_with, stored_after}
 use Rattle.dl_world.proofs.Noting.{journal_noted}

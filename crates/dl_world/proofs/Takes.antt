@@ -7,8 +7,8 @@ use Rattle.dl_events.specs.declared.event.Event.{Event}
 use Rattle.dl_events.specs.declared.event.Event.TheVariants as event
 use Rattle.dl_model.specs.declared.registry.LevelChange.{LevelChange}
 use Rattle.dl_model.specs.Setting.{Setting}
-use Rattle.dl_model.specs.Marks.{Mark, Noted, Pushed, OfCall, OfClaim, journal, pushes, taken, held_by, pending, moment}
-use Rattle.dl_model.specs.Steps.{in_sequence, for_some, when, changes, level_noted, note_levels, note_levels_now, note, event_taken, take_log, take_losses}
+use Rattle.dl_script_model.specs.Marks.{Mark, Noted, Pushed, OfCall, OfClaim, journal, pushes, taken, held_by, pending, moment}
+use Rattle.dl_script_model.specs.Steps.{in_sequence, for_some, when, changes, level_noted, note_levels, note_levels_now, note, event_taken, take_log, take_losses}
 use Rattle.dl_world_calls.specs.Follows as calls
 use Rattle.dl_world_calls.specs.Follows.{no_app, as_pushed}
 use Rattle.dl_world_calls.specs.Queue.{waiting}
@@ -22,12 +22,6 @@ use Rattle.dl_lemmas.proofs.Numbers.{above_zero}
 use Rattle.dl_lemmas.proofs.Options.{some_is}
 
 -- ---- what is next
-
--- there is something to take where a call or a claim is next
-pub one_is_next : (held : Option Held) → (is_some (option_and_then item_held held) || is_some (option_and_then claim_held held)) ≡ is_some held
-one_is_next None = refl
-one_is_next (Some (HeldCall r)) = refl
-one_is_next (Some (HeldClaim claim)) = refl
 
 pub some_held : (held : Option Held) → is_some held ≡ true → (what : Held) × (held ≡ Some what)
 some_held None some = absurd cc

@@ -7,17 +7,17 @@ use Rattle.std.proofs.lemmas.Grind.{flat_map-append}
 use Rattle.std.proofs.lemmas.List.{append-nil, map-append}
 use Rattle.dl_bytes.specs.declared.user.UserMsg.{UserMsg}
 use Rattle.dl_events.specs.declared.event.Event.{Event}
-use Rattle.dl_model.specs.Marks.{Mark, Heard, heard, heard_of}
-use Rattle.dl_model.specs.Steps.{Act, in_sequence, just, note, tell, hear, new_messages, note_levels, note_levels_now}
-use Rattle.dl_model.proofs.Marks.{in_sequence-one}
+use Rattle.dl_script_model.specs.Marks.{Mark, Heard, heard, heard_of}
+use Rattle.dl_script_model.specs.Steps.{Act, in_sequence, just, note, tell, hear, new_messages, note_levels, note_levels_now}
+use Rattle.dl_script_model.proofs.Marks.{in_sequence-one}
 use Rattle.dl_world_calls.proofs.Changing.{no-call-stays}
 use Rattle.dl_world_calls.proofs.InjectionCounts.{no-injection-stays}
 use Rattle.dl_core.specs.Follows.{Run, HoldsTrace}
-use Rattle.dl_folders.specs.Standing.{KeepsTrace}
-use Rattle.dl_world_links.specs.Fed.{IsHeardBy, Tells}
+use Rattle.dl_core.specs.Standing.{KeepsTrace}
+use Rattle.dl_world.specs.Fed.{IsHeardBy, Tells}
 use Rattle.dl_outside.specs.Told.{FolderTold}
 use Rattle.dl_world.specs.Follows.{IsAfter, Deed, Does, Doing, noting}
-use Rattle.dl_world_links.specs.State.{Channel, channel_at}
+use Rattle.dl_world.specs.State.{Channel, channel_at}
 use Rattle.dl_world.specs.declared.world.World.{World}
 use Rattle.dl_world.proofs.Composing.{both, does_both}
 use Rattle.dl_world.proofs.Deeds.{does_as}

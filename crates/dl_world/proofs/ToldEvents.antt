@@ -7,21 +7,21 @@ use Rattle.dl_events.specs.declared.event.Event.TheVariants as event
 use Rattle.dl_events.specs.Journal as notes
 use Rattle.dl_events.specs.Journal.{Journaled}
 use Rattle.dl_model.specs.Frames.{stored, user_frames}
-use Rattle.dl_model.specs.Marks.{Mark, Noted, journal, moment}
+use Rattle.dl_script_model.specs.Marks.{Mark, Noted, journal, moment}
 use Rattle.dl_world_calls.proofs.Changing.{no-call-stays}
 use Rattle.dl_core.specs.Follows as core
 use Rattle.dl_core.specs.Follows.{Run, Adds, HoldsTrace}
 use Rattle.dl_core.specs.State.{Core}
-use Rattle.dl_world_links.specs.Fed.{CanBeTold}
+use Rattle.dl_world.specs.Fed.{CanBeTold}
 use Rattle.dl_outside.specs.Told.{FolderTold}
 use Rattle.dl_world.specs.Follows.{IsRunOf, IsAfter, IsBefore, Does, noting}
-use Rattle.dl_world_links.specs.State.{taken_by}
+use Rattle.dl_world.specs.State.{taken_by}
 use Rattle.dl_world.specs.declared.world.World.{World}
 use Rattle.dl_world.proofs.Doings.{the_events}
 use Rattle.dl_world.proofs.Failing.{Fails}
 use Rattle.dl_world.proofs.LoggedEvents.{IsPutBy, does_event, no_turn_user}
 use Rattle.dl_world.proofs.Noting.{noted_before}
-use Rattle.dl_folders.specs.Files.{KeepsStored}
+use Rattle.dl_core.specs.Files.{KeepsStored}
 
 module _ (old new : World) (channel : ℕ) (msg : UserMsg) (core_now : Core) (made kept : Journaled) (told told_now : FolderTold) (fit : CanBeTold msg) (made_is : made.events ≡ old.journal.events)
     (adds : Adds (event.User channel msg old.moment ∷ []) (λ run. Unit {0}) old.core core_now told told_now)

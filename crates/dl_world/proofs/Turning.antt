@@ -2,9 +2,9 @@
 use Rattle.std.proofs.Common.{◌≡◌, ℕ, ◌+◌, ◌-◌, ◌≤◌, List, map, ap, subst, ◌∙◌, arith}
 use Rattle.std.specs.List.{range_with_len}
 use Rattle.std.proofs.lemmas.List.FromFn.{map-range_with_len_more}
-use Rattle.dl_model.specs.Steps.{Act, in_sequence}
+use Rattle.dl_script_model.specs.Steps.{Act, in_sequence}
 use Rattle.dl_outside.specs.Told.{FolderTold}
-use Rattle.dl_model.proofs.Marks.{in_sequence-one}
+use Rattle.dl_script_model.proofs.Marks.{in_sequence-one}
 use Rattle.dl_world.specs.Follows.{Deed, Does}
 use Rattle.dl_world.specs.declared.world.World.{World}
 use Rattle.dl_world.proofs.Composing.{both, does_both}

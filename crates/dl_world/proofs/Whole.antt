@@ -12,16 +12,16 @@ use Rattle.dl_bytes.specs.declared.conf.Stored.{Stored}
 use Rattle.dl_bytes.specs.declared.outcome.Done.{Done}
 use Rattle.dl_bytes.specs.declared.outcome.Done.TheVariants as did
 use Rattle.dl_bytes.specs.declared.outcome.TraceState.{TraceState}
-use Rattle.dl_script_lines.specs.declared.step.Step.{Step}
+use Rattle.dl_script_model.specs.declared.step.Step.{Step}
 use Rattle.dl_script.specs.Earlier.{nothing}
 use Rattle.dl_model.specs.Setting.{Setting}
-use Rattle.dl_model.specs.Marks.{Mark, HasApp, HasContext, HasWriter, Filtered, Passed, Queued, Refused, Counted, HasClaim, Announced, HeldBack, Noted, Clocked, LevelsWait, Fed, Heard, Answered, Injected, Handed, apid_of, call_of, journal}
-use Rattle.dl_model.specs.Replay.{frame_of_call}
-use Rattle.dl_model.specs.Steps.{after_lines, run}
+use Rattle.dl_script_model.specs.Marks.{Mark, HasApp, HasContext, HasWriter, Filtered, Passed, Queued, Refused, Counted, HasClaim, Announced, HeldBack, Noted, Clocked, LevelsWait, Fed, Heard, Answered, Injected, Handed, apid_of, call_of, journal}
+use Rattle.dl_script_model.specs.Replay.{frame_of_call}
+use Rattle.dl_script_model.specs.Steps.{after_lines, run}
 use Rattle.dl_model.specs.TraceFiles.{StoredFile}
-use Rattle.dl_laws.proofs.Founded.{lines_founded, run_founded}
-use Rattle.dl_frames.specs.CallFrame.{HasItsFrame}
-use Rattle.dl_frames.proofs.OneCall.{frames_now}
+use Rattle.dl_runs.proofs.Founded.{lines_founded, run_founded}
+use Rattle.dl_runs.specs.CallFrame.{HasItsFrame}
+use Rattle.dl_runs.proofs.OneCall.{frames_now}
 use Rattle.dl_outside.specs.Folder.{Files}
 use Rattle.dl_trace.specs.Made.{IsMade}
 use Rattle.dl_trace.specs.State as traces
@@ -31,14 +31,14 @@ use Rattle.dl_core.specs.Serving.{stored_name}
 use Rattle.dl_core.specs.State.{Core}
 use Rattle.dl_core.specs.Follows.{Run, IsTraceAfter, stored_by}
 use Rattle.dl_outside.specs.Told.{FolderTold}
-use Rattle.dl_folders.specs.Files.{directory_of}
-use Rattle.dl_folders.specs.Standing.{IsKept}
-use Rattle.dl_folders.proofs.StandingFiles.{kept_first}
+use Rattle.dl_core.specs.Files.{directory_of}
+use Rattle.dl_core.specs.Standing.{IsKept}
+use Rattle.dl_core.proofs.StandingFiles.{kept_first}
 use Rattle.dl_world.specs.Follows.{IsRunOf, IsAfter, Goes, Does, BeginWith, answer_of, answers_in, is_failure, failures_of}
 use Rattle.dl_world.specs.Known.{MayCome}
 use Rattle.dl_world.specs.Left.{IsLeft, told_of}
 use Rattle.dl_script.specs.Playable.{IsInBounds, IsPlayable}
-use Rattle.dl_folders.specs.Later.{trace_failures}
+use Rattle.dl_core.specs.Later.{trace_failures}
 use Rattle.dl_world.specs.Played.{IsTraced, TellsOf, is_failed, IsPlayed}
 use Rattle.dl_world.specs.Stored.{HoldsStored}
 use Rattle.dl_world.specs.declared.played.Played.{Played}

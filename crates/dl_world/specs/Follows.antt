@@ -12,14 +12,14 @@ use Rattle.dl_events.specs.declared.event.Event.TheVariants.{Log, Claim}
 use Rattle.dl_message.specs.Frames.{log_message}
 use Rattle.dl_events.specs.declared.event.Why.{Why}
 use Rattle.dl_events.specs.declared.event.Why.TheVariants as why
-use Rattle.dl_script_lines.specs.declared.line.CallLine.{CallLine}
+use Rattle.dl_script_model.specs.declared.line.CallLine.{CallLine}
 use Rattle.dl_model.specs.Setting.{Setting}
 use Rattle.dl_model.specs.ClientStream.{traffic, stream}
 use Rattle.dl_model.specs.Journal.{is_close}
-use Rattle.dl_model.specs.Marks.{Call, Mark, Noted, Answered, Injected, journal, to_push, to_count, apps, apid_of, call_of, moment, is_later, fed, heard}
-use Rattle.dl_model.specs.Steps.{Act, note_levels, load}
-use Rattle.dl_frames.specs.FrameLengths.{CarriesLen}
-use Rattle.dl_frames.specs.FramesPut.{IsPut}
+use Rattle.dl_script_model.specs.Marks.{Call, Mark, Noted, Answered, Injected, journal, to_push, to_count, apps, apid_of, call_of, moment, is_later, fed, heard}
+use Rattle.dl_script_model.specs.Steps.{Act, note_levels, load}
+use Rattle.dl_laws.specs.FrameLengths.{CarriesLen}
+use Rattle.dl_laws.specs.FramesPut.{IsPut}
 use Rattle.dl_world_calls.specs.Follows as calls
 use Rattle.dl_world_calls.specs.Injections.{AreAfter}
 use Rattle.dl_world_calls.specs.State.{Held, HeldCall, HeldClaim, next_claim, next_held, next_item}
@@ -30,10 +30,10 @@ use Rattle.dl_trace.specs.State.{Trace}
 use Rattle.dl_core.specs.Follows as core
 use Rattle.dl_core.specs.Follows.{Run, HoldsTrace}
 use Rattle.dl_core.specs.State.{Core}
-use Rattle.dl_world_links.specs.State.{Client, client_at, channel_at, taken_by}
-use Rattle.dl_world_links.specs.Fed.{IsFedBy, IsHeardBy}
-use Rattle.dl_folders.specs.Later.{trace_failures}
-use Rattle.dl_folders.specs.Standing.{KeepsTrace}
+use Rattle.dl_world.specs.State.{Client, client_at, channel_at, taken_by}
+use Rattle.dl_world.specs.Fed.{IsFedBy, IsHeardBy}
+use Rattle.dl_core.specs.Later.{trace_failures}
+use Rattle.dl_core.specs.Standing.{KeepsTrace}
 use Rattle.dl_world.specs.Stored.{HoldsStored}
 use Rattle.dl_world.specs.declared.world.World.{World}
 

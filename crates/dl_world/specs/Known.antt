@@ -2,13 +2,13 @@
 use Rattle.std.specs.Prelude.{◌≡◌, ℕ, ◌≤◌, ◌<◌, List, length, map, count_by, Some, None}
 use Rattle.std.specs.List.{filter_map, AllByRecursion}
 use Rattle.dl_bytes.specs.Claim.{Claimed}
-use Rattle.dl_script_lines.specs.declared.line.AppLine.{AppLine}
-use Rattle.dl_script_lines.specs.declared.line.ContextLine.{ContextLine}
-use Rattle.dl_script_lines.specs.declared.step.Step.{Step}
+use Rattle.dl_script_model.specs.declared.line.AppLine.{AppLine}
+use Rattle.dl_script_model.specs.declared.line.ContextLine.{ContextLine}
+use Rattle.dl_script_model.specs.declared.step.Step.{Step}
 use Rattle.dl_script.specs.Earlier.{Declared, is_on, refusal}
 use Rattle.dl_script.specs.Spelled.{step_claim}
 use Rattle.dl_script.specs.declared.claim.ContextName.{ContextName}
-use Rattle.dl_model.specs.Marks.{Mark, apps, writers, number_of, app_of_writer, context_of, claim_of, claims_on, next_place}
+use Rattle.dl_script_model.specs.Marks.{Mark, apps, writers, number_of, app_of_writer, context_of, claim_of, claims_on, next_place}
 use Rattle.dl_core.specs.Follows.{Run}
 use Rattle.dl_world_calls.specs.Follows as calls
 use Rattle.dl_world_calls.specs.State.{Calls}

@@ -5,8 +5,8 @@ use Rattle.dl_bytes.specs.declared.outcome.LinkEnd.{LinkEnd}
 use Rattle.dl_bytes.specs.declared.outcome.TraceState.{TraceState}
 use Rattle.dl_model.specs.ClientStream.{traffic}
 use Rattle.dl_model.specs.Backlog.{left, size_of}
-use Rattle.dl_model.specs.Marks.{Mark, claims, journal, records}
-use Rattle.dl_model.specs.Replay.{clients, specs_of}
+use Rattle.dl_script_model.specs.Marks.{Mark, claims, journal, records}
+use Rattle.dl_script_model.specs.Replay.{clients, specs_of}
 use Rattle.dl_hub.specs.State.{Client, Hub, client_of}
 use Rattle.dl_trace.specs.State.{Trace}
 use Rattle.dl_core.specs.Follows.{Run, source_of}

@@ -7,23 +7,23 @@ use Rattle.dl_bytes.specs.declared.outcome.Done.{Done}
 use Rattle.dl_bytes.specs.declared.outcome.Done.TheVariants as did
 use Rattle.dl_bytes.specs.declared.outcome.TraceEnd.TheVariants.{Spent}
 use Rattle.dl_bytes.specs.declared.outcome.TraceState.{TraceState}
-use Rattle.dl_script_lines.specs.declared.step.Step.{Step}
+use Rattle.dl_script_model.specs.declared.step.Step.{Step}
 use Rattle.dl_model.specs.Setting.{Setting}
-use Rattle.dl_model.specs.Marks.{Mark, Answered, claims, journal, records}
+use Rattle.dl_script_model.specs.Marks.{Mark, Answered, claims, journal, records}
 use Rattle.dl_model.specs.Frames.{stored_frames}
 use Rattle.dl_model.specs.ClientStream.{traffic}
 use Rattle.dl_model.specs.Backlog.{left}
 use Rattle.dl_model.specs.TraceFiles.{StoredFile, is_spent}
-use Rattle.dl_model.specs.Replay.{source_of, stream_of, clients, specs_of, ends_of}
-use Rattle.dl_model.specs.Steps.{run}
+use Rattle.dl_script_model.specs.Replay.{source_of, stream_of, clients, specs_of, ends_of}
+use Rattle.dl_script_model.specs.Steps.{run}
 use Rattle.dl_outside.specs.Folder.{Files}
 use Rattle.dl_outside.specs.Told.{FolderTold}
 use Rattle.dl_trace.specs.State.{IsAfter, Trace, listed}
 use Rattle.dl_trace.specs.Stands.{HasFiles}
 use Rattle.dl_core.specs.Serving.{stored_name}
 use Rattle.dl_core.specs.Settings.{setting_of}
-use Rattle.dl_folders.specs.Later.{trace_failures}
-use Rattle.dl_folders.specs.Standing.{Stands, files_with}
+use Rattle.dl_core.specs.Later.{trace_failures}
+use Rattle.dl_core.specs.Standing.{Stands, files_with}
 use Rattle.dl_world.specs.Stored.{HoldsStored}
 use Rattle.dl_world.specs.declared.played.Played.{Played}
 

@@ -2,14 +2,14 @@
 
 ghost use Rattle.std.specs.Prelude.{◌≡◌, ◌≢◌, [], OnOk};
 ghost use Rattle.dl_bytes.specs.Id.{zero_id};
-ghost use Rattle.dl_script_lines.specs.declared.step.Step.TheVariants as line;
-ghost use Rattle.dl_model.specs.Steps.{act_of};
+ghost use Rattle.dl_script_model.specs.declared.step.Step.TheVariants as line;
+ghost use Rattle.dl_script_model.specs.Steps.{act_of};
 ghost use Rattle.dl_world.specs.Follows.{Doing};
 ghost use Rattle.dl_world.specs.Known.{HasPlace};
 
 use crate::world::World;
 use dl_bytes::OutOfMemory;
-use dl_script_lines::ClaimLine;
+use dl_script_model::ClaimLine;
 
 impl World {
     /// A writer claims the next place of its application, once its open call is finished. The claim waits.

@@ -3,16 +3,16 @@
 ghost use Rattle.std.specs.Prelude.{◌≡◌, ◌≤◌, ◌<◌, ◌+◌, None, OnOk, IsSome, count_by, length};
 ghost use Rattle.dl_events.specs.declared.event.Event.TheVariants as event;
 ghost use Rattle.dl_model.specs.Journal.{is_connect};
-ghost use Rattle.dl_model.specs.Marks.{journal};
-ghost use Rattle.dl_model.specs.Steps.{close, connect};
+ghost use Rattle.dl_script_model.specs.Marks.{journal};
+ghost use Rattle.dl_script_model.specs.Steps.{close, connect};
 ghost use Rattle.dl_registry.specs.Kept.{owed_change};
 ghost use Rattle.dl_hub.specs.State.{outbox_of};
 ghost use Rattle.dl_world.specs.Follows.{Doing, IsPlain, MayConnect, noting, open_among};
 
+use crate::Client;
 use crate::world::World;
 use dl_bytes::{CLIENT_LIMIT, OPEN_CLIENT_LIMIT, OutOfMemory};
 use dl_events::{Journal, Why};
-use dl_world_links::Client;
 
 impl World {
     /// How many clients are open.

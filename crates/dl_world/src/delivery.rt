@@ -2,7 +2,7 @@
 
 ghost use Rattle.std.specs.Prelude.{◌≡◌, ◌≤◌, ◌+◌, ◌^◌, ◌↔◌, IsTrue, [], ℕ, List, IfOk, OnOk, IsSome, IsSomeAnd, length};
 ghost use Rattle.dl_bytes.specs.Limits.{admitted_limit};
-ghost use Rattle.dl_model.specs.Marks.{Mark};
+ghost use Rattle.dl_script_model.specs.Marks.{Mark};
 ghost use Rattle.dl_core.specs.Follows.{Run};
 ghost use Rattle.dl_hub.specs.State.{EachHasRoom, changed, outbox_of, without};
 ghost use Rattle.dl_world.specs.Follows.{HasTaken, IsAfter, IsBefore, IsDelivered};

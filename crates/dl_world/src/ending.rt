@@ -4,13 +4,14 @@ ghost use Rattle.std.specs.Prelude.{◌≡◌, ◌≤◌, List, IfOk, OnOk, coun
 ghost use Rattle.std.specs.List.{range_with_len};
 ghost use Rattle.dl_events.specs.declared.event.Why.TheVariants as why;
 ghost use Rattle.dl_model.specs.Journal.{is_connect};
-ghost use Rattle.dl_model.specs.Marks.{Mark, apps, journal, writer_numbers};
-ghost use Rattle.dl_model.specs.Steps.{close, drain, end_of, finish, in_sequence};
+ghost use Rattle.dl_script_model.specs.Marks.{Mark, apps, journal, writer_numbers};
+ghost use Rattle.dl_script_model.specs.Steps.{close, drain, end_of, finish, in_sequence};
 ghost use Rattle.dl_core.specs.Follows.{Run};
-ghost use Rattle.dl_folders.specs.Files.{Leaves};
+ghost use Rattle.dl_core.specs.Files.{Leaves};
 ghost use Rattle.dl_world.specs.Follows.{Does, Doing, IsAfter};
 ghost use Rattle.dl_world.specs.Left.{IsLeft, links_in, told_of};
 
+use crate::Clients;
 use crate::played::Played;
 use crate::world::World;
 use dl_bytes::{Ends, FrameList, LinkEnd, OutOfMemory, Sequence, TraceState};
@@ -18,7 +19,6 @@ use dl_core::Core;
 use dl_events::Why;
 use dl_hub::Hub;
 use dl_outside::Folder;
-use dl_world_links::Clients;
 use std::alloc::Global;
 
 impl World {

@@ -1,7 +1,7 @@
 //! Level events: those that wait are noted before the next event, and those that an event owes behind it, unless they are to wait.
 
 ghost use Rattle.std.specs.Prelude.{◌≡◌, ◌+◌, true, false, None, Ok, OnOk};
-ghost use Rattle.dl_model.specs.Steps.{note_levels, note_levels_now};
+ghost use Rattle.dl_script_model.specs.Steps.{note_levels, note_levels_now};
 ghost use Rattle.dl_registry.specs.Kept.{owed_change};
 ghost use Rattle.dl_core.specs.Waiting.{waiting};
 ghost use Rattle.dl_world.specs.Follows.{Doing, next_level};

@@ -1,15 +1,15 @@
 //! Log calls, up to their rings and counts.
 
 ghost use Rattle.std.specs.Prelude.{◌≡◌, OnOk};
-ghost use Rattle.dl_script_lines.specs.declared.step.Step.TheVariants as line;
-ghost use Rattle.dl_model.specs.Steps.{act_of, begin_call, count, finish, push, whole_call};
-ghost use Rattle.dl_folders.specs.Files.{Leaves};
+ghost use Rattle.dl_script_model.specs.declared.step.Step.TheVariants as line;
+ghost use Rattle.dl_script_model.specs.Steps.{act_of, begin_call, count, finish, push, whole_call};
+ghost use Rattle.dl_core.specs.Files.{Leaves};
 ghost use Rattle.dl_world.specs.Follows.{Does, Doing, Loads};
 
 use crate::world::World;
 use dl_bytes::OutOfMemory;
 use dl_outside::Folder;
-use dl_script_lines::CallLine;
+use dl_script_model::CallLine;
 
 impl World {
     /// What a writer's open call still needs.

@@ -3,11 +3,11 @@
 ghost use Rattle.std.specs.Prelude.{◌≡◌, None, OnOk, map};
 ghost use Rattle.std.specs.List.{All};
 ghost use Rattle.dl_events.specs.declared.event.Event.TheVariants as event;
-ghost use Rattle.dl_model.specs.Marks.{moment};
-ghost use Rattle.dl_model.specs.Steps.{hear, in_sequence, tell};
+ghost use Rattle.dl_script_model.specs.Marks.{moment};
+ghost use Rattle.dl_script_model.specs.Steps.{hear, in_sequence, tell};
 ghost use Rattle.dl_registry.specs.Kept.{owed_change};
-ghost use Rattle.dl_world_links.specs.Fed.{CanBeTold};
-ghost use Rattle.dl_folders.specs.Files.{Leaves};
+ghost use Rattle.dl_world.specs.Fed.{CanBeTold};
+ghost use Rattle.dl_core.specs.Files.{Leaves};
 ghost use Rattle.dl_world.specs.Follows.{Does, noting};
 
 use crate::delivery::make_room;

@@ -5,14 +5,14 @@ ghost use Rattle.dl_model.specs.TraceFiles.{StoredFile};
 ghost use Rattle.dl_trace.specs.Made.{IsMade};
 ghost use Rattle.dl_trace.specs.State as traces;
 ghost use Rattle.dl_script.specs.Playable.{IsPlayable};
-ghost use Rattle.dl_folders.specs.Files.{ChangesOwnFiles};
+ghost use Rattle.dl_core.specs.Files.{ChangesOwnFiles};
 ghost use Rattle.dl_world.specs.Played.{Plays};
 
 use crate::played::Played;
 use crate::world::World;
 use dl_bytes::{Conf, OutOfMemory, Stored};
 use dl_outside::Folder;
-use dl_script_lines::StepList;
+use dl_script_model::StepList;
 use dl_trace::Trace;
 use std::alloc::Global;
 

@@ -2,11 +2,11 @@
 
 ghost use Rattle.std.specs.Prelude.{◌≡◌, ◌≤◌, ◌<◌, None, Some, OnOk, IsSome, IsSomeAnd, length, map, option_map};
 ghost use Rattle.std.specs.List.{All};
-ghost use Rattle.dl_model.specs.Steps.{ask, in_sequence, receive, request_now};
+ghost use Rattle.dl_script_model.specs.Steps.{ask, in_sequence, receive, request_now};
 ghost use Rattle.dl_registry.specs.Kept.{owed_change};
 ghost use Rattle.dl_hub.specs.State.{client_of, outbox_of};
 ghost use Rattle.dl_core.specs.Serving.{IsRequest, injection_in};
-ghost use Rattle.dl_folders.specs.Files.{Leaves};
+ghost use Rattle.dl_core.specs.Files.{Leaves};
 ghost use Rattle.dl_world.specs.Follows.{Does, Queues};
 
 use crate::world::World;

@@ -1,11 +1,11 @@
 //! The lines of a script, each as what it does to the world.
 
 ghost use Rattle.std.specs.Prelude.{◌≡◌, ◌≤◌, ◌<◌, ◌+◌, [], OnOk, IsSomeAnd, length};
-ghost use Rattle.dl_script_lines.specs.declared.step.Step.TheVariants as line;
-ghost use Rattle.dl_model.specs.Marks.{Clocked, moment_at};
-ghost use Rattle.dl_model.specs.Steps.{act_of, just};
+ghost use Rattle.dl_script_model.specs.declared.step.Step.TheVariants as line;
+ghost use Rattle.dl_script_model.specs.Marks.{Clocked, moment_at};
+ghost use Rattle.dl_script_model.specs.Steps.{act_of, just};
 ghost use Rattle.dl_world_calls.specs.State.{app_named};
-ghost use Rattle.dl_folders.specs.Files.{Leaves};
+ghost use Rattle.dl_core.specs.Files.{Leaves};
 ghost use Rattle.dl_world.specs.Follows.{Does, Doing, next_level};
 ghost use Rattle.dl_world.specs.Known.{MayCome};
 
@@ -13,7 +13,7 @@ use crate::world::World;
 use dl_bytes::{Bytes, Id, Moment, OutOfMemory, UserMsg};
 use dl_events::Why;
 use dl_outside::Folder;
-use dl_script_lines::{AppLine, ContextLine, LevelEvents, Step};
+use dl_script_model::{AppLine, ContextLine, LevelEvents, Step};
 
 /// How many microseconds a second has.
 const SECOND: u32 = 1_000_000;

@@ -2,10 +2,10 @@
 
 ghost use Rattle.std.specs.Prelude.{◌≡◌, ◌≤◌, ◌<◌, None, OnOk, is_some, length};
 ghost use Rattle.dl_events.specs.declared.event.Event.TheVariants as event;
-ghost use Rattle.dl_model.specs.Marks.{moment};
-ghost use Rattle.dl_model.specs.Steps.{drain, take_injection, take_log, take_losses};
+ghost use Rattle.dl_script_model.specs.Marks.{moment};
+ghost use Rattle.dl_script_model.specs.Steps.{drain, take_injection, take_log, take_losses};
 ghost use Rattle.dl_registry.specs.Kept.{owed_change};
-ghost use Rattle.dl_folders.specs.Files.{Leaves};
+ghost use Rattle.dl_core.specs.Files.{Leaves};
 ghost use Rattle.dl_world_calls.specs.State.{next_held};
 ghost use Rattle.dl_world.specs.Follows.{Does, Doing, NotesNext, NotesNextCall, NotesNextClaim, noting};
 

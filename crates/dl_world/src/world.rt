@@ -7,12 +7,12 @@ ghost use Rattle.dl_core.specs.Follows.{Run};
 ghost use Rattle.dl_core.specs.Settings.{setting_of};
 ghost use Rattle.dl_world.specs.Follows.{IsAfter};
 
+use crate::{Channels, Clients};
 use dl_bytes::{Conf, Moment, OutOfMemory, Stored};
 use dl_core::Core;
 use dl_events::Kept;
 use dl_trace::Trace;
 use dl_world_calls::{Calls, Injections};
-use dl_world_links::{Channels, Clients};
 use std::alloc::Global;
 
 /// The moment before a script's clock told one.

@@ -9,10 +9,10 @@ use Rattle.std.proofs.lemmas.Bool.Decides.{nat_tests, eqb_tells}
 use Rattle.std.proofs.lemmas.Option.{slice_get-map, slice_get_within}
 use Rattle.dl_bytes.specs.Claim.{Claimed}
 use Rattle.dl_events.specs.declared.record.Answer.TheVariants as answers
-use Rattle.dl_script_lines.specs.declared.line.ClaimLine.{ClaimLine}
-use Rattle.dl_script_lines.specs.declared.line.ContextLine.{ContextLine}
-use Rattle.dl_model.specs.Marks.{Mark, Queued, Refused, Counted, HasClaim, Announced, HeldBack, app_of_writer, contexts_of, to_push, to_count, to_announce, unannounced, is_full}
-use Rattle.dl_model.specs.Steps.{push, count, finish, claim_made, claim, announce, is_held_back, announce_upto, announce_all}
+use Rattle.dl_script_model.specs.declared.line.ClaimLine.{ClaimLine}
+use Rattle.dl_script_model.specs.declared.line.ContextLine.{ContextLine}
+use Rattle.dl_script_model.specs.Marks.{Mark, Queued, Refused, Counted, HasClaim, Announced, HeldBack, app_of_writer, contexts_of, to_push, to_count, to_announce, unannounced, is_full}
+use Rattle.dl_script_model.specs.Steps.{push, count, finish, claim_made, claim, announce, is_held_back, announce_upto, announce_all}
 use Rattle.dl_world_calls.specs.declared.queue.Entry.{Entry}
 use Rattle.dl_world_calls.specs.declared.queue.Entry.TheVariants as entry
 use Rattle.dl_world_calls.specs.Queue.{waiting}

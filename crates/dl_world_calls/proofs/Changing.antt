@@ -7,8 +7,8 @@ use Rattle.dl_bytes.specs.Number.{◌>>=◌}
 use Rattle.dl_bytes.specs.declared.moment.Moment.{Moment}
 use Rattle.dl_events.specs.declared.event.Event.{Event}
 use Rattle.dl_events.specs.declared.event.Event.TheVariants as event
-use Rattle.dl_model.specs.Marks.{Mark, Noted, Clocked, LevelsWait, Fed, Heard, Answered, Injected, Handed, is_step_of, is_taken_of, is_lost_of, pushes, taken}
-use Rattle.dl_model.specs.Steps.{just}
+use Rattle.dl_script_model.specs.Marks.{Mark, Noted, Clocked, LevelsWait, Fed, Heard, Answered, Injected, Handed, is_step_of, is_taken_of, is_lost_of, pushes, taken}
+use Rattle.dl_script_model.specs.Steps.{just}
 use Rattle.dl_world_calls.specs.declared.queue.Entry.{Entry}
 use Rattle.dl_world_calls.specs.State.{App, Writer, Calls, Held, held_at, as_held, next_held}
 use Rattle.dl_world_calls.specs.Follows.{no_app, writer_at, as_pushed, is_no_call, IsAppAfter, IsAfter, Does}

@@ -7,8 +7,8 @@ use Rattle.std.proofs.lemmas.List.Elements.{filter-append, filter_map-append}
 use Rattle.std.proofs.lemmas.Option.{slice_get_within}
 use Rattle.dl_lemmas.proofs.Lists.{take_next}
 use Rattle.dl_bytes.specs.Claim.{Claimed}
-use Rattle.dl_model.specs.Marks.{Mark, HasClaim, Announced, claim_of, announced_of, claims_of, claims_on, announced_by, to_announce}
-use Rattle.dl_laws.proofs.Founded.{kept-passes}
+use Rattle.dl_script_model.specs.Marks.{Mark, HasClaim, Announced, claim_of, announced_of, claims_of, claims_on, announced_by, to_announce}
+use Rattle.dl_runs.proofs.Founded.{kept-passes}
 use Rattle.dl_world_calls.specs.State.{App, Writer}
 use Rattle.dl_world_calls.specs.Follows.{no_app, writer_at, IsClaimerAfter}
 

@@ -10,12 +10,12 @@ use Rattle.std.proofs.lemmas.List.Folds.{position_or_len_push, position_or_len-s
 use Rattle.std.proofs.lemmas.List.Sums.{passes_at_first}
 use Rattle.std.proofs.lemmas.Bool.Decides.{nat_tests, eqb_tells}
 use Rattle.dl_bytes.specs.declared.conf.AppSpec.{AppSpec}
-use Rattle.dl_script_lines.specs.declared.line.AppLine.{AppLine}
-use Rattle.dl_script_lines.specs.declared.line.ContextLine.{ContextLine}
+use Rattle.dl_script_model.specs.declared.line.AppLine.{AppLine}
+use Rattle.dl_script_model.specs.declared.line.ContextLine.{ContextLine}
 use Rattle.dl_model.proofs.Presence.{bytes_tell, same_bytes}
-use Rattle.dl_model.specs.Marks.{Mark, HasApp, HasContext, HasWriter, app_of, context_of, writer_of, apps, contexts_of, number_of}
-use Rattle.dl_model.specs.Steps.{just}
-use Rattle.dl_model.proofs.Marks.{contexts-same, writers-same}
+use Rattle.dl_script_model.specs.Marks.{Mark, HasApp, HasContext, HasWriter, app_of, context_of, writer_of, apps, contexts_of, number_of}
+use Rattle.dl_script_model.specs.Steps.{just}
+use Rattle.dl_script_model.proofs.Marks.{contexts-same, writers-same}
 use Rattle.dl_world_calls.specs.declared.queue.OwnPlace.{OwnPlace}
 use Rattle.dl_world_calls.specs.State.{App, Writer, Calls, new_app, new_writer, numbered}
 use Rattle.dl_world_calls.specs.Follows.{no_app, no_writer, writer_at, line_of, is_named, contexts_in, IsOwned, IsWriterAfter, IsClaimerAfter, IsAppAfter, IsAfter, Does}

@@ -13,10 +13,10 @@ use Rattle.std.proofs.lemmas.Bool.Decides.{nat_tests}
 use Rattle.dl_bytes.specs.Claim.{Claimed}
 use Rattle.dl_events.specs.declared.record.Record.{Record}
 use Rattle.dl_events.specs.declared.record.Answer.TheVariants as answers
-use Rattle.dl_script_lines.specs.declared.line.AppLine.{AppLine}
-use Rattle.dl_script_lines.specs.declared.line.ContextLine.{ContextLine}
-use Rattle.dl_model.specs.Marks.{Call, Mark, Queued, Refused, Counted, HasClaim, Announced, HeldBack, recorded, app_of, context_of, writer_of, apps, writers, number_of, capacity_of, is_full, held_by, claims_on, OfCall, OfClaim, pushed_of, pushes, is_step_of}
-use Rattle.dl_model.proofs.Marks.{contexts-same, writers-same}
+use Rattle.dl_script_model.specs.declared.line.AppLine.{AppLine}
+use Rattle.dl_script_model.specs.declared.line.ContextLine.{ContextLine}
+use Rattle.dl_script_model.specs.Marks.{Call, Mark, Queued, Refused, Counted, HasClaim, Announced, HeldBack, recorded, app_of, context_of, writer_of, apps, writers, number_of, capacity_of, is_full, held_by, claims_on, OfCall, OfClaim, pushed_of, pushes, is_step_of}
+use Rattle.dl_script_model.proofs.Marks.{contexts-same, writers-same}
 use Rattle.dl_world_calls.specs.declared.queue.OwnPlace.{OwnPlace}
 use Rattle.dl_world_calls.specs.declared.queue.Entry.{Entry}
 use Rattle.dl_world_calls.specs.declared.queue.Entry.TheVariants as entry

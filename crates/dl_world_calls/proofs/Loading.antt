@@ -12,14 +12,14 @@ use Rattle.dl_bytes.specs.Level.{passes}
 use Rattle.dl_bytes.specs.Number.{◌>>=◌}
 use Rattle.dl_bytes.specs.Context.{Context}
 use Rattle.dl_events.specs.declared.record.Answer.TheVariants as answers
-use Rattle.dl_script_lines.specs.declared.line.CallLine.{CallLine}
-use Rattle.dl_script_lines.specs.declared.line.ContextLine.{ContextLine}
+use Rattle.dl_script_model.specs.declared.line.CallLine.{CallLine}
+use Rattle.dl_script_model.specs.declared.line.ContextLine.{ContextLine}
 use Rattle.dl_model.specs.declared.registry.Slot.{Slot}
 use Rattle.dl_model.specs.Setting.{Setting}
 use Rattle.dl_model.specs.Registry.{slot_of}
 use Rattle.dl_model.specs.Journal.{slots_of}
-use Rattle.dl_model.specs.Marks.{Call, Mark, recorded, Filtered, Passed, journal, to_push, to_count, writers, app_of_writer, number_of, place_of, named_place, contexts_of, claims_of, calls_of, passed_of}
-use Rattle.dl_model.specs.Steps.{loaded, load}
+use Rattle.dl_script_model.specs.Marks.{Call, Mark, recorded, Filtered, Passed, journal, to_push, to_count, writers, app_of_writer, number_of, place_of, named_place, contexts_of, claims_of, calls_of, passed_of}
+use Rattle.dl_script_model.specs.Steps.{loaded, load}
 use Rattle.dl_world_calls.specs.State.{App, Writer, Calls, writer_of, claimed_place, place_named, named, context_in, begun, made_call}
 use Rattle.dl_world_calls.specs.Follows.{no_app, no_writer, is_named, IsOwned, IsWriterAfter, IsClaimerAfter, IsAfter}
 use Rattle.dl_world_calls.proofs.WriterMarks.{filters, passes_on}

@@ -10,7 +10,7 @@ use Rattle.dl_bytes.specs.Payload.{Arguments}
 use Rattle.dl_events.specs.declared.record.Record.{Record}
 use Rattle.dl_events.specs.declared.record.Answer.{Answer}
 use Rattle.dl_events.specs.declared.record.Answer.TheVariants as answers
-use Rattle.dl_model.specs.Marks.{recorded}
+use Rattle.dl_script_model.specs.Marks.{recorded}
 use Rattle.dl_world_calls.specs.declared.writer.Stage.{Stage}
 use Rattle.dl_world_calls.specs.declared.writer.Stage.TheVariants.{Idle, ToPush, ToCount}
 use Rattle.dl_world_calls.specs.State.{Writer, begun}

@@ -5,11 +5,11 @@ use Rattle.std.specs.Str.{bytes_eq}
 use Rattle.dl_events.specs.declared.event.Event.TheVariants as event
 use Rattle.dl_bytes.specs.Claim.{Claimed}
 use Rattle.dl_bytes.specs.Context.{Context}
-use Rattle.dl_script_lines.specs.declared.line.AppLine.{AppLine}
-use Rattle.dl_script_lines.specs.declared.line.CallLine.{CallLine}
-use Rattle.dl_script_lines.specs.declared.line.ContextLine.{ContextLine}
-use Rattle.dl_model.specs.Marks.{Call, Mark, Noted, Clocked, LevelsWait, Fed, Heard, Answered, Pushed, apps, journal, writers, contexts_of, number_of, calls_of, passed_of, to_push, to_count, records_of, claims_of, claims_on, announced_by, pushes, taken, pending, Injected, Handed}
-use Rattle.dl_model.specs.Steps.{Act, load}
+use Rattle.dl_script_model.specs.declared.line.AppLine.{AppLine}
+use Rattle.dl_script_model.specs.declared.line.CallLine.{CallLine}
+use Rattle.dl_script_model.specs.declared.line.ContextLine.{ContextLine}
+use Rattle.dl_script_model.specs.Marks.{Call, Mark, Noted, Clocked, LevelsWait, Fed, Heard, Answered, Pushed, apps, journal, writers, contexts_of, number_of, calls_of, passed_of, to_push, to_count, records_of, claims_of, claims_on, announced_by, pushes, taken, pending, Injected, Handed}
+use Rattle.dl_script_model.specs.Steps.{Act, load}
 use Rattle.dl_model.specs.declared.registry.Slot.{Slot}
 use Rattle.dl_model.specs.Journal.{slots_of}
 use Rattle.dl_model.specs.Registry.{slot_of}

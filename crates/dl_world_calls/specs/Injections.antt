@@ -1,7 +1,7 @@
 -- How many injections wait, after the marks of a run.
 use Rattle.std.specs.Prelude.{◌≡◌, ℕ, ◌≤◌, ◌<◌, Bool, true, false, List, ◌++◌, length, count_by, slice_index}
-use Rattle.dl_model.specs.Marks.{Mark, Injected, Handed, injections, is_injected, is_handed}
-use Rattle.dl_model.specs.Steps.{Act}
+use Rattle.dl_script_model.specs.Marks.{Mark, Injected, Handed, injections, is_injected, is_handed}
+use Rattle.dl_script_model.specs.Steps.{Act}
 
 -- each count is that of the marks
 pub record AreAfter (done : List Mark) (waiting : List ℕ) : Type 0 where

@@ -2,7 +2,7 @@
 use Rattle.std.specs.Prelude.{ℕ, ◌-◌, List, [], length, take, slice_get, option_map, Option, None}
 use Rattle.dl_bytes.specs.Payload.{Arguments}
 use Rattle.dl_events.specs.declared.record.Record.{Record}
-use Rattle.dl_model.specs.Marks.{Call}
+use Rattle.dl_script_model.specs.Marks.{Call}
 use Rattle.dl_world_calls.specs.declared.writer.Stage.{Stage}
 use Rattle.dl_world_calls.specs.declared.writer.Stage.TheVariants.{Idle, ToPush, ToCount}
 

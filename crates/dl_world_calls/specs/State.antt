@@ -15,12 +15,12 @@ use Rattle.dl_model.specs.Registry.{slot_of}
 use Rattle.dl_events.specs.declared.record.Answer.{Answer}
 use Rattle.dl_events.specs.declared.record.Answer.TheVariants as answers
 use Rattle.dl_model.specs.Along.{last_that}
-use Rattle.dl_model.specs.Marks.{Call, Pushed, OfCall, OfClaim, recorded}
+use Rattle.dl_script_model.specs.Marks.{Call, Pushed, OfCall, OfClaim, recorded}
 use Rattle.dl_world_calls.specs.declared.queue.OwnPlace.{OwnPlace}
 use Rattle.dl_world_calls.specs.declared.queue.Entry.{Entry}
 use Rattle.dl_world_calls.specs.declared.queue.Entry.TheVariants as entry
 use Rattle.dl_world_calls.specs.Queue.{Waiting}
-use Rattle.dl_script_lines.specs.declared.line.CallLine.{CallLine}
+use Rattle.dl_script_model.specs.declared.line.CallLine.{CallLine}
 
 -- An application: the ids of its contexts, how many of its places are claimed, what its ring took, and the calls that were counted as
 -- lost.

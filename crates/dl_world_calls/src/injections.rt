@@ -1,9 +1,9 @@
 //! How many injections wait for each application. What they hold nobody sees in a script.
 
 ghost use Rattle.std.specs.Prelude.{◌≡◌, ◌<◌, ℕ, [], List, slice_index};
-ghost use Rattle.dl_model.specs.Marks as marks;
-ghost use Rattle.dl_model.specs.Marks.{Mark, Injected, Handed};
-ghost use Rattle.dl_model.specs.Steps.{just};
+ghost use Rattle.dl_script_model.specs.Marks as marks;
+ghost use Rattle.dl_script_model.specs.Marks.{Mark, Injected, Handed};
+ghost use Rattle.dl_script_model.specs.Steps.{just};
 ghost use Rattle.dl_world_calls.specs.Injections.{AreAfter, Counts};
 
 use dl_bytes::APP_LIMIT;

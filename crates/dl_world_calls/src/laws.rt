@@ -1,10 +1,10 @@
 //! What the log calls tell of the marks that they are after, each as what a function that does nothing ensures.
 
 ghost use Rattle.std.specs.Prelude.{◌≡◌, ◌<◌, ◌++◌, ◌∷◌, [], List, ℕ, length, option_map, slice_get, true, None};
-ghost use Rattle.dl_script_lines.specs.declared.line.CallLine.{CallLine};
+ghost use Rattle.dl_script_model.specs.declared.line.CallLine.{CallLine};
 ghost use Rattle.dl_model.specs.Setting.{Setting};
-ghost use Rattle.dl_model.specs.Steps.{loaded};
-ghost use Rattle.dl_model.specs.Marks.{Mark, number_of, pushes, taken};
+ghost use Rattle.dl_script_model.specs.Steps.{loaded};
+ghost use Rattle.dl_script_model.specs.Marks.{Mark, number_of, pushes, taken};
 ghost use Rattle.dl_world_calls.specs.State.{Calls, numbered, named, next_held, as_held};
 ghost use Rattle.dl_world_calls.specs.Follows.{IsAfter, is_no_call};
 ghost use Rattle.dl_world_calls.specs.Injections.{AreAfter, is_no_injection};

@@ -1,14 +1,14 @@
 //! One writer: the call that it has begun, the records of its calls before, and its claims.
 
 ghost use Rattle.std.specs.Prelude.{◌≡◌, ◌<◌, ◌≤◌, ◌^◌, ◌+◌, ◌-◌, ◌++◌, ◌∷◌, [], None, length, take, is_some, option_map, slice_get, OnOk, IfSome, IsSomeAnd};
-ghost use Rattle.dl_model.specs.Marks.{recorded};
+ghost use Rattle.dl_script_model.specs.Marks.{recorded};
 ghost use Rattle.dl_world_calls.specs.State.{new_writer, begun, answered, turned_away, claimed_place};
 ghost use Rattle.dl_world_calls.specs.Stages.{call_of, no_arguments, filled};
 ghost use Rattle.dl_events.specs.declared.record.Answer.TheVariants as answers;
 
 use dl_bytes::{Claim, Id, OutOfMemory, Payload};
 use dl_events::{Answer, Record};
-use dl_script_lines::CallArguments;
+use dl_script_model::CallArguments;
 use std::alloc::Global;
 use std::marker::Model;
 

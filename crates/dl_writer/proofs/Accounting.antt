@@ -10,7 +10,7 @@ use Rattle.dl_events.specs.declared.record.Answer.TheVariants as answer
 use Rattle.dl_events.specs.declared.record.Record.{Record}
 use Rattle.dl_model.specs.Report.{is_answer}
 use Rattle.dl_model.specs.Accounts.{order, of_writer, claims, claimed_by, name_of, with_answer, IsExact, WriterAccount}
-use Rattle.dl_losses.specs.Losses.{counted_of}
+use Rattle.dl_cells.specs.Losses.{counted_of}
 use Rattle.dl_ring.specs.Items.{calls_in, claims_in}
 use Rattle.dl_writer.specs.Calls.{read_of}
 use Rattle.dl_writer.specs.Records.{IsHeld, IsOf, TellAll}

@@ -10,7 +10,7 @@ use Rattle.std.proofs.lemmas.Option.{slice_get_read, slice_get-map}
 use Rattle.dl_lemmas.proofs.Lists.{get_or-there}
 use Rattle.dl_events.specs.Records.{given}
 use Rattle.dl_events.proofs.Given.{there-at, not-none}
-use Rattle.dl_thread_rules.specs.Views.{bit, times}
+use Rattle.dl_cells.specs.Views.{bit, times}
 use Rattle.dl_writer.specs.State.{BookState, numbers}
 
 never_first : {A : Type 0} (xs : List (Option A)) (ys : List A) → None ∷ xs ≡ map Some ys → ⊥

@@ -8,14 +8,14 @@ use Rattle.std.proofs.lemmas.List.Sums.{count_by-le-length, length-filter}
 use Rattle.std.proofs.lemmas.List.Elements.{filter-append, All-push, All-contains, Contains-append_right}
 use Rattle.dl_bytes.specs.Claim.{Claimed}
 use Rattle.dl_bytes.specs.declared.item.Item.{Item}
-use Rattle.dl_thread_rules.specs.Views.{times}
-use Rattle.dl_thread_rules.proofs.Totals.{times-append, times_more}
-use Rattle.dl_claims.specs.declared.claimer.Given.{Given}
-use Rattle.dl_claims.specs.Claims.{given, given_of, refused_of}
-use Rattle.dl_claims.specs.States.{once_refused}
-use Rattle.dl_claims.proofs.Sums.{given_more, refused_more}
-use Rattle.dl_levels.specs.declared.history.Read.{Read}
-use Rattle.dl_levels.specs.States.{ReaderState}
+use Rattle.dl_cells.specs.Views.{times}
+use Rattle.dl_cells.proofs.Totals.{times-append, times_more}
+use Rattle.dl_cells.specs.declared.claimer.Given.{Given}
+use Rattle.dl_cells.specs.Claims.{given, given_of, refused_of}
+use Rattle.dl_cells.specs.ClaimStates.{once_refused}
+use Rattle.dl_cells.proofs.ClaimSums.{given_more, refused_more}
+use Rattle.dl_cells.specs.declared.level_history.Read.{Read}
+use Rattle.dl_cells.specs.LevelStates.{ReaderState}
 use Rattle.dl_ring.specs.declared.item.RingItem.{RingItem}
 use Rattle.dl_ring.specs.declared.item.RingItem.TheVariants.{Log, Register}
 use Rattle.dl_ring.specs.Items.{calls_in, claims_in}

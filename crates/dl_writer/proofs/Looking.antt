@@ -3,8 +3,8 @@ use Rattle.std.proofs.Common.{◌≡◌, ℕ, Bool, sym, ap, subst, ◌∙◌}
 use Rattle.dl_bytes.specs.Context.{Context, slot_of}
 use Rattle.dl_bytes.specs.Level.{passes}
 use Rattle.dl_bytes.specs.declared.level.Severity.{Severity}
-use Rattle.dl_levels.specs.History.{read, NoneAbove}
-use Rattle.dl_levels.specs.States.{ReaderState}
+use Rattle.dl_cells.specs.LevelHistory.{read, NoneAbove}
+use Rattle.dl_cells.specs.LevelStates.{ReaderState}
 use Rattle.dl_writer.specs.Calls.{with_read, LooksUp}
 use Rattle.dl_writer.specs.State.{WriterState}
 

@@ -17,15 +17,15 @@ use Rattle.dl_events.specs.declared.record.Answer.TheVariants as answer
 use Rattle.dl_events.specs.declared.record.Record.{Record}
 use Rattle.dl_model.specs.Accounts.{with_answer, AreNumbered, AreCounted, IsNoOlder, NeverFall}
 use Rattle.dl_model.specs.Report.{is_answer}
-use Rattle.dl_levels.specs.declared.history.Read.{Read}
-use Rattle.dl_levels.specs.History.{NoneAbove}
+use Rattle.dl_cells.specs.declared.level_history.Read.{Read}
+use Rattle.dl_cells.specs.LevelHistory.{NoneAbove}
 use Rattle.dl_ring.specs.Items.{calls_in, claims_in}
 use Rattle.dl_ring.specs.declared.item.RingItem.{RingItem}
 use Rattle.dl_ring.specs.declared.item.RingItem.TheVariants.{Log}
 use Rattle.dl_ring.proofs.Items.{calls_in-append}
 use Rattle.dl_writer.specs.Calls.{Tells, after, passed, pushed_after, refusals_after, counted_after, read_of}
 use Rattle.dl_writer.specs.Records.{IsOf, TellAll}
-use Rattle.dl_injections.specs.State.{TakeState}
+use Rattle.dl_ring.specs.InjectionState.{TakeState}
 use Rattle.dl_writer.specs.State.{WriterState}
 use Rattle.dl_writer.proofs.Claims.{claims_in-call}
 
@@ -150,11 +150,6 @@ told_more w ctx severity at payload r rs claims whole h tells =
       lost = lost-more r.answer r w.losses.counted (with_answer answer.Lost rs) h.lost ∙ ap (map (λ (s : Record). s.item.app)) (sym (with_answer-more answer.Lost rs r));
       refused = subst (λ (lost : List Record). length lost ≤ refusals_after r.answer w.push.refusals) (sym (with_answer-more answer.Lost rs r)) (refused-more r.answer r w.push.refusals (with_answer answer.Lost rs) h.refused);
     }
-
--- a push that had room
-pub pushed_all : {A B X : Type 0} (answer : Result A B) (more same new : List X) → IsOk answer → new ≡ cond (is_ok answer) more same → new ≡ more
-pushed_all (Ok a) more same new ok e = e
-pushed_all (Err b) more same new ok e = absurd cc
 
 -- a book with these records and claims is whole
 abbrev pub Whole : WriterState → List Record → List Claimed → Type 0

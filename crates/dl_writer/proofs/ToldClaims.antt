@@ -5,7 +5,7 @@ use Rattle.dl_bytes.specs.Claim.{Claimed}
 use Rattle.dl_bytes.specs.Context.{Context}
 use Rattle.dl_bytes.specs.declared.item.Item.{Item}
 use Rattle.dl_events.specs.declared.record.Record.{Record}
-use Rattle.dl_levels.specs.States.{ReaderState}
+use Rattle.dl_cells.specs.LevelStates.{ReaderState}
 use Rattle.dl_ring.specs.Items.{calls_in, claims_in}
 use Rattle.dl_ring.specs.declared.item.RingItem.{RingItem}
 use Rattle.dl_ring.specs.declared.item.RingItem.TheVariants.{Register}
@@ -131,9 +131,6 @@ pub record IsKeeping (old : WriterState) (before : List Claimed) (now : WriterSt
   pub so : IsAnnouncing old done now
   pub behind : kept ≡ before ++ done
 
-pub keeping_begins : (w : WriterState) (kept : List Claimed) → IsKeeping w kept w kept
-keeping_begins w kept = record { done = []; so = begins w; behind = sym (append-nil kept) }
-
 -- there is room for one that the ring just took
 pub keeping_fits : (old now new : WriterState) (before kept : List Claimed) (claim : Claimed) → length before ≤ length (claims_in old.push.pushed)
     → IsKeeping old before now kept → AnnouncesOne now claim new → TellsClaims new → length kept < 64
@@ -146,14 +143,6 @@ keeping_fits old now new before kept claim few k one tells =
     let within = claims_within new tells in
     let most = tells.few in
     omega arith
-
-pub keeping_on : (old now new : WriterState) (before kept after : List Claimed) (claim : Claimed) → AnnouncesOne now claim new → after ≡ kept ++ claim ∷ []
-    → IsKeeping old before now kept → IsKeeping old before new after
-keeping_on old now new before kept after claim one added k = record {
-  done = k.done ++ claim ∷ [];
-  so = goes_on old now new k.done claim k.so one;
-  behind = added ∙ ap (λ (cs : List Claimed). cs ++ claim ∷ []) k.behind ∙ append_assoc before k.done (claim ∷ []);
-}
 
 pub keeping_stops : (old now new : WriterState) (before kept : List Claimed) (waits : ℕ) → AnnouncesNone now new → waits ≡ length new.waiting
     → IsKeeping old before now kept → AnnouncesInto old before new kept waits

@@ -3,9 +3,9 @@ use Rattle.std.proofs.Common.{◌≡◌, ℕ, ◌+◌, ◌%◌, ◌^◌, ◌<◌
 use Rattle.std.specs.Prelude.{◌⊎◌}
 use Rattle.dl_bytes.specs.Claim.{Claimed}
 use Rattle.dl_bytes.specs.declared.item.Item.{Item}
-use Rattle.dl_claims.specs.Claims.{given_of}
-use Rattle.dl_levels.specs.declared.history.Read.{Read}
-use Rattle.dl_levels.specs.States.{ReaderState}
+use Rattle.dl_cells.specs.Claims.{given_of}
+use Rattle.dl_cells.specs.declared.level_history.Read.{Read}
+use Rattle.dl_cells.specs.LevelStates.{ReaderState}
 use Rattle.dl_ring.specs.declared.item.RingItem.TheVariants.{Log, Register}
 use Rattle.dl_ring.specs.Items.{calls_in, claims_in}
 use Rattle.dl_ring.specs.State.{PushState}
@@ -15,7 +15,7 @@ use Rattle.dl_writer.specs.Claiming.{with_none, with_number}
 use Rattle.dl_writer.specs.WriterInside.{writer_state, IsWriter}
 use Rattle.dl_writer.specs.declared.writer.Writer.TheInside as writer
 use Rattle.dl_writer.proofs.Claims.{calls_in-claim, claims_in-call, claims_within, tells_announced, tells_called, tells_loaded, tells_full, tells_joined}
-use Rattle.dl_claims.proofs.Sums.{given_more}
+use Rattle.dl_cells.proofs.ClaimSums.{given_more}
 
 -- the ring took the first claim that waited
 pub announced : (w : writer.Inside) (push : PushState) (claim : Claimed) (left : List Claimed) → push ≡ record w.push { pushed = w.push.pushed ++ Register claim ∷ [] }

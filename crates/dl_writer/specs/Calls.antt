@@ -15,9 +15,9 @@ use Rattle.dl_ring.specs.Items.{calls_in}
 use Rattle.dl_ring.specs.Order.{MetFull}
 use Rattle.dl_ring.specs.declared.item.RingItem.{RingItem}
 use Rattle.dl_ring.specs.declared.item.RingItem.TheVariants.{Log}
-use Rattle.dl_levels.specs.declared.history.Read.{Read}
-use Rattle.dl_levels.specs.History.{read, NoneAbove}
-use Rattle.dl_levels.specs.States.{ReaderState}
+use Rattle.dl_cells.specs.declared.level_history.Read.{Read}
+use Rattle.dl_cells.specs.LevelHistory.{read, NoneAbove}
+use Rattle.dl_cells.specs.LevelStates.{ReaderState}
 use Rattle.dl_writer.specs.declared.fault.LogFault.{LogFault}
 use Rattle.dl_writer.specs.declared.fault.LogFault.TheVariants.{Foreign, Spent}
 use Rattle.dl_writer.specs.declared.fault.BookFault.{BookFault}

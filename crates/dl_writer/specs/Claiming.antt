@@ -1,14 +1,14 @@
 -- Contexts that a writer claims: when a claim is refused, what it leaves, and how claims that wait go into the ring.
 use Rattle.std.specs.Prelude.{◌≡◌, ◌⊎◌, ℕ, ◌+◌, ◌<◌, ◌≤◌, nat_lt, List, [], ◌∷◌, ◌++◌, length, map, filter, Option, Some, None, All, if◌then◌else◌}
 use Rattle.std.specs.Str.{bytes_eq}
-use Rattle.dl_thread_rules.specs.Views.{times}
+use Rattle.dl_cells.specs.Views.{times}
 use Rattle.dl_bytes.specs.Claim.{Claimed}
 use Rattle.dl_bytes.specs.Context.{Context}
 use Rattle.dl_bytes.specs.Id.{zero_id}
 use Rattle.dl_bytes.specs.Limits.{claim_text_limit}
-use Rattle.dl_claims.specs.Claims.{given, given_of, refused_of}
-use Rattle.dl_claims.specs.States.{once_refused}
-use Rattle.dl_levels.specs.States.{ReaderState}
+use Rattle.dl_cells.specs.Claims.{given, given_of, refused_of}
+use Rattle.dl_cells.specs.ClaimStates.{once_refused}
+use Rattle.dl_cells.specs.LevelStates.{ReaderState}
 use Rattle.dl_ring.specs.Items.{claims_in}
 use Rattle.dl_ring.specs.Order.{MetFull}
 use Rattle.dl_ring.specs.declared.item.RingItem.TheVariants.{Register}

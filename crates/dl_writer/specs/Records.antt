@@ -8,7 +8,7 @@ use Rattle.dl_events.specs.declared.record.Answer.TheVariants as answer
 use Rattle.dl_model.specs.Report.{is_answer}
 use Rattle.dl_model.specs.Accounts.{with_answer, AreNumbered, AreCounted, NeverFall}
 use Rattle.dl_model.specs.History.{history}
-use Rattle.dl_levels.specs.declared.history.Read.{Read}
+use Rattle.dl_cells.specs.declared.level_history.Read.{Read}
 use Rattle.dl_ring.specs.Items.{calls_in, claims_in}
 use Rattle.dl_writer.specs.Calls.{read_of}
 use Rattle.dl_writer.specs.State.{WriterState}

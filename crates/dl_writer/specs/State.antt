@@ -4,9 +4,9 @@ use Rattle.dl_bytes.specs.Claim.{Claimed}
 use Rattle.dl_events.specs.declared.record.Record.{Record}
 use Rattle.dl_ring.specs.Items.{claims_in}
 use Rattle.dl_ring.specs.State.{PushState}
-use Rattle.dl_levels.specs.States.{ReaderState}
-use Rattle.dl_losses.specs.States as losses
-use Rattle.dl_injections.specs.State.{TakeState}
+use Rattle.dl_cells.specs.LevelStates.{ReaderState}
+use Rattle.dl_cells.specs.LossStates as losses
+use Rattle.dl_ring.specs.InjectionState.{TakeState}
 use Rattle.dl_writer.specs.declared.writer.Owner.{Owner}
 use Rattle.dl_writer.specs.declared.writer.WriterHandles.{WriterHandles}
 

@@ -2,7 +2,7 @@
 
 ghost use Rattle.std.specs.Prelude.{◌≡◌, ◌+◌, ◌^◌, ◌<◌, ◌≤◌, ◌∷◌, ◌++◌, ℕ, [], Err, IfErr, IfOk, IfSome, IfNone, OnErr, OnSome, length, vec_len};
 ghost use Rattle.std.specs.Result.{result_err};
-ghost use Rattle.dl_injections.specs.Order.{Rises, MetEmpty};
+ghost use Rattle.dl_ring.specs.InjectionOrder.{Rises, MetEmpty};
 ghost use Rattle.dl_ring.specs.Items.{calls_in, claims_in};
 ghost use Rattle.dl_writer.specs.Calls.{asked, record_fault, with_empty, with_injection, Keeps};
 ghost use Rattle.dl_writer.specs.Claiming.{name_fault, AnnouncesInto, IsTableFull, KeepsAnnounced, KeepsRegistered};

@@ -2,7 +2,7 @@
 
 ghost use Rattle.std.specs.Prelude.{◌≡◌, ◌<◌, ◌≤◌, ◌↔◌, ◌++◌, ◌∷◌, [], List, length, Some, slice_get, IfSome, IfNone, IsTrue};
 ghost use Rattle.std.specs.Option.{option_to_list};
-ghost use Rattle.dl_thread_rules.specs.Views.{times};
+ghost use Rattle.dl_cells.specs.Views.{times};
 ghost use Rattle.dl_writer.specs.State.{BookState, numbers};
 
 use crate::book::Book;

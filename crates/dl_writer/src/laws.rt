@@ -6,7 +6,7 @@ ghost use Rattle.dl_bytes.specs.Claim.{Claimed};
 ghost use Rattle.dl_events.specs.declared.event.Event.{Event};
 ghost use Rattle.dl_events.specs.declared.record.Answer.TheVariants.{Lost};
 ghost use Rattle.dl_events.specs.declared.record.Record.{Record};
-ghost use Rattle.dl_losses.specs.Losses.{counted_of};
+ghost use Rattle.dl_cells.specs.Losses.{counted_of};
 ghost use Rattle.dl_ring.specs.Items.{calls_in, claims_in};
 ghost use Rattle.dl_model.specs.Accounts.{order, of_writer, claims, claimed_by, name_of, with_answer, WriterAccount};
 ghost use Rattle.dl_writer.specs.Records.{IsHeld, TellAll};

@@ -1,16 +1,15 @@
 //! What claims a context for a writer, and how its claims go into the ring.
 
 ghost use Rattle.std.specs.Prelude.{◌≡◌, ◌⊎◌, ◌+◌, ◌*◌, ◌<◌, ◌≤◌, ℕ, List, Err, IfOk, IfErr, IfSome, IfNone, length};
-ghost use Rattle.dl_claims.specs.Claims.{given_of};
+ghost use Rattle.dl_cells.specs.Claims.{given_of};
 ghost use Rattle.dl_writer.specs.Claiming.{name_fault, with_none, with_number, Announces, AnnouncesNone, AnnouncesOne, IsTableFull, Joins, Registers, TellsClaims};
 ghost use Rattle.dl_writer.specs.declared.fault.RegisterFault.TheVariants as register_fault;
 
 use crate::fault::RegisterFault;
 use crate::writer::{Owner, Writer};
 use dl_bytes::{CONTEXT_LIMIT, Claim, ClaimText, Ctx, Id, OwnLevel};
-use dl_levels::LevelReader;
+use dl_cells::{LevelReader, one_more};
 use dl_ring::RingItem;
-use dl_thread_rules::one_more;
 use std::sync::Wait;
 
 impl Writer {

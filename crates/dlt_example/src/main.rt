@@ -1,187 +1,153 @@
-//! Two threads log through a ring of two calls, each under a context that it claims itself, while the daemon's side takes what it finds
-//! there and sets the level of each context that was claimed. What became of each call depends on the schedule; what is printed does
-//! not: every call was queued, filtered or lost, every queued one was taken, and every lost one was told.
+//! How a program logs: an application whose ring holds two calls, a context at level info, and a thread that logs under it, while the
+//! daemon's side takes what it finds in the ring. What became of each call depends on the schedule; what is printed does not: every
+//! call was queued or lost, every queued one was taken, and every lost one was told.
 #![tactic(auto)]
 
-ghost use Rattle.std.specs.Prelude.{◌≡◌, ◌<◌, length};
+ghost use Rattle.std.specs.Prelude.{◌≡◌, ◌<◌, [], IfOk, IfSome, length};
+ghost use Rattle.dl_desk.specs.Made.{IsAppOf};
 
-mod declared;
-
-use declared::{Declared, declare};
-use dl_bytes::{Id, Level, OutOfMemory, OwnLevel, Payload, Severity};
-use dl_lib::{Answer, Book, Ctx, Desk, RingItem};
+use dl_account::{Answer, App, AppSpec, Ctx, Desk, Writer};
+use dl_bytes::{Bytes, Id, Level, OutOfMemory, OwnLevel, Payload, Severity};
+use std::alloc::Global;
 use std::process::ExitCode;
 use std::sync::Wait;
 use std::thread;
-use std::thread::Threads;
+use std::thread::{Scope, Threads};
 
-/// How many calls each thread makes.
-const CALLS: u32 = 500;
+/// How many calls the thread makes.
+const CALLS: u32 = 1000;
 
-/// How often the daemon's side looks while they log.
+/// How often the daemon's side looks into the ring, while the thread logs and once more behind its last call.
 const LOOKS: u32 = 200;
 
-/// How many calls were queued, filtered and lost.
+/// How many calls the ring took, how many were taken from it, and how many were told as lost.
 #[derive(Clone, Copy)]
-struct Calls {
+struct Counts {
     queued: u64,
-    filtered: u64,
-    lost: u64,
-}
-
-/// How many calls the daemon's side took, and of how many losses it was told.
-#[derive(Clone, Copy)]
-struct Heard {
     taken: u64,
     told: u64,
 }
 
-impl Calls {
-    /// The same with a call that had this answer.
-    fn with(self, answer: Answer) -> Calls {
-        let mut calls = self;
-        let count = match answer {
-            Answer::Queued => &mut calls.queued,
-            Answer::Filtered => &mut calls.filtered,
-            Answer::Lost => &mut calls.lost,
-        };
-        *count = count.saturating_add(1);
-        calls
-    }
+/// A context at level info, and the writer of a thread.
+#[tactic(auto, using(dl_account::proofs::OpenBooks::same_app))]
+fn open(app: &mut App, desk: &mut Desk) -> Option<(Ctx, Writer)>
+    requires some { 0 < length desk.old.apps }
+    requires of { IsAppOf desk.old app.old }
+    ensures { IfSome result (λ _. desk.new.apps ≡ desk.old.apps) }
+{
+    let own = OwnLevel::of(4)?;
+    let ctx = app
+        .context(Id::from_bytes(*b"TEST"), b"what the thread says", own)
+        .ok()?;
+    desk.set(0, Level::from(Severity::Info)).ok()?;
+    let writer = app.writer(desk).ok()?;
+    Some((ctx, writer))
+}
 
-    /// Those of two threads.
-    fn and(self, other: Calls) -> Calls {
-        Calls {
-            queued: self.queued.saturating_add(other.queued),
-            filtered: self.filtered.saturating_add(other.filtered),
-            lost: self.lost.saturating_add(other.lost),
-        }
+/// An application whose ring holds two calls.
+fn spec(alloc: Global) -> AppSpec
+    ensures capacity { result.capacity ≡ 2 }
+    ensures text { result.text ≡ [] }
+{
+    AppSpec {
+        apid: Id::from_bytes(*b"LOG1"),
+        capacity: 2,
+        text: Bytes::over(Vec::new(alloc)),
     }
 }
 
-/// Claims a context that asks for the level info, or else gives the declared one. Where the ring is full the claim waits for the next
-/// `announce`.
-fn claim<R: Wait>(rt: &R, book: &mut Book, declared: Ctx) -> Ctx {
-    let Some(own) = OwnLevel::of(4) else {
-        return declared;
-    };
-    let name = [b'T', b'H', b'R', b'0' + book.number() % 10];
-    book.register(rt, Id::from_bytes(name), own, b"what one thread says")
-        .unwrap_or(declared)
+/// The daemon's side of the application, its context, and the writer of a thread.
+fn declare(alloc: Global) -> Result<(Desk, Ctx, Writer), OutOfMemory>
+    ensures { IfOk result (λ made. length made.0.apps ≡ 1) }
+{
+    let specs = [spec(alloc)];
+    let (mut desk, mut apps) = Desk::make(alloc, &specs)?;
+    match open(apps.of_mut(0), &mut desk) {
+        Some((ctx, writer)) => Ok((desk, ctx, writer)),
+        None => Err(OutOfMemory),
+    }
 }
 
-/// Makes a thread's calls: each fourth is above the level of its context.
-fn log_all<R: Wait>(rt: &R, book: Book, declared: Ctx) -> Calls {
-    let mut book = book;
-    let ctx = claim(rt, &mut book, declared);
-    let text = Payload::new();
-    let mut calls = Calls {
-        queued: 0,
-        filtered: 0,
-        lost: 0,
-    };
+/// Makes the thread's calls. Tells how many the ring took.
+fn log_all<R: Wait>(rt: &R, writer: Writer, ctx: Ctx) -> u64 {
+    let mut writer = writer;
+    let payload = Payload::new();
+    let mut queued = 0u64;
     for at in 0..CALLS {
-        if book.waiting() != 0 {
-            book.announce(rt);
-        }
-        let severity = if at % 4 == 0 {
-            Severity::Debug
-        } else {
-            Severity::Info
-        };
-        if let Ok(answer) = book.log(rt, &ctx, severity, at, &text) {
-            calls = calls.with(answer);
-        }
+        let answer = writer.send(rt, &ctx, Severity::Info, at, &payload);
+        queued = queued.saturating_add(u64::from(answer == Ok(Answer::Queued)));
     }
-    calls
+    queued
 }
 
-/// Notes what was taken of the ring: of a claim it sets the level of the context, so that its calls pass from then on.
-fn note(desk: &mut Desk, item: &RingItem, heard: Heard) -> Heard
+/// Looks into the ring some times. Tells how many calls were taken.
+fn take_some<R: Wait>(rt: &R, desk: &mut Desk) -> u64
     requires { 0 < length desk.old.apps }
     ensures { length desk.new.apps ≡ length desk.old.apps }
 {
-    let mut heard = heard;
-    match item {
-        RingItem::Log(_) => heard.taken = heard.taken.saturating_add(1),
-        RingItem::Register(claim) => {
-            let _worn = desk.set(u16::from(claim.place()), Level::from(Severity::Info));
-        }
-    }
-    heard
-}
-
-/// Looks into the ring and at the losses some times.
-fn hear<R: Wait>(rt: &R, desk: &mut Desk) -> Heard
-    requires { 0 < length desk.old.apps }
-    ensures { length desk.new.apps ≡ length desk.old.apps }
-{
-    let mut heard = Heard { taken: 0, told: 0 };
+    let mut taken = 0u64;
     for _look in 0..LOOKS {
         match desk.take(rt, 0) {
-            Some(item) => heard = note(desk, &item, heard),
+            Some(_) => taken = taken.saturating_add(1),
             None => thread::yield_now(),
         }
-        heard.told = heard.told.saturating_add(desk.losses(0));
     }
-    heard
+    taken
 }
 
-/// Takes what is left, and hears of the last losses.
-fn drain<R: Wait>(rt: &R, desk: &mut Desk, heard: Heard) -> Heard
+/// Starts the thread, and takes its calls until it has ended and the ring is empty.
+fn beside<'s, E: 's, R: Threads + Wait + Sync>(
+    scope: &'s Scope<'s, E>,
+    rt: &'s R,
+    desk: &mut Desk,
+    ctx: Ctx,
+    writer: Writer,
+) -> Result<Counts, OutOfMemory>
     requires { 0 < length desk.old.apps }
 {
-    let mut heard = heard;
-    for _call in 0..u64::MAX {
-        let Some(item) = desk.take(rt, 0) else {
-            break;
-        };
-        heard = note(desk, &item, heard);
-    }
-    heard.told = heard.told.saturating_add(desk.losses(0));
-    heard
+    let thread = scope.spawn(move || log_all(rt, writer, ctx))?;
+    let taken = take_some(rt, desk);
+    let queued = thread.join(rt);
+    let rest = take_some(rt, desk);
+    Ok(Counts {
+        queued,
+        taken: taken.saturating_add(rest),
+        told: desk.losses(0),
+    })
 }
 
-/// Both threads log at once, and the daemon's side hears of their calls.
-fn play<R: Threads + Wait + Sync>(rt: &R, declared: Declared) -> Result<(Calls, Heard), OutOfMemory>
-    requires { length declared.desk.apps ≡ 1 }
+/// Lets a thread log beside the daemon's side.
+fn play<R: Threads + Wait + Sync>(
+    rt: &R,
+    desk: Desk,
+    ctx: Ctx,
+    writer: Writer,
+) -> Result<Counts, OutOfMemory>
+    requires { length desk.apps ≡ 1 }
 {
-    let Declared {
-        desk,
-        ctx,
-        one,
-        other,
-    } = declared;
     thread::scope(
         thread::scope_env(),
         rt,
-        move |scope| -> Result<(Calls, Heard), OutOfMemory>
+        move |scope| -> Result<Counts, OutOfMemory>
             requires { length desk.apps ≡ 1 }
         {
             let mut desk = desk;
-            let first = scope.spawn(move || log_all(rt, one, ctx))?;
-            let second = scope.spawn(move || log_all(rt, other, ctx))?;
-            let heard = hear(rt, &mut desk);
-            let calls = first.join(rt).and(second.join(rt));
-            Ok((calls, drain(rt, &mut desk, heard)))
+            beside(scope, rt, &mut desk, ctx, writer)
         },
     )
 }
 
 fn main(rt: HostRuntime) -> ExitCode {
-    let Ok(declared) = declare(rt.alloc(), CALLS) else {
+    let Ok((desk, ctx, writer)) = declare(rt.alloc()) else {
         return ExitCode::FAILURE;
     };
-    let Ok((calls, heard)) = play(&rt, declared) else {
+    let Ok(counts) = play(&rt, desk, ctx, writer) else {
         return ExitCode::FAILURE;
     };
-    let all = calls
-        .queued
-        .saturating_add(calls.filtered)
-        .saturating_add(calls.lost);
-    let untaken = calls.queued.abs_diff(heard.taken);
-    let untold = calls.lost.abs_diff(heard.told);
-    match println!(rt; "calls {all}: not taken {untaken}, not told {untold}") {
+    let untaken = counts.queued.abs_diff(counts.taken);
+    let lost = u64::from(CALLS).saturating_sub(counts.queued);
+    let untold = lost.abs_diff(counts.told);
+    match println!(rt; "calls {CALLS}: not taken {untaken}, not told {untold}") {
         Ok(()) => ExitCode::SUCCESS,
         Err(_) => ExitCode::FAILURE,
     }

@@ -1,9 +1,10 @@
 //! `dlt_receive PORT`: connects to a daemon on this machine, and prints each message that it sends, and where messages
-//! are missing.
+//! are missing. `dlt_receive HOST:PORT` connects to one on another machine.
 #![tactic(auto)]
 
 use dl_real::{TcpDial, Writing};
 use dl_receive::{Status, receive};
+use std::alloc::Global;
 use std::env;
 use std::io::ErrorKind;
 use std::process::ExitCode;
@@ -18,15 +19,60 @@ fn words(rt: &(impl Env + AllocGlobal)) -> Option<Vec<String>> {
     }
 }
 
-fn main(rt: HostRuntime) -> ExitCode {
-    let Some(words) = words(&rt) else {
-        let _ = rt.eprintln("dlt_receive: out of memory");
-        return ExitCode::from(Status::OutOfMemory.number());
+/// A text of its own.
+fn owned(alloc: Global, text: &str) -> Option<String> {
+    String::from_str(alloc, text).ok()
+}
+
+/// The host of a word `HOST:PORT`, and the word without it; an IPv6 address stands in brackets.
+fn host_and_port(word: &str) -> Option<(&str, &str)> {
+    let (host, port) = word.rsplit_once(':')?;
+    let bare = match host.strip_prefix('[') {
+        Some(rest) => rest.strip_suffix(']')?,
+        None => host,
     };
+    if bare.is_empty() {
+        None
+    } else {
+        Some((bare, port))
+    }
+}
+
+/// The host that the one word names, where it names one, and the words with the port alone; nothing where memory is wanting.
+fn parted(alloc: Global, words: Vec<String>) -> Option<(Option<String>, Vec<String>)> {
+    let [program, word] = words.as_slice() else {
+        return Some((None, words));
+    };
+    let Some((host, port)) = host_and_port(word.as_str()) else {
+        return Some((None, words));
+    };
+    let mut bare = Vec::new(alloc);
+    bare.push(owned(alloc, program.as_str())?).ok()?;
+    bare.push(owned(alloc, port)?).ok()?;
+    Some((Some(owned(alloc, host)?), bare))
+}
+
+/// Says that memory is wanting.
+fn out_of_memory(rt: &HostRuntime) -> ExitCode {
+    let _ = rt.eprintln("dlt_receive: out of memory");
+    ExitCode::from(Status::OutOfMemory.number())
+}
+
+fn main(rt: HostRuntime) -> ExitCode {
     let alloc = rt.alloc();
+    let Some(words) = words(&rt) else {
+        return out_of_memory(&rt);
+    };
+    let Some((host, words)) = parted(alloc, words) else {
+        return out_of_memory(&rt);
+    };
     let mut out = Writing::over(rt.stdout());
     let mut err = Writing::over(rt.stderr());
-    let mut dial = TcpDial::over(rt);
+    let mut dial = TcpDial::over(rt, host);
     let received = receive(alloc, &words, &mut dial, &mut out, &mut err);
+    if received.status == Status::NetFault.number() {
+        let why = dial.why();
+        let _ = eprintln!(&rt; "dlt_receive: {why}");
+    }
     ExitCode::from(received.status)
 }

@@ -2,7 +2,7 @@
 //! prints what came of it. The configuration and the trace files are those of the current folder.
 #![tactic(auto)]
 
-use dl_real::{Directory, Reading, Writing};
+use dl_real::{Directory, Reading, Writing, say_troubles};
 use dl_replay::{Status, replay};
 use std::env;
 use std::io::ErrorKind;
@@ -27,12 +27,17 @@ fn main(rt: HostRuntime) -> ExitCode {
     let mut folder = Directory::over(rt);
     let mut out = Writing::over(rt.stdout());
     let mut err = Writing::over(rt.stderr());
-    ExitCode::from(replay(
+    let status = replay(
         rt.alloc(),
         &words,
         &mut input,
         &mut folder,
         &mut out,
         &mut err,
-    ))
+    );
+    if status != 0 {
+        // which file it was, and why
+        say_troubles(&rt, "dlt_replay", folder.troubles());
+    }
+    ExitCode::from(status)
 }

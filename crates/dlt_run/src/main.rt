@@ -5,7 +5,10 @@
 #![tactic(auto)]
 
 use dl_live::{Status, run};
-use dl_real::{BindFault, Directory, OpenGate, SystemClock, TcpNet, Writing, bind_address};
+use dl_real::{
+    BIND_ADDRESS, BindFault, Directory, OpenGate, SystemClock, TcpNet, Writing, bind_address,
+    say_troubles,
+};
 use dl_serve::serve;
 use dl_words::asks_to_serve;
 use std::env;
@@ -28,13 +31,39 @@ fn refused(rt: &HostRuntime, line: &str, status: Status) -> ExitCode {
     ExitCode::from(status.number())
 }
 
+/// Says what went wrong with files: which one, and why. A scenario that isn't there has no fault, so its name is said.
+fn say_files(rt: &HostRuntime, status: u8, folder: &Directory<HostRuntime>) {
+    if status == NO_SCENARIO {
+        if let Some(name) = folder.absent() {
+            let _ = eprintln!(rt; "dlt_run: {name}: not found");
+        }
+    }
+    if status != 0 {
+        say_troubles(rt, "dlt_run", folder.troubles());
+    }
+}
+
+/// The same of the port of a net.
+fn say_port(rt: &HostRuntime, status: u8, net: &TcpNet<HostRuntime>) {
+    if status != 0 {
+        say_troubles(rt, "dlt_run", net.troubles());
+    }
+}
+
+/// The status of a run whose scenario is refused.
+const NO_SCENARIO: u8 = 4;
+
 fn main(rt: HostRuntime) -> ExitCode {
     let Some(words) = words(&rt) else {
         return refused(&rt, "dlt_run: out of memory", Status::OutOfMemory);
     };
     let address = match bind_address(&rt) {
         Ok(address) => address,
-        Err(BindFault::NoAddress) => return refused(&rt, "dlt_run: net fault", Status::NetFault),
+        Err(BindFault::NoAddress) => {
+            let status = refused(&rt, "dlt_run: net fault", Status::NetFault);
+            let _ = eprintln!(&rt; "dlt_run: {BIND_ADDRESS}: no address");
+            return status;
+        }
         Err(BindFault::OutOfMemory) => {
             return refused(&rt, "dlt_run: out of memory", Status::OutOfMemory);
         }
@@ -57,7 +86,11 @@ fn main(rt: HostRuntime) -> ExitCode {
             &mut out,
             &mut err,
         );
-        return ExitCode::from(served.status);
+        let status = served.status;
+        say_files(&rt, status, &folder);
+        say_port(&rt, status, &net);
+        say_port(&rt, status, &users);
+        return ExitCode::from(status);
     }
     let ended = run(
         &rt,
@@ -71,6 +104,8 @@ fn main(rt: HostRuntime) -> ExitCode {
         &mut err,
     );
     let status = ended.status;
+    say_files(&rt, status, &folder);
+    say_port(&rt, status, &net);
     // The clients end with their links.
     drop(ended);
     let _read = net.finish();

@@ -3,7 +3,7 @@
 //! what the traces tell of the cause. No file is changed but that of a picture.
 #![tactic(auto)]
 
-use dl_real::{Directory, Reading, Writing};
+use dl_real::{Directory, Reading, Writing, say_troubles};
 use dl_why::{Status, tell_why};
 use std::env;
 use std::io::ErrorKind;
@@ -26,8 +26,13 @@ fn main(rt: HostRuntime) -> ExitCode {
     };
     let alloc = rt.alloc();
     let mut input = Reading::over(rt.stdin());
-    let mut folder = Directory::over(rt);
+    let mut folder = Directory::with_pictures(rt);
     let mut out = Writing::over(rt.stdout());
     let mut err = Writing::over(rt.stderr());
-    ExitCode::from(tell_why(alloc, &words, &mut input, &mut folder, &mut out, &mut err))
+    let status = tell_why(alloc, &words, &mut input, &mut folder, &mut out, &mut err);
+    if status != 0 {
+        // which file it was, and why
+        say_troubles(&rt, "dlt_why", folder.troubles());
+    }
+    ExitCode::from(status)
 }

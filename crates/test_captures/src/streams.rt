@@ -4,13 +4,13 @@ ghost use Rattle.std.specs.Prelude.{◌≡◌, length};
 ghost use Rattle.dl_bytes.specs.Htyp.{len_of};
 
 use crate::captures::{CAPTURES, Capture};
+use crate::shown::arguments;
 use dl_args::Order;
 use dl_bytes::{Htyp, Id};
 use dl_headers::{Extended, Standard};
 use dl_message::{Cut, Cutter, MESSAGE_LIMIT, read_message};
 use std::alloc::{AllocError, Global};
 use std::test::Fail;
-use test_arguments::arguments;
 
 /// Whether a stream says so in pieces of this size.
 fn is_decoded(alloc: Global, stream: &[u8], size: usize, wanted: &str) -> Result<bool, Fail> {

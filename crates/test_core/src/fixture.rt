@@ -10,8 +10,7 @@ use dl_bytes::{
 };
 use dl_core::Core;
 use dl_events::{Event, Journal, Kept};
-use dl_memory::MemoryFolder;
-use dl_memory_net::{Manner, MemoryLink};
+use dl_memory::{Manner, MemoryFolder, MemoryLink};
 use dl_registry::LAST_VERSION;
 use dl_trace::Trace;
 use std::alloc::Global;

@@ -1,5 +1,5 @@
-//! Bytes and texts of each format by its tables, and what other programs wrote: messages, requests and replies, user
-//! messages, and both configurations.
+//! Bytes and texts of each format by its tables, and what other programs wrote: messages, requests and replies, user messages, and
+//! both configurations, and the registry.
 #![tactic(auto)]
 
 #[cfg(test)]
@@ -8,6 +8,8 @@ mod confs;
 mod controls;
 #[cfg(test)]
 mod messages;
+#[cfg(test)]
+mod registry;
 #[cfg(test)]
 mod stored;
 #[cfg(test)]

@@ -4,7 +4,7 @@ use crate::playing::{
     Case, Found, MUCH, NO_BYTES, PATIENCE, REPLY, net, net_of, play, play_over, play_with, turns,
 };
 use dl_bytes::OutOfMemory;
-use dl_memory_net::{Manner, MeetingGate, MemoryNet, Passing, Turn};
+use dl_memory::{Manner, MeetingGate, MemoryNet, Passing, Turn};
 use std::alloc::Global;
 use std::sync::Wait;
 use std::test::Fail;

@@ -1,12 +1,11 @@
 //! Writers that claim contexts in running threads, and log under them.
 
-use crate::playing::{Left, MUCH, folder, left_by, net, open_gate};
-use crate::rings::taken;
+use crate::playing::{Left, MUCH, left_by, net, open_gate};
+use crate::stage::folder;
+use dl_account::Account;
 use dl_bytes::OutOfMemory;
 use dl_events::{Answer, ClaimList, Event, Record};
-use dl_lib::Account;
-use dl_memory::MemoryFolder;
-use dl_memory_net::{MemoryNet, SignGate};
+use dl_memory::{MemoryFolder, MemoryNet, SignGate};
 use std::alloc::Global;
 use std::sync::Wait;
 use std::test::Fail;
@@ -91,6 +90,28 @@ fn tells_two(account: &Account, behind: Answer) -> bool {
         && records.writers() == 2
         && are_of_claimer(records.of(1), behind)
         && are_of_claimer(records.of(2), behind)
+}
+
+/// Whether the daemon took a call.
+fn is_log(event: &Event) -> bool {
+    matches!(event, Event::Log { .. })
+}
+
+/// How many of these events are calls that the daemon took.
+fn logs(events: &[Event]) -> u64 {
+    let mut count = 0u64;
+    for event in events {
+        count = count.saturating_add(u64::from(is_log(event)));
+    }
+    count
+}
+
+/// How many calls the daemon took.
+pub fn taken<L>(left: &Left<L>) -> u64 {
+    match left.account() {
+        Some(account) => logs(account.events()),
+        None => 0,
+    }
 }
 
 /// What is looked at of a run.

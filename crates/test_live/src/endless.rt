@@ -2,7 +2,7 @@
 
 ghost use Rattle.std.specs.Prelude.{None, Some, false};
 
-use dl_memory_net::Sign;
+use dl_memory::Sign;
 use dl_outside::{Accepted, ClientScript, Gave, Link, Net, NetFault, Sends};
 
 /// A message of a peer: four bytes, no request.

@@ -1,45 +1,13 @@
 //! How clients end.
 
 use crate::endless::EndlessNet;
-use crate::playing::{Case, MUCH, NO_BYTES, open_gate, play, play_with};
+use crate::playing::{Case, NO_BYTES, open_gate, play, play_with};
 use dl_bytes::OutOfMemory;
-use dl_memory_net::{Sign, SignGate};
+use dl_memory::{Sign, SignGate};
 use std::alloc::Global;
 use std::sync::Wait;
 use std::test::Fail;
 use std::thread::Threads;
-
-/// A scenario without a line.
-const NOTHING: Case<'static> = Case {
-    conf: "",
-    scenario: "",
-    held: 0,
-    wanted: NO_BYTES,
-    report: "",
-};
-
-#[test]
-fn nothing_to_do(rt: HostRuntime) -> Result<(), Fail> {
-    let found = play_with(&rt, rt.alloc(), &NOTHING, MUCH)?;
-    assert!(rt; found.is_well);
-    Ok(())
-}
-
-/// Nine clients: one more than the daemon has room for.
-const NINE: Case<'static> = Case {
-    conf: "",
-    scenario: "client\nclient\nclient\nclient\nclient\nclient\nclient\nclient\nclient\n",
-    held: 0,
-    wanted: NO_BYTES,
-    report: "client 1 stopped 0 0 complete\nclient 2 stopped 0 0 complete\nclient 3 stopped 0 0 complete\nclient 4 stopped 0 0 complete\nclient 5 stopped 0 0 complete\nclient 6 stopped 0 0 complete\nclient 7 stopped 0 0 complete\nclient 8 stopped 0 0 complete\ndropped 1\n",
-};
-
-#[test]
-fn nine_links(rt: HostRuntime) -> Result<(), Fail> {
-    let found = play_with(&rt, rt.alloc(), &NINE, MUCH)?;
-    assert!(rt; found.is_well);
-    Ok(())
-}
 
 /// A link that takes nothing, and more than its outbox holds: it is too slow.
 const MANY: Case<'static> = Case {

@@ -1,4 +1,4 @@
-//! Scenarios that threads play over objects in memory. It is compiled for its tests alone.
+//! Scenarios that threads play, and single rounds of the live daemon, over objects in memory. It is compiled for its tests alone.
 #![tactic(auto)]
 
 #[cfg(test)]
@@ -14,4 +14,6 @@ mod links;
 #[cfg(test)]
 mod playing;
 #[cfg(test)]
-mod rings;
+mod rounds;
+#[cfg(test)]
+mod stage;

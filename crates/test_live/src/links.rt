@@ -2,7 +2,7 @@
 
 use crate::playing::{Case, NO_BYTES, REPLY, net_of, play_over, turns};
 use dl_bytes::OutOfMemory;
-use dl_memory_net::{Manner, MemoryNet, Turn};
+use dl_memory::{Manner, MemoryNet, Turn};
 use std::alloc::Global;
 use std::sync::Wait;
 use std::test::Fail;

@@ -1,11 +1,13 @@
 //! A run over a folder, a net and sinks in memory, and what is looked at of it.
 
+use crate::stage::{folder, words};
+use dl_account::Account;
 use dl_bytes::{Moment, OutOfMemory};
 use dl_events::{Event, Why};
-use dl_lib::Account;
 use dl_live::{Ended, run};
-use dl_memory::{MemoryFolder, MemorySink, StandingClock};
-use dl_memory_net::{Manner, MemoryNet, Passing, Sign, SignGate, Turn, Wanted, WatchedNet};
+use dl_memory::{
+    Manner, MemoryNet, MemorySink, Passing, Sign, SignGate, StandingClock, Turn, Wanted, WatchedNet,
+};
 use dl_outside::{Folder, Gate, Link, Net};
 use std::alloc::Global;
 use std::collections::VecDeque;
@@ -70,22 +72,6 @@ pub fn turns(alloc: Global, turn: Turn, count: usize) -> Result<Vec<Turn>, OutOf
         turns.push(turn)?;
     }
     Ok(turns)
-}
-
-/// A folder in memory with this configuration, and this scenario under the name `s`.
-pub fn folder(alloc: Global, conf: &str, scenario: &str) -> Result<MemoryFolder, OutOfMemory> {
-    let mut folder = MemoryFolder::make(alloc, 8, MUCH)?;
-    let _ = folder.put("dlt.conf", conf.as_bytes());
-    let _ = folder.put("s", scenario.as_bytes());
-    Ok(folder)
-}
-
-/// The words of a command line that plays the scenario `s`.
-fn words(alloc: Global) -> Result<Vec<String>, OutOfMemory> {
-    let mut words = Vec::new(alloc);
-    words.push(String::from_str(alloc, "dlt_run")?)?;
-    words.push(String::from_str(alloc, "s")?)?;
-    Ok(words)
 }
 
 /// What a run left.

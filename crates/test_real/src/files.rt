@@ -134,16 +134,7 @@ fn a_large_file_is_read_whole(rt: HostRuntime) {
 }
 
 /// Names of what is no plain file below the folder.
-const REFUSED: [&str; 8] = [
-    "",
-    "/etc/hostname",
-    "../up",
-    "there/../../up",
-    "there",
-    "there/link",
-    "there/dangling",
-    "way",
-];
+const REFUSED: [&str; 5] = ["", "there", "there/link", "there/dangling", "way"];
 
 /// The place of the first of these names that isn't refused.
 fn other<F: Folder>(folder: &mut F, names: &[&str]) -> Option<usize> {
@@ -153,6 +144,50 @@ fn other<F: Folder>(folder: &mut F, names: &[&str]) -> Option<usize> {
         }
     }
     None
+}
+
+/// Names that lie elsewhere, or may.
+const ELSEWHERE: [&str; 4] = [
+    "/etc/hostname",
+    "../up",
+    "there/../../up",
+    "there/../dlt_offlinetrace.00001.dlt",
+];
+
+/// Whether nothing is written under any of these names.
+fn writes_none<F: Folder>(folder: &mut F, names: &[&str]) -> bool {
+    let before = folder.faults();
+    for name in names {
+        let some = folder.put(name, b"x").is_ok()
+            || folder.append(name, b"x").is_ok()
+            || folder.remove(name).is_ok();
+        if some {
+            return false;
+        }
+    }
+    folder.faults().saturating_sub(before) == 12
+}
+
+/// Whether names that go up are read, and trace files of such names are written.
+fn goes_up<F: Folder>(folder: &mut F) -> [bool; 4] {
+    [
+        has_bytes(folder, "there/../there/plain", b"stays"),
+        folder
+            .append("there/../dlt_offlinetrace.000001.dlt", b"x")
+            .is_ok(),
+        has_bytes(folder, "dlt_offlinetrace.000001.dlt", b"x"),
+        folder
+            .remove("there/../dlt_offlinetrace.000001.dlt")
+            .is_ok(),
+    ]
+}
+
+#[test]
+fn what_is_written_stays_below(rt: HostRuntime) {
+    let mut folder = Directory::over(rt);
+    assert!(rt; folder.put("there/plain", b"stays").is_ok());
+    assert!(rt; writes_none(&mut folder, &ELSEWHERE));
+    assert!(rt; goes_up(&mut folder) == [true; 4]);
 }
 
 /// Links to a plain file, to nothing, and to a directory.

@@ -1,7 +1,7 @@
 //! What threads share: a sign, two gates, and a net that gives a sign.
 
 use dl_bytes::Bytes;
-use dl_memory_net::{MeetingGate, MemoryNet, Passing, Sign, SignGate, Wanted, WatchedNet};
+use dl_memory::{MeetingGate, MemoryNet, Passing, Sign, SignGate, Wanted, WatchedNet};
 use dl_outside::{Accepted, ClientScript, Gate, Link, Net, Sends};
 use std::alloc::Global;
 use std::collections::VecDeque;

@@ -210,7 +210,7 @@ fn nothing_waits(rt: HostRuntime) -> Result<(), Fail> {
 
 #[test]
 fn nobody_listens(rt: HostRuntime) {
-    let mut dial = TcpDial::over(rt);
+    let mut dial = TcpDial::over(rt, None);
     assert!(rt; dial.dial(1).is_err());
     assert!(rt; dial.faults() == 1);
 }

@@ -66,13 +66,6 @@ fn a_configuration(rt: HostRuntime) {
     assert!(rt; is(rt.alloc(), &steps("", &taken, NONE), 0, "", ""));
 }
 
-/// A script with an odd digit is refused.
-#[test]
-fn a_script(rt: HostRuntime) {
-    let odd = steps("connect\nuser 1 445\n", &[], NONE);
-    assert!(rt; is(rt.alloc(), &odd, 4, "", "dlt_replay: script line 2: hex\n"));
-}
-
 /// Whether a run says so whose input fails at this call.
 fn read_fails(alloc: Global, call: u64) -> bool {
     let faults = Faults {

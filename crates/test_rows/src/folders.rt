@@ -35,26 +35,6 @@ log 1 TEST info 1 fill:451
 log 1 TEST info 1 fill:451
 ";
 
-/// What is printed for them: the oldest of three files went when the third began.
-const ROTATED: &str = "backlog 9 4356 0
-app LOG1 calls 9 queued 9 filtered 0 lost 0 reported 0
-file trace/dlt_offlinetrace.000002.dlt 2000
-file trace/dlt_offlinetrace.000003.dlt 500
-";
-
-#[test]
-fn a_trace_rotates(rt: HostRuntime) {
-    assert!(rt;
-        is(
-            rt.alloc(),
-            &steps(NINE_CALLS, SMALL_FILES, NONE),
-            0,
-            ROTATED,
-            ""
-        )
-    );
-}
-
 /// Three calls.
 const THREE_CALLS: &str = "app LOG1 16
 context LOG1 TEST info

@@ -1,4 +1,4 @@
-//! Whole scripts through the replay, with objects in memory on all sides.
+//! Whole scripts through the replay, with objects in memory on all sides, of which one call may fail.
 #![tactic(auto)]
 
 #[cfg(test)]
@@ -7,5 +7,3 @@ mod faults;
 mod folders;
 #[cfg(test)]
 mod played;
-#[cfg(test)]
-mod rows;

@@ -1,7 +1,6 @@
 //! One run of the replay over objects in memory, and what is looked at of it.
 
-use dl_failing::Failing;
-use dl_memory::{MemoryFolder, MemorySink, MemorySource};
+use dl_memory::{Failing, MemoryFolder, MemorySink, MemorySource};
 use dl_outside::Folder;
 use dl_replay::replay;
 use std::alloc::Global;

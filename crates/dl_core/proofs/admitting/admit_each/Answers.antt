@@ -1,5 +1,4 @@
-use Rattle.std.proofs.Common.{◌≡◌, ◌+◌, List, ℕ, sym, ap, subst, ◌∙◌, arith}
-use Rattle.std.proofs.Common.{take, drop, length, map}
+use Rattle.std.proofs.Common.{◌≡◌, ◌+◌, List, ℕ, sym, ap, subst, ◌∙◌, arith, take, drop, length, map}
 use Rattle.std.proofs.Math.Seq.{take-length}
 use Rattle.dl_lemmas.proofs.Lists.{item_here}
 use Rattle.dl_bytes.specs.declared.item.Item.{Item}

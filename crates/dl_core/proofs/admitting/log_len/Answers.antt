@@ -1,5 +1,4 @@
-use Rattle.std.proofs.Common.{ap, arith}
-use Rattle.std.proofs.Common.{length}
+use Rattle.std.proofs.Common.{ap, arith, length}
 use Rattle.dl_core.proofs.Sizes.{log_size}
 use Rattle.dl_core.proofs.admitting.log_len.Goals as goal
 

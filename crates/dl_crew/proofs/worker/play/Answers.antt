@@ -1,7 +1,7 @@
 use Rattle.std.proofs.Common.{◌≡◌, ◌<◌, [], get_or, take, List, length, refl, sym, ap, subst, arith}
 use Rattle.std.proofs.lemmas.List.{take_all}
 use Rattle.dl_bytes.specs.Context.{Context}
-use Rattle.dl_script_lines.specs.declared.scenario.ScenarioLine.{ScenarioLine}
+use Rattle.dl_script_model.specs.declared.scenario.ScenarioLine.{ScenarioLine}
 use Rattle.dl_crew.specs.Plays.{LinesInTurn}
 use Rattle.dl_crew.proofs.LinesSoFar.{taken_more}
 use Rattle.dl_crew.proofs.Played.{is_announced}

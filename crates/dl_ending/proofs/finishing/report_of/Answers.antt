@@ -1,7 +1,7 @@
 use Rattle.std.proofs.Common.{◌<◌, ◌^◌, List, sym, subst, arith}
 use Rattle.dl_events.specs.declared.event.Event.{Event}
-use Rattle.dl_left.specs.Losses.{told}
-use Rattle.dl_lib.specs.Settled.{refusals_of}
+use Rattle.dl_report.specs.Losses.{told}
+use Rattle.dl_account.specs.Settled.{refusals_of}
 use Rattle.dl_ending.specs.Ending.{claims_of, records_of}
 use Rattle.dl_ending.proofs.finishing.report_of.Goals as goal
 

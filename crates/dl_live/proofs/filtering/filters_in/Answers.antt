@@ -1,5 +1,5 @@
 use Rattle.std.proofs.Common.{Err, Ok, ◌≡◌, ◌∙◌, ap, map, sym}
-use Rattle.dl_storage_text.specs.Whole.{storage_said, wanted_of}
+use Rattle.dl_storage.specs.FilterWhole.{storage_said, wanted_of}
 use Rattle.dl_live.proofs.FiltersText.{says_of_text}
 use Rattle.dl_live.proofs.filtering.filters_in.Goals as goal
 

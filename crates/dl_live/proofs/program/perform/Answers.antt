@@ -1,11 +1,11 @@
 use Rattle.std.proofs.Common.{◌≡◌, Bool, ℕ, List, Some, refl, ap, subst, ◌∙◌}
 use Rattle.std.specs.Prelude.{IfSome, nat_lt}
 use Rattle.dl_ending.specs.Storage.{Concludes}
-use Rattle.dl_folders.proofs.LeftFiles.{changes_none}
+use Rattle.dl_core.proofs.LeftFiles.{changes_none}
 use Rattle.dl_startup.specs.declared.failures.Failures.{Failures}
 use Rattle.dl_startup.specs.declared.status.Status.TheVariants.{OutOfMemory}
 use Rattle.dl_storage.specs.Storing.{ChangesFiltersFiles}
-use Rattle.dl_storage_text.specs.declared.filter.Filter.{Filter}
+use Rattle.dl_storage.specs.declared.filter.Filter.{Filter}
 use Rattle.dl_live.specs.Ends.{failed_so}
 use Rattle.dl_live.specs.Performing.{status_of}
 use Rattle.dl_live.specs.Told.{told}

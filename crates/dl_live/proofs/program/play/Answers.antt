@@ -1,5 +1,5 @@
 use Rattle.std.proofs.Common.{ap, ◌∙◌}
-use Rattle.dl_folders.proofs.LeftFiles.{leaves_both}
+use Rattle.dl_core.proofs.LeftFiles.{leaves_both}
 use Rattle.dl_live.specs.declared.players.Players.{Players}
 use Rattle.dl_live.proofs.program.play.Goals as goal
 

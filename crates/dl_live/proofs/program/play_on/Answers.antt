@@ -1,5 +1,5 @@
 use Rattle.std.proofs.Common.{ap, ◌∙◌}
-use Rattle.dl_folders.proofs.LeftFiles.{leaves_both}
+use Rattle.dl_core.proofs.LeftFiles.{leaves_both}
 use Rattle.dl_loop.specs.Scene.{scene}
 use Rattle.dl_live.proofs.PlayedSteps.{few_books_now, few_now, has_played, made_now, none_missing_now, room_now, whole_now}
 use Rattle.dl_live.proofs.program.play_on.Goals as goal

@@ -1,7 +1,7 @@
 use Rattle.std.proofs.Common.{◌≡◌, ◌++◌, List, [], length, drop, sym, ap, ◌∙◌, append-nil, arith}
 use Rattle.std.proofs.lemmas.List.{drop_all, length-map}
 use Rattle.dl_bytes.specs.Context.{Context}
-use Rattle.dl_script_lines.specs.declared.line.AppLine.{AppLine}
+use Rattle.dl_script_model.specs.declared.line.AppLine.{AppLine}
 use Rattle.dl_desk.specs.Apps.{AppState}
 use Rattle.dl_opening.specs.Scenario.{apps, handles_from, spec_of}
 use Rattle.dl_opening.proofs.Declared.{all_opened, apps_more, few_places, given_is, handles_more, many_opened, none_opened, spec_at}

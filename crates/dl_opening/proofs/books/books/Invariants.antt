@@ -1,6 +1,6 @@
 use Rattle.std.proofs.Common.{◌≡◌, ◌≤◌, length, take}
 use Rattle.dl_crew.specs.Plays.{ArePairs}
-use Rattle.dl_lib.proofs.OpenBooks.{AreOpen}
+use Rattle.dl_account.proofs.OpenBooks.{AreOpen}
 use Rattle.dl_opening.specs.Opening.{IsBookOf, StaysSo}
 use Rattle.dl_opening.specs.Scenario.{apps, opened_from, writers}
 use Rattle.dl_opening.proofs.books.books.Given as goal

@@ -1,7 +1,7 @@
 use Rattle.std.proofs.Common.{◌==◌, ℕ, List, cond, Option, None, ap, ◌∙◌}
 use Rattle.std.specs.List.{list_any}
 use Rattle.dl_model.specs.Registry.{slot_of}
-use Rattle.dl_slots.specs.Table.{wanted_at}
+use Rattle.dl_registry.specs.Table.{wanted_at}
 use Rattle.dl_registry.proofs.Giving.{joined}
 use Rattle.dl_registry.proofs.apply.clear_context.Goals as goal
 

@@ -2,7 +2,7 @@ use Rattle.std.proofs.Common.{◌≡◌, ℕ, cond, None, take}
 use Rattle.std.specs.Prelude.{◌==◌}
 use Rattle.std.specs.List.{list_any}
 use Rattle.dl_model.specs.Registry.{slot_of}
-use Rattle.dl_slots.specs.Table.{wanted_at}
+use Rattle.dl_registry.specs.Table.{wanted_at}
 use Rattle.dl_registry.proofs.apply.clear_places.Given as goal
 
 abbrev pub invariant-loop-place : goal.invariant-loop-place

@@ -2,6 +2,7 @@ use Rattle.std.proofs.Common.{ℕ, cond, Bool, Option, None, Result, unwrap_or, 
 use Rattle.std.specs.Option.{option_and_then}
 use Rattle.std.specs.Result.{result_ok}
 use Rattle.std.proofs.lemmas.Bool.{le-leb}
+use Rattle.dl_bytes.specs.Id.{zero_id}
 use Rattle.dl_bytes.specs.declared.outcome.Done.TheVariants as done
 use Rattle.dl_control.specs.declared.request.Request.{Request as Asked}
 use Rattle.dl_control.specs.declared.request.RequestFault.{RequestFault}
@@ -17,6 +18,12 @@ returns-clause-own c = λ setting events client frame apid ctid level own answer
     request_follows setting events client frame answer (own_set (slots old) old.registry apid ctid own) result old new is call
     (sym (ap (λ (a : Result Asked RequestFault). served setting (slots old) old.registry a answer) asks
     ∙ ap (λ (o : Option (Option ℕ)). unwrap_or (option_and_then (λ level. result_ok (own_set (slots old) old.registry apid ctid level)) o) old.registry) is_own))
+
+pub returns-clause-all : goal.returns-clause-all
+returns-clause-all c = λ setting events client frame level own answer result old new asks is_own is call.
+    request_follows setting events client frame answer (own_set (slots old) old.registry zero_id zero_id own) result old new is call
+    (sym (ap (λ (a : Result Asked RequestFault). served setting (slots old) old.registry a answer) asks
+    ∙ ap (λ (o : Option (Option ℕ)). unwrap_or (option_and_then (λ level. result_ok (own_set (slots old) old.registry zero_id zero_id level)) o) old.registry) is_own))
 
 pub returns-clause-default : goal.returns-clause-default
 returns-clause-default c = λ setting events client frame level answer result old new asks below is call.

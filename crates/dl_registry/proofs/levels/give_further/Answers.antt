@@ -2,7 +2,7 @@ use Rattle.std.proofs.Common.{cond, Some, get_or, take, sym, ap, ◌∙◌, arit
 use Rattle.std.specs.Prelude.{◌==◌}
 use Rattle.std.specs.List.{list_any}
 use Rattle.dl_model.specs.Registry.{slot_of}
-use Rattle.dl_slots.specs.Table.{wanted_at}
+use Rattle.dl_registry.specs.Table.{wanted_at}
 use Rattle.dl_registry.proofs.Giving.{any_more, given_one, joined}
 use Rattle.dl_registry.proofs.levels.give_further.Goals as goal
 

@@ -2,7 +2,7 @@ use Rattle.std.proofs.Common.{cond, map, reverse, Some, sym, ap, ◌∙◌}
 use Rattle.std.specs.Map.Iter.{deref}
 use Rattle.std.specs.Option.{option_or}
 use Rattle.dl_registry.specs.Refresh.{has_slot, level_among}
-use Rattle.dl_slots.specs.Table.{wanted_at}
+use Rattle.dl_registry.specs.Table.{wanted_at}
 use Rattle.dl_registry.proofs.Giving.{among_more, written_more}
 use Rattle.dl_registry.proofs.levels.refresh_app.Goals as goal
 

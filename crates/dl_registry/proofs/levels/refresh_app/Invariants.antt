@@ -2,7 +2,7 @@ use Rattle.std.proofs.Common.{◌≡◌, ℕ, ◌<◌, ◌≤◌, map, reverse}
 use Rattle.std.specs.Map.Iter.{deref}
 use Rattle.std.specs.Option.{option_or}
 use Rattle.dl_registry.specs.Refresh.{level_among}
-use Rattle.dl_slots.specs.Table.{wanted_at}
+use Rattle.dl_registry.specs.Table.{wanted_at}
 use Rattle.dl_registry.proofs.levels.refresh_app.Given as goal
 
 abbrev pub invariant-loop-context : goal.invariant-loop-context

@@ -1,6 +1,6 @@
 use Rattle.std.proofs.Common.{ℕ, sym, ◌∙◌, ap, arith}
 use Rattle.crossbeam_queue.specs.Passes.{view}
-use Rattle.dl_thread_rules.specs.Views.{times}
+use Rattle.dl_cells.specs.Views.{times}
 use Rattle.dl_ring.specs.Rule.{Keeps}
 use Rattle.dl_ring.proofs.Boxing.{boxed_forks}
 use Rattle.dl_ring.proofs.Keeping.{forks}

@@ -1,6 +1,5 @@
 use Rattle.std.proofs.Common.{◌≡◌, ◌≤◌, ◌+◌, take, drop}
-use Rattle.std.specs.List.{sum_by}
-use Rattle.std.specs.List.{AllByRecursion}
+use Rattle.std.specs.List.{sum_by, AllByRecursion}
 use Rattle.dl_turns.specs.State.{side}
 use Rattle.dl_rounds.specs.Greetings.{GreetsEach, IsRegistration, MayGreet, apps_in, registered}
 use Rattle.dl_rounds.proofs.greeting.greet_app.Given as goal

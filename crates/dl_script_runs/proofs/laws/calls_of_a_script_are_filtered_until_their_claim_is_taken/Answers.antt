@@ -4,12 +4,12 @@ use Rattle.std.proofs.lemmas.List.Elements.{filter_map-append}
 use Rattle.dl_lemmas.proofs.Lists.{all_map}
 use Rattle.dl_bytes.specs.Claim.{Claimed}
 use Rattle.dl_events.specs.declared.record.Record.{Record}
-use Rattle.dl_model.specs.Marks.{Mark, claim_of, event_of, journal, records_of}
+use Rattle.dl_script_model.specs.Marks.{Mark, claim_of, event_of, journal, records_of}
 use Rattle.dl_model.specs.Registry.{slot_of}
 use Rattle.dl_model.specs.Setting.{Setting}
-use Rattle.dl_model.specs.Steps.{run}
-use Rattle.dl_promises.specs.RunRecords.{IsSeen}
-use Rattle.dl_promises.specs.WaitingClaims.{ComesEarly, IsFilteredFirst, IsUntaken, MessagesLeaveFree}
+use Rattle.dl_script_model.specs.Steps.{run}
+use Rattle.dl_runs.specs.RunRecords.{IsSeen}
+use Rattle.dl_runs.specs.WaitingClaims.{ComesEarly, IsFilteredFirst, IsUntaken, MessagesLeaveFree}
 use Rattle.dl_script_runs.proofs.ClaimedFree.{IsLeft, claims_left, first_left}
 use Rattle.dl_script_runs.proofs.laws.calls_of_a_script_are_filtered_until_their_claim_is_taken.Goals as goal
 

@@ -1,4 +1,4 @@
-use Rattle.dl_laws.proofs.Founded.{lines_founded, run_founded}
+use Rattle.dl_runs.proofs.Founded.{lines_founded, run_founded}
 use Rattle.dl_script_runs.proofs.PresentApps.{claims_present, claims_present_so_far}
 use Rattle.dl_script_runs.proofs.laws.claims_of_a_script_are_present.Goals as goal
 

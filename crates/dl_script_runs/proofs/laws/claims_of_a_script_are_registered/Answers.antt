@@ -8,11 +8,11 @@ use Rattle.dl_events.specs.declared.event.Event.{Event}
 use Rattle.dl_events.specs.declared.event.Event.TheVariants as event
 use Rattle.dl_model.specs.Accounts.{claim_of, claims}
 use Rattle.dl_model.specs.Setting.{Setting}
-use Rattle.dl_model.specs.Steps.{run}
-use Rattle.dl_laws.proofs.Founded.{run_founded}
-use Rattle.dl_promises.specs.PresentClaims.{AreThere, IsThere}
-use Rattle.dl_promises.specs.WaitingClaims.{MessagesLeaveFree}
-use Rattle.dl_promises.proofs.ClaimPlaces.{noted_are}
+use Rattle.dl_script_model.specs.Steps.{run}
+use Rattle.dl_runs.proofs.Founded.{run_founded}
+use Rattle.dl_laws.specs.PresentClaims.{AreThere, IsThere}
+use Rattle.dl_runs.specs.WaitingClaims.{MessagesLeaveFree}
+use Rattle.dl_runs.proofs.ClaimPlaces.{noted_are}
 use Rattle.dl_script_runs.proofs.ClaimedFree.{IsLeft, claims_left, first_left}
 use Rattle.dl_script_runs.proofs.laws.claims_of_a_script_are_registered.Goals as goal
 

@@ -4,4 +4,4 @@ use Rattle.dl_sessions.specs.Printing.{session_by}
 use Rattle.dl_sessions.proofs.account.push_sessions.Given as goal
 
 abbrev pub invariant-loop-session : goal.invariant-loop-session
-invariant-loop-session l = l.text.items ≡ l.initial.text.items ++ flat_map (session_by l.totals l.lost) (take l.session-index l.sessions)
+invariant-loop-session l = l.text.items ≡ l.initial.text.items ++ flat_map (session_by l.totals) (take l.session-index l.sessions)

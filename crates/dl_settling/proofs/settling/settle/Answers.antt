@@ -2,8 +2,8 @@ use Rattle.std.proofs.Common.{◌≡◌, length, map, refl, sym, ap, ◌∙◌, 
 use Rattle.std.proofs.lemmas.List.{length-map}
 use Rattle.dl_taking.specs.Draining.{closing_told}
 use Rattle.dl_taking.proofs.DrainedEvents.{all_drain}
-use Rattle.dl_lib.proofs.Resting.{drained_stays}
-use Rattle.dl_lib.specs.Settled.{account_of}
+use Rattle.dl_account.proofs.Resting.{drained_stays}
+use Rattle.dl_account.specs.Settled.{account_of}
 use Rattle.dl_hub.specs.State.{Hub}
 use Rattle.dl_rounds.specs.Partings.{ShutsGone}
 use Rattle.dl_settling.specs.Ends.{ends_in}

@@ -1,7 +1,7 @@
 use Rattle.std.proofs.Common.{◌≡◌, List, sym, ap, ◌∙◌}
 use Rattle.std.proofs.lemmas.List.{append_cancel_left}
 use Rattle.std.specs.List.{filter_map}
-use Rattle.dl_levels.specs.declared.history.Change.{Change}
+use Rattle.dl_cells.specs.declared.level_history.Change.{Change}
 use Rattle.dl_turns.specs.Later.{level_in}
 use Rattle.dl_socket.specs.Turns.{told_each}
 use Rattle.dl_socket.proofs.laws.levels_that_are_asked_for_are_told.Goals as goal

@@ -1,8 +1,8 @@
 use Rattle.std.proofs.Common.{◌≡◌, ◌+◌, ◌++◌, ◌∷◌, [], true, List, length, take, drop, sym, ap, subst, ◌∙◌, append_assoc, refl, arith}
 use Rattle.std.proofs.lemmas.Grind.{common_steps}
 use Rattle.std.proofs.lemmas.List.{take_more, take-append-drop}
-use Rattle.dl_storage_text.specs.Apart.{are_apart, names_of}
-use Rattle.dl_storage_text.specs.declared.filter.Filter.{Filter}
+use Rattle.dl_storage.specs.FiltersApart.{are_apart, names_of}
+use Rattle.dl_storage.specs.declared.filter.Filter.{Filter}
 use Rattle.dl_events.specs.declared.record.Record.{Record}
 use Rattle.dl_storage.specs.Passing.{frames_for}
 use Rattle.dl_storage.specs.Storing.{AreStored, ChangesFiltersFiles, IsStored}

@@ -1,6 +1,6 @@
 use Rattle.std.proofs.Common.{◌≡◌, ◌+◌, ◌<◌, ◌-◌, ℕ, List, length, refl, ap, ◌∙◌, subst, arith}
 use Rattle.dl_bytes.specs.declared.conf.AppSpec.{AppSpec}
-use Rattle.dl_lib.specs.State.{ClosingState}
+use Rattle.dl_account.specs.State.{ClosingState}
 use Rattle.dl_taking.specs.Draining.{DrainsApp, MayNote, closing_told, closing_took}
 use Rattle.dl_taking.specs.Side.{Side, seen}
 use Rattle.dl_taking.proofs.Drains.{claims_first_of, claims_more, drained_more, enough_more, first_more, first_of}

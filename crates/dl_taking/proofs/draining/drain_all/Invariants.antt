@@ -1,5 +1,5 @@
 use Rattle.std.proofs.Common.{◌≡◌, ◌-◌, ◌<◌, ◌≤◌, ℕ, None, length}
-use Rattle.dl_lib.specs.Known.{IsEmpty, IsTold}
+use Rattle.dl_account.specs.Known.{IsEmpty, IsTold}
 use Rattle.dl_registry.specs.Kept.{owed_change}
 use Rattle.dl_taking.specs.Draining.{DrainsFirst, MayNote, SameButTaken, claims_left_from, closing_told, closing_took, to_note_from}
 use Rattle.dl_turns.specs.Events.{IsDeskOf}

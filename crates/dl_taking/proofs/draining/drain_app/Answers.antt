@@ -1,6 +1,6 @@
 use Rattle.std.proofs.Common.{◌+◌, zero, suc, List, refl, ap, ◌∙◌, subst, arith}
 use Rattle.dl_bytes.specs.declared.conf.AppSpec.{AppSpec}
-use Rattle.dl_lib.specs.State.{ClosingState}
+use Rattle.dl_account.specs.State.{ClosingState}
 use Rattle.dl_taking.specs.Draining.{closing_told, closing_took}
 use Rattle.dl_taking.specs.Side.{Side, seen}
 use Rattle.dl_taking.specs.Takes.{Reports}

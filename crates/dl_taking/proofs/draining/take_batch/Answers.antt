@@ -1,5 +1,5 @@
 use Rattle.std.proofs.Common.{ap, arith}
-use Rattle.dl_lib.specs.State.{ClosingState}
+use Rattle.dl_account.specs.State.{ClosingState}
 use Rattle.dl_taking.proofs.Drains.{by_count, fewer_left, may_step, none_left, one_batch, taken_within}
 use Rattle.dl_taking.proofs.draining.take_batch.Goals as goal
 

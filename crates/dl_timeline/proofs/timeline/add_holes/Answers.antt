@@ -2,7 +2,8 @@ use Rattle.std.proofs.Common.{◌≡◌, ℕ, ◌+◌, ◌++◌, ◌∷◌, [], 
 use Rattle.std.proofs.Math.Seq.{take-length}
 use Rattle.std.proofs.lemmas.List.{append-nil, map-append}
 use Rattle.dl_lemmas.proofs.Lists.{item_here}
-use Rattle.dl_sessions.specs.Account.{entries, holes, totals_of}
+use Rattle.dl_sessions.specs.Account.{holes, totals_of}
+use Rattle.dl_sessions.specs.Gaps.{entries}
 use Rattle.dl_sessions.specs.declared.session.Hole.{Hole}
 use Rattle.dl_timeline.specs.Timeline.{KeepsMarks, hole_mark}
 use Rattle.dl_timeline.specs.declared.timeline.SpotMark.{SpotMark}

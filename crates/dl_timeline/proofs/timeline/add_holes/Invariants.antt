@@ -1,5 +1,6 @@
 use Rattle.std.proofs.Common.{◌++◌, List, map, take}
-use Rattle.dl_sessions.specs.Account.{IsAfter, entries, totals_of}
+use Rattle.dl_sessions.specs.Account.{IsAfter, totals_of}
+use Rattle.dl_sessions.specs.Gaps.{entries}
 use Rattle.dl_sessions.specs.declared.session.Told.{Told}
 use Rattle.dl_timeline.specs.Timeline.{KeepsMarks, hole_mark}
 use Rattle.dl_timeline.specs.declared.timeline.SpotMark.{SpotMark}

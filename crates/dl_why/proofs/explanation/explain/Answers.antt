@@ -3,14 +3,14 @@ use Rattle.std.specs.Prelude.{Some, None, cond}
 use Rattle.dl_core.specs.Settings.{setting_of}
 use Rattle.dl_events.specs.declared.record.Record.{Record}
 use Rattle.dl_model.specs.Accounts.{AreNumbered}
-use Rattle.dl_model.specs.Marks.{claims, journal, records}
-use Rattle.dl_model.specs.Replay.{source_of}
-use Rattle.dl_model.specs.Steps.{run}
+use Rattle.dl_script_model.specs.Marks.{claims, journal, records}
+use Rattle.dl_script_model.specs.Replay.{source_of}
+use Rattle.dl_script_model.specs.Steps.{run}
 use Rattle.dl_model.specs.WholeAccounts.{records_by}
-use Rattle.dl_promises.specs.RunRecords.{refusals_of}
-use Rattle.dl_left.specs.Clients.{ComeAndGo}
+use Rattle.dl_runs.specs.RunRecords.{refusals_of}
+use Rattle.dl_report.specs.Clients.{ComeAndGo}
 use Rattle.dl_startup.specs.Failures.{unserved}
-use Rattle.dl_call_fates.specs.Written.{IsRotating}
+use Rattle.dl_fates.specs.Written.{IsRotating}
 use Rattle.dl_why.proofs.Explaining.{is_drawn, is_explained}
 use Rattle.dl_why.proofs.explanation.explain.Goals as goal
 

@@ -1,16 +1,16 @@
 use Rattle.std.proofs.Common.{◌≡◌, ◌∙◌, ℕ, List, ap, subst}
 use Rattle.std.specs.Prelude.{IfOk}
 use Rattle.dl_bytes.specs.declared.conf.AppSpec.{AppSpec}
-use Rattle.dl_call_lines.specs.Calls.{calls_in}
-use Rattle.dl_call_lines.specs.Told.{owners_in}
-use Rattle.dl_call_lines.specs.declared.call.CallAt.{CallAt}
+use Rattle.dl_fates.specs.Calls.{calls_in}
+use Rattle.dl_fates.specs.Told.{owners_in}
+use Rattle.dl_fates.specs.declared.call.CallAt.{CallAt}
 use Rattle.dl_call_timeline.specs.Timeline.{timeline}
 use Rattle.dl_call_timeline.specs.declared.call.Call.{Call}
 use Rattle.dl_events.specs.declared.event.Event.{Event}
 use Rattle.dl_model.specs.WholeAccounts.{source_of_records}
 use Rattle.dl_picture.specs.Picture.{Chart, picture}
-use Rattle.dl_script_lines.specs.declared.step.Step.{Step}
-use Rattle.dl_call_fates.specs.Cases.{cases_of}
+use Rattle.dl_script_model.specs.declared.step.Step.{Step}
+use Rattle.dl_fates.specs.Cases.{cases_of}
 use Rattle.dl_why.proofs.explanation.picture_of_played.Goals as goal
 
 pub returns : goal.returns

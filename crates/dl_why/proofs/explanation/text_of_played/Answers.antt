@@ -1,14 +1,14 @@
 use Rattle.std.proofs.Common.{◌≡◌, ◌∙◌, ◌++◌, ℕ, List, None, ap}
 use Rattle.dl_bytes.specs.declared.conf.AppSpec.{AppSpec}
-use Rattle.dl_call_lines.specs.Calls.{calls_in}
-use Rattle.dl_call_lines.specs.Claims.{claims_in}
-use Rattle.dl_call_lines.specs.declared.call.CallAt.{CallAt}
-use Rattle.dl_call_lines.specs.declared.claims.ClaimAt.{ClaimAt}
+use Rattle.dl_fates.specs.Calls.{calls_in}
+use Rattle.dl_fates.specs.ClaimLines.{claims_in}
+use Rattle.dl_fates.specs.declared.call.CallAt.{CallAt}
+use Rattle.dl_fates.specs.declared.claim_lines.ClaimAt.{ClaimAt}
 use Rattle.dl_events.specs.declared.event.Event.{Event}
 use Rattle.dl_model.specs.Report.{report}
 use Rattle.dl_model.specs.WholeAccounts.{source_of_records}
-use Rattle.dl_script_lines.specs.declared.step.Step.{Step}
-use Rattle.dl_call_fates.specs.Rows.{more_words, rows_of}
+use Rattle.dl_script_model.specs.declared.step.Step.{Step}
+use Rattle.dl_fates.specs.Rows.{more_words, rows_of}
 use Rattle.dl_why.proofs.explanation.text_of_played.Goals as goal
 
 pub returns : goal.returns

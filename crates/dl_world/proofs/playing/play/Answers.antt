@@ -1,7 +1,7 @@
 use Rattle.std.proofs.Common.{◌<◌, ◌≤◌, length, take, List, refl, subst, arith}
-use Rattle.dl_script_lines.specs.declared.step.Step.{Step}
+use Rattle.dl_script_model.specs.declared.step.Step.{Step}
 use Rattle.dl_world.specs.Follows.{Does}
-use Rattle.dl_folders.proofs.LeftFiles.{leaves_alone, leaves_both, changes_none, changes_since}
+use Rattle.dl_core.proofs.LeftFiles.{leaves_alone, leaves_both, changes_none, changes_since}
 use Rattle.dl_world.proofs.Lines.{lines, no_lines, one_line, and_end, at_place, with_place, all_taken}
 use Rattle.dl_world.proofs.Whole.{some_stood, next_comes, after_all, is_played, if_ok}
 use Rattle.dl_world.proofs.playing.play.Goals as goal

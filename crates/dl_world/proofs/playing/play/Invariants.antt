@@ -1,5 +1,5 @@
 use Rattle.std.proofs.Common.{take}
-use Rattle.dl_folders.specs.Files.{Leaves}
+use Rattle.dl_core.specs.Files.{Leaves}
 use Rattle.dl_world.specs.Follows.{Does}
 use Rattle.dl_world.proofs.Lines.{lines}
 use Rattle.dl_world.proofs.playing.play.Given as goal

@@ -1,7 +1,7 @@
 use Rattle.std.proofs.Common.{◌≡◌, ℕ, ◌*◌, ◌≤◌, [], length, sym, ap, ◌∙◌, subst, arith}
-use Rattle.dl_levels.specs.States as levels
-use Rattle.dl_losses.specs.States as losses
-use Rattle.dl_losses.specs.Losses.{reported_of}
+use Rattle.dl_cells.specs.LevelStates as levels
+use Rattle.dl_cells.specs.LossStates as losses
+use Rattle.dl_cells.specs.Losses.{reported_of}
 use Rattle.dl_desk.specs.HandlesInside.{words_for}
 use Rattle.dl_desk.proofs.Assembling.{begins, new, lengths, length-apps}
 use Rattle.dl_desk.proofs.parts.Parts.into_desk.Goals as goal

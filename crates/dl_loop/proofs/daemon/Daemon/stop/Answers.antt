@@ -1,7 +1,7 @@
 use Rattle.std.proofs.Common.{◌≡◌, ◌≤◌, true, sym, subst, arith}
 use Rattle.dl_writer.specs.State.{IsWhole}
-use Rattle.dl_lib.specs.Making.{AreInOrder}
-use Rattle.dl_lib.proofs.InOrder.{all_of_ordered}
+use Rattle.dl_account.specs.Making.{AreInOrder}
+use Rattle.dl_account.proofs.InOrder.{all_of_ordered}
 use Rattle.dl_settling.specs.Room.{together}
 use Rattle.dl_loop.specs.State.{DaemonState}
 use Rattle.dl_loop.specs.Stops.{Stops}

@@ -2,7 +2,7 @@ use Rattle.std.proofs.Common.{◌≡◌, ℕ, ◌+◌, ◌<◌, Bool, false, Lis
 use Rattle.dl_bytes.specs.declared.conf.AppSpec.{AppSpec}
 use Rattle.dl_loop.specs.Scene.{scene}
 use Rattle.dl_taking.specs.Takes.{found_none, gave}
-use Rattle.dl_thread_rules.specs.Views.{bit}
+use Rattle.dl_cells.specs.Views.{bit}
 use Rattle.dl_loop.specs.Takes.{TakesOn, TakesSomeOf, is_over, most_of}
 use Rattle.dl_loop.proofs.GoneRounds.{goes_both, goes_none, goes_some}
 use Rattle.dl_loop.proofs.TakesTurned.{GoOn, go_on, some_same}

@@ -5,7 +5,7 @@ use Rattle.dl_model.specs.declared.context.Context.{Context}
 use Rattle.dl_model.specs.declared.registry.Slot.{Slot}
 use Rattle.dl_model.specs.Registry.{Registry, app_of, context_of, is_free, slot_of}
 use Rattle.dl_model.proofs.Order.{app_of_found}
-use Rattle.dl_slots.specs.Table.{held_at, wanted_at}
+use Rattle.dl_registry.specs.Table.{held_at, wanted_at}
 use Rattle.dl_registry.specs.Kept.{Kept, CanClaim, ClaimsIn, kept_of}
 use Rattle.dl_registry.proofs.Messages.{can_claim, claims-taken, claims-worn, free_told}
 use Rattle.dl_registry.proofs.registry.Registry.claim_in.Goals as goal

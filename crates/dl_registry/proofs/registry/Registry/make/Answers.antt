@@ -1,7 +1,7 @@
 use Rattle.std.proofs.Common.{◌≡◌, [], subst, sym}
 use Rattle.dl_registry.specs.Kept.{Fits}
-use Rattle.dl_slots.specs.Table.{Table}
-use Rattle.dl_slots.proofs.Waiting.{made_table}
+use Rattle.dl_registry.specs.Table.{Table}
+use Rattle.dl_registry.proofs.OwedSlots.{made_table}
 use Rattle.dl_registry.proofs.Waiting.{made_fits}
 use Rattle.dl_registry.proofs.registry.Registry.make.Goals as goal
 

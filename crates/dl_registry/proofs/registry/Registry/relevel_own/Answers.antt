@@ -1,20 +1,19 @@
-use Rattle.std.proofs.Common.{◌≡◌, ◌≢◌, false, true≢false, Ok, Err, refl, sym, ap, subst, ◌∙◌}
+use Rattle.std.proofs.Common.{◌≡◌, false, Ok, Err, refl, sym, ap, subst, ◌∙◌}
 use Rattle.std.specs.Prelude.{if◌then◌else◌}
 use Rattle.std.specs.List.{IsDistinct}
 use Rattle.std.specs.Map.{keys_of, lookup}
 use Rattle.std.specs.Option.{option_map_or, option_or}
 use Rattle.std.specs.Str.{bytes_eq}
-use Rattle.dl_bytes.specs.Id.{zero_id}
 use Rattle.dl_model.specs.declared.registry.SetFault.TheVariants as set
-use Rattle.dl_model.specs.Registry.{Registry, releveled, set_matching, unless_worn, wears, wears_app}
-use Rattle.dl_slots.specs.Table.{held_at, wanted_at}
+use Rattle.dl_model.specs.Registry.{Registry, is_pattern, releveled, set_matching, unless_worn, wears, wears_app}
+use Rattle.dl_registry.specs.Table.{held_at, wanted_at}
 use Rattle.dl_registry.specs.Kept.{Kept, Fits, Sets, slots, with_registry}
 use Rattle.dl_registry.specs.Refresh.{level_named}
 use Rattle.dl_registry.proofs.Naming.{app-releveled, app-wears_is, fits-app}
 use Rattle.dl_registry.proofs.registry.Registry.relevel_own.Goals as goal
 
-pub returns-then-is_zero : goal.returns-then-is_zero
-returns-then-is_zero c =
+pub returns-then-is_pattern : goal.returns-then-is_pattern
+returns-then-is_pattern c =
     subst (λ n. Sets (unless_worn (slots c.args.self.now) c.args.self.now.registry n (set_matching c.args.apid c.args.ctid c.args.own)) c.args.self.now c.relevel.result c.relevel.new.self)
     (ap (λ (k : Kept). k.registry.level) c.self.view_is) c.relevel.ensures
 
@@ -23,7 +22,7 @@ returns-then-wears_in c =
     let r : Registry = record { level = c.self.inside.level; stored = c.self.inside.stored; apps = c.self.inside.apps.entries } in
     let s = held_at c.self.inside.table.first c.self.inside.table.held in
     let own = set_matching c.args.apid c.args.ctid c.args.own in
-    let some : c.args.apid ≢ zero_id = λ zero. true≢false (sym (c.is_zero.ensures.1 zero) ∙ c.if-is_zero.false) in
+    let some : is_pattern c.args.apid ≡ false = sym c.is_pattern.ensures ∙ c.if-is_pattern.false in
     let apart : IsDistinct bytes_eq (keys_of r.apps) = subst (λ (k : Kept). IsDistinct bytes_eq (keys_of k.registry.apps)) (sym c.self.view_is) c.wears_in.ensures.apart in
     let test : wears s r r.level own ≡ c.wears_in.result =
     app-wears_is r c.args.apid c.args.ctid some apart c.args.own s
@@ -39,7 +38,7 @@ invariant_of-self c =
     let r : Registry = record { level = c.self.inside.level; stored = c.self.inside.stored; apps = c.self.inside.apps.entries } in
     let t = c.self.inside.table in
     let own = set_matching c.args.apid c.args.ctid c.args.own in
-    let some : c.args.apid ≢ zero_id = λ zero. true≢false (sym (c.is_zero.ensures.1 zero) ∙ c.if-is_zero.false) in
+    let some : is_pattern c.args.apid ≡ false = sym c.is_pattern.ensures ∙ c.if-is_pattern.false in
     let apart : IsDistinct bytes_eq (keys_of r.apps) = subst (λ (k : Kept). IsDistinct bytes_eq (keys_of k.registry.apps)) (sym c.self.view_is) c.wears_in.ensures.apart in
     let test : wears (held_at t.first t.held) r r.level own ≡ c.wears_in.result =
     app-wears_is r c.args.apid c.args.ctid some apart c.args.own (held_at t.first t.held)
@@ -55,7 +54,7 @@ returns c =
     let r : Registry = record { level = c.self.inside.level; stored = c.self.inside.stored; apps = c.self.inside.apps.entries } in
     let s = held_at c.self.inside.table.first c.self.inside.table.held in
     let own = set_matching c.args.apid c.args.ctid c.args.own in
-    let some : c.args.apid ≢ zero_id = λ zero. true≢false (sym (c.is_zero.ensures.1 zero) ∙ c.if-is_zero.false) in
+    let some : is_pattern c.args.apid ≡ false = sym c.is_pattern.ensures ∙ c.if-is_pattern.false in
     let apart : IsDistinct bytes_eq (keys_of r.apps) = subst (λ (k : Kept). IsDistinct bytes_eq (keys_of k.registry.apps)) (sym c.self.view_is) c.wears_in.ensures.apart in
     let test : wears s r r.level own ≡ c.wears_in.result =
     app-wears_is r c.args.apid c.args.ctid some apart c.args.own s

@@ -1,7 +1,7 @@
 use Rattle.std.proofs.Common.{◌≡◌, ◌/◌, cond, None, Some, ap, subst, sym, ◌∙◌}
 use Rattle.std.specs.Prelude.{◌==◌}
 use Rattle.std.specs.Map.{lookup}
-use Rattle.dl_slots.specs.Table.{wanted_at}
+use Rattle.dl_registry.specs.Table.{wanted_at}
 use Rattle.std.specs.Str.{bytes_eq}
 use Rattle.dl_model.specs.Registry.{Registry, app_of}
 use Rattle.dl_model.proofs.Order.{app_of_found}

@@ -17,7 +17,7 @@ use types.Run.{enter, returns, no_more}
 use types.ByLocal.{alloc_all, pass_all, free_all, look_at, sets}
 use denote.Exit.{yes}
 use denote.RattleType.{owns}
-use denote.Builtin.{RefOf}
+use denote.Builtin.{RefOf, u32}
 use denote.Signature.{plain, types_at}
 use denote.Steps.{nothing}
 use denote.Triple.Clauses.{Clauses, Ended, closing}
@@ -27,7 +27,6 @@ use denote.Triple.Table.{entered}
 use denote.Triple.Walked.{says, Stays, stay_dropped, walk_of, ends_at, walk_Meets, Goes-dropped}
 use Rattle.dl_rounds.proofs.Walks.{empty, empty_made}
 use Rattle.dl_rounds.specs.contracts.past.Past as Past
-use denote.Builtin.{u32}
 use Rattle.std.specs.Prelude.{replicate}
 use Rattle.dl_bytes.specs.Limits.{message_limit}
 use Rattle.dl_message.specs.Cutting.{unfed}

@@ -9,9 +9,9 @@ use Rattle.dl_sessions.proofs.account.Account.add.Goals as goal
 pub returns-in-Lost : goal.returns-in-Lost
 returns-in-Lost c = λ stream after.
     let old = c.args.self.now in
-    let new : Account = record old { lost = c.note_lost.new.lost; messages = c.saturating_add-self.result } in
-    on_ok_weaker c.note_lost.result (λ lost. subst (λ (t : Told). IsAfter (stream ++ t ∷ []) new) (sym c.in-Lost.is)
-    (reported stream c.in-Lost.report old new after lost (λ k. k) (λ k. k) refl refl c.saturating_add-self.ensures)) (c.note_lost.ensures stream after.lost_are)
+    let new : Account = record old { applications = c.note_report.new.self; messages = c.saturating_add-self.result } in
+    on_ok_weaker c.note_report.result (λ told. subst (λ (t : Told). IsAfter (stream ++ t ∷ []) new) (sym c.in-Lost.is)
+    (reported stream c.in-Lost.report old new after told (λ k. k) (λ k. k) refl refl c.saturating_add-self.ensures)) (c.note_report.ensures stream after.applications_are)
 
 pub returns-in-Other : goal.returns-in-Other
 returns-in-Other c = λ stream after.

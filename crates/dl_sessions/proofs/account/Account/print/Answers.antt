@@ -12,6 +12,7 @@ returns c = λ stream after.
     let account = c.args.self.now in
     let text = c.args.text.now.items in
     let first = c.push_holes.new.text.items in
-    on_ok_weaker c.push_sessions.result (λ e. lines_are stream account after text first c.push_sessions.new.text.items
-    (c.in_ok-push_holes.ensures ∙ ap (λ (hs : List Hole). text ++ flat_map (hole_by account.totals) hs) c.deref.ensures.value)
-    (e ∙ ap (λ (ss : List Session). first ++ flat_map (session_by account.totals account.lost) ss) c.deref-2.ensures.value)) c.push_sessions.ensures
+    let second = c.push_sessions.new.text.items in
+    on_ok_weaker c.push_applications.result (lines_are stream account after text first second c.push_applications.new.text.items
+    (c.in_ok-push_holes.ensures ∙ ap (λ (hs : List Hole). text ++ flat_map (hole_by account.totals account.applications) hs) c.deref.ensures.value)
+    (c.in_ok-push_sessions.ensures ∙ ap (λ (ss : List Session). first ++ flat_map (session_by account.totals) ss) c.deref-2.ensures.value)) c.push_applications.ensures

@@ -1,7 +1,8 @@
 use Rattle.std.proofs.Common.{◌++◌, map, subst}
 use Rattle.std.specs.List.{flat_map}
 use Rattle.dl_picture.specs.declared.axis.Axis.{Axis}
-use Rattle.dl_sessions.specs.Account.{entries, holes, totals_of}
+use Rattle.dl_sessions.specs.Account.{holes, totals_of}
+use Rattle.dl_sessions.specs.Gaps.{entries}
 use Rattle.dl_timeline.specs.Timeline.{KeepsMarks, KeepsReports, hole_mark, message_mark, reports_from}
 use Rattle.dl_timeline.proofs.timeline.Timeline.of.Goals as goal
 

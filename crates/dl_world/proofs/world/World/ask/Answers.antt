@@ -5,7 +5,7 @@ use Rattle.dl_hub.specs.State.{client_of}
 use Rattle.dl_world_calls.proofs.Acts.{on_ok}
 use Rattle.dl_world.specs.declared.world.World.{World}
 use Rattle.dl_world.proofs.Asking.{asks, asks_nothing, asks_too_many, came_so, shut_so}
-use Rattle.dl_folders.proofs.LeftFiles.{leaves_alone}
+use Rattle.dl_core.proofs.LeftFiles.{leaves_alone}
 use Rattle.dl_world.proofs.world.World.ask.Goals as goal
 
 pub returns-then-not-is_open-clause-does : goal.returns-then-not-is_open-clause-does

@@ -2,7 +2,7 @@ use Rattle.std.proofs.Common.{◌≡◌, ℕ, List, refl, subst, arith}
 use Rattle.std.proofs.lemmas.Grind.{common_steps}
 use Rattle.dl_world.specs.Follows.{Does}
 use Rattle.dl_world.proofs.Deeds.{does_nothing}
-use Rattle.dl_folders.proofs.LeftFiles.{leaves_alone, leaves_both}
+use Rattle.dl_core.proofs.LeftFiles.{leaves_alone, leaves_both}
 use Rattle.dl_world.proofs.Receiving.{ask_all, does_asked}
 use Rattle.dl_world.proofs.world.World.ask_each.Goals as goal
 

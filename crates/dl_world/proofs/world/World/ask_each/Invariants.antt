@@ -1,6 +1,6 @@
 use Rattle.std.proofs.Common.{◌≡◌, ◌++◌}
 use Rattle.std.specs.Vec.Iter.{into_iter_items}
-use Rattle.dl_folders.specs.Files.{Leaves}
+use Rattle.dl_core.specs.Files.{Leaves}
 use Rattle.dl_world.specs.Follows.{Does}
 use Rattle.dl_world.proofs.Receiving.{ask_all}
 use Rattle.dl_world.proofs.world.World.ask_each.Given as goal

@@ -1,6 +1,6 @@
 use Rattle.std.proofs.Common.{◌-◌, refl, ◌∙◌, arith}
 use Rattle.dl_events.specs.declared.event.Why.TheVariants as why
-use Rattle.dl_model.specs.Steps.{close}
+use Rattle.dl_script_model.specs.Steps.{close}
 use Rattle.dl_world.proofs.Turning.{does_first, does_loop}
 use Rattle.dl_world.proofs.Ends.{all_closed}
 use Rattle.dl_world.proofs.world.World.close_all.Goals as goal

@@ -1,6 +1,6 @@
 use Rattle.std.proofs.Common.{◌≡◌, ◌-◌, ◌≤◌}
 use Rattle.dl_events.specs.declared.event.Why.TheVariants as why
-use Rattle.dl_model.specs.Steps.{close}
+use Rattle.dl_script_model.specs.Steps.{close}
 use Rattle.dl_outside.specs.Told.{FolderTold}
 use Rattle.dl_world.specs.Follows.{Does}
 use Rattle.dl_world.proofs.Turning.{from}

@@ -1,12 +1,12 @@
 use Rattle.std.proofs.Common.{◌≡◌, ℕ, List, ◌∙◌, refl, subst}
 use Rattle.dl_bytes.specs.declared.user.UserMsg.TheVariants as user
-use Rattle.dl_model.specs.Marks.{HasApp}
-use Rattle.dl_model.specs.Steps.{just, tell}
+use Rattle.dl_script_model.specs.Marks.{HasApp}
+use Rattle.dl_script_model.specs.Steps.{just, tell}
 use Rattle.dl_world_calls.proofs.Acts.{on_ok}
 use Rattle.dl_world.specs.Follows.{Does}
 use Rattle.dl_world.specs.declared.world.World.{World}
 use Rattle.dl_world.proofs.Declared.{declares_app, does_two}
-use Rattle.dl_folders.proofs.LeftFiles.{leaves_alone}
+use Rattle.dl_core.proofs.LeftFiles.{leaves_alone}
 use Rattle.dl_world.proofs.world.World.declare_app.Goals as goal
 
 pub returns-in_err-add_app-clause-leaves : goal.returns-in_err-add_app-clause-leaves

@@ -1,13 +1,13 @@
 use Rattle.std.proofs.Common.{◌≡◌, ℕ, List, ◌∙◌, refl, subst}
 use Rattle.std.specs.Prelude.{negsuc}
 use Rattle.dl_bytes.specs.declared.user.UserMsg.TheVariants as user
-use Rattle.dl_model.specs.Marks.{HasContext}
-use Rattle.dl_model.specs.Steps.{just, tell}
+use Rattle.dl_script_model.specs.Marks.{HasContext}
+use Rattle.dl_script_model.specs.Steps.{just, tell}
 use Rattle.dl_world_calls.proofs.Acts.{on_ok}
 use Rattle.dl_world.specs.Follows.{Does}
 use Rattle.dl_world.specs.declared.world.World.{World}
 use Rattle.dl_world.proofs.Declared.{declares_context, does_two}
-use Rattle.dl_folders.proofs.LeftFiles.{leaves_alone}
+use Rattle.dl_core.proofs.LeftFiles.{leaves_alone}
 use Rattle.dl_world.proofs.world.World.declare_context.Goals as goal
 
 pub returns-in_err-add_context-clause-leaves : goal.returns-in_err-add_context-clause-leaves

@@ -1,10 +1,10 @@
 use Rattle.std.proofs.Common.{◌≡◌, List, refl, ◌∙◌, arith}
-use Rattle.dl_model.specs.Marks.{Mark, held_by}
-use Rattle.dl_model.specs.Steps.{take_losses}
+use Rattle.dl_script_model.specs.Marks.{Mark, held_by}
+use Rattle.dl_script_model.specs.Steps.{take_losses}
 use Rattle.dl_world_calls.specs.Follows as calls
 use Rattle.dl_world_calls.proofs.Acts.{on_ok}
 use Rattle.dl_world.specs.Follows.{Does}
-use Rattle.dl_folders.proofs.LeftFiles.{leaves_alone, leaves_both}
+use Rattle.dl_core.proofs.LeftFiles.{leaves_alone, leaves_both}
 use Rattle.dl_world.proofs.Turning.{does_first, does_next}
 use Rattle.dl_world.proofs.Drains.{takes, drains, drains_nobody}
 use Rattle.dl_world.proofs.world.World.drain.Goals as goal

@@ -1,4 +1,4 @@
-use Rattle.dl_folders.specs.Files.{Leaves}
+use Rattle.dl_core.specs.Files.{Leaves}
 use Rattle.dl_world.specs.Follows.{Does}
 use Rattle.dl_world.proofs.Turning.{from}
 use Rattle.dl_world.proofs.Drains.{takes}

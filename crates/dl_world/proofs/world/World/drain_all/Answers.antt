@@ -1,7 +1,7 @@
 use Rattle.std.proofs.Common.{refl, arith}
-use Rattle.dl_model.specs.Steps.{drain}
+use Rattle.dl_script_model.specs.Steps.{drain}
 use Rattle.dl_world.proofs.Turning.{does_first, does_next}
-use Rattle.dl_folders.proofs.LeftFiles.{leaves_alone, leaves_both}
+use Rattle.dl_core.proofs.LeftFiles.{leaves_alone, leaves_both}
 use Rattle.dl_world.proofs.Ends.{all_drained}
 use Rattle.dl_world.proofs.world.World.drain_all.Goals as goal
 

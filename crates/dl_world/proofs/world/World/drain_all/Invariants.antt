@@ -1,5 +1,5 @@
-use Rattle.dl_model.specs.Steps.{drain}
-use Rattle.dl_folders.specs.Files.{Leaves}
+use Rattle.dl_script_model.specs.Steps.{drain}
+use Rattle.dl_core.specs.Files.{Leaves}
 use Rattle.dl_world.specs.Follows.{Does}
 use Rattle.dl_world.proofs.Turning.{from}
 use Rattle.dl_world.proofs.world.World.drain_all.Given as goal

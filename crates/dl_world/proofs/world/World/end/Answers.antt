@@ -3,12 +3,12 @@ use Rattle.dl_events.specs.declared.event.Why.TheVariants as why
 use Rattle.dl_model.specs.Journal.{is_connect}
 use Rattle.std.specs.Prelude.{map, count_by}
 use Rattle.std.specs.List.{range_with_len}
-use Rattle.dl_model.specs.Marks.{journal}
-use Rattle.dl_model.specs.Steps.{in_sequence, close}
+use Rattle.dl_script_model.specs.Marks.{journal}
+use Rattle.dl_script_model.specs.Steps.{in_sequence, close}
 use Rattle.dl_world_calls.proofs.Acts.{on_ok}
 use Rattle.dl_core.specs.State.{Core}
 use Rattle.dl_world.specs.Follows.{Doing}
-use Rattle.dl_folders.proofs.LeftFiles.{leaves_alone}
+use Rattle.dl_core.proofs.LeftFiles.{leaves_alone}
 use Rattle.dl_world.proofs.Ends.{ended}
 use Rattle.dl_world.proofs.world.World.end.Goals as goal
 

@@ -1,5 +1,5 @@
 use Rattle.std.proofs.Common.{◌-◌, refl, ◌∙◌, arith}
-use Rattle.dl_model.specs.Steps.{finish}
+use Rattle.dl_script_model.specs.Steps.{finish}
 use Rattle.dl_world.proofs.Turning.{does_first, does_loop}
 use Rattle.dl_world.proofs.Ends.{all_finished}
 use Rattle.dl_world.proofs.world.World.finish_all.Goals as goal

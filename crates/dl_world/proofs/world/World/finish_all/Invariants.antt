@@ -1,5 +1,5 @@
 use Rattle.std.proofs.Common.{◌≡◌, ◌-◌, ◌≤◌}
-use Rattle.dl_model.specs.Steps.{finish}
+use Rattle.dl_script_model.specs.Steps.{finish}
 use Rattle.dl_outside.specs.Told.{FolderTold}
 use Rattle.dl_world.specs.Follows.{Does}
 use Rattle.dl_world.proofs.Turning.{from}

@@ -1,5 +1,5 @@
 use Rattle.std.proofs.Common.{sym}
-use Rattle.dl_model.specs.Steps.{take_injection}
+use Rattle.dl_script_model.specs.Steps.{take_injection}
 use Rattle.dl_world.proofs.Named.{does_injection, does_on_nobody}
 use Rattle.dl_world.proofs.world.World.injection_of.Goals as goal
 

@@ -2,8 +2,8 @@ use Rattle.std.proofs.Common.{◌≡◌, List, ◌++◌, None, sym, ap, ◌∙�
 use Rattle.dl_model.specs.Setting.{Setting}
 use Rattle.dl_model.specs.Registry.{slot_of}
 use Rattle.dl_model.specs.Journal.{slots_of}
-use Rattle.dl_model.specs.Marks.{Mark, journal, to_push, to_count}
-use Rattle.dl_model.specs.Steps.{load}
+use Rattle.dl_script_model.specs.Marks.{Mark, journal, to_push, to_count}
+use Rattle.dl_script_model.specs.Steps.{load}
 use Rattle.dl_world_calls.specs.Follows as calls
 use Rattle.dl_world_calls.proofs.Acts.{on_ok}
 use Rattle.dl_registry.specs.Kept.{Kept, slots}

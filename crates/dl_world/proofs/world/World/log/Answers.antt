@@ -1,9 +1,9 @@
 use Rattle.std.proofs.Common.{ap, sym, ◌∙◌}
 use Rattle.dl_core.specs.State.{Core}
 use Rattle.dl_world_calls.proofs.Acts.{on_ok}
-use Rattle.dl_model.specs.Steps.{take_log}
+use Rattle.dl_script_model.specs.Steps.{take_log}
 use Rattle.dl_world.specs.Follows.{Does}
-use Rattle.dl_folders.proofs.LeftFiles.{leaves_alone}
+use Rattle.dl_core.proofs.LeftFiles.{leaves_alone}
 use Rattle.dl_world.proofs.Drains.{logs_with_take, logs_alone}
 use Rattle.dl_world.proofs.world.World.log.Goals as goal
 

@@ -1,5 +1,5 @@
 use Rattle.std.proofs.Common.{◌≡◌, ℕ}
-use Rattle.dl_model.specs.Steps.{note_levels}
+use Rattle.dl_script_model.specs.Steps.{note_levels}
 use Rattle.dl_core.specs.Waiting.{waiting}
 use Rattle.dl_world.specs.Follows.{Doing}
 use Rattle.dl_world.specs.declared.world.World.{World}

@@ -1,9 +1,9 @@
 use Rattle.std.proofs.Common.{refl, sym}
 use Rattle.dl_world_calls.proofs.Acts.{on_ok}
-use Rattle.dl_folders.proofs.LeftFiles.{leaves_alone}
+use Rattle.dl_core.proofs.LeftFiles.{leaves_alone}
 use Rattle.dl_world.proofs.Failing.{stores_in, leaves_where}
 use Rattle.dl_world.proofs.LoggedEvents.{log_does}
-use Rattle.dl_folders.proofs.TracedFiles.{traced_keeps}
+use Rattle.dl_core.proofs.TracedFiles.{traced_keeps}
 use Rattle.dl_world.proofs.world.World.note_log.Goals as goal
 
 pub returns-in_default-clause-leaves : goal.returns-in_default-clause-leaves

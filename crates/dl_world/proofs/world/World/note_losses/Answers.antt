@@ -1,9 +1,9 @@
 use Rattle.std.proofs.Common.{refl}
 use Rattle.dl_world_calls.proofs.Acts.{on_ok}
-use Rattle.dl_folders.proofs.LeftFiles.{leaves_alone}
+use Rattle.dl_core.proofs.LeftFiles.{leaves_alone}
 use Rattle.dl_world.proofs.Failing.{stores_each, leaves_where}
 use Rattle.dl_world.proofs.LoggedEvents.{losses_does}
-use Rattle.dl_folders.proofs.TracedFiles.{traced_keeps}
+use Rattle.dl_core.proofs.TracedFiles.{traced_keeps}
 use Rattle.dl_world.proofs.world.World.note_losses.Goals as goal
 
 pub returns-in_err-make_room-clause-leaves : goal.returns-in_err-make_room-clause-leaves

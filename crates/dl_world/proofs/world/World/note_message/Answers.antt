@@ -2,11 +2,11 @@ use Rattle.std.proofs.Common.{◌≡◌, refl, sym, ap, subst}
 use Rattle.dl_world_calls.proofs.Acts.{on_ok}
 use Rattle.dl_core.specs.State.{Core}
 use Rattle.dl_outside.specs.Told.{FolderTold}
-use Rattle.dl_folders.specs.Files.{Leaves}
-use Rattle.dl_folders.proofs.LeftFiles.{leaves_alone}
+use Rattle.dl_core.specs.Files.{Leaves}
+use Rattle.dl_core.proofs.LeftFiles.{leaves_alone}
 use Rattle.dl_world.proofs.Failing.{stores_each, leaves_where}
 use Rattle.dl_world.proofs.ToldEvents.{message_does}
-use Rattle.dl_folders.proofs.TracedFiles.{traced_keeps}
+use Rattle.dl_core.proofs.TracedFiles.{traced_keeps}
 use Rattle.dl_world.proofs.world.World.note_message.Goals as goal
 
 pub returns-in_err-make_room-clause-leaves : goal.returns-in_err-make_room-clause-leaves

@@ -1,7 +1,7 @@
 use Rattle.std.proofs.Common.{sym, ◌∙◌}
 use Rattle.dl_world_calls.specs.State.{next_claim}
 use Rattle.dl_world_calls.proofs.Acts.{on_ok}
-use Rattle.dl_folders.proofs.LeftFiles.{leaves_alone}
+use Rattle.dl_core.proofs.LeftFiles.{leaves_alone}
 use Rattle.dl_world.proofs.Takes.{is_there, is_not_there, notes_claim, notes_call}
 use Rattle.dl_world.proofs.world.World.note_next.Goals as goal
 

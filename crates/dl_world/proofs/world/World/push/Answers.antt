@@ -1,4 +1,4 @@
-use Rattle.dl_model.specs.Steps.{push}
+use Rattle.dl_script_model.specs.Steps.{push}
 use Rattle.dl_world_calls.specs.Follows as calls
 use Rattle.dl_world_calls.proofs.Acts.{on_ok}
 use Rattle.dl_world.proofs.CallSteps.{push_steps, steps_doing}

@@ -1,15 +1,15 @@
 use Rattle.std.proofs.Common.{Bool, ℕ, List, refl, sym, subst}
 use Rattle.std.specs.Prelude.{IfSome}
 use Rattle.dl_events.specs.declared.event.Why.TheVariants as why
-use Rattle.dl_model.specs.Steps.{close, when}
+use Rattle.dl_script_model.specs.Steps.{close, when}
 use Rattle.dl_world_calls.proofs.Acts.{on_ok}
-use Rattle.dl_world_links.specs.Fed.{Asks, IsFedBy}
+use Rattle.dl_world.specs.Fed.{Asks, IsFedBy}
 use Rattle.dl_world.specs.Follows.{Does}
-use Rattle.dl_world_links.specs.State.{client_at}
+use Rattle.dl_world.specs.State.{client_at}
 use Rattle.dl_world.specs.declared.world.World.{World}
 use Rattle.dl_world.proofs.Asking.{open_so, shut_so}
 use Rattle.dl_world.proofs.Deeds.{does_nothing}
-use Rattle.dl_folders.proofs.LeftFiles.{leaves_alone}
+use Rattle.dl_core.proofs.LeftFiles.{leaves_alone}
 use Rattle.dl_world.proofs.Receiving.{does_receive, receives_nothing}
 use Rattle.dl_world.proofs.world.World.receive.Goals as goal
 

@@ -1,14 +1,14 @@
 use Rattle.std.proofs.Common.{List, ◌∙◌, refl, ap, arith}
 use Rattle.dl_lemmas.proofs.Options.{some_is}
 use Rattle.dl_bytes.specs.declared.outcome.Done.TheVariants as did
-use Rattle.dl_model.specs.Marks.{Mark}
+use Rattle.dl_script_model.specs.Marks.{Mark}
 use Rattle.dl_world_calls.proofs.Acts.{on_ok}
 use Rattle.dl_core.specs.Follows.{Run}
 use Rattle.dl_core.specs.State.{Core}
-use Rattle.dl_folders.proofs.LeftFiles.{leaves_alone}
+use Rattle.dl_core.proofs.LeftFiles.{leaves_alone}
 use Rattle.dl_world.specs.Follows.{IsAfter, IsBefore}
 use Rattle.dl_world.specs.declared.world.World.{World}
-use Rattle.dl_folders.proofs.AskedFiles.{request_leaves}
+use Rattle.dl_core.proofs.AskedFiles.{request_leaves}
 use Rattle.dl_world.proofs.Served.{does_request, has_served, room_for, wanted_by}
 use Rattle.dl_world.proofs.world.World.serve.Goals as goal
 

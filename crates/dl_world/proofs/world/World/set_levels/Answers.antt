@@ -1,9 +1,9 @@
 use Rattle.std.proofs.Common.{◌≡◌, Bool, true, false, [], refl, sym, subst}
-use Rattle.dl_script_lines.specs.declared.step.LevelEvents.{LevelEvents}
-use Rattle.dl_script_lines.specs.declared.step.LevelEvents.TheVariants as levels
-use Rattle.dl_script_lines.specs.declared.step.Step.TheVariants as line
-use Rattle.dl_model.specs.Marks.{LevelsWait}
-use Rattle.dl_model.specs.Steps.{act_of, just}
+use Rattle.dl_script_model.specs.declared.step.LevelEvents.{LevelEvents}
+use Rattle.dl_script_model.specs.declared.step.LevelEvents.TheVariants as levels
+use Rattle.dl_script_model.specs.declared.step.Step.TheVariants as line
+use Rattle.dl_script_model.specs.Marks.{LevelsWait}
+use Rattle.dl_script_model.specs.Steps.{act_of, just}
 use Rattle.dl_world.specs.Follows.{Doing}
 use Rattle.dl_world.specs.declared.world.World.{World}
 use Rattle.dl_world.proofs.OneMark.{sets_levels}

@@ -1,7 +1,7 @@
 use Rattle.std.proofs.Common.{◌≡◌, ◌∙◌, ℕ, List, refl, sym, ap, subst}
 use Rattle.std.specs.Prelude.{None}
-use Rattle.dl_script_lines.specs.declared.step.Step.{Step}
-use Rattle.dl_script_lines.specs.declared.step.Step.TheVariants as line
+use Rattle.dl_script_model.specs.declared.step.Step.{Step}
+use Rattle.dl_script_model.specs.declared.step.Step.TheVariants as line
 use Rattle.dl_script.specs.Earlier.{refusal}
 use Rattle.dl_script.specs.Playable.{IsInBounds}
 use Rattle.dl_script.specs.Spelled.{step_claim}
@@ -9,7 +9,7 @@ use Rattle.dl_core.specs.State.{Core}
 use Rattle.dl_world_calls.proofs.Acts.{on_ok}
 use Rattle.dl_world.proofs.Claims.{owner_is_known, contexts_are_few, has_place}
 use Rattle.dl_world.proofs.Declared.{declares_writer}
-use Rattle.dl_folders.proofs.LeftFiles.{leaves_alone}
+use Rattle.dl_core.proofs.LeftFiles.{leaves_alone}
 use Rattle.dl_world.proofs.StepLines.{of_line, levels_line}
 use Rattle.dl_world.proofs.world.World.step.Goals as goal
 

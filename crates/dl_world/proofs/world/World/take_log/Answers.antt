@@ -1,10 +1,10 @@
 use Rattle.std.proofs.Common.{◌≡◌, ◌<◌, length, Some, refl, ap, sym, ◌∙◌, arith}
-use Rattle.dl_model.specs.Steps.{note_levels_now}
+use Rattle.dl_script_model.specs.Steps.{note_levels_now}
 use Rattle.dl_world_calls.specs.State.{next_held}
 use Rattle.dl_world_calls.proofs.Acts.{on_ok}
 use Rattle.dl_world.specs.Follows.{Doing, event_held}
 use Rattle.dl_world.specs.declared.world.World.{World}
-use Rattle.dl_folders.proofs.LeftFiles.{leaves_alone}
+use Rattle.dl_core.proofs.LeftFiles.{leaves_alone}
 use Rattle.dl_world.proofs.Telling.{does_note}
 use Rattle.dl_world.proofs.Takes.{none_held, some_held, takes_of_nobody, takes_none, takes_next}
 use Rattle.dl_world.proofs.world.World.take_log.Goals.{then-apps-app-via-then-apps-app, then-apps-app-via-else-apps-app+then-not-has_next}

@@ -1,11 +1,11 @@
 use Rattle.std.proofs.Common.{◌≡◌, ◌<◌, refl, ap, ◌∙◌, arith}
 use Rattle.dl_events.specs.declared.event.Event.TheVariants as event
-use Rattle.dl_model.specs.Marks.{moment}
-use Rattle.dl_model.specs.Steps.{note_levels_now}
+use Rattle.dl_script_model.specs.Marks.{moment}
+use Rattle.dl_script_model.specs.Steps.{note_levels_now}
 use Rattle.dl_world_calls.proofs.Acts.{on_ok}
 use Rattle.dl_world.specs.Follows.{Doing}
 use Rattle.dl_world.specs.declared.world.World.{World}
-use Rattle.dl_folders.proofs.LeftFiles.{leaves_alone}
+use Rattle.dl_core.proofs.LeftFiles.{leaves_alone}
 use Rattle.dl_world.proofs.Telling.{does_note}
 use Rattle.dl_world.proofs.Takes.{loses_of_nobody, loses_nothing, loses_some}
 use Rattle.dl_world.proofs.world.World.take_losses.Goals as goal

@@ -1,7 +1,7 @@
 use Rattle.std.proofs.Common.{refl, sym}
-use Rattle.dl_model.specs.Steps.{take_log}
+use Rattle.dl_script_model.specs.Steps.{take_log}
 use Rattle.dl_world_calls.proofs.Acts.{on_ok}
-use Rattle.dl_folders.proofs.LeftFiles.{leaves_alone}
+use Rattle.dl_core.proofs.LeftFiles.{leaves_alone}
 use Rattle.dl_world.proofs.Named.{does_on_app, does_on_nobody}
 use Rattle.dl_world.proofs.world.World.take_of.Goals as goal
 

@@ -1,9 +1,9 @@
 use Rattle.std.proofs.Common.{ap}
 use Rattle.std.proofs.lemmas.Result.{on_ok_weaker}
 use Rattle.dl_events.specs.declared.event.Event.TheVariants as event
-use Rattle.dl_model.specs.Marks.{moment}
+use Rattle.dl_script_model.specs.Marks.{moment}
 use Rattle.dl_world.specs.declared.world.World.{World}
-use Rattle.dl_folders.proofs.LeftFiles.{leaves_alone}
+use Rattle.dl_core.proofs.LeftFiles.{leaves_alone}
 use Rattle.dl_world.proofs.Telling.{does_note}
 use Rattle.dl_world.proofs.world.World.tell.Goals as goal
 

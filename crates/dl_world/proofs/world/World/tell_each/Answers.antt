@@ -3,7 +3,7 @@ use Rattle.std.proofs.lemmas.Grind.{common_steps}
 use Rattle.dl_bytes.specs.declared.user.UserMsg.{UserMsg}
 use Rattle.dl_world.specs.Follows.{Does}
 use Rattle.dl_world.proofs.Deeds.{does_nothing}
-use Rattle.dl_folders.proofs.LeftFiles.{leaves_alone, leaves_both}
+use Rattle.dl_core.proofs.LeftFiles.{leaves_alone, leaves_both}
 use Rattle.dl_world.proofs.Telling.{tell_all, does_message}
 use Rattle.dl_world.proofs.world.World.tell_each.Goals as goal
 

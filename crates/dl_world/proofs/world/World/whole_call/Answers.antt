@@ -1,4 +1,4 @@
-use Rattle.dl_model.specs.Steps.{begin_call, finish}
+use Rattle.dl_script_model.specs.Steps.{begin_call, finish}
 use Rattle.dl_world_calls.proofs.Acts.{on_ok}
 use Rattle.dl_world.specs.Follows.{Doing}
 use Rattle.dl_world.proofs.Composing.{doing_two}

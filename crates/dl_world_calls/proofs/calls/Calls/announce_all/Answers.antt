@@ -1,6 +1,6 @@
 use Rattle.std.proofs.Common.{◌≡◌, ℕ, suc, ◌+◌, ◌-◌, ap, sym, subst, ◌∙◌, arith}
 use Rattle.std.specs.Prelude.{not}
-use Rattle.dl_model.specs.Steps.{announce_upto}
+use Rattle.dl_script_model.specs.Steps.{announce_upto}
 use Rattle.dl_world_calls.specs.Follows.{Does}
 use Rattle.dl_world_calls.proofs.Acts.{announces_on, announces_no_more, announces_none, announces_all, unannounced_is}
 use Rattle.dl_world_calls.proofs.calls.Calls.announce_all.Goals as goal

@@ -1,5 +1,5 @@
 use Rattle.std.proofs.Common.{◌-◌}
-use Rattle.dl_model.specs.Steps.{announce_upto}
+use Rattle.dl_script_model.specs.Steps.{announce_upto}
 use Rattle.dl_world_calls.specs.State.{Calls}
 use Rattle.dl_world_calls.specs.Follows.{Does}
 use Rattle.dl_world_calls.proofs.calls.Calls.announce_all.Given as goal

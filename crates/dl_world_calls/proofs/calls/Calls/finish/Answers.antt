@@ -1,4 +1,4 @@
-use Rattle.dl_model.specs.Steps.{count}
+use Rattle.dl_script_model.specs.Steps.{count}
 use Rattle.dl_world_calls.specs.Follows.{Does}
 use Rattle.dl_world_calls.proofs.Acts.{on_ok, finish-does}
 use Rattle.dl_world_calls.proofs.calls.Calls.finish.Goals as goal

@@ -1,6 +1,6 @@
 use Rattle.std.proofs.Common.{rules, ◌≡◌, ◌≤◌, ℕ, Option, Some, None, IfSome, IfNone, IsTrue, slice_get, arith, List}
 use Rattle.std.specs.Option.{is_some}
-use Rattle.dl_thread_rules.specs.Views.{times}
+use Rattle.dl_cells.specs.Views.{times}
 use Rattle.dl_writer.specs.State.{BookState, numbers}
 use Rattle.dl_writer.proofs.Books.{is_among}
 use Rattle.dl_writer.proofs.book_list.BookList.has.Goals as goal

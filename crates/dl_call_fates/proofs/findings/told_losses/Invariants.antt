@@ -1,6 +1,0 @@
-use Rattle.std.proofs.Common.{◌≡◌, take}
-use Rattle.dl_left.specs.Losses.{told}
-use Rattle.dl_call_fates.proofs.findings.told_losses.Given as goal
-
-abbrev pub invariant-loop-event : goal.invariant-loop-event
-invariant-loop-event l = l.sum ≡ told (take l.event-index l.events)

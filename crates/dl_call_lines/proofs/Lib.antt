@@ -1,5 +1,0 @@
-pub mod Places
-pub mod Walks
-pub mod Silent
-pub mod Telling
-pub mod Counting

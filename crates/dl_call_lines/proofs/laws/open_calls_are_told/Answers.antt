@@ -1,8 +1,0 @@
-use Rattle.dl_call_lines.proofs.Counting.{loaded_told, refused_told}
-use Rattle.dl_call_lines.proofs.laws.open_calls_are_told.Goals as goal
-
-pub returns-clause-refused : goal.returns-clause-refused
-returns-clause-refused c = refused_told
-
-pub returns-clause-loaded : goal.returns-clause-loaded
-returns-clause-loaded c = loaded_told

@@ -1,0 +1,10 @@
+pub mod ClaimSums
+pub mod ClaimKeeping
+pub mod LevelHistories
+pub mod LevelKeeping
+pub mod LevelCounting
+pub mod LossSums
+pub mod LossKeeping
+pub mod Each
+pub mod Totals
+pub mod Bits

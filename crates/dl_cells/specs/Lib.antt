@@ -1,0 +1,13 @@
+pub mod Claims
+pub mod ClaimStates
+pub mod ClaimRule
+pub mod ClaimPasses
+pub mod LevelHistory
+pub mod LevelStates
+pub mod LevelRule
+pub mod LevelPasses
+pub mod Losses
+pub mod LossStates
+pub mod LossRule
+pub mod LossPasses
+pub mod Views

@@ -1,4 +1,0 @@
-pub mod Claims
-pub mod States
-pub mod Rule
-pub mod Passes

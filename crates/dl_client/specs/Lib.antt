@@ -1,0 +1,9 @@
+pub mod Area
+pub mod Message
+pub mod Account
+pub mod Program
+pub mod Seen
+pub mod Outcomes
+pub mod Law
+pub mod Values
+pub mod Captured

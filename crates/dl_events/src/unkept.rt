@@ -1,0 +1,76 @@
+//! The journal, and how it takes an event.
+
+ghost use Rattle.std.specs.Prelude.{◌≡◌, ◌≤◌, [], Some, IsOk};
+ghost use Rattle.dl_events.specs.Told.{Told, count};
+
+use crate::log::Log;
+use crate::{Event, Journal};
+use dl_bytes::OutOfMemory;
+use std::marker::Model;
+
+/// A journal that keeps the number of its events alone, never wants memory, and tells its events in proofs.
+#[derive(Drop)]
+pub struct Unkept {
+    /// How many events were noted.
+    noted: u64,
+    spare: u64,
+    log: Log,
+}
+
+impl Model for Unkept {
+    ghost Value = { Told };
+
+    ghost view = { λ u. record { events = u.log.events; noted = u.noted; spare = u.spare } };
+
+    ghost invariant = { λ u. u.noted ≡ count u.log.events };
+}
+
+impl Unkept {
+    /// A journal to which nothing was noted.
+    pub fn make() -> Unkept
+        ensures { result ≡ record { events = []; noted = 0; spare = 0 } }
+    {
+        Unkept {
+            noted: 0,
+            spare: 0,
+            log: Log::new(),
+        }
+    }
+
+    /// How many events were noted, at most 2^64 - 1.
+    pub fn noted(&self) -> u64
+        ensures noted { result ≡ self.now.noted }
+        ensures number { result ≡ count self.now.events }
+    {
+        self.noted
+    }
+}
+
+impl Journal for Unkept {
+    ghost events = { λ u. Some u.events };
+
+    ghost noted = { λ u. u.noted };
+
+    ghost spare = { λ u. u.spare };
+
+    fn reserve(&mut self, more: u64) -> Result<(), OutOfMemory>
+        ensures events { self.new.events ≡ self.old.events }
+        ensures noted { self.new.noted ≡ self.old.noted }
+        ensures ok { IsOk result }
+        ensures room { more ≤ self.new.spare }
+        ensures later { self.old.spare ≤ self.new.spare }
+    {
+        self.spare = self.spare.max(more);
+        Ok(())
+    }
+
+    fn note(&mut self, event: Event) {
+        self.log = self.log.and(&event);
+        self.noted = self.noted.saturating_add(1);
+        self.spare -= 1;
+    }
+
+    fn spare(&self) -> u64 {
+        self.spare
+    }
+}

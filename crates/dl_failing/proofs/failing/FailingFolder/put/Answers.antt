@@ -1,6 +1,0 @@
-use Rattle.std.proofs.Common.{ap}
-use Rattle.dl_failing.proofs.Unchanged.{all_stay}
-use Rattle.dl_failing.proofs.failing.FailingFolder.put.Goals as goal
-
-pub returns-then-begin-clause-files : goal.returns-then-begin-clause-files
-returns-then-begin-clause-files g c = all_stay _ _ _ (ap (λ f. (g.F.Folder.told f).files) c.begin.ensures.inner)

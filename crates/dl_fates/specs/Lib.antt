@@ -1,0 +1,17 @@
+pub mod Claims
+pub mod Rows
+pub mod Followed
+pub mod Found
+pub mod Written
+pub mod Cases
+pub mod Lines
+pub mod Told
+pub mod Calls
+pub mod ClaimLines
+pub mod Noted
+pub mod Ahead
+pub mod Numbers
+pub mod Sizes
+pub mod FilePlaces
+pub mod StoredIn
+pub mod StoredFound

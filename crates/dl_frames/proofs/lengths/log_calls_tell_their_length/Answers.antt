@@ -1,5 +1,0 @@
-use Rattle.dl_frames.proofs.Spellings.{log_tells}
-use Rattle.dl_frames.proofs.lengths.log_calls_tell_their_length.Goals as goal
-
-pub returns : goal.returns
-returns c = log_tells

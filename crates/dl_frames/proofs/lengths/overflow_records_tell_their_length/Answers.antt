@@ -1,5 +1,0 @@
-use Rattle.dl_frames.proofs.Spellings.{records_tell}
-use Rattle.dl_frames.proofs.lengths.overflow_records_tell_their_length.Goals as goal
-
-pub returns : goal.returns
-returns c = records_tell

@@ -1,5 +1,0 @@
-use Rattle.dl_frames.proofs.Traffics.{sent_tell}
-use Rattle.dl_frames.proofs.lengths.streams_tell_their_lengths.Goals as goal
-
-pub returns : goal.returns
-returns c = sent_tell

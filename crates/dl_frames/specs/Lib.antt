@@ -1,4 +1,0 @@
-pub mod Frames
-pub mod CallFrame
-pub mod FrameLengths
-pub mod FramesPut

@@ -1,7 +1,0 @@
-use Rattle.std.proofs.Common.{◌∙◌, ap}
-use Rattle.dl_injections.specs.State.{TakeState}
-use Rattle.dl_injections.proofs.Keeping.{forks}
-use Rattle.dl_injections.proofs.take.InjectTake.split.Goals as goal
-
-pub another-pass-requires-clause-rule : goal.another-pass-requires-clause-rule
-another-pass-requires-clause-rule c = forks _ _ (ap (λ (s : TakeState). s.first) c.self.view_is ∙ c.requires.first)

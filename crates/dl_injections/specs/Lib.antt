@@ -1,4 +1,0 @@
-pub mod State
-pub mod Order
-pub mod Rule
-pub mod Passes

@@ -1,8 +1,0 @@
-use Rattle.std.proofs.Common.{refl}
-use Rattle.std.specs.Fmt.{digits}
-use Rattle.dl_model.specs.Steps.{changes}
-use Rattle.dl_laws.proofs.examples.a_report_adds_up.Goals as goal
-
-pub returns : goal.returns
-unfolding changes digits
-returns c = refl

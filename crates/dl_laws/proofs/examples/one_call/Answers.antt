@@ -1,8 +1,0 @@
-use Rattle.std.proofs.Common.{refl}
-use Rattle.std.specs.Fmt.{digits}
-use Rattle.dl_model.specs.Steps.{changes}
-use Rattle.dl_laws.proofs.examples.one_call.Goals as goal
-
-pub returns-clause-report : goal.returns-clause-report
-unfolding changes digits
-returns-clause-report c = refl

@@ -1,6 +1,0 @@
-use Rattle.std.proofs.Common.{rules}
-use Rattle.dl_levels.proofs.Keeping.{loads}
-use Rattle.dl_levels.proofs.keeper.LevelKeeper.settle.Goals as goal
-
-pub load-requires : goal.load-requires
-load-requires c = (search rules, search rules, loads _ _ _ _ _ (search rules))

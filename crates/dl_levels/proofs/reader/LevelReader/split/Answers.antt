@@ -1,6 +1,0 @@
-use Rattle.std.proofs.Common.{rules}
-use Rattle.dl_levels.proofs.Keeping.{splits}
-use Rattle.dl_levels.proofs.reader.LevelReader.split.Goals as goal
-
-pub split_seat-seat-requires : goal.split_seat-seat-requires
-split_seat-seat-requires c = (search rules, search rules, splits _ _ _)

@@ -1,6 +1,0 @@
-use Rattle.std.proofs.Common.{ℕ, ◌<◌}
-use Rattle.dl_lib.specs.Known.{IsEmpty, IsTold}
-use Rattle.dl_lib.proofs.closing.Closing.is_drained.Given as goal
-
-abbrev pub invariant-loop-app : goal.invariant-loop-app
-invariant-loop-app l = (app : ℕ) → app < l.app → IsEmpty l.self app × IsTold l.self app

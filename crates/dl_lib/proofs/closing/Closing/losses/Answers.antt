@@ -1,8 +1,0 @@
-use Rattle.dl_lib.specs.ClosingInside.{closing_state}
-use Rattle.dl_lib.proofs.Stepping.{reports}
-use Rattle.dl_lib.proofs.closing.Closing.losses.Goals as goal
-
-pub invariant_of-self : goal.invariant_of-self
-invariant_of-self c =
-    let i = c.self.inside in
-    reports (closing_state i) i.items i.losses i.injected.items i.entries c.self.invariant c.args.app c.from.result c.losses.result c.losses.new.self c.from.ensures c.losses.ensures.reported c.losses.ensures.all

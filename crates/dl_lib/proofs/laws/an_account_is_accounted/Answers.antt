@@ -1,5 +1,0 @@
-use Rattle.dl_lib.proofs.Accounted.{accounted}
-use Rattle.dl_lib.proofs.laws.an_account_is_accounted.Goals as goal
-
-pub returns : goal.returns
-returns c = λ events s is whole j. accounted events s is whole j

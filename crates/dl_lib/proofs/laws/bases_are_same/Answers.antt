@@ -1,5 +1,0 @@
-use Rattle.dl_lib.proofs.OpenBooks.{same_bases}
-use Rattle.dl_lib.proofs.laws.bases_are_same.Goals as goal
-
-pub returns : goal.returns
-returns c = same_bases

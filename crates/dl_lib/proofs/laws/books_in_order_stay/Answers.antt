@@ -1,5 +1,0 @@
-use Rattle.dl_lib.proofs.OpenBooks.{stay_in_order}
-use Rattle.dl_lib.proofs.laws.books_in_order_stay.Goals as goal
-
-pub returns : goal.returns
-returns c = stay_in_order

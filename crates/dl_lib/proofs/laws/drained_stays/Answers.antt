@@ -1,5 +1,0 @@
-use Rattle.dl_lib.proofs.Resting.{drained_stays}
-use Rattle.dl_lib.proofs.laws.drained_stays.Goals as goal
-
-pub returns : goal.returns
-returns c = drained_stays

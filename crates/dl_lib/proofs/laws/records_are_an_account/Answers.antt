@@ -1,5 +1,0 @@
-use Rattle.dl_lib.proofs.Accounting.{is_account}
-use Rattle.dl_lib.proofs.laws.records_are_an_account.Goals as goal
-
-pub returns : goal.returns
-returns c = λ events s settled whole journal. is_account s settled whole events journal

@@ -1,5 +1,0 @@
-use Rattle.dl_lib.proofs.InOrder.{IsSoFar}
-use Rattle.dl_lib.proofs.ordering.in_order.Given as goal
-
-abbrev pub invariant-loop-done : goal.invariant-loop-done
-invariant-loop-done l = IsSoFar l.fn.books l.books l.ordered l.done

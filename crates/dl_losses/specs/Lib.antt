@@ -1,4 +1,0 @@
-pub mod Losses
-pub mod States
-pub mod Rule
-pub mod Passes

@@ -1,5 +1,0 @@
-use Rattle.dl_promises.proofs.LongerJournals.{goes_on}
-use Rattle.dl_promises.proofs.journals.a_well_formed_journal_goes_on.Goals as goal
-
-pub returns : goal.returns
-returns c = goes_on

@@ -1,5 +1,0 @@
-use Rattle.dl_promises.proofs.ClientCounts.{open_and_gone}
-use Rattle.dl_promises.proofs.journals.open_and_gone_are_all.Goals as goal
-
-pub returns : goal.returns
-returns c = open_and_gone

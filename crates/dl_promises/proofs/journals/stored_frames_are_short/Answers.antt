@@ -1,5 +1,0 @@
-use Rattle.dl_promises.proofs.StoredFrames.{stored_short}
-use Rattle.dl_promises.proofs.journals.stored_frames_are_short.Goals as goal
-
-pub returns : goal.returns
-returns c = stored_short

@@ -1,8 +1,0 @@
-use Rattle.dl_promises.proofs.LongerJournals.{turn_longer, in_turn_longer}
-use Rattle.dl_promises.proofs.journals.turns_go_on.Goals as goal
-
-pub returns-clause-event : goal.returns-clause-event
-returns-clause-event c = turn_longer
-
-pub returns-clause-events : goal.returns-clause-events
-returns-clause-events c = in_turn_longer

@@ -1,5 +1,0 @@
-use Rattle.dl_promises.proofs.StoredFrames.{stored_admitted}
-use Rattle.dl_promises.proofs.journals.what_is_stored_is_admitted.Goals as goal
-
-pub returns : goal.returns
-returns c = stored_admitted

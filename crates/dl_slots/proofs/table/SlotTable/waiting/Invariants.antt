@@ -1,6 +1,0 @@
-use Rattle.std.proofs.Common.{◌≡◌, ℕ, ◌<◌, None}
-use Rattle.dl_slots.specs.Table.{waiting_at}
-use Rattle.dl_slots.proofs.table.SlotTable.waiting.Given as goal
-
-abbrev pub invariant-loop-slot : goal.invariant-loop-slot
-invariant-loop-slot l = (slot : ℕ) → slot < l.slot → waiting_at l.self slot ≡ None

@@ -1,0 +1,135 @@
+//! What the daemon says once it has begun: where it listens, which configuration it has, and where its trace goes.
+
+use dl_outside::Folder;
+use dl_startup::conf_in;
+use dl_text::{lines, parted_at, trimmed};
+use dl_words::DaemonWords;
+use std::alloc::{AllocError, Global};
+use std::net::IpAddr;
+use std::str::from_utf8;
+
+/// What a daemon begins with, in words.
+#[derive(Drop)]
+pub struct Begin {
+    /// Whether there is a file of the configuration's name.
+    pub has_conf: bool,
+    /// The line on its keys that aren't read, where it has some.
+    pub unused: Option<String>,
+    /// The directory of the trace files; empty where none are kept, or the configuration is refused.
+    pub directory: String,
+}
+
+/// The directory of the trace files that a configuration names.
+fn directory_in<F: Folder>(alloc: Global, folder: &mut F, name: &str) -> Option<String> {
+    let conf = conf_in(alloc, folder, name).ok()?;
+    let text = from_utf8(conf.directory.all()).ok()?;
+    String::from_str(alloc, text).ok()
+}
+
+/// Whether there is a file of this name. One that can't be looked at is there: it is refused later, when it is read.
+fn is_there<F: Folder>(folder: &mut F, name: &str) -> bool {
+    match folder.size(name) {
+        Ok(None) => false,
+        Ok(Some(_)) | Err(_) => true,
+    }
+}
+
+/// The keys that the daemon reads.
+const USED: [&[u8]; 7] = [
+    b"ECUId",
+    b"ContextLogLevel",
+    b"RingbufferMaxSize",
+    b"OfflineTraceDirectory",
+    b"OfflineTraceFileSize",
+    b"OfflineTraceMaxSize",
+    b"InjectionMode",
+];
+
+/// The most keys that are named.
+const MOST_KEYS: usize = 64;
+
+/// The key of a line that is no comment, where it sets one that isn't read.
+fn unused_key(line: &[u8]) -> Option<&[u8]> {
+    let line = trimmed(line);
+    if line.starts_with(b"#") {
+        return None;
+    }
+    let (key, _) = parted_at(line, b'=')?;
+    let key = trimmed(key);
+    if USED.iter().any(|used| *used == key) {
+        None
+    } else {
+        Some(key)
+    }
+}
+
+/// The keys of a configuration that aren't read, each once, and the first of them alone where they are many.
+fn unused_keys<'a>(alloc: Global, text: &'a [u8]) -> Result<Vec<&'a str>, AllocError> {
+    let mut keys: Vec<&'a str> = Vec::new(alloc);
+    for line in lines(text) {
+        let Some(key) = unused_key(line) else {
+            continue;
+        };
+        let Ok(key) = from_utf8(key) else {
+            continue;
+        };
+        if keys.len() < MOST_KEYS && !keys.iter().any(|other| *other == key) {
+            keys.push(key)?;
+        }
+    }
+    Ok(keys)
+}
+
+/// The line on the keys of a configuration that aren't read, where it has some.
+fn unused_line(alloc: Global, name: &str, text: &[u8]) -> Option<String> {
+    let keys = unused_keys(alloc, text).ok()?;
+    let (first, others) = keys.split_first()?;
+    let mut line = format!(in alloc; "dlt_daemon: {name}: not used here: {first}").ok()?;
+    for key in others {
+        line.push_str(", ").ok()?;
+        line.push_str(key).ok()?;
+    }
+    Some(line)
+}
+
+/// The same of the configuration of this name.
+fn unused_in<F: Folder>(alloc: Global, folder: &mut F, name: &str) -> Option<String> {
+    let text = folder.read(name).ok()??;
+    unused_line(alloc, name, text.all())
+}
+
+/// Looks at the configuration of this name.
+pub fn look<F: Folder>(alloc: Global, folder: &mut F, name: &str) -> Begin {
+    let has_conf = is_there(folder, name);
+    Begin {
+        has_conf,
+        unused: if has_conf {
+            unused_in(alloc, folder, name)
+        } else {
+            None
+        },
+        directory: match directory_in(alloc, folder, name) {
+            Some(directory) if has_conf => directory,
+            _ => String::new(alloc),
+        },
+    }
+}
+
+/// The line that is said once the ports are open, where there is memory for it.
+pub fn line(alloc: Global, begin: &Begin, said: &DaemonWords, address: IpAddr) -> Option<String> {
+    let (clients, programs, conf) = (said.port, said.users, said.conf);
+    let there = if begin.has_conf { "" } else { " (not there)" };
+    let trace = if begin.directory.is_empty() {
+        "none"
+    } else {
+        begin.directory.as_str()
+    };
+    let unused = match &begin.unused {
+        Some(line) => line.as_str(),
+        None => "",
+    };
+    let end = if unused.is_empty() { "" } else { "\n" };
+    format!(in alloc;
+        "dlt_daemon: clients at {address} port {clients}, programs at port {programs}; configuration {conf}{there}; trace {trace}{end}{unused}"
+    ).ok()
+}

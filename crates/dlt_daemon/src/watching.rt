@@ -1,0 +1,70 @@
+//! Who looks on while the daemon runs: it says a line at the begin, a status line each so many seconds, syncs the trace, and ends the daemon when
+//! standard input ends.
+
+use crate::ending::Ending;
+use dl_bytes::Moment;
+use dl_daemon::{Passed, Teller, Watch};
+use dl_events::Unkept;
+use dl_outside::{Link, Sink};
+use dl_real::{InputEnd, TraceSync};
+use dl_server::Server;
+use std::fs::Files;
+use std::io::Eprint;
+
+/// What the program looks after at the begin of each round.
+#[derive(Drop)]
+pub struct Watching<R, O> {
+    pub rt: R,
+    pub teller: Teller<O>,
+    /// What is said once the ports are open.
+    pub begins: Option<String>,
+    /// Standard input, where its end ends the daemon.
+    pub input: Option<InputEnd>,
+    /// The time behind that end.
+    pub ending: Option<Ending>,
+    /// What syncs the trace, where that is asked for.
+    pub sync: Option<TraceSync>,
+}
+
+impl<R, O> Watching<R, O> {
+    /// Whether standard input has ended, and programs were heard since.
+    fn is_over(&mut self, now: u32, frames: u64) -> bool {
+        let Some(input) = &mut self.input else {
+            return false;
+        };
+        if !input.has_come() {
+            return false;
+        }
+        match &mut self.ending {
+            Some(ending) => ending.has_heard(now, frames),
+            None => {
+                self.ending = Some(Ending::at(now, frames));
+                false
+            }
+        }
+    }
+}
+
+impl<R: Files + Eprint + AllocGlobal, O: Sink> Watch for Watching<R, O> {
+    fn begin(&mut self, every: Option<u32>) {
+        self.teller.begin(every);
+    }
+
+    fn goes_on<L: Link>(
+        &mut self,
+        server: &Server<Unkept, L>,
+        passed: Passed,
+        moment: Moment,
+    ) -> bool {
+        if let Some(line) = self.begins.take() {
+            let _ = self.rt.eprintln(line);
+        }
+        if let Some(sync) = &mut self.sync {
+            if let Some(state) = server.core.trace_state() {
+                sync.turn(&self.rt, state.files.all(), moment.secs);
+            }
+        }
+        let goes_on = self.teller.goes_on(server, passed, moment);
+        goes_on && !self.is_over(moment.ticks, server.core.hub().admitted())
+    }
+}

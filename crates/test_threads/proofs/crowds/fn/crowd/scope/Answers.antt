@@ -1,0 +1,26 @@
+use Rattle.std.proofs.Common.{◌≡◌, length, ap, sym, ◌∙◌, arith, vec_len}
+use Rattle.std.proofs.lemmas.List.{length-map}
+use Rattle.std.proofs.lemmas.List.FromFn.{length-range_with_len}
+use Rattle.dl_account.proofs.OpenBooks.{made_with, same_bases, stay}
+use Rattle.test_threads.proofs.crowds.fn.crowd.scope.Goals as goal
+
+-- as many threads were started as there are books
+pub join_all-books-requires : goal.join_all-books-requires
+join_all-books-requires g c =
+    let children = c.in_ok-children.children in
+    let count : length children.items ≡ vec_len c.captures.books =
+    sym (length-map children.items (λ h. h.promise.before.value.writer.push.number)) ∙ ap length (c.in_ok-children.ensures.numbered ∙ c.requires.numbered) ∙ length-range_with_len 1 (vec_len c.captures.books) in
+    let long = children.ok.0 in
+    let few = c.requires.few in
+    record { few = omega (arith, count, long, few); bases = c.in_ok-children.ensures.bases }
+
+pub make-requires : goal.make-requires
+make-requires g c =
+    let before = c.captures.desk in
+    let started = c.in_ok-children.ensures in
+    let back = c.join_all-books.ensures in
+    let books = c.join_all-books.result.books in
+    made_with c.serve-heard.new.desk books (vec_len c.captures.books)
+    (stay before c.serve-heard.new.desk books c.serve-heard.ensures (back.made before started.same))
+    (back.numbered ∙ started.numbered ∙ c.requires.numbered)
+    (same_bases (λ app. 1) books back.bases)
