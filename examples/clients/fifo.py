@@ -27,7 +27,7 @@ FIXED = {REGISTER_APP: 12, UNREGISTER_APP: 8, REGISTER_CONTEXT: 22, UNREGISTER_C
 UNKNOWN = {9: 6, 10: 1, 11: 0, 12: 1, 13: 0}
 LONGEST_LOG, LONGEST_TEXT, MOST_WAITING = 1984, 255, 1 << 20
 # Linux's: how much a pipe holds
-F_SETPIPE_SZ = 1031
+F_SETPIPE_SZ, F_GETPIPE_SZ = 1031, 1032
 
 
 class Cutter:
@@ -205,21 +205,25 @@ class Bridge:
             os.mkdir(answers)
             os.chmod(answers, 0o3733)
         self.made = not os.path.exists(self.pipe)
+        # it gets its name once it is read, since a program that finds a FIFO without a reader keeps what it logs to itself
+        made = f"{self.pipe}.{os.getpid()}" if self.made else self.pipe
         if self.made:
-            os.mkfifo(self.pipe)
-            os.chmod(self.pipe, 0o620)
+            os.mkfifo(made)
+            os.chmod(made, 0o620)
             if group:
-                shutil.chown(self.pipe, group=group)
-        if not stat.S_ISFIFO(os.stat(self.pipe).st_mode):
+                shutil.chown(made, group=group)
+        if not stat.S_ISFIFO(os.stat(made).st_mode):
             sys.exit(f"fifo.py: {self.pipe}: no FIFO")
         # for writing, too, so that it has no end while no process has it open
-        self.fifo = os.open(self.pipe, os.O_RDWR | os.O_NONBLOCK)
+        self.fifo = os.open(made, os.O_RDWR | os.O_NONBLOCK)
         # a burst that finds no room here is lost where its process ends meanwhile
         try:
             fcntl.fcntl(self.fifo, F_SETPIPE_SZ, 1 << 20)
         except OSError:
             pass
         self.selector.register(self.fifo, selectors.EVENT_READ, None)
+        if self.made:
+            os.rename(made, self.pipe)
 
     def hand(self, pid, whole):
         """Writes a message of the daemon into the FIFO of a process; one that isn't read is counted."""
@@ -250,12 +254,26 @@ class Bridge:
             if process.out:
                 process.send()
 
+    def drain(self):
+        """Takes all that was in the FIFO when it was called; others may write meanwhile, so no more than it holds."""
+        left = fcntl.fcntl(self.fifo, F_GETPIPE_SZ)
+        while left > 0:
+            try:
+                piece = os.read(self.fifo, left)
+            except BlockingIOError:
+                return
+            left -= len(piece)
+            self.take(piece)
+
     def look(self):
-        """Dials again, and lets go of processes that have ended, once all of theirs is sent."""
+        """Dials again, and lets go of processes that have ended, once all that they wrote is sent."""
+        ended = [pid for pid in self.processes if not os.path.exists(f"/proc/{pid}")]
+        if ended:
+            self.drain()
         for pid, process in list(self.processes.items()):
             process.connect()
             process.send()
-            if not os.path.exists(f"/proc/{pid}"):
+            if pid in ended:
                 if process.is_gone and not process.link:
                     del self.processes[pid]
                 elif not process.is_gone:
@@ -267,7 +285,7 @@ class Bridge:
         while True:
             for key, events in self.selector.select(0.2):
                 if key.data is None:
-                    self.take(os.read(self.fifo, 1 << 18))
+                    self.drain()
                 else:
                     if events & selectors.EVENT_READ and key.data.link:
                         key.data.hear()
