@@ -11,7 +11,7 @@ use Rattle.dl_outside.specs.Written.{Wrote, WroteNothing}
 use Rattle.dl_script.specs.declared.error.ScriptError.{ScriptError}
 use Rattle.dl_script.specs.declared.error.ScriptError.TheVariants as bad
 use Rattle.dl_startup.specs.Configuration.{AreSetUp}
-use Rattle.dl_startup.specs.Scenario.{scenario_in}
+use Rattle.dl_live.specs.Scenario.{scenario_in}
 use Rattle.dl_startup.specs.Setup.{conf_in, stored_in}
 use Rattle.dl_startup.specs.declared.status.Status.{Status}
 use Rattle.dl_startup.specs.declared.storage_kind.StorageKind.{StorageKind}

@@ -7,7 +7,7 @@ use Rattle.dl_outside.specs.Told.{FolderTold}
 use Rattle.dl_script.specs.declared.error.ScriptError.TheVariants as bad
 use Rattle.dl_script_model.specs.declared.scenario.ScenarioLine.{ScenarioLine}
 use Rattle.dl_startup.specs.Configuration.{AreSetUp, SayConfs, Unset}
-use Rattle.dl_startup.specs.Scenario.{scenario_in}
+use Rattle.dl_live.specs.Scenario.{scenario_in}
 use Rattle.dl_startup.specs.Setup.{IsBegun}
 use Rattle.dl_startup.specs.Unchanged.{IsQuiet, IsUnchanged}
 use Rattle.dl_startup.specs.declared.status.Status.{Status}

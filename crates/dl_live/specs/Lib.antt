@@ -13,3 +13,4 @@ pub mod Stored
 pub mod Ends
 pub mod Program
 pub mod Performing
+pub mod Scenario

@@ -6,7 +6,7 @@ use Rattle.dl_outside.specs.Outside.{HasRisen}
 use Rattle.dl_outside.specs.Told.{FolderTold, LinkTold, SinkTold}
 use Rattle.dl_outside.specs.Written.{Wrote, WroteNothing}
 use Rattle.dl_startup.specs.Configuration.{AreSetUp}
-use Rattle.dl_startup.specs.Scenario.{scenario_in}
+use Rattle.dl_live.specs.Scenario.{scenario_in}
 use Rattle.dl_startup.specs.Status.{number}
 use Rattle.dl_startup.specs.declared.status.Status.{Status}
 use Rattle.dl_startup.specs.declared.status.Status.TheVariants.{Ok, WordsRefused, OutOfMemory, NamesSpent}

@@ -6,10 +6,11 @@ ghost use Rattle.dl_words.specs.Run.{run_said};
 ghost use Rattle.dl_live.specs.Begin.{Asks, Begins, BeginsAs, MakesTrace, ReadsScenario};
 
 use crate::filtering::read_filters;
+use crate::scenario::scenario_in;
 use dl_bytes::{Conf, Stored};
 use dl_outside::Folder;
 use dl_script_model::Scenario;
-use dl_startup::{SetupError, Status, scenario_in, set_up, trace_over};
+use dl_startup::{SetupError, Status, set_up, trace_over};
 use dl_storage::FilterList;
 use dl_trace::{Trace, TraceFault};
 use dl_words::{RunWords, WordsFault, run_words};

@@ -8,6 +8,7 @@ mod gathering;
 pub mod laws;
 mod players;
 mod program;
+mod scenario;
 mod staging;
 mod workers;
 

@@ -11,7 +11,7 @@ use Rattle.dl_bytes.specs.declared.id.IdFault.{IdFault}
 use Rattle.dl_bytes.specs.declared.id.IdFault.TheVariants.{NotAscii}
 use Rattle.dl_script_fields.specs.Argument.{behind_quote, unescaped, is_argument}
 use Rattle.dl_script_fields.specs.Kind.{is_of_form, formed}
-use Rattle.dl_script_fields.specs.Line.{short, brief, text_field, text_fields, app_line, call_line, claim_line, context_line, payload_fields}
+use Rattle.dl_script_lines.specs.Line.{short, brief, text_field, text_fields, app_line, call_line, claim_line, context_line, payload_fields}
 use Rattle.dl_script_fields.specs.Value.{id_field, number_field, ordinal_field, severity_field, level_field, unsigned_field}
 use Rattle.dl_script_fields.specs.declared.kind.ScriptKind.TheVariants as wrong
 use Rattle.dl_script.proofs.ReadResults.{Gives, given, refused, then, then_so, either_way}

@@ -7,16 +7,16 @@ use Rattle.dl_bytes.specs.Payload.{Arguments}
 use Rattle.dl_script_model.specs.declared.scenario.ScenarioLine.{ScenarioLine}
 use Rattle.dl_script_model.specs.declared.scenario.ScenarioLine.TheVariants as line
 use Rattle.dl_script_fields.specs.Fields.{worded, fields_of}
-use Rattle.dl_script_fields.specs.Line.{bare_line, bytes_line, id_line, leave_line}
+use Rattle.dl_script_lines.specs.Line.{bare_line, bytes_line, id_line, leave_line}
 use Rattle.dl_script_fields.specs.declared.kind.ScriptKind.TheVariants as wrong
-use Rattle.dl_script_fields.specs.declared.line.Call.{Call}
-use Rattle.dl_script_fields.specs.Word.{scenario_word}
+use Rattle.dl_script_lines.specs.declared.line.Call.{Call}
+use Rattle.dl_script_lines.specs.Word.{scenario_word}
 use Rattle.dl_script.specs.Line.{calls, scenario_by_word, scenario_line_of}
 use Rattle.dl_script.specs.Playable.{IsInRange}
 use Rattle.dl_script.specs.Spelled.{scenario_claim}
 use Rattle.dl_script.specs.declared.read.Read.{Read}
-use Rattle.dl_script_fields.specs.declared.word.ScenarioWord.{ScenarioWord}
-use Rattle.dl_script_fields.specs.declared.word.ScenarioWord.TheVariants as word
+use Rattle.dl_script_lines.specs.declared.word.ScenarioWord.{ScenarioWord}
+use Rattle.dl_script_lines.specs.declared.word.ScenarioWord.TheVariants as word
 use Rattle.dl_script.proofs.ReadResults.{Gives, given, refused, then, then_so, either_way}
 use Rattle.dl_script.proofs.ReadFields.{app_in_range, call_in_range, claim_in_range, context_in_range}
 

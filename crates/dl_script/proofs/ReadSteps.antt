@@ -8,18 +8,19 @@ use Rattle.dl_script_model.specs.declared.line.CallLine.{CallLine}
 use Rattle.dl_script_model.specs.declared.step.Step.{Step}
 use Rattle.dl_script_model.specs.declared.step.Step.TheVariants as step
 use Rattle.dl_script_fields.specs.Fields.{worded, fields_of}
-use Rattle.dl_script_fields.specs.Line.{hex_field, id_line, call_line, clock_line, writer_line, levels_line, bare_line, client_line, bytes_line, user_line}
+use Rattle.dl_script_fields.specs.Argument.{hex_field}
+use Rattle.dl_script_lines.specs.Line.{id_line, call_line, clock_line, writer_line, levels_line, bare_line, client_line, bytes_line, user_line}
 use Rattle.dl_script_fields.specs.Value.{number_field}
 use Rattle.dl_script_fields.specs.declared.kind.ScriptKind.TheVariants as wrong
-use Rattle.dl_script_fields.specs.declared.line.Call.{Call}
-use Rattle.dl_script_fields.specs.Word.{step_word}
+use Rattle.dl_script_lines.specs.declared.line.Call.{Call}
+use Rattle.dl_script_lines.specs.Word.{step_word}
 use Rattle.dl_script.specs.Line.{called, step_by_word, step_of}
 use Rattle.dl_script.specs.Spelled.{step_claim}
 use Rattle.dl_script.specs.declared.claim.Claim.{Claim}
 use Rattle.dl_script.specs.declared.claim.Claim.TheVariants as claim
 use Rattle.dl_script.specs.declared.read.Read.{Read}
-use Rattle.dl_script_fields.specs.declared.word.StepWord.{StepWord}
-use Rattle.dl_script_fields.specs.declared.word.StepWord.TheVariants as word
+use Rattle.dl_script_lines.specs.declared.word.StepWord.{StepWord}
+use Rattle.dl_script_lines.specs.declared.word.StepWord.TheVariants as word
 use Rattle.dl_script.specs.Playable.{IsInBounds}
 use Rattle.dl_script.proofs.ReadResults.{Gives, given, refused, then, then_so, either_way}
 use Rattle.dl_script.proofs.ReadFields.{app_in_range, context_in_range, claim_in_range, number_within_is}

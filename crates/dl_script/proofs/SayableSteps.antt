@@ -17,7 +17,8 @@ use Rattle.dl_script_model.specs.declared.step.Step.{Step}
 use Rattle.dl_script_model.specs.declared.step.Step.TheVariants as step
 use Rattle.dl_script_fields.specs.Joined.{parted_by_blanks}
 use Rattle.dl_script_fields.specs.Spelling.{spelling}
-use Rattle.dl_script_fields.specs.Spells.{SpellsNumber, SpellsBytes, SpellsLevel, SpellsTexts, IsShortText, SpellsApp, SpellsContext, SpellsClaim, SpellsCall, SpellsSent, severity_word, levels_word, quoted}
+use Rattle.dl_script_fields.specs.Spells.{SpellsNumber, SpellsBytes, SpellsLevel, IsShortText, severity_word, quoted}
+use Rattle.dl_script_lines.specs.Spells.{SpellsTexts, SpellsApp, SpellsContext, SpellsClaim, SpellsCall, SpellsSent, levels_word}
 use Rattle.dl_script_fields.proofs.SpelledFields.{decimal_spells, hex_spells}
 use Rattle.dl_script.specs.Spelled.{step_word_for, SpellsLog, SpellsFields, SpellsStep, SpellsScenarioFields, SpellsScenarioLine, scenario_word_for, HasName, HasBytes, HasArguments, IsSayableApp, IsSayableContext, IsSayableClaim, IsSayableCall, IsSayableStep, IsSayableScenarioLine}
 

@@ -2,12 +2,12 @@
 use Rattle.std.proofs.Common.{◌≡◌, ℕ, List, Ok, refl, lit<}
 use Rattle.dl_script_model.specs.declared.scenario.ScenarioLine.{ScenarioLine}
 use Rattle.dl_script_model.specs.declared.scenario.ScenarioLine.TheVariants as scenario
-use Rattle.dl_script_fields.proofs.SpelledLines.{AreGood, nothing_says, nothing_good, app_says, app_good, context_says, context_good, claim_says, claim_good, apid_says, apid_good, call_says, call_good, sent_says, sent_good, leave_says, leave_good}
-use Rattle.dl_script_fields.specs.Word.{scenario_word}
+use Rattle.dl_script_lines.proofs.SpelledLines.{AreGood, nothing_says, nothing_good, app_says, app_good, context_says, context_good, claim_says, claim_good, apid_says, apid_good, call_says, call_good, sent_says, sent_good, leave_says, leave_good}
+use Rattle.dl_script_lines.specs.Word.{scenario_word}
 use Rattle.dl_script.specs.Line.{says, scenario_by_word, scenario_line_of}
 use Rattle.dl_script.specs.Spelled.{scenario_word_for, SpellsScenarioFields, SpellsScenarioLine, scenario_claim}
-use Rattle.dl_script_fields.specs.declared.word.ScenarioWord.{ScenarioWord}
-use Rattle.dl_script_fields.specs.declared.word.ScenarioWord.TheVariants as scene
+use Rattle.dl_script_lines.specs.declared.word.ScenarioWord.{ScenarioWord}
+use Rattle.dl_script_lines.specs.declared.word.ScenarioWord.TheVariants as scene
 use Rattle.dl_script.proofs.WordLines.{IsWord, IsReadAs, read_as_said, then}
 
 abbrev kind_for : ScenarioLine → ScenarioWord

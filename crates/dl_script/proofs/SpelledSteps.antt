@@ -3,14 +3,14 @@ use Rattle.std.proofs.Common.{◌≡◌, ℕ, List, Some, Ok, refl, lit<}
 use Rattle.dl_script_model.specs.declared.line.CallLine.{CallLine}
 use Rattle.dl_script_model.specs.declared.step.Step.{Step}
 use Rattle.dl_script_model.specs.declared.step.Step.TheVariants as step
-use Rattle.dl_script_fields.specs.Line.{call_line}
-use Rattle.dl_script_fields.specs.declared.line.Call.{Call}
-use Rattle.dl_script_fields.proofs.SpelledLines.{AreGood, nothing_says, nothing_good, app_says, app_good, context_says, context_good, claim_says, claim_good, apid_says, apid_good, call_says, call_good, clock_says, clock_good, writer_says, writer_good, levels_say, levels_good, client_says, client_good, sent_says, sent_good, user_says, user_good}
-use Rattle.dl_script_fields.specs.Word.{step_word}
+use Rattle.dl_script_lines.specs.Line.{call_line}
+use Rattle.dl_script_lines.specs.declared.line.Call.{Call}
+use Rattle.dl_script_lines.proofs.SpelledLines.{AreGood, nothing_says, nothing_good, app_says, app_good, context_says, context_good, claim_says, claim_good, apid_says, apid_good, call_says, call_good, clock_says, clock_good, writer_says, writer_good, levels_say, levels_good, client_says, client_good, sent_says, sent_good, user_says, user_good}
+use Rattle.dl_script_lines.specs.Word.{step_word}
 use Rattle.dl_script.specs.Line.{says, step_by_word, step_of}
 use Rattle.dl_script.specs.Spelled.{step_word_for, SpellsLog, SpellsFields, SpellsStep, step_claim}
-use Rattle.dl_script_fields.specs.declared.word.StepWord.{StepWord}
-use Rattle.dl_script_fields.specs.declared.word.StepWord.TheVariants as word
+use Rattle.dl_script_lines.specs.declared.word.StepWord.{StepWord}
+use Rattle.dl_script_lines.specs.declared.word.StepWord.TheVariants as word
 use Rattle.dl_script.proofs.WordLines.{IsWord, IsReadAs, read_as_said, then}
 
 -- ---- the word

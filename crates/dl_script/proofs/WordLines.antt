@@ -10,7 +10,7 @@ use Rattle.dl_script_fields.specs.Spells.{is_letter}
 use Rattle.dl_script_fields.specs.declared.kind.ScriptKind.{ScriptKind}
 use Rattle.dl_script_fields.specs.declared.kind.ScriptKind.TheVariants.{NotUtf8, Word, Fields}
 use Rattle.dl_script_fields.proofs.Letters.{is_whole}
-use Rattle.dl_script_fields.proofs.SpelledLines.{AreGood, are_fields, line_utf8, line_whole}
+use Rattle.dl_script_lines.proofs.SpelledLines.{AreGood, are_fields, line_utf8, line_whole}
 use Rattle.dl_script_fields.proofs.JoinedFields.{ends_behind, parted, word_first}
 use Rattle.dl_script.specs.Line.{line_by, is_ignored}
 use Rattle.dl_script.specs.declared.read.Read.{Read}

@@ -11,18 +11,18 @@ use Rattle.dl_script_model.specs.declared.scenario.ScenarioLine.TheVariants as s
 use Rattle.dl_text.specs.Lines.{is_blank}
 use Rattle.dl_script_fields.specs.Fields.{worded, fields_of}
 use Rattle.dl_script_fields.specs.Kind.{◌>>=◌}
-use Rattle.dl_script_fields.specs.Line.{app_line, context_line, claim_line, id_line, call_line, clock_line, writer_line, levels_line, bare_line, client_line, bytes_line, user_line, leave_line, line_in}
-use Rattle.dl_script_fields.specs.Word.{step_word, scenario_word}
+use Rattle.dl_script_lines.specs.Line.{app_line, context_line, claim_line, id_line, call_line, clock_line, writer_line, levels_line, bare_line, client_line, bytes_line, user_line, leave_line, line_in}
+use Rattle.dl_script_lines.specs.Word.{step_word, scenario_word}
 use Rattle.dl_script_fields.specs.declared.kind.ScriptKind.{ScriptKind}
 use Rattle.dl_script_fields.specs.declared.kind.ScriptKind.TheVariants as wrong
-use Rattle.dl_script_fields.specs.declared.line.Call.{Call}
+use Rattle.dl_script_lines.specs.declared.line.Call.{Call}
 use Rattle.dl_script.specs.declared.claim.Claim.{Claim}
 use Rattle.dl_script.specs.declared.claim.Claim.TheVariants as claim
 use Rattle.dl_script.specs.declared.read.Read.{Read}
-use Rattle.dl_script_fields.specs.declared.word.StepWord.{StepWord}
-use Rattle.dl_script_fields.specs.declared.word.StepWord.TheVariants as word
-use Rattle.dl_script_fields.specs.declared.word.ScenarioWord.{ScenarioWord}
-use Rattle.dl_script_fields.specs.declared.word.ScenarioWord.TheVariants as scene
+use Rattle.dl_script_lines.specs.declared.word.StepWord.{StepWord}
+use Rattle.dl_script_lines.specs.declared.word.StepWord.TheVariants as word
+use Rattle.dl_script_lines.specs.declared.word.ScenarioWord.{ScenarioWord}
+use Rattle.dl_script_lines.specs.declared.word.ScenarioWord.TheVariants as scene
 
 -- ---- a line by its word
 

@@ -14,7 +14,8 @@ use Rattle.dl_script_model.specs.declared.step.Step.{Step}
 use Rattle.dl_script_model.specs.declared.step.Step.TheVariants as step
 use Rattle.dl_script_fields.specs.Argument.{payload_of}
 use Rattle.dl_script_fields.specs.Joined.{parted_by_blanks}
-use Rattle.dl_script_fields.specs.Spells.{SpellsId, IsShortText, IsSaid, SpellsNothing, SpellsApp, SpellsContext, SpellsClaim, SpellsApid, SpellsCall, SpellsClock, SpellsWriter, SpellsLevels, SpellsClient, SpellsSent, SpellsUser, SpellsLeave}
+use Rattle.dl_script_fields.specs.Spells.{SpellsId, IsShortText, IsSaid}
+use Rattle.dl_script_lines.specs.Spells.{SpellsNothing, SpellsApp, SpellsContext, SpellsClaim, SpellsApid, SpellsCall, SpellsClock, SpellsWriter, SpellsLevels, SpellsClient, SpellsSent, SpellsUser, SpellsLeave}
 use Rattle.dl_script.specs.Earlier.{Declared, refusal, noted}
 use Rattle.dl_script.specs.declared.claim.Claim.{Claim}
 use Rattle.dl_script.specs.declared.claim.Claim.TheVariants as claim

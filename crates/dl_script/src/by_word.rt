@@ -4,19 +4,19 @@ ghost use Rattle.std.specs.Prelude.{◌≡◌};
 ghost use Rattle.dl_script_model.specs.declared.step.Step.TheVariants as step;
 ghost use Rattle.dl_script_fields.specs.Fields.{texts};
 ghost use Rattle.dl_script_fields.specs.Kind.{Says};
-ghost use Rattle.dl_script_fields.specs.Word.{step_word, scenario_word};
+ghost use Rattle.dl_script_lines.specs.Word.{step_word, scenario_word};
 ghost use Rattle.dl_script.specs.Line.{called, step_by_word, scenario_by_word, line_of_text, step_of, scenario_line_of};
-ghost use Rattle.dl_script_fields.specs.declared.word.StepWord.TheVariants as word;
-ghost use Rattle.dl_script_fields.specs.declared.word.ScenarioWord.TheVariants as scene;
+ghost use Rattle.dl_script_lines.specs.declared.word.StepWord.TheVariants as word;
+ghost use Rattle.dl_script_lines.specs.declared.word.ScenarioWord.TheVariants as scene;
 
 use crate::claim::Claim;
 use crate::read::{Read, all_calls, one_call, says};
 use crate::scratch::Scratch;
 use dl_bytes::Payload;
-use dl_script_fields::{
-    Call, LineError, ScenarioWord, ScriptKind, StepWord, app, app_id, bare, claim, client_bytes,
-    client_number, clock, context, cut_into, leave, levels, log_call, scenario_word, step_word,
-    user, worded, writer_number,
+use dl_script_fields::{LineError, ScriptKind, cut_into, worded};
+use dl_script_lines::{
+    Call, ScenarioWord, StepWord, app, app_id, bare, claim, client_bytes, client_number, clock,
+    context, leave, levels, log_call, scenario_word, step_word, user, writer_number,
 };
 use dl_script_model::{ScenarioLine, Step};
 use std::alloc::Global;

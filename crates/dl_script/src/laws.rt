@@ -12,10 +12,10 @@ ghost use Rattle.dl_script.specs.Generated.{generated};
 ghost use Rattle.dl_script.specs.Playable.{IsPlayable, IsRunnable};
 ghost use Rattle.dl_script.specs.Script.{steps_of, scenario_of};
 ghost use Rattle.dl_script.specs.Spelled.{SpellsStep, SpellsScenarioLine, step_claim, scenario_claim, IsSayableStep, IsSayableScenarioLine, AreSpelled, MayFollow, text_of};
-ghost use Rattle.dl_script_fields.specs.Word.{step_word, scenario_word};
+ghost use Rattle.dl_script_lines.specs.Word.{step_word, scenario_word};
 ghost use Rattle.dl_script.specs.Line.{says, step_by_word, scenario_by_word, step_of, scenario_line_of};
-ghost use Rattle.dl_script_fields.specs.declared.word.StepWord.{StepWord};
-ghost use Rattle.dl_script_fields.specs.declared.word.ScenarioWord.{ScenarioWord};
+ghost use Rattle.dl_script_lines.specs.declared.word.StepWord.{StepWord};
+ghost use Rattle.dl_script_lines.specs.declared.word.ScenarioWord.{ScenarioWord};
 
 /// A line of a word and of fields, parted by blanks, says what the word makes of those fields.
 pub fn a_line_is_a_word_with_fields()

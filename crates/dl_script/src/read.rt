@@ -5,7 +5,7 @@ ghost use Rattle.dl_script.specs.Line.{says, calls};
 ghost use Rattle.dl_script.specs.declared.claim.Claim.TheVariants as claim;
 
 use crate::claim::Claim;
-use dl_script_fields::Call;
+use dl_script_lines::Call;
 use dl_script_model::ScenarioLine;
 
 /// What a line says, and what it declares or asks.

@@ -2,7 +2,6 @@ pub mod Cutting
 pub mod Numbers
 pub mod Boundaries
 pub mod Quotes
-pub mod Payloads
 pub mod Refused
 pub mod Closed
 pub mod Marks
@@ -13,4 +12,3 @@ pub mod Letters
 pub mod QuotedFields
 pub mod SpelledFields
 pub mod SpelledArguments
-pub mod SpelledLines

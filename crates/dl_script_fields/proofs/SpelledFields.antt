@@ -13,7 +13,7 @@ use Rattle.dl_bytes.specs.declared.level.Severity.{Severity}
 use Rattle.dl_bytes.specs.declared.level.Severity.TheVariants.{Fatal, Error, Warn, Info, Debug, Verbose}
 use Rattle.dl_text.proofs.Digits.{own}
 use Rattle.dl_script_fields.specs.Value.{id_field, digits_field, unsigned_field, number_field, count_field, ordinal_field, severity_field, level_field}
-use Rattle.dl_script_fields.specs.Line.{hex_field}
+use Rattle.dl_script_fields.specs.Argument.{hex_field}
 use Rattle.dl_script_fields.specs.Spells.{is_letter, SpellsId, SpellsNumber, SpellsBytes, SpellsLevel, severity_word}
 use Rattle.dl_script_fields.proofs.Letters.{letter_range, digits_are, hex_are, letters_good, IsGood}
 

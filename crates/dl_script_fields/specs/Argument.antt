@@ -73,6 +73,10 @@ fill_of text = option_map (λ n. replicate n 120) (number_within 0 1390 text)
 abbrev pub raw_of : List ℕ → Option (List ℕ)
 raw_of digits = if length digits == 0 then None else result_ok (decode_of digits)
 
+-- pairs of hexadecimal digits
+abbrev pub hex_field : List ℕ → Result (List ℕ) ScriptKind
+hex_field field = ok_or (raw_of field) wrong.Hex
+
 -- an argument without a name, by its kind and the text behind the colon
 abbrev pub value_by_kind : Kind → List ℕ → Result Arg ScriptKind
 value_by_kind kind.Bool text = made (arg.Bool None) wrong.Fields (truth_of text)

@@ -5,6 +5,4 @@ pub mod Value
 pub mod Argument
 pub mod Spelling
 pub mod Added
-pub mod Line
 pub mod Spells
-pub mod Word

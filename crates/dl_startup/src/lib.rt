@@ -1,5 +1,5 @@
-//! What the programs share: their configuration, the scenario and the trace that they begin with, a text that is read to its
-//! end, the text that they write, and how they end.
+//! What the programs share: their configuration and the trace that they begin with, a text that is read to its end, the
+//! text that they write, and how they end.
 #![tactic(auto)]
 
 mod configuration;
@@ -7,7 +7,6 @@ mod failures;
 mod input;
 mod output;
 mod refusal;
-mod scenario;
 mod setup;
 mod status;
 mod storage_kind;
@@ -17,7 +16,6 @@ pub use failures::{Failures, unserved};
 pub use input::{ReadError, read_text};
 pub use output::write_pieces;
 pub use refusal::{conf_word, say_refusal, script_word, storage_word, stored_word};
-pub use scenario::scenario_in;
 pub use setup::{CONF_NAME, STORED_NAME, SetupError, conf_in, stored_in, trace_over};
 pub use status::Status;
 pub use storage_kind::StorageKind;

@@ -1,6 +1,6 @@
 use Rattle.std.proofs.Common.{subst}
 use Rattle.dl_script_fields.specs.Kind.{Says}
-use Rattle.dl_script_fields.specs.Word.{scenario_word}
+use Rattle.dl_script_lines.specs.Word.{scenario_word}
 use Rattle.dl_script.specs.Line.{scenario_by_word}
 use Rattle.dl_script.proofs.Texts.{no_text, text_says}
 use Rattle.dl_script.proofs.by_word.scenario_line.Goals as goal

@@ -1,4 +1,4 @@
-use Rattle.dl_script_fields.specs.Word.{step_word, scenario_word}
+use Rattle.dl_script_lines.specs.Word.{step_word, scenario_word}
 use Rattle.dl_script.specs.Line.{step_by_word, scenario_by_word}
 use Rattle.dl_script.proofs.WordLines.{line_says}
 use Rattle.dl_script.proofs.laws.a_line_is_a_word_with_fields.Goals as goal

@@ -11,12 +11,12 @@ use Rattle.dl_script_model.specs.declared.step.LevelEvents.{LevelEvents}
 use Rattle.dl_script_model.specs.declared.step.LevelEvents.TheVariants.{Later, Now}
 use Rattle.dl_script_model.specs.declared.step.Step.{Step}
 use Rattle.dl_script_model.specs.declared.step.Step.TheVariants as step
-use Rattle.dl_script_fields.specs.Argument.{behind_quote, unescaped, raw_of, is_argument, arguments_of, payload_of}
+use Rattle.dl_script_fields.specs.Argument.{hex_field, behind_quote, unescaped, is_argument, arguments_of, payload_of}
 use Rattle.dl_script_fields.specs.Kind.{◌>>=◌, is_of_form, formed}
 use Rattle.dl_script_fields.specs.Value.{is_word, id_field, number_field, count_field, ordinal_field, severity_field, level_field}
 use Rattle.dl_script_fields.specs.declared.kind.ScriptKind.{ScriptKind}
 use Rattle.dl_script_fields.specs.declared.kind.ScriptKind.TheVariants as wrong
-use Rattle.dl_script_fields.specs.declared.line.Call.{Call}
+use Rattle.dl_script_lines.specs.declared.line.Call.{Call}
 
 -- ---- fields of texts and of bytes
 
@@ -40,10 +40,6 @@ text_fields _ = Err wrong.Fields
 -- a text of at most 48 bytes, as a claim keeps it
 abbrev pub brief : List ℕ → Result (List ℕ) ScriptKind
 brief text = if nat_le (length text) 48 then Ok text else Err wrong.Text
-
--- pairs of hexadecimal digits
-abbrev pub hex_field : List ℕ → Result (List ℕ) ScriptKind
-hex_field field = ok_or (raw_of field) wrong.Hex
 
 -- the payload of arguments, or nothing where they don't fit
 abbrev pub payload_fields : List (List ℕ) → Result (Option Arguments) ScriptKind

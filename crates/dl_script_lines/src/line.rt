@@ -2,15 +2,15 @@
 
 ghost use Rattle.std.specs.Prelude.{◌≡◌, true, IfOk};
 ghost use Rattle.std.specs.List.{list_all};
-ghost use Rattle.dl_script_fields.specs.Argument.{is_argument};
+ghost use Rattle.dl_script_fields.specs.Argument.{hex_field, is_argument};
 ghost use Rattle.dl_script_fields.specs.Fields.{texts};
 ghost use Rattle.dl_script_fields.specs.Kind.{Says, is_of_form, formed};
-ghost use Rattle.dl_script_fields.specs.Line.{text_field, text_fields, hex_field, payload_fields, app_line, context_line, id_line, call_line, clock_line, writer_line, brief, claim_line, levels_of, levels_line, bare_line, client_line, bytes_line, user_line, leave_line, line_in};
+ghost use Rattle.dl_script_lines.specs.Line.{text_field, text_fields, payload_fields, app_line, context_line, id_line, call_line, clock_line, writer_line, brief, claim_line, levels_of, levels_line, bare_line, client_line, bytes_line, user_line, leave_line, line_in};
 
-use crate::argument::{add, behind_quote, has_form, is_closed, raw, unescape};
-use crate::kind::{LineError, ScriptKind};
-use crate::value::{client, count, id, number, own_level, severity, writer};
 use dl_bytes::{Bytes, ClaimText, Id, Payload, Severity, TEXT_LIMIT};
+use dl_script_fields::argument::{add, behind_quote, has_form, is_closed, raw, unescape};
+use dl_script_fields::value::{client, count, id, number, own_level, severity, writer};
+use dl_script_fields::{LineError, ScriptKind};
 use dl_script_model::{
     AppLine, CallArguments, CallLine, ClaimLine, ContextLine, LevelEvents, Step,
 };

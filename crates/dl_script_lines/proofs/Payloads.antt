@@ -8,7 +8,7 @@ use Rattle.dl_args.specs.declared.arg.Arg.{Arg}
 use Rattle.dl_script_fields.specs.Added.{added}
 use Rattle.dl_script_fields.specs.Argument.{argument_of, arguments_of, payload_of}
 use Rattle.dl_script_fields.specs.Kind.{◌>>=◌}
-use Rattle.dl_script_fields.specs.Line.{payload_fields}
+use Rattle.dl_script_lines.specs.Line.{payload_fields}
 use Rattle.dl_script_fields.specs.declared.kind.ScriptKind.{ScriptKind}
 
 -- a payload, where it is within its limits

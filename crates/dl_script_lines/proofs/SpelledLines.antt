@@ -16,9 +16,10 @@ use Rattle.dl_script_model.specs.declared.step.Step.TheVariants as step
 use Rattle.dl_script_fields.specs.Argument.{is_argument, arguments_of, payload_of}
 use Rattle.dl_script_fields.specs.Joined.{is_field, parted_by_blanks}
 use Rattle.dl_script_fields.specs.Kind.{◌>>=◌, is_of_form}
-use Rattle.dl_script_fields.specs.Line.{text_field, text_fields, payload_fields, app_line, context_line, claim_line, id_line, call_line, clock_line, writer_line, levels_line, bare_line, client_line, bytes_line, user_line, leave_line}
+use Rattle.dl_script_lines.specs.Line.{text_field, text_fields, payload_fields, app_line, context_line, claim_line, id_line, call_line, clock_line, writer_line, levels_line, bare_line, client_line, bytes_line, user_line, leave_line}
 use Rattle.dl_script_fields.specs.Spelling.{spelling}
-use Rattle.dl_script_fields.specs.Spells.{is_letter, IsShortText, IsSaid, SpellsTexts, SpellsArguments, SpellsNothing, SpellsApp, SpellsContext, SpellsClaim, SpellsApid, SpellsCall, SpellsClock, SpellsWriter, SpellsLevels, SpellsClient, SpellsSent, SpellsUser, SpellsLeave, quoted, levels_word}
+use Rattle.dl_script_fields.specs.Spells.{is_letter, IsShortText, IsSaid, quoted}
+use Rattle.dl_script_lines.specs.Spells.{SpellsTexts, SpellsArguments, SpellsNothing, SpellsApp, SpellsContext, SpellsClaim, SpellsApid, SpellsCall, SpellsClock, SpellsWriter, SpellsLevels, SpellsClient, SpellsSent, SpellsUser, SpellsLeave, levels_word}
 use Rattle.dl_script_fields.proofs.Letters.{ascii, is_whole, whole-append, letters_whole, IsGood, letters_good}
 use Rattle.dl_script_fields.proofs.QuotedFields.{one_byte, quoted_good}
 use Rattle.dl_script_fields.proofs.SpelledArguments.{argument_good}

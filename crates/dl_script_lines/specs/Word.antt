@@ -1,10 +1,10 @@
 -- The first word of a line.
 use Rattle.std.specs.Prelude.{ℕ, List, codes, Option, Some, None, if◌then◌else◌}
 use Rattle.dl_script_fields.specs.Value.{is_word}
-use Rattle.dl_script_fields.specs.declared.word.StepWord.{StepWord}
-use Rattle.dl_script_fields.specs.declared.word.StepWord.TheVariants as word
-use Rattle.dl_script_fields.specs.declared.word.ScenarioWord.{ScenarioWord}
-use Rattle.dl_script_fields.specs.declared.word.ScenarioWord.TheVariants as scene
+use Rattle.dl_script_lines.specs.declared.word.StepWord.{StepWord}
+use Rattle.dl_script_lines.specs.declared.word.StepWord.TheVariants as word
+use Rattle.dl_script_lines.specs.declared.word.ScenarioWord.{ScenarioWord}
+use Rattle.dl_script_lines.specs.declared.word.ScenarioWord.TheVariants as scene
 
 -- what a line of a step script is
 abbrev pub step_word : List ℕ → Option StepWord

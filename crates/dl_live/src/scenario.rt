@@ -3,15 +3,15 @@
 ghost use Rattle.std.specs.Prelude.{◌≡◌, IfOk};
 ghost use Rattle.dl_outside.specs.Outside.{Stays};
 ghost use Rattle.dl_script.specs.Playable.{IsRunnable};
-ghost use Rattle.dl_startup.specs.Scenario.{SaysScenario};
+ghost use Rattle.dl_live.specs.Scenario.{SaysScenario};
 ghost use Rattle.dl_startup.specs.Setup.{HasCause};
 
-use crate::setup::SetupError;
 use dl_outside::{Folder, FolderFault};
 use dl_script::laws::what_is_read_can_be_run;
 use dl_script::{ScriptError, read_scenario};
 use dl_script_fields::ScriptKind;
 use dl_script_model::Scenario;
+use dl_startup::SetupError;
 use std::alloc::Global;
 
 /// The scenario of this name. Where there is none, that is a fault of line 0.

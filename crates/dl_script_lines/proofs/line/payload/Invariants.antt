@@ -1,8 +1,8 @@
 use Rattle.std.proofs.Common.{◌≡◌, ◌≤◌, drop, length}
 use Rattle.dl_script_fields.specs.Fields.{texts}
-use Rattle.dl_script_fields.specs.Line.{payload_fields}
-use Rattle.dl_script_fields.proofs.Payloads.{with_fields}
-use Rattle.dl_script_fields.proofs.line.payload.Given as goal
+use Rattle.dl_script_lines.specs.Line.{payload_fields}
+use Rattle.dl_script_lines.proofs.Payloads.{with_fields}
+use Rattle.dl_script_lines.proofs.line.payload.Given as goal
 
 -- the payload so far, with the fields that are left, is that of all fields
 abbrev pub invariant-loop-field : goal.invariant-loop-field

@@ -1,7 +1,7 @@
 //! The first word of a line.
 
 ghost use Rattle.std.specs.Prelude.{◌≡◌};
-ghost use Rattle.dl_script_fields.specs.Word.{step_word, scenario_word};
+ghost use Rattle.dl_script_lines.specs.Word.{step_word, scenario_word};
 
 /// What a line of a step script is, by its first word.
 #[derive(Clone, Copy, Debug)]
