@@ -1,3 +1,4 @@
+mod Walks
 pub mod Versions
 pub mod LearntSlots
 pub mod SetLevels

@@ -62,7 +62,7 @@ impl Messenger {
             outboxes: Outboxes::make(alloc),
             ways: no_ways(alloc, count)?,
             versions: Vec::from_elem(alloc, 0, count)?,
-            history: History::make(alloc)?,
+            history: History::new(),
             gathered: Gathered::make(alloc)?,
         })
     }
