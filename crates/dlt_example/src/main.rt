@@ -45,7 +45,13 @@ fn declare(alloc: Global) -> Result<(Desk, Ctx, Writer), OutOfMemory>
 }
 
 /// Logs an empty message, and says what became of it.
-fn log<R: Wait>(rt: &R, writer: &mut Writer, ctx: &Ctx, severity: Severity, at: u32) -> &'static str {
+fn log<R: Wait>(
+    rt: &R,
+    writer: &mut Writer,
+    ctx: &Ctx,
+    severity: Severity,
+    at: u32,
+) -> &'static str {
     match writer.send(rt, ctx, severity, at, &Payload::new()) {
         Ok(Answer::Queued) => "queued",
         Ok(Answer::Filtered) => "filtered",
@@ -75,7 +81,10 @@ fn main(rt: HostRuntime) -> ExitCode {
     let second = log(&rt, &mut writer, &ctx, Severity::Info, 2);
     let third = log(&rt, &mut writer, &ctx, Severity::Info, 3);
     let taken = take_all(&rt, &mut desk);
-    match println!(rt; "debug {debug}; info {first}, {second}, {third}; taken {taken}, told as lost {}", desk.losses(0)) {
+    match println!(rt;
+        "debug {debug}; info {first}, {second}, {third}; taken {taken}, told as lost {}",
+        desk.losses(0)
+    ) {
         Ok(()) => ExitCode::SUCCESS,
         Err(_) => ExitCode::FAILURE,
     }
