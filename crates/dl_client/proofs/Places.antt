@@ -73,3 +73,9 @@ stays_below xs n c at none below place context less is = elim (cases_eq place n)
       ap (λ (x : Context). x.lost) (one_is context c (slice_get xs n) here at) ∙ none
   | inr apart ↦ below place context (omega (arith, less, apart)) is
 ]
+
+pub none_set : (xs : List Context) (p : ℕ) (c now : Context) → slice_get xs p ≡ Some c → now.lost ≡ 0 → NoneLost xs → NoneLost (slice_set xs p now)
+none_set xs p c now at none all place context is = elim (at_place xs p place c now at) [
+  | inl here ↦ ap (λ (x : Context). x.lost) (one_is context now (slice_get (slice_set xs p now) place) is here.1) ∙ none
+  | inr other ↦ all place context (sym other.1 ∙ is)
+]
