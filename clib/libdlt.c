@@ -521,8 +521,8 @@ static void end_thread(void) {
     pthread_t its = thread;
     bool is_own = pthread_equal(pthread_self(), its);
     is_stopping = true;
-    unlock();
     wake();
+    unlock();
     clock_gettime(CLOCK_REALTIME, &until);
     until.tv_sec += 1;
     if (is_own || pthread_timedjoin_np(its, NULL, &until))
@@ -541,9 +541,8 @@ static void finish_all(void) {
     drain(end);
     close_places();
     drain(end);
-    let_go();
-    if (client.queue.used)
-        fprintf(stderr, "libdlt: %zu bytes of log messages were not sent\n", client.queue.used);
+    if (client.queue.used > sent)
+        fprintf(stderr, "libdlt: %zu bytes of log messages were not sent\n", client.queue.used - sent);
     end_thread();
     end_link(is_past(end - 10000) ? ticks_now() + 10000 : end);
     close(wake_fd);
@@ -600,8 +599,8 @@ EXPORT int dlt_set_resend_timeout_atexit(uint32_t ms) {
 EXPORT DltReturnValue dlt_unregister_app(void) {
     lock();
     close_places();
-    unlock();
     wake();
+    unlock();
     return DLT_RETURN_OK;
 }
 
@@ -675,6 +674,21 @@ static size_t open_place(const char *ctid, const char *text, int level, LevelCal
     return p;
 }
 
+/* Contexts that were registered before any application are the application's from now on. */
+static void adopt(void) {
+    widen();
+    for (size_t p = 0; p < PLACES; p++) {
+        if (!places[p].taken || contexts[p].apid[0])
+            continue;
+        Registration context = registration_of(p);
+        memcpy(context.apid, app.apid, 4);
+        open_sieve(p);
+        dl_client_c_open(&client, p, &context, (uint8_t *)places[p].text, strlen(places[p].text), ticks_now());
+        close_sieve(p);
+    }
+    narrow();
+}
+
 EXPORT DltReturnValue dlt_register_app(const char *apid, const char *text) {
     if (!apid || !*apid)
         return DLT_RETURN_WRONG_PARAMETER;
@@ -695,9 +709,10 @@ EXPORT DltReturnValue dlt_register_app(const char *apid, const char *text) {
         size_t p = open_place("DLTC", counts_inline ? "accounts of calls, inline too" : "accounts of calls, not inline", -1, NULL);
         if (p < PLACES)
             places[p].has_accounts = true;
+        adopt();
     }
-    unlock();
     wake();
+    unlock();
     return DLT_RETURN_OK;
 }
 
@@ -714,8 +729,8 @@ static DltReturnValue register_context(DltContext *handle, const char *ctid, con
         handle->trace_status_ptr = &places[p].trace;
         handle->mcnt = 0;
     }
-    unlock();
     wake();
+    unlock();
     return p < PLACES ? DLT_RETURN_OK : DLT_RETURN_ERROR;
 }
 
@@ -744,8 +759,8 @@ EXPORT DltReturnValue dlt_unregister_context(DltContext *handle) {
         handle->log_level_ptr = NULL;
         handle->trace_status_ptr = NULL;
     }
-    unlock();
     wake();
+    unlock();
     return place ? DLT_RETURN_OK : DLT_RETURN_WRONG_PARAMETER;
 }
 
@@ -790,8 +805,8 @@ EXPORT DltReturnValue dlt_set_application_ll_ts_limit(DltLogLevelType level, Dlt
     for (size_t p = 0; p < PLACES; p++)
         if (places[p].taken)
             all = obey(p, (uint8_t)level) && all;
-    unlock();
     wake();
+    unlock();
     return all ? DLT_RETURN_OK : DLT_RETURN_BUFFER_FULL;
 }
 

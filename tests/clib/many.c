@@ -158,8 +158,12 @@ static void full(void) {
 static void again(void) {
     for (int turn = 0; turn < 2; turn++) {
         dlt_init();
+        /* the one turn the context comes before its application */
+        if (turn == 0)
+            DLT_REGISTER_CONTEXT(shared, "ALL", "again");
         DLT_REGISTER_APP("MANY", "again");
-        DLT_REGISTER_CONTEXT(shared, "ALL", "again");
+        if (turn == 1)
+            DLT_REGISTER_CONTEXT(shared, "ALL", "again");
         logs(&shared);
         dlt_free();
     }
