@@ -437,6 +437,26 @@ EXPORT void dlt_get_minor_version(char *text, size_t size) {
         snprintf(text, size, "%s", _DLT_PACKAGE_MINOR_VERSION);
 }
 
+/* Bytes in lines of sixteen, in hexadecimal and as letters. */
+EXPORT DltReturnValue dlt_print_mixed_string(char *text, int text_len, const uint8_t *bytes, int len, int html) {
+    if (!text || text_len <= 0 || !bytes || len < 0)
+        return DLT_RETURN_WRONG_PARAMETER;
+    size_t at = 0, room = (size_t)text_len;
+    text[0] = 0;
+    for (int line = 0; line < len; line += 16) {
+        char hex[3 * 16 + 1] = "", letters[17] = "";
+        for (int i = 0; i < 16 && line + i < len; i++) {
+            snprintf(hex + 3 * i, 4, "%02x ", bytes[line + i]);
+            letters[i] = bytes[line + i] >= ' ' && bytes[line + i] < 127 ? (char)bytes[line + i] : '.';
+        }
+        int more = snprintf(text + at, room - at, "%06x: %-48s %s%s", line, hex, letters, html ? "<br>" : "\n");
+        if (more < 0 || (size_t)more >= room - at)
+            return DLT_RETURN_USER_BUFFER_FULL;
+        at += (size_t)more;
+    }
+    return DLT_RETURN_OK;
+}
+
 EXPORT DltReturnValue dlt_log(int priority, char *text) { return text ? dlt_vlog(priority, "%s", text) : DLT_RETURN_WRONG_PARAMETER; }
 
 EXPORT DltReturnValue dlt_vlog(int priority, const char *format, ...) {

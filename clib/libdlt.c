@@ -50,6 +50,7 @@ static uint32_t exit_ms = 5000; /* how long the end gives what waits */
 
 /* The link is the thread's: no other opens, closes or writes to it. */
 static int link_fd = -1, wake_fd = -1;
+static char users[256]; /* DLT_USERS */
 static uint8_t hello[PLACES * (30 + TEXT_BYTES) + 20 + TEXT_BYTES]; /* what a new link hears first */
 static size_t hello_len, hello_sent;
 static size_t sent; /* how many of the bytes that wait this link has */
@@ -205,9 +206,6 @@ static int open_tcp(const char *host, const char *port) {
 
 /* DLT_USERS is the path of a socket, or HOST:PORT or PORT of the daemon's users' port */
 static int open_link(void) {
-    const char *users = getenv("DLT_USERS");
-    if (!users || !*users)
-        users = "127.0.0.1:3491";
     if (strchr(users, '/')) {
         struct sockaddr_un to = {.sun_family = AF_UNIX};
         if (strlen(users) >= sizeof to.sun_path)
@@ -451,7 +449,8 @@ static void forget(void) {
     for (size_t p = 0; p < PLACES; p++)
         atomic_store(&sieves[p], (uint64_t)OPEN << LEVEL_BIT);
     client = (Client){contexts, PLACES, {waiting, QUEUE_BYTES, 0}, {{'L', 'U', '0', '0'}, (uint32_t)getpid()}, 0, false};
-    const char *ecu = getenv("DLT_ECU"), *count = getenv("DLT_COUNT_INLINE");
+    const char *ecu = getenv("DLT_ECU"), *count = getenv("DLT_COUNT_INLINE"), *where = getenv("DLT_USERS");
+    snprintf(users, sizeof users, "%s", where && *where ? where : "127.0.0.1:3491");
     if (ecu && *ecu)
         put_id(client.sender.ecu, ecu);
     counts_inline = count && *count && strcmp(count, "0");

@@ -8,12 +8,15 @@ import threading
 class Users(threading.Thread):
     """Takes one program after another, answers each context's registration with a level, and keeps what was sent."""
 
-    def __init__(self, level=4, port=0, reads=True):
+    def __init__(self, level=4, port=0, reads=True, path=None):
         super().__init__(daemon=True)
         self.level, self.reads, self.bytes, self.links, self.ended = level, reads, [], [], 0
         self.there = threading.Condition()
-        self.socket = socket.create_server(("127.0.0.1", port))
-        self.port = self.socket.getsockname()[1]
+        self.socket = socket.socket(socket.AF_UNIX) if path else socket.create_server(("127.0.0.1", port))
+        if path:
+            self.socket.bind(path)
+            self.socket.listen()
+        self.port = None if path else self.socket.getsockname()[1]
         self.start()
 
     def run(self):
@@ -127,7 +130,7 @@ class Message:
         assert frame[0] == 0x3d, frame[:4]
         self.counter, self.session, self.ticks = frame[1], *struct.unpack_from(">II", frame, 8)
         self.info, self.count, self.payload = frame[16], frame[17], frame[26:]
-        self.apid, self.ctid = text(frame[18:22]), text(frame[22:26])
+        self.ecu, self.apid, self.ctid = text(frame[4:8]), text(frame[18:22]), text(frame[22:26])
 
     def arguments(self):
         return arguments(self.payload)

@@ -26,6 +26,9 @@ void dlt_get_version(char *text, size_t size);
 void dlt_get_major_version(char *text, size_t size);
 void dlt_get_minor_version(char *text, size_t size);
 
+/* Writes bytes as a text of lines, in hexadecimal and as letters. */
+DltReturnValue dlt_print_mixed_string(char *text, int text_len, const uint8_t *bytes, int len, int html);
+
 /* Lines on standard error, for programs that print through libdlt. */
 DltReturnValue dlt_log(int priority, char *text);
 DltReturnValue dlt_vlog(int priority, const char *format, ...) __attribute__((format(printf, 2, 3)));
