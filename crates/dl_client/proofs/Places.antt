@@ -1,8 +1,7 @@
 -- A context set at a place: what stands there, and what its counts and levels come to.
-use Rattle.std.proofs.Common.{List, Some, ap, length, arith, cond, false, inl, inr, refl, slice_get, subst, sym, true, ℕ, ◌+◌, ◌∙◌, ◌≡◌, ◌⊎◌}
+use Rattle.std.proofs.Common.{List, Some, ap, arith, cond, false, inl, inr, refl, slice_get, subst, sym, true, ℕ, ◌+◌, ◌∙◌, ◌≡◌, ◌⊎◌}
 use Rattle.std.proofs.lemmas.Bool.{cases_eq}
 use Rattle.std.proofs.lemmas.Bool.Decides.{eqb_tells}
-use Rattle.std.proofs.lemmas.Option.{slice_get_within}
 use Rattle.std.specs.Prelude.{nat_eq, slice_set}
 use Rattle.dl_lemmas.proofs.Lists.{set_here, set_other}
 use Rattle.dl_lemmas.proofs.Options.{one_is}
@@ -72,10 +71,4 @@ stays_below xs n c at none below place context less is = elim (cases_eq place n)
       let here : slice_get xs n ≡ Some context = subst (λ (k : ℕ). slice_get xs k ≡ Some context) same is in
       ap (λ (x : Context). x.lost) (one_is context c (slice_get xs n) here at) ∙ none
   | inr apart ↦ below place context (omega (arith, less, apart)) is
-]
-
-pub none_set : (xs : List Context) (p : ℕ) (c now : Context) → slice_get xs p ≡ Some c → now.lost ≡ 0 → NoneLost xs → NoneLost (slice_set xs p now)
-none_set xs p c now at none all place context is = elim (at_place xs p place c now at) [
-  | inl here ↦ ap (λ (x : Context). x.lost) (one_is context now (slice_get (slice_set xs p now) place) is here.1) ∙ none
-  | inr other ↦ all place context (sym other.1 ∙ is)
 ]
