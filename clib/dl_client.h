@@ -30,13 +30,14 @@ typedef struct {
     uint32_t session;
 } Sender;
 
-/* the contexts by their places, and the user messages that wait */
+/* the contexts by their places, and the user messages that wait; where untold is false no context has lost a call */
 typedef struct {
     Context *contexts;
     size_t count;
     Area queue;
     Sender sender;
     uint8_t accounts;
+    bool untold;
 } Client;
 
 /* what a log call says beside its payload */
@@ -62,6 +63,7 @@ enum { KIND_BOOL = 0, KIND_SIGNED = 1, KIND_UNSIGNED = 2, KIND_FLOAT = 3 };
 enum { FORMAT_PLAIN = 0, FORMAT_HEX = 1, FORMAT_BINARY = 2 };
 
 bool dl_client_c_is_filtered(Client *client, size_t place, uint8_t severity);
+bool dl_client_c_count(Client *client, size_t place, uint64_t count);
 uint8_t dl_client_c_log(Client *client, size_t place, const Call *call, const uint8_t *payload, size_t len);
 uint8_t dl_client_c_tell(Client *client, size_t place, uint32_t ticks);
 uint8_t dl_client_c_obey(Client *client, size_t place, uint8_t level, uint32_t ticks);
@@ -71,14 +73,15 @@ uint8_t dl_client_c_close(Client *client, size_t place, uint32_t pid, uint32_t t
 uint8_t dl_client_c_register_app(Client *client, const Registration *app, const uint8_t *text, size_t len);
 uint8_t dl_client_c_unregister_app(Client *client, const Registration *app);
 
-/* A name and a unit stand with their closing zero byte, or have no byte at all. */
+/* Bytes are shown in units of so many bytes, or 0. A name and a unit of a number stand with their closing zero byte, or have no byte at all. */
 bool dl_client_c_add_number(Area *payload, uint8_t kind, uint8_t format, const uint8_t *bytes, size_t len);
 bool dl_client_c_add_named_number(Area *payload, uint8_t kind, const uint8_t *name, size_t name_len, const uint8_t *unit, size_t unit_len,
                                   const uint8_t *bytes, size_t len);
 bool dl_client_c_add_text(Area *payload, bool utf8, const uint8_t *text, size_t len);
 bool dl_client_c_add_named_text(Area *payload, bool utf8, const uint8_t *name, size_t name_len, const uint8_t *text, size_t len);
-bool dl_client_c_add_raw(Area *payload, const uint8_t *bytes, size_t len);
-bool dl_client_c_add_named_raw(Area *payload, const uint8_t *name, size_t name_len, const uint8_t *bytes, size_t len);
+bool dl_client_c_add_named_bool(Area *payload, const uint8_t *name, size_t name_len, bool value);
+bool dl_client_c_add_raw(Area *payload, uint8_t format, size_t unit, const uint8_t *bytes, size_t len);
+bool dl_client_c_add_named_raw(Area *payload, uint8_t format, size_t unit, const uint8_t *name, size_t name_len, const uint8_t *bytes, size_t len);
 bool dl_client_c_add_plain(Area *payload, const uint8_t *bytes, size_t len);
 
 #endif

@@ -1,13 +1,12 @@
 /*
- * libdlt.so.2 over the proved library: sockets, one mutex, one thread, forks, callbacks. What becomes of a call, and what is said
- * of it, is decided by crates/dl_client.
+ * libdlt.so.2 over the proved library: the link to the daemon, one lock, one thread, forks, registrations and callbacks. What becomes
+ * of a call, and what is said of it, is decided by crates/dl_client. Log calls are in calls.c.
  */
 #define _GNU_SOURCE
-#include "abi.h"
-#include "dl_client.h"
+#include "inside.h"
 
+#include <arpa/inet.h>
 #include <errno.h>
-#include <fcntl.h>
 #include <netdb.h>
 #include <poll.h>
 #include <pthread.h>
@@ -19,58 +18,59 @@
 #include <sys/socket.h>
 #include <sys/un.h>
 #include <time.h>
-#include <unistd.h>
 
-#define EXPORT __attribute__((visibility("default")))
+enum { IN_BYTES = 2048, RETRY_MS = 500, CONNECT_MS = 1000, RELEASE_BYTES = 65536 };
 
-enum { PLACES = 1024, QUEUE_BYTES = 512000, PAYLOAD_BYTES = 1390, IN_BYTES = 2048, TEXT_BYTES = 255, RETRY_MS = 500 };
-
-/* what the library keeps of a context beside its counts */
-typedef struct {
-    bool taken;
-    int8_t level, trace;
-    char text[TEXT_BYTES + 1];
-    LevelCallback changed;
-    struct {
-        uint32_t service;
-        InjectionCallback call;
-        InjectionCallbackWithId call_with_id;
-        void *mine;
-    } injections[16];
-    unsigned injection_count;
-} Place;
-
-/* a callback that is called with the mutex open */
+/* what is called back with the lock open */
 typedef struct {
     Place place;
-    size_t number;
-    uint8_t kind;
+    char ctid[4];
+    uint32_t kind; /* 6 a level, 7 an injection, 0 nothing */
     uint8_t level;
     uint32_t service, len;
-    uint8_t data[IN_BYTES];
+    uint8_t bytes[INJECTED_BYTES];
 } Told;
 
+atomic_uint lock_state;
+_Atomic uint64_t sieves[PLACES];
+Client client;
+Place places[PLACES];
+atomic_bool is_verbose = true;
+
 static Context contexts[PLACES];
-static uint8_t waiting[QUEUE_BYTES];
-static Client client;
-static Place places[PLACES];
+static uint8_t waiting[QUEUE_BYTES + SPARE_BYTES];
 static Registration app;
 static char app_text[TEXT_BYTES + 1];
-static bool app_there, running, stopping, verbose = true;
-static bool tried; /* the thread has looked for the daemon at least once */
-static pthread_mutex_t mutex = PTHREAD_MUTEX_INITIALIZER;
+static bool is_registered, is_running, is_stopping, counts_inline;
+static bool has_tried;    /* the thread has looked for the daemon at least once */
+static bool is_asleep;    /* the thread waits, and is to be woken */
+static unsigned life;     /* which thread is the library's: one of an earlier life ends */
 static pthread_t thread;
+static uint32_t exit_ms = 5000; /* how long the end gives what waits */
+
+/* The link is the thread's: no other opens, closes or writes to it. */
 static int link_fd = -1, wake_fd = -1;
-static size_t sent; /* bytes of the first message that waits, which this link took */
+static char users[256]; /* DLT_USERS */
+static uint8_t hello[PLACES * (30 + TEXT_BYTES) + 20 + TEXT_BYTES]; /* what a new link hears first */
+static size_t hello_len, hello_sent;
+static size_t sent; /* how many of the bytes that wait this link has */
 static uint8_t in[IN_BYTES];
 static size_t in_used;
-static uint32_t exit_ms = 1000;
 
-static uint32_t ticks_now(void) {
+/* ---- the lock, the time, texts and numbers */
+
+void lock_waiting(void) {
+    while (atomic_exchange_explicit(&lock_state, 2, memory_order_acquire) != 0)
+        syscall(SYS_futex, &lock_state, FUTEX_WAIT_PRIVATE, 2, NULL, NULL, 0);
+}
+
+uint32_t ticks_now(void) {
     struct timespec now;
     clock_gettime(CLOCK_MONOTONIC, &now);
     return (uint32_t)((uint64_t)now.tv_sec * 10000 + (uint64_t)now.tv_nsec / 100000);
 }
+
+static bool is_past(uint32_t end) { return (int32_t)(ticks_now() - end) >= 0; }
 
 static void put_id(uint8_t id[4], const char *text) {
     memset(id, 0, 4);
@@ -78,20 +78,50 @@ static void put_id(uint8_t id[4], const char *text) {
         id[i] = (uint8_t)text[i];
 }
 
-/* The level that macros see which filter in the program itself. With DLT_COUNT_INLINE they see 6, so that each call comes here and is counted. */
-static int8_t shown_level(uint8_t level) {
-    const char *count = getenv("DLT_COUNT_INLINE");
-    return count && *count && *count != '0' ? 6 : (int8_t)level;
+static void put_text(char to[TEXT_BYTES + 1], const char *text) {
+    memset(to, 0, TEXT_BYTES + 1);
+    if (text)
+        memcpy(to, text, strnlen(text, TEXT_BYTES));
 }
 
-static uint32_t le32(const uint8_t *bytes) {
-    return bytes[0] | (uint32_t)bytes[1] << 8 | (uint32_t)bytes[2] << 16 | (uint32_t)bytes[3] << 24;
+static uint32_t le32(const uint8_t *bytes) { return bytes[0] | (uint32_t)bytes[1] << 8 | (uint32_t)bytes[2] << 16 | (uint32_t)bytes[3] << 24; }
+
+/* ---- levels as calls see them */
+
+/* Calls pass the sieve of this place from now on, and the proved library counts those that it filtered, by the level that the context has still. */
+static void open_sieve(size_t p) {
+    uint64_t seen = atomic_exchange(&sieves[p], (uint64_t)OPEN << LEVEL_BIT);
+    if (seen << 8)
+        dl_client_c_count(&client, p, seen << 8 >> 8);
 }
 
-static void put32(uint8_t *bytes, uint32_t n) {
-    for (int i = 0; i < 4; i++)
-        bytes[i] = (uint8_t)(n >> 8 * i);
+/* Calls are filtered by the level of the context at this place. Macros that filter in the program see 6 where their calls are to be counted. */
+static void close_sieve(size_t p) {
+    uint8_t level = contexts[p].level;
+    atomic_store(&sieves[p], (uint64_t)level << LEVEL_BIT);
+    __atomic_store_n(&places[p].level, (int8_t)(counts_inline ? DLT_LOG_VERBOSE : level), __ATOMIC_RELAXED);
 }
+
+/* ---- the queue's memory: registrations, levels and the end have room behind that of calls */
+
+static void widen(void) { client.queue.len = sizeof waiting; }
+
+static void narrow(void) { client.queue.len = client.queue.used > QUEUE_BYTES ? client.queue.used : QUEUE_BYTES; }
+
+static void wake(void) {
+    uint64_t one = 1;
+    if (wake_fd >= 0 && write(wake_fd, &one, sizeof one) < 0) {
+        /* it is awake */
+    }
+}
+
+void wake_for_first(void) {
+    if (is_asleep)
+        wake();
+    is_asleep = false;
+}
+
+/* ---- the link */
 
 /* how many bytes the user message has that begins here */
 static size_t message_len(const uint8_t *m) {
@@ -104,254 +134,310 @@ static size_t message_len(const uint8_t *m) {
     }
 }
 
-static void wake(void) {
-    uint64_t one = 1;
-    if (wake_fd >= 0 && write(wake_fd, &one, sizeof one) < 0) {
-        /* it is awake */
+/* Whole messages that the link has are let go. Of one that it has a part of all is kept until it has the rest. */
+static void let_go(void) {
+    size_t whole = 0;
+    while (whole < sent && whole + message_len(waiting + whole) <= sent)
+        whole += message_len(waiting + whole);
+    if (whole) {
+        dl_client_c_took(&client, whole);
+        narrow();
+        sent -= whole;
     }
 }
-
-/* ---- the link */
 
 static void drop_link(void) {
     if (link_fd >= 0)
         close(link_fd);
     link_fd = -1;
-    sent = 0;
-    in_used = 0;
+    let_go();
+    sent = in_used = hello_len = hello_sent = 0;
 }
 
-static int open_tcp(const char *host, const char *port) {
-    struct addrinfo hints = {.ai_socktype = SOCK_STREAM}, *all = NULL;
-    int fd = -1;
-    if (getaddrinfo(host, port, &hints, &all))
-        return -1;
-    for (struct addrinfo *a = all; a && fd < 0; a = a->ai_next) {
-        fd = socket(a->ai_family, SOCK_STREAM | SOCK_CLOEXEC, 0);
-        if (fd >= 0 && connect(fd, a->ai_addr, a->ai_addrlen)) {
-            close(fd);
-            fd = -1;
-        }
+/* Connects, as long as the library goes on and at most a second. */
+static bool connects(int fd, const struct sockaddr *to, socklen_t len) {
+    int error = 0;
+    socklen_t error_len = sizeof error;
+    struct pollfd of = {fd, POLLOUT, 0};
+    if (connect(fd, to, len) == 0)
+        return true;
+    for (int ms = 0; errno == EINPROGRESS && ms < CONNECT_MS; ms += 50) {
+        lock();
+        bool is_over = is_stopping;
+        unlock();
+        if (poll(&of, 1, 50) > 0)
+            return getsockopt(fd, SOL_SOCKET, SO_ERROR, &error, &error_len) == 0 && error == 0;
+        if (is_over)
+            return false;
+        errno = EINPROGRESS;
     }
-    freeaddrinfo(all);
+    return false;
+}
+
+static int open_to(int family, const struct sockaddr *to, socklen_t len) {
+    int fd = socket(family, SOCK_STREAM | SOCK_CLOEXEC | SOCK_NONBLOCK, 0);
+    if (fd >= 0 && !connects(fd, to, len)) {
+        close(fd);
+        return -1;
+    }
     return fd;
 }
 
-static int open_path(const char *path) {
-    struct sockaddr_un to = {.sun_family = AF_UNIX};
-    if (strlen(path) >= sizeof to.sun_path)
+/* An address in numbers takes no lock of the C library, which a fork could leave held in its child; a name does. */
+static int open_tcp(const char *host, const char *port) {
+    unsigned long number = strtoul(port, NULL, 10);
+    struct sockaddr_in to = {.sin_family = AF_INET, .sin_port = htons((uint16_t)number)};
+    struct sockaddr_in6 to6 = {.sin6_family = AF_INET6, .sin6_port = htons((uint16_t)number)};
+    struct addrinfo hints = {.ai_socktype = SOCK_STREAM}, *all = NULL;
+    int fd = -1;
+    if (number < 1 || number > 65535)
         return -1;
-    strcpy(to.sun_path, path);
-    int fd = socket(AF_UNIX, SOCK_STREAM | SOCK_CLOEXEC, 0);
-    if (fd >= 0 && connect(fd, (struct sockaddr *)&to, sizeof to)) {
-        close(fd);
-        fd = -1;
-    }
+    if (inet_pton(AF_INET, host, &to.sin_addr) == 1)
+        return open_to(AF_INET, (struct sockaddr *)&to, sizeof to);
+    if (inet_pton(AF_INET6, host, &to6.sin6_addr) == 1)
+        return open_to(AF_INET6, (struct sockaddr *)&to6, sizeof to6);
+    if (getaddrinfo(host, port, &hints, &all))
+        return -1;
+    for (struct addrinfo *a = all; a && fd < 0; a = a->ai_next)
+        fd = open_to(a->ai_family, a->ai_addr, a->ai_addrlen);
+    freeaddrinfo(all);
     return fd;
 }
 
 /* DLT_USERS is the path of a socket, or HOST:PORT or PORT of the daemon's users' port */
 static int open_link(void) {
-    const char *users = getenv("DLT_USERS");
-    if (!users || !*users)
-        users = "127.0.0.1:3491";
-    if (strchr(users, '/'))
-        return open_path(users);
+    if (strchr(users, '/')) {
+        struct sockaddr_un to = {.sun_family = AF_UNIX};
+        if (strlen(users) >= sizeof to.sun_path)
+            return -1;
+        strcpy(to.sun_path, users);
+        return open_to(AF_UNIX, (struct sockaddr *)&to, sizeof to);
+    }
     const char *colon = strrchr(users, ':');
     if (!colon)
         return open_tcp("127.0.0.1", users);
     char host[256];
-    snprintf(host, sizeof host, "%.*s", (int)(colon - users), users);
+    bool is_bracketed = users[0] == '[' && colon > users && colon[-1] == ']';
+    snprintf(host, sizeof host, "%.*s", (int)(colon - users) - 2 * is_bracketed, users + is_bracketed);
     return open_tcp(host, colon + 1);
 }
 
-/* A new link hears of the application and its contexts first, whatever waits. One that doesn't take that at once is none. */
-static bool introduce(int fd) {
+static Registration registration_of(size_t p) {
+    Registration context = {.level = contexts[p].level, .own = places[p].own, .pid = app.pid};
+    memcpy(context.apid, contexts[p].apid, 4);
+    memcpy(context.ctid, contexts[p].ctid, 4);
+    return context;
+}
+
+/* A new link hears of the application and its contexts first, whatever waits. */
+static void greet(int fd) {
     static Context none[PLACES];
-    static uint8_t bytes[PLACES * (30 + TEXT_BYTES) + 20 + TEXT_BYTES];
-    Client fresh = {none, PLACES, {bytes, sizeof bytes, 0}, client.sender, 0};
-    if (!app_there)
-        return true;
+    Client fresh = {none, PLACES, {hello, sizeof hello, 0}, client.sender, 0, false};
     memset(none, 0, sizeof none);
-    dl_client_c_register_app(&fresh, &app, (uint8_t *)app_text, strlen(app_text));
-    for (size_t p = 0; p < PLACES; p++) {
-        if (!places[p].taken)
-            continue;
-        Registration context = {.level = contexts[p].level, .own = -1, .pid = app.pid};
-        memcpy(context.apid, contexts[p].apid, 4);
-        memcpy(context.ctid, contexts[p].ctid, 4);
-        dl_client_c_open(&fresh, p, &context, (uint8_t *)places[p].text, strlen(places[p].text), 0);
+    if (is_registered)
+        dl_client_c_register_app(&fresh, &app, (uint8_t *)app_text, strlen(app_text));
+    for (size_t p = 0; is_registered && p < PLACES; p++) {
+        Registration context = registration_of(p);
+        if (places[p].taken)
+            dl_client_c_open(&fresh, p, &context, (uint8_t *)places[p].text, strlen(places[p].text), 0);
     }
-    return send(fd, bytes, fresh.queue.used, MSG_NOSIGNAL | MSG_DONTWAIT) == (ssize_t)fresh.queue.used;
+    link_fd = fd;
+    hello_len = fresh.queue.used;
+    hello_sent = sent = in_used = 0;
 }
 
-/* The link took this many bytes. Whole messages go; of one that it has a part of, all is kept until it has the rest. */
-static void link_took(size_t count) {
-    size_t whole = 0;
-    sent += count;
-    while (whole < client.queue.used && whole + message_len(waiting + whole) <= sent)
-        whole += message_len(waiting + whole);
-    if (whole)
-        dl_client_c_took(&client, whole);
-    sent -= whole;
-}
+static bool has_more(void) { return link_fd >= 0 && (hello_sent < hello_len || sent < client.queue.used); }
 
+/* Sends what waits until the link takes no more. The lock is open meanwhile: what waits stays where it is, and more comes behind it. */
 static void send_some(void) {
-    while (link_fd >= 0 && sent < client.queue.used) {
-        ssize_t n = send(link_fd, waiting + sent, client.queue.used - sent, MSG_NOSIGNAL | MSG_DONTWAIT);
-        if (n < 0 && errno == EINTR)
+    while (has_more()) {
+        bool is_hello = hello_sent < hello_len;
+        const uint8_t *from = is_hello ? hello + hello_sent : waiting + sent;
+        size_t len = is_hello ? hello_len - hello_sent : client.queue.used - sent;
+        unlock();
+        ssize_t n = send(link_fd, from, len, MSG_NOSIGNAL | MSG_DONTWAIT);
+        int error = errno;
+        lock();
+        if (n < 0 && error == EINTR)
             continue;
-        if (n < 0 && (errno == EAGAIN || errno == EWOULDBLOCK))
+        if (n < 0 && (error == EAGAIN || error == EWOULDBLOCK))
             return;
         if (n <= 0) {
             drop_link();
             return;
         }
-        link_took((size_t)n);
+        *(is_hello ? &hello_sent : &sent) += (size_t)n;
+        if (sent >= RELEASE_BYTES || sent == client.queue.used)
+            let_go();
     }
 }
 
 /* ---- what the daemon tells */
 
-/* Takes one message from what was read: 0 none or it has to wait, 1 one was taken, and what is to be called back */
-static int take_told(Told *told) {
-    size_t len = 0;
-    told->kind = 0;
+static void tell_all(void) {
+    for (size_t p = 0; p < PLACES; p++) {
+        if (!places[p].taken)
+            continue;
+        open_sieve(p);
+        dl_client_c_tell(&client, p, ticks_now());
+        close_sieve(p);
+    }
+}
+
+/* Obeys a level; false where there is no room yet for the account that comes before it. */
+static bool obey(size_t p, uint8_t level) {
+    widen();
+    open_sieve(p);
+    uint8_t answer = dl_client_c_obey(&client, p, level, ticks_now());
+    close_sieve(p);
+    narrow();
+    return answer != WAITS;
+}
+
+/* How many bytes a message has that begins in what was read, or 0 where that can't be said yet. Other kinds are refused. */
+static size_t told_len(void) {
     if (in_used < 8)
         return 0;
-    if (memcmp(in, "DUH\1", 4)) {
+    if (memcmp(in, "DUH\1", 4) == 0 && le32(in + 4) == 6)
+        return 14;
+    if (memcmp(in, "DUH\1", 4) == 0 && le32(in + 4) == 7)
+        return in_used < 20 ? 0 : le32(in + 16) <= INJECTED_BYTES ? 20 + (size_t)le32(in + 16) : SIZE_MAX;
+    return SIZE_MAX;
+}
+
+/* Takes one message from what was read, and answers whether it did. A level that a context has, and was told before, is called back no more. */
+static bool take_told(Told *told) {
+    size_t len = told_len();
+    told->kind = 0;
+    if (len == SIZE_MAX)
         drop_link();
-        return 0;
-    }
+    if (len == 0 || len == SIZE_MAX || in_used < len)
+        return false;
     uint32_t kind = le32(in + 4);
-    if (kind == 6) {
-        if (in_used < 14)
-            return 0;
-        size_t p = le32(in + 10);
-        if (p < PLACES && places[p].taken) {
-            uint8_t answer = dl_client_c_obey(&client, p, in[8], ticks_now());
-            if (answer == WAITS)
-                return 0;
-            if (answer == DONE) {
-                places[p].level = shown_level(in[8]);
-                places[p].trace = (int8_t)in[9];
-                told->kind = 6;
-                told->level = in[8];
-                told->number = p;
-                told->place = places[p];
-            }
+    size_t p = le32(in + (kind == 6 ? 10 : 8));
+    if (p < PLACES && places[p].taken && (kind == 7 || in[8] <= 6)) {
+        uint8_t before = contexts[p].level;
+        if (kind == 6 && !obey(p, in[8]))
+            return false;
+        told->kind = kind == 7 || in[8] != before || !places[p].is_told ? kind : 0;
+        told->level = in[8];
+        places[p].is_told = places[p].is_told || kind == 6;
+        told->place = places[p];
+        memcpy(told->ctid, contexts[p].ctid, 4);
+        if (kind == 7) {
+            told->service = le32(in + 12);
+            told->len = (uint32_t)(len - 20);
+            memcpy(told->bytes, in + 20, told->len);
         }
-        len = 14;
-    } else if (kind == 7) {
-        if (in_used < 20)
-            return 0;
-        told->len = le32(in + 16);
-        len = 20 + (size_t)told->len;
-        if (len > IN_BYTES) {
-            drop_link();
-            return 0;
-        }
-        if (in_used < len)
-            return 0;
-        told->number = le32(in + 8);
-        told->service = le32(in + 12);
-        if (told->number < PLACES && places[told->number].taken) {
-            told->kind = 7;
-            told->place = places[told->number];
-            memcpy(told->data, in + 20, told->len);
-        }
-    } else {
-        drop_link();
-        return 0;
     }
     memmove(in, in + len, in_used - len);
     in_used -= len;
-    return 1;
+    return true;
 }
 
-static void call_back(Told *told, const uint8_t ctid[4]) {
-    char id[4];
-    memcpy(id, ctid, 4);
+/* with the lock open */
+static void call_back(Told *told) {
     if (told->kind == 6 && told->place.changed)
-        told->place.changed(id, told->level, (uint8_t)told->place.trace);
-    if (told->kind != 7)
-        return;
-    for (unsigned i = 0; i < told->place.injection_count; i++) {
-        if (told->place.injections[i].service != told->service)
-            continue;
-        if (told->place.injections[i].call)
-            told->place.injections[i].call(told->service, told->data, told->len);
-        else if (told->place.injections[i].call_with_id)
-            told->place.injections[i].call_with_id(told->service, told->data, told->len, told->place.injections[i].mine);
+        told->place.changed(told->ctid, told->level, DLT_TRACE_STATUS_OFF);
+    for (unsigned i = 0; told->kind == 7 && i < told->place.injection_count; i++) {
+        Injection *to = &told->place.injections[i];
+        if (to->service == told->service && to->call)
+            to->call(told->service, told->bytes, told->len);
+        else if (to->service == told->service && to->call_with_id)
+            to->call_with_id(told->service, told->bytes, told->len, to->mine);
     }
 }
 
-/* reads what is there, with the mutex held; opens it for callbacks */
-static void hear(void) {
+/* Reads what is there, and calls back with the lock open. */
+static void hear(unsigned mine) {
     static Told told;
-    for (;;) {
-        if (link_fd < 0)
-            return;
-        ssize_t n = in_used < IN_BYTES ? recv(link_fd, in + in_used, IN_BYTES - in_used, MSG_DONTWAIT) : -2;
-        if (n == 0 || (n == -1 && errno != EAGAIN && errno != EWOULDBLOCK && errno != EINTR)) {
+    while (link_fd >= 0 && life == mine) {
+        ssize_t n = in_used < IN_BYTES ? recv(link_fd, in + in_used, IN_BYTES - in_used, MSG_DONTWAIT) : 0;
+        if ((n == 0 && in_used < IN_BYTES) || (n < 0 && errno != EAGAIN && errno != EWOULDBLOCK && errno != EINTR)) {
             drop_link();
             return;
         }
-        if (n > 0)
-            in_used += (size_t)n;
-        bool any = false;
-        while (link_fd >= 0 && take_told(&told)) {
-            any = true;
-            if (told.kind) {
-                uint8_t ctid[4];
-                memcpy(ctid, contexts[told.number].ctid, 4);
-                pthread_mutex_unlock(&mutex);
-                call_back(&told, ctid);
-                pthread_mutex_lock(&mutex);
-            }
+        in_used += n > 0 ? (size_t)n : 0;
+        bool took = false;
+        while (link_fd >= 0 && life == mine && take_told(&told)) {
+            took = true;
+            if (told.kind == 7 && told.place.has_accounts)
+                tell_all();
+            unlock();
+            call_back(&told);
+            lock();
         }
-        if (n <= 0 && !any)
+        if (n <= 0 && !took)
             return;
     }
 }
 
-static void tell_all(void) {
-    for (size_t p = 0; p < PLACES; p++)
-        if (places[p].taken)
-            dl_client_c_tell(&client, p, ticks_now());
+/* ---- the thread */
+
+/* Calls of a context that is gone are none. */
+static void leave_place(size_t p) {
+    open_sieve(p);
+    places[p].gone = true;
+    places[p].taken = false;
+    __atomic_store_n(&places[p].level, DLT_LOG_OFF, __ATOMIC_RELAXED);
 }
 
-static void *run(void *unused) {
-    (void)unused;
-    uint64_t count;
-    time_t told = time(NULL);
-    pthread_mutex_lock(&mutex);
-    while (!stopping) {
-        if (link_fd < 0) {
-            pthread_mutex_unlock(&mutex);
-            int fd = open_link();
-            pthread_mutex_lock(&mutex);
-            if (fd >= 0 && introduce(fd))
-                link_fd = fd;
-            else if (fd >= 0)
-                close(fd);
-            tried = true;
+/* A context that is gone is told as such, and its place is free; where there is no room it waits. */
+static void close_place(size_t p) {
+    widen();
+    if (dl_client_c_close(&client, p, app.pid, ticks_now()) != WAITS)
+        places[p].gone = false;
+    narrow();
+}
+
+static void close_gone(void) {
+    for (size_t p = 0; p < PLACES; p++)
+        if (places[p].gone)
+            close_place(p);
+}
+
+/* Looks for the daemon, with the lock open. */
+static void find_link(unsigned mine) {
+    unlock();
+    int fd = open_link();
+    lock();
+    if (fd >= 0 && life == mine && !is_stopping)
+        greet(fd);
+    else if (fd >= 0)
+        close(fd);
+    has_tried = has_tried || life == mine;
+}
+
+static void *run(void *its_life) {
+    unsigned mine = (unsigned)(uintptr_t)its_life;
+    uint32_t next = ticks_now() + 10000, look = ticks_now();
+    lock();
+    while (life == mine && !is_stopping) {
+        if (link_fd < 0 && is_past(look)) {
+            find_link(mine);
+            look = ticks_now() + RETRY_MS * 10;
         }
-        hear();
-        if (time(NULL) != told) {
+        hear(mine);
+        if (life != mine)
+            break;
+        close_gone();
+        if (is_past(next)) {
             tell_all();
-            told = time(NULL);
+            next = ticks_now() + 10000;
         }
         send_some();
-        struct pollfd of[2] = {{wake_fd, POLLIN, 0}, {link_fd, (short)(POLLIN | (sent < client.queue.used ? POLLOUT : 0)), 0}};
-        pthread_mutex_unlock(&mutex);
-        poll(of, link_fd >= 0 ? 2 : 1, link_fd >= 0 ? 1000 : RETRY_MS);
-        if (of[0].revents && read(wake_fd, &count, sizeof count) < 0) {
+        struct pollfd of[2] = {{wake_fd, POLLIN, 0}, {link_fd, (short)(POLLIN | (has_more() ? POLLOUT : 0)), 0}};
+        is_asleep = true;
+        unlock();
+        poll(of, of[1].fd >= 0 ? 2 : 1, of[1].fd >= 0 ? 1000 : RETRY_MS);
+        uint64_t count;
+        if (of[0].revents && read(of[0].fd, &count, sizeof count) < 0) {
             /* nothing was there */
         }
-        pthread_mutex_lock(&mutex);
+        lock();
+        is_asleep = false;
     }
-    pthread_mutex_unlock(&mutex);
+    unlock();
     return NULL;
 }
 
@@ -360,70 +446,55 @@ static void *run(void *unused) {
 static void forget(void) {
     memset(contexts, 0, sizeof contexts);
     memset(places, 0, sizeof places);
-    client = (Client){contexts, PLACES, {waiting, QUEUE_BYTES, 0}, {{'L', 'U', '0', '0'}, (uint32_t)getpid()}, 0};
-    const char *ecu = getenv("DLT_ECU");
+    for (size_t p = 0; p < PLACES; p++)
+        atomic_store(&sieves[p], (uint64_t)OPEN << LEVEL_BIT);
+    client = (Client){contexts, PLACES, {waiting, QUEUE_BYTES, 0}, {{'L', 'U', '0', '0'}, (uint32_t)getpid()}, 0, false};
+    const char *ecu = getenv("DLT_ECU"), *count = getenv("DLT_COUNT_INLINE"), *where = getenv("DLT_USERS");
+    snprintf(users, sizeof users, "%s", where && *where ? where : "127.0.0.1:3491");
     if (ecu && *ecu)
         put_id(client.sender.ecu, ecu);
-    app_there = false;
+    counts_inline = count && *count && strcmp(count, "0");
+    is_registered = is_stopping = has_tried = is_asleep = false;
+    hello_len = hello_sent = sent = in_used = 0;
 }
 
 static void in_child(void) {
-    pthread_mutex_init(&mutex, NULL);
     if (link_fd >= 0)
         close(link_fd);
     if (wake_fd >= 0)
         close(wake_fd);
     link_fd = wake_fd = -1;
-    running = stopping = tried = false;
-    sent = in_used = 0;
+    is_running = false;
+    life++;
     forget();
+    unlock();
 }
 
-static void before_fork(void) { pthread_mutex_lock(&mutex); }
-static void in_parent(void) { pthread_mutex_unlock(&mutex); }
-
-static void finish_all(void);
-
-static void start(void) {
-    static bool once;
-    if (running)
-        return;
-    if (!once) {
-        once = true;
-        pthread_atfork(before_fork, in_parent, in_child);
-        atexit(finish_all);
-    }
-    forget();
-    sigset_t all, old;
-    sigfillset(&all);
-    pthread_sigmask(SIG_SETMASK, &all, &old);
-    stopping = tried = false;
-    wake_fd = eventfd(0, EFD_CLOEXEC | EFD_NONBLOCK);
-    running = wake_fd >= 0 && pthread_create(&thread, NULL, run, NULL) == 0;
-    pthread_sigmask(SIG_SETMASK, &old, NULL);
-}
-
-/* gives what waits a bounded time, as long as there is a link, or the thread has yet to look for one */
-static void flush(void) {
-    struct timespec pause = {0, 2000000};
-    uint32_t end = ticks_now() + exit_ms * 10;
-    while ((link_fd >= 0 || (running && !tried)) && client.queue.used && (int32_t)(end - ticks_now()) > 0) {
-        send_some();
-        pthread_mutex_unlock(&mutex);
+/* gives what waits until this time, as long as there is a link, or the thread has yet to look for one */
+static void drain(uint32_t end) {
+    struct timespec pause = {0, 1000000};
+    bool is_own = is_running && pthread_equal(pthread_self(), thread);
+    while (client.queue.used && (link_fd >= 0 || (is_running && !has_tried)) && !is_past(end)) {
+        if (is_own)
+            send_some();
+        else
+            wake();
+        unlock();
         nanosleep(&pause, NULL);
-        pthread_mutex_lock(&mutex);
+        lock();
     }
 }
 
 /* Who closes a link with levels unread makes the system drop what the daemon has not read yet: so they are read to its end. */
-static void end_link(void) {
-    uint32_t end = ticks_now() + exit_ms * 10;
+static void end_link(uint32_t end) {
     uint8_t unread[256];
     if (link_fd >= 0)
         shutdown(link_fd, SHUT_WR);
-    while (link_fd >= 0 && (int32_t)(end - ticks_now()) > 0) {
+    while (link_fd >= 0 && !is_past(end)) {
         struct pollfd of = {link_fd, POLLIN, 0};
-        poll(&of, 1, 50);
+        unlock();
+        poll(&of, 1, 20);
+        lock();
         ssize_t n = recv(link_fd, unread, sizeof unread, MSG_DONTWAIT);
         if (n == 0 || (n < 0 && errno != EAGAIN && errno != EWOULDBLOCK && errno != EINTR))
             break;
@@ -432,539 +503,342 @@ static void end_link(void) {
 }
 
 static void close_places(void) {
-    for (size_t p = 0; p < PLACES; p++) {
-        if (!places[p].taken)
-            continue;
-        dl_client_c_close(&client, p, app.pid, ticks_now());
-        places[p].taken = false;
-        places[p].level = 0;
-    }
+    for (size_t p = 0; p < PLACES; p++)
+        if (places[p].taken)
+            leave_place(p);
+    close_gone();
+    widen();
+    if (is_registered)
+        dl_client_c_unregister_app(&client, &app);
+    narrow();
+    is_registered = false;
+}
+
+/* The thread ends by itself, soon; one that looks for a name longer than that is left alone, and ends then. */
+static void end_thread(void) {
+    struct timespec until;
+    pthread_t its = thread;
+    bool is_own = pthread_equal(pthread_self(), its);
+    is_stopping = true;
+    wake();
+    unlock();
+    clock_gettime(CLOCK_REALTIME, &until);
+    until.tv_sec += 1;
+    if (is_own || pthread_timedjoin_np(its, NULL, &until))
+        pthread_detach(its);
+    lock();
+    life++;
 }
 
 static void finish_all(void) {
-    pthread_mutex_lock(&mutex);
-    if (!running) {
-        pthread_mutex_unlock(&mutex);
+    lock();
+    if (!is_running || is_stopping) {
+        unlock();
         return;
     }
+    uint32_t end = ticks_now() + exit_ms * 10;
+    drain(end);
     close_places();
-    if (app_there)
-        dl_client_c_unregister_app(&client, &app);
-    app_there = false;
-    flush();
-    if (client.queue.used)
-        fprintf(stderr, "libdlt: %zu bytes of log messages were not sent\n", client.queue.used);
-    stopping = true;
-    pthread_mutex_unlock(&mutex);
-    wake();
-    pthread_join(thread, NULL);
-    pthread_mutex_lock(&mutex);
-    end_link();
+    drain(end);
+    if (client.queue.used > sent)
+        fprintf(stderr, "libdlt: %zu bytes of log messages were not sent\n", client.queue.used - sent);
+    end_thread();
+    end_link(is_past(end - 10000) ? ticks_now() + 10000 : end);
     close(wake_fd);
     wake_fd = -1;
-    running = false;
-    pthread_mutex_unlock(&mutex);
+    is_running = false;
+    unlock();
 }
 
-EXPORT int dlt_init(void) {
-    pthread_mutex_lock(&mutex);
+void start(void) {
+    static bool has_handlers;
+    sigset_t all, old;
+    if (is_running)
+        return;
+    if (!has_handlers) {
+        has_handlers = true;
+        pthread_atfork(lock, unlock, in_child);
+        atexit(finish_all);
+    }
+    forget();
+    sigfillset(&all);
+    pthread_sigmask(SIG_SETMASK, &all, &old);
+    wake_fd = eventfd(0, EFD_CLOEXEC | EFD_NONBLOCK);
+    is_running = wake_fd >= 0 && pthread_create(&thread, NULL, run, (void *)(uintptr_t)life) == 0;
+    pthread_sigmask(SIG_SETMASK, &old, NULL);
+}
+
+EXPORT DltReturnValue dlt_init(void) {
+    lock();
     start();
-    pthread_mutex_unlock(&mutex);
-    return RETURN_OK;
+    unlock();
+    return DLT_RETURN_OK;
 }
 
-EXPORT int dlt_free(void) {
+EXPORT DltReturnValue dlt_free(void) {
     finish_all();
-    return RETURN_OK;
+    return DLT_RETURN_OK;
 }
 
-EXPORT int dlt_user_check_library_version(const char *major, const char *minor) {
-    return major && minor && !strcmp(major, "2") ? RETURN_OK : RETURN_ERROR;
+EXPORT DltReturnValue dlt_user_check_library_version(const char *major, const char *minor) {
+    return major && minor && !strcmp(major, _DLT_PACKAGE_MAJOR_VERSION) ? DLT_RETURN_OK : DLT_RETURN_ERROR;
 }
 
-EXPORT int dlt_check_library_version(const char *major, const char *minor) { return dlt_user_check_library_version(major, minor); }
-
-EXPORT void dlt_get_version(char *text, size_t size) {
-    if (text && size)
-        snprintf(text, size, "Komdashai's libdlt over a proved library, interface 2.18\n");
-}
-
-EXPORT void dlt_set_id(char *id, const char *text) {
-    if (id)
-        put_id((uint8_t *)id, text);
-}
+EXPORT DltReturnValue dlt_check_library_version(const char *major, const char *minor) { return dlt_user_check_library_version(major, minor); }
 
 EXPORT int dlt_set_resend_timeout_atexit(uint32_t ms) {
-    exit_ms = ms;
+    lock();
+    exit_ms = ms < 100000 ? ms : 100000;
+    unlock();
     return 0;
 }
 
 /* ---- registrations */
 
-static void put_text(char to[TEXT_BYTES + 1], const char *text) {
-    memset(to, 0, TEXT_BYTES + 1);
-    if (text)
-        memcpy(to, text, strnlen(text, TEXT_BYTES));
-}
-
-EXPORT int dlt_register_app(const char *apid, const char *text) {
-    if (!apid || !*apid)
-        return RETURN_WRONG_PARAMETER;
-    pthread_mutex_lock(&mutex);
-    start();
-    put_id(app.apid, apid);
-    app.pid = (uint32_t)getpid();
-    put_text(app_text, text);
-    app_there = true;
-    dl_client_c_register_app(&client, &app, (uint8_t *)app_text, strlen(app_text));
-    pthread_mutex_unlock(&mutex);
-    wake();
-    return RETURN_OK;
-}
-
-EXPORT int dlt_unregister_app(void) {
-    pthread_mutex_lock(&mutex);
+EXPORT DltReturnValue dlt_unregister_app(void) {
+    lock();
     close_places();
-    if (app_there)
-        dl_client_c_unregister_app(&client, &app);
-    app_there = false;
-    pthread_mutex_unlock(&mutex);
     wake();
-    return RETURN_OK;
+    unlock();
+    return DLT_RETURN_OK;
 }
 
-EXPORT int dlt_unregister_app_flush_buffered_logs(void) {
-    int answer = dlt_unregister_app();
-    pthread_mutex_lock(&mutex);
-    flush();
-    pthread_mutex_unlock(&mutex);
-    return answer;
+EXPORT DltReturnValue dlt_unregister_app_flush_buffered_logs(void) {
+    lock();
+    uint32_t end = ticks_now() + exit_ms * 10;
+    drain(end);
+    close_places();
+    drain(end);
+    unlock();
+    return DLT_RETURN_OK;
 }
 
-EXPORT int dlt_get_appid(char *apid) {
+EXPORT DltReturnValue dlt_get_appid(char *apid) {
     if (!apid)
-        return RETURN_WRONG_PARAMETER;
+        return DLT_RETURN_WRONG_PARAMETER;
+    lock();
     memcpy(apid, app.apid, 4);
-    return RETURN_OK;
+    unlock();
+    return DLT_RETURN_OK;
 }
 
-static int first_level(int asked) {
-    return asked >= 0 && asked <= 6 ? asked : 4;
+/* Whether an id of one part of DLT_INITIAL_LOG_LEVEL is this one, or empty. */
+static bool fits(const char *part, size_t len, const uint8_t id[4]) { return len == 0 || (len == strnlen((const char *)id, 4) && !memcmp(part, id, len)); }
+
+/* DLT_INITIAL_LOG_LEVEL is APID:CTID:LEVEL, more of them behind semicolons, where an id may be left out; the one with most ids holds. */
+static int first_level(const Registration *context, int asked) {
+    int best = 0, level = asked >= 0 && asked <= 6 ? asked : -1;
+    for (const char *part = getenv("DLT_INITIAL_LOG_LEVEL"); part && *part;) {
+        size_t apid = strcspn(part, ":;"), ctid = part[apid] == ':' ? strcspn(part + apid + 1, ":;") : 0;
+        const char *number = part + apid + 1 + ctid;
+        if (part[apid] == ':' && *number == ':' && number[1] >= '0' && number[1] <= '6') {
+            int weight = 1 + (apid > 0) + 2 * (ctid > 0);
+            if (weight > best && fits(part, apid, context->apid) && fits(part + apid + 1, ctid, context->ctid)) {
+                best = weight;
+                level = number[1] - '0';
+            }
+        }
+        part += strcspn(part, ";");
+        part += *part == ';';
+    }
+    return level;
 }
 
-static int open_place(DltContext *handle, const char *ctid, const char *text, int level, LevelCallback changed) {
-    size_t p = 0;
-    if (!handle || !ctid || !*ctid)
-        return RETURN_WRONG_PARAMETER;
-    pthread_mutex_lock(&mutex);
-    start();
-    while (p < PLACES && places[p].taken)
+/* Gives a place to a context, with the lock held, and answers which, or PLACES. */
+static size_t open_place(const char *ctid, const char *text, int level, LevelCallback changed) {
+    size_t p = 1; /* a handle that was never registered names place 0 */
+    char cut[TEXT_BYTES + 1];
+    while (p < PLACES && (places[p].taken || places[p].gone))
         p++;
-    Registration context = {.level = (uint8_t)first_level(level), .own = (int8_t)(level >= 0 && level <= 6 ? level : -1), .pid = (uint32_t)getpid()};
+    if (p == PLACES)
+        return p;
+    Registration context = {.level = DLT_LOG_INFO, .own = -1, .pid = (uint32_t)getpid()};
     memcpy(context.apid, app.apid, 4);
     put_id(context.ctid, ctid);
-    char cut[TEXT_BYTES + 1];
+    context.own = (int8_t)first_level(&context, level);
+    if (context.own >= 0)
+        context.level = (uint8_t)context.own;
     put_text(cut, text);
-    uint8_t answer = p < PLACES ? dl_client_c_open(&client, p, &context, (uint8_t *)cut, strlen(cut), ticks_now()) : REFUSED;
-    if (answer != DONE) {
-        pthread_mutex_unlock(&mutex);
-        return RETURN_ERROR;
-    }
+    widen();
+    uint8_t answer = dl_client_c_open(&client, p, &context, (uint8_t *)cut, strlen(cut), ticks_now());
+    narrow();
+    if (answer != DONE)
+        return PLACES;
     memset(&places[p], 0, sizeof places[p]);
     memcpy(places[p].text, cut, sizeof cut);
-    places[p].taken = true;
-    places[p].level = shown_level(context.level);
+    places[p].own = context.own;
     places[p].changed = changed;
-    memcpy(handle->contextID, context.ctid, 4);
-    handle->log_level_pos = (int32_t)p;
-    handle->log_level_ptr = &places[p].level;
-    handle->trace_status_ptr = &places[p].trace;
-    handle->mcnt = 0;
-    pthread_mutex_unlock(&mutex);
+    places[p].taken = true;
+    close_sieve(p);
+    return p;
+}
+
+/* Contexts that were registered before any application are the application's from now on. */
+static void adopt(void) {
+    widen();
+    for (size_t p = 0; p < PLACES; p++) {
+        if (!places[p].taken || contexts[p].apid[0])
+            continue;
+        Registration context = registration_of(p);
+        memcpy(context.apid, app.apid, 4);
+        open_sieve(p);
+        dl_client_c_open(&client, p, &context, (uint8_t *)places[p].text, strlen(places[p].text), ticks_now());
+        close_sieve(p);
+    }
+    narrow();
+}
+
+EXPORT DltReturnValue dlt_register_app(const char *apid, const char *text) {
+    if (!apid || !*apid)
+        return DLT_RETURN_WRONG_PARAMETER;
+    lock();
+    start();
+    bool is_other = is_registered && memcmp(app.apid, apid, strnlen(apid, 4));
+    if (is_other)
+        close_places();
+    if (!is_registered) {
+        put_id(app.apid, apid);
+        app.pid = (uint32_t)getpid();
+        put_text(app_text, text);
+        is_registered = true;
+        widen();
+        dl_client_c_register_app(&client, &app, (uint8_t *)app_text, strlen(app_text));
+        narrow();
+        /* the context of accounts, which are told when anything is injected to it */
+        size_t p = open_place("DLTC", counts_inline ? "accounts of calls, inline too" : "accounts of calls, not inline", -1, NULL);
+        if (p < PLACES)
+            places[p].has_accounts = true;
+        adopt();
+    }
     wake();
-    return RETURN_OK;
+    unlock();
+    return DLT_RETURN_OK;
 }
 
-EXPORT int dlt_register_context(DltContext *handle, const char *ctid, const char *text) { return open_place(handle, ctid, text, -1, NULL); }
-
-EXPORT int dlt_register_context_ll_ts(DltContext *handle, const char *ctid, const char *text, int level, int trace) {
-    (void)trace;
-    return open_place(handle, ctid, text, level, NULL);
+static DltReturnValue register_context(DltContext *handle, const char *ctid, const char *text, int level, LevelCallback changed) {
+    if (!handle || !ctid || !*ctid)
+        return DLT_RETURN_WRONG_PARAMETER;
+    lock();
+    start();
+    size_t p = open_place(ctid, text, level, changed);
+    if (p < PLACES) {
+        memcpy(handle->contextID, contexts[p].ctid, 4);
+        handle->log_level_pos = (int32_t)p;
+        handle->log_level_ptr = &places[p].level;
+        handle->trace_status_ptr = &places[p].trace;
+        handle->mcnt = 0;
+    }
+    wake();
+    unlock();
+    return p < PLACES ? DLT_RETURN_OK : DLT_RETURN_ERROR;
 }
 
-EXPORT int dlt_register_context_llccb(DltContext *handle, const char *ctid, const char *text, LevelCallback changed) {
-    return open_place(handle, ctid, text, -1, changed);
+EXPORT DltReturnValue dlt_register_context(DltContext *handle, const char *ctid, const char *text) { return register_context(handle, ctid, text, -1, NULL); }
+
+EXPORT DltReturnValue dlt_register_context_ll_ts(DltContext *handle, const char *ctid, const char *text, int level, int trace_status) {
+    (void)trace_status;
+    return register_context(handle, ctid, text, level, NULL);
+}
+
+EXPORT DltReturnValue dlt_register_context_llccb(DltContext *handle, const char *ctid, const char *text, LevelCallback changed) {
+    return register_context(handle, ctid, text, -1, changed);
 }
 
 static Place *place_of(const DltContext *handle) {
-    if (!handle || handle->log_level_pos < 0 || handle->log_level_pos >= PLACES || !places[handle->log_level_pos].taken)
-        return NULL;
-    return &places[handle->log_level_pos];
+    bool is_there = handle && handle->log_level_pos >= 0 && handle->log_level_pos < PLACES && places[handle->log_level_pos].taken;
+    return is_there ? &places[handle->log_level_pos] : NULL;
 }
 
-EXPORT int dlt_unregister_context(DltContext *handle) {
-    pthread_mutex_lock(&mutex);
+EXPORT DltReturnValue dlt_unregister_context(DltContext *handle) {
+    lock();
     Place *place = place_of(handle);
     if (place) {
-        dl_client_c_close(&client, (size_t)handle->log_level_pos, app.pid, ticks_now());
-        place->taken = false;
+        leave_place((size_t)handle->log_level_pos);
+        close_place((size_t)handle->log_level_pos);
         handle->log_level_ptr = NULL;
         handle->trace_status_ptr = NULL;
     }
-    pthread_mutex_unlock(&mutex);
     wake();
-    return place ? RETURN_OK : RETURN_WRONG_PARAMETER;
+    unlock();
+    return place ? DLT_RETURN_OK : DLT_RETURN_WRONG_PARAMETER;
 }
 
-static int add_injection(DltContext *handle, uint32_t service, InjectionCallback call, InjectionCallbackWithId with_id, void *mine) {
-    pthread_mutex_lock(&mutex);
+static DltReturnValue add_injection(DltContext *handle, Injection injection) {
+    lock();
     Place *place = place_of(handle);
-    bool fits = place && place->injection_count < 16;
-    if (fits) {
-        unsigned i = place->injection_count++;
-        place->injections[i].service = service;
-        place->injections[i].call = call;
-        place->injections[i].call_with_id = with_id;
-        place->injections[i].mine = mine;
+    unsigned i = 0;
+    while (place && i < place->injection_count && place->injections[i].service != injection.service)
+        i++;
+    bool has_room = place && i < CALLS;
+    if (has_room) {
+        place->injections[i] = injection;
+        place->injection_count += i == place->injection_count;
     }
-    pthread_mutex_unlock(&mutex);
-    return fits ? RETURN_OK : RETURN_WRONG_PARAMETER;
+    unlock();
+    return has_room ? DLT_RETURN_OK : DLT_RETURN_WRONG_PARAMETER;
 }
 
-EXPORT int dlt_register_injection_callback(DltContext *handle, uint32_t service, InjectionCallback call) {
-    return add_injection(handle, service, call, NULL, NULL);
+EXPORT DltReturnValue dlt_register_injection_callback(DltContext *handle, uint32_t service, dlt_injection_callback call) {
+    return add_injection(handle, (Injection){service, call, NULL, NULL});
 }
 
-EXPORT int dlt_register_injection_callback_with_id(DltContext *handle, uint32_t service, InjectionCallbackWithId call, void *mine) {
-    return add_injection(handle, service, NULL, call, mine);
+EXPORT DltReturnValue dlt_register_injection_callback_with_id(DltContext *handle, uint32_t service, dlt_injection_callback_id call, void *mine) {
+    return add_injection(handle, (Injection){service, NULL, call, mine});
 }
 
-EXPORT int dlt_register_log_level_changed_callback(DltContext *handle, LevelCallback changed) {
-    pthread_mutex_lock(&mutex);
+EXPORT DltReturnValue dlt_register_log_level_changed_callback(DltContext *handle, LevelCallback changed) {
+    lock();
     Place *place = place_of(handle);
     if (place)
         place->changed = changed;
-    pthread_mutex_unlock(&mutex);
-    return place ? RETURN_OK : RETURN_WRONG_PARAMETER;
+    unlock();
+    return place ? DLT_RETURN_OK : DLT_RETURN_WRONG_PARAMETER;
 }
 
-/* ---- calls */
-
-EXPORT int dlt_user_log_write_start(DltContext *handle, DltContextData *log, int level) {
-    if (!log || !handle || level < 0 || level > 6)
-        return RETURN_WRONG_PARAMETER;
-    if (handle->log_level_pos < 0 || handle->log_level_pos >= PLACES || !handle->log_level_ptr || level == 0)
-        return handle->log_level_ptr ? RETURN_OK : RETURN_WRONG_PARAMETER;
-    pthread_mutex_lock(&mutex);
-    bool filtered = dl_client_c_is_filtered(&client, (size_t)handle->log_level_pos, (uint8_t)level);
-    pthread_mutex_unlock(&mutex);
-    if (filtered)
-        return RETURN_OK;
-    log->handle = handle;
-    log->log_level = level;
-    log->args_num = 0;
-    log->size = 0;
-    log->use_timestamp = 0;
-    log->verbose_mode = 1;
-    log->buffer = malloc(PAYLOAD_BYTES);
-    return log->buffer ? RETURN_TRUE : RETURN_ERROR;
+EXPORT DltReturnValue dlt_set_application_ll_ts_limit(DltLogLevelType level, DltTraceStatusType trace_status) {
+    (void)trace_status;
+    if (level < DLT_LOG_OFF || level >= DLT_LOG_MAX)
+        return DLT_RETURN_WRONG_PARAMETER;
+    bool all = true;
+    lock();
+    for (size_t p = 0; p < PLACES; p++)
+        if (places[p].taken)
+            all = obey(p, (uint8_t)level) && all;
+    wake();
+    unlock();
+    return all ? DLT_RETURN_OK : DLT_RETURN_BUFFER_FULL;
 }
 
-EXPORT int dlt_user_log_write_start_id(DltContext *handle, DltContextData *log, int level, uint32_t id) {
-    /* a call with an id is not verbose where the program asks for that; one without an id always is */
-    int answer = dlt_user_log_write_start(handle, log, level);
-    if (answer == RETURN_TRUE && !verbose) {
-        log->verbose_mode = 0;
-        put32(log->buffer, id);
-        log->size = 4;
-    }
-    return answer;
+/* ---- the queue and the link, as programs ask for them */
+
+EXPORT int dlt_get_log_state(void) {
+    lock();
+    int state = link_fd >= 0 ? 1 : -1;
+    unlock();
+    return state;
 }
 
-EXPORT int dlt_user_log_write_finish(DltContextData *log) {
-    if (!log || !log->handle || !log->buffer)
-        return RETURN_WRONG_PARAMETER;
-    Call call = {(uint8_t)log->log_level, log->verbose_mode, (uint8_t)log->args_num, log->use_timestamp ? log->user_timestamp : ticks_now()};
-    pthread_mutex_lock(&mutex);
-    bool idle = client.queue.used == 0;
-    uint8_t logged = dl_client_c_log(&client, (size_t)log->handle->log_level_pos, &call, log->buffer, (size_t)log->size);
-    pthread_mutex_unlock(&mutex);
-    if (idle)
-        wake();
-    free(log->buffer);
-    log->buffer = NULL;
-    return logged == QUEUED || logged == FILTERED ? RETURN_OK : logged == LOST ? RETURN_BUFFER_FULL : RETURN_ERROR;
-}
-
-static Area area_of(DltContextData *log) { return (Area){log->buffer, PAYLOAD_BYTES, (size_t)log->size}; }
-
-static int added(DltContextData *log, const Area *area, bool fits) {
-    if (!fits)
-        return RETURN_USER_BUFFER_FULL;
-    log->size = (int32_t)area->used;
-    log->args_num++;
-    return RETURN_OK;
-}
-
-static bool is_open(const DltContextData *log) { return log && log->buffer; }
-
-/* a plain number; signed and unsigned ones carry an empty name and unit, as libdlt's do */
-static int add_number(DltContextData *log, uint8_t kind, uint8_t format, const void *bytes, size_t len, const char *name, const char *unit) {
-    if (!is_open(log))
-        return RETURN_WRONG_PARAMETER;
-    Area area = area_of(log);
-    bool fits;
-    if (!log->verbose_mode)
-        fits = dl_client_c_add_plain(&area, bytes, len);
-    else if (name || unit || ((kind == KIND_SIGNED || kind == KIND_UNSIGNED) && format == FORMAT_PLAIN))
-        fits = dl_client_c_add_named_number(&area, kind, (const uint8_t *)(name ? name : ""), name ? strlen(name) + 1 : 0,
-                                            (const uint8_t *)(unit ? unit : ""), unit ? strlen(unit) + 1 : 0, bytes, len);
-    else
-        fits = dl_client_c_add_number(&area, kind, format, bytes, len);
-    return added(log, &area, fits);
-}
-
-#define NUMBER(name, type, kind, format)                                                              \
-    EXPORT int dlt_user_log_write_##name(DltContextData *log, type data) {                            \
-        return add_number(log, kind, format, &data, sizeof data, NULL, NULL);                         \
-    }
-
-#define NUMBER_ATTR(name, type, kind)                                                                              \
-    EXPORT int dlt_user_log_write_##name##_attr(DltContextData *log, type data, const char *label, const char *unit) { \
-        return add_number(log, kind, FORMAT_PLAIN, &data, sizeof data, label, unit);                               \
-    }
-
-NUMBER(float32, float, KIND_FLOAT, FORMAT_PLAIN)
-NUMBER(float64, double, KIND_FLOAT, FORMAT_PLAIN)
-NUMBER(uint, unsigned int, KIND_UNSIGNED, FORMAT_PLAIN)
-NUMBER(uint8, uint8_t, KIND_UNSIGNED, FORMAT_PLAIN)
-NUMBER(uint16, uint16_t, KIND_UNSIGNED, FORMAT_PLAIN)
-NUMBER(uint32, uint32_t, KIND_UNSIGNED, FORMAT_PLAIN)
-NUMBER(uint64, uint64_t, KIND_UNSIGNED, FORMAT_PLAIN)
-NUMBER(int, int, KIND_SIGNED, FORMAT_PLAIN)
-NUMBER(int8, int8_t, KIND_SIGNED, FORMAT_PLAIN)
-NUMBER(int16, int16_t, KIND_SIGNED, FORMAT_PLAIN)
-NUMBER(int32, int32_t, KIND_SIGNED, FORMAT_PLAIN)
-NUMBER(int64, int64_t, KIND_SIGNED, FORMAT_PLAIN)
-NUMBER_ATTR(float32, float, KIND_FLOAT)
-NUMBER_ATTR(float64, double, KIND_FLOAT)
-NUMBER_ATTR(uint, unsigned int, KIND_UNSIGNED)
-NUMBER_ATTR(uint8, uint8_t, KIND_UNSIGNED)
-NUMBER_ATTR(uint16, uint16_t, KIND_UNSIGNED)
-NUMBER_ATTR(uint32, uint32_t, KIND_UNSIGNED)
-NUMBER_ATTR(uint64, uint64_t, KIND_UNSIGNED)
-NUMBER_ATTR(int, int, KIND_SIGNED)
-NUMBER_ATTR(int8, int8_t, KIND_SIGNED)
-NUMBER_ATTR(int16, int16_t, KIND_SIGNED)
-NUMBER_ATTR(int32, int32_t, KIND_SIGNED)
-NUMBER_ATTR(int64, int64_t, KIND_SIGNED)
-
-/* the formats of the interface: 1 to 4 are hexadecimal, 5 and 6 binary */
-static uint8_t format_of(int type) { return type >= 1 && type <= 4 ? FORMAT_HEX : type >= 5 ? FORMAT_BINARY : FORMAT_PLAIN; }
-
-#define NUMBER_FORMATTED(name, type)                                                                       \
-    EXPORT int dlt_user_log_write_##name##_formatted(DltContextData *log, type data, int format) {          \
-        return add_number(log, KIND_UNSIGNED, format_of(format), &data, sizeof data, NULL, NULL);           \
-    }
-
-NUMBER_FORMATTED(uint8, uint8_t)
-NUMBER_FORMATTED(uint16, uint16_t)
-NUMBER_FORMATTED(uint32, uint32_t)
-NUMBER_FORMATTED(uint64, uint64_t)
-
-EXPORT int dlt_user_log_write_ptr(DltContextData *log, void *data) {
-    uint64_t n = (uint64_t)(uintptr_t)data;
-    return add_number(log, KIND_UNSIGNED, FORMAT_HEX, &n, sizeof n, NULL, NULL);
-}
-
-EXPORT int dlt_user_log_write_bool(DltContextData *log, uint8_t data) {
-    data = data != 0;
-    return add_number(log, KIND_BOOL, FORMAT_PLAIN, &data, 1, NULL, NULL);
-}
-
-EXPORT int dlt_user_log_write_bool_attr(DltContextData *log, uint8_t data, const char *name) {
-    if (!is_open(log) || !log->verbose_mode || !name)
-        return dlt_user_log_write_bool(log, data);
-    Area area = area_of(log);
-    data = data != 0;
-    /* a truth value has a name and no unit, as a text has: its bytes follow the name's */
-    uint8_t info[4] = {0x11, 0x08, 0, 0}, len[2] = {(uint8_t)(strlen(name) + 1), (uint8_t)((strlen(name) + 1) >> 8)};
-    bool fits = dl_client_c_add_plain(&area, info, 4) && dl_client_c_add_plain(&area, len, 2)
-                && dl_client_c_add_plain(&area, (const uint8_t *)name, strlen(name) + 1) && dl_client_c_add_plain(&area, &data, 1);
-    return added(log, &area, fits);
-}
-
-/* ---- texts and bytes */
-
-static const char TOO_LONG[] = "... <<Message truncated, too long>>";
-
-static int add_text(DltContextData *log, bool utf8, const char *text, size_t len, const char *name) {
-    if (!is_open(log) || !text)
-        return RETURN_WRONG_PARAMETER;
-    size_t front = log->verbose_mode ? 7 + (name ? strlen(name) + 3 : 0) : 3;
-    size_t left = PAYLOAD_BYTES - (size_t)log->size;
-    Area area = area_of(log);
-    bool cut = front + len > left;
-    char shorter[PAYLOAD_BYTES];
-    if (cut) {
-        if (front + sizeof TOO_LONG > left)
-            return RETURN_USER_BUFFER_FULL;
-        size_t keep = left - front - (sizeof TOO_LONG - 1);
-        memcpy(shorter, text, keep);
-        memcpy(shorter + keep, TOO_LONG, sizeof TOO_LONG - 1);
-        text = shorter;
-        len = keep + sizeof TOO_LONG - 1;
-    }
-    bool fits;
-    if (!log->verbose_mode) {
-        uint8_t size[2] = {(uint8_t)(len + 1), (uint8_t)((len + 1) >> 8)};
-        fits = dl_client_c_add_plain(&area, size, 2) && dl_client_c_add_plain(&area, (const uint8_t *)text, len)
-               && dl_client_c_add_plain(&area, (const uint8_t *)"", 1);
-    } else if (name) {
-        fits = dl_client_c_add_named_text(&area, utf8, (const uint8_t *)name, strlen(name) + 1, (const uint8_t *)text, len);
-    } else {
-        fits = dl_client_c_add_text(&area, utf8, (const uint8_t *)text, len);
-    }
-    int answer = added(log, &area, fits);
-    return cut && answer == RETURN_OK ? RETURN_USER_BUFFER_FULL : answer;
-}
-
-/* a constant text is left out of a payload that is not verbose */
-#define TEXTS(mid, utf8)                                                                                                          \
-    EXPORT int dlt_user_log_write_##mid##string(DltContextData *log, const char *text) {                                          \
-        return add_text(log, utf8, text, text ? strlen(text) : 0, NULL);                                                          \
-    }                                                                                                                             \
-    EXPORT int dlt_user_log_write_sized_##mid##string(DltContextData *log, const char *text, uint16_t len) {                      \
-        return add_text(log, utf8, text, len, NULL);                                                                              \
-    }                                                                                                                             \
-    EXPORT int dlt_user_log_write_constant_##mid##string(DltContextData *log, const char *text) {                                 \
-        return is_open(log) && !log->verbose_mode ? RETURN_OK : add_text(log, utf8, text, text ? strlen(text) : 0, NULL);         \
-    }                                                                                                                             \
-    EXPORT int dlt_user_log_write_sized_constant_##mid##string(DltContextData *log, const char *text, uint16_t len) {             \
-        return is_open(log) && !log->verbose_mode ? RETURN_OK : add_text(log, utf8, text, len, NULL);                             \
-    }                                                                                                                             \
-    EXPORT int dlt_user_log_write_##mid##string_attr(DltContextData *log, const char *text, const char *name) {                   \
-        return add_text(log, utf8, text, text ? strlen(text) : 0, name);                                                          \
-    }                                                                                                                             \
-    EXPORT int dlt_user_log_write_sized_##mid##string_attr(DltContextData *log, const char *text, uint16_t len, const char *name) { \
-        return add_text(log, utf8, text, len, name);                                                                              \
-    }                                                                                                                             \
-    EXPORT int dlt_user_log_write_constant_##mid##string_attr(DltContextData *log, const char *text, const char *name) {          \
-        return is_open(log) && !log->verbose_mode ? RETURN_OK : add_text(log, utf8, text, text ? strlen(text) : 0, name);         \
-    }                                                                                                                             \
-    EXPORT int dlt_user_log_write_sized_constant_##mid##string_attr(DltContextData *log, const char *text, uint16_t len, const char *name) { \
-        return is_open(log) && !log->verbose_mode ? RETURN_OK : add_text(log, utf8, text, len, name);                             \
-    }
-
-TEXTS(, false)
-TEXTS(utf8_, true)
-
-static int add_raw(DltContextData *log, const void *data, uint16_t len, const char *name) {
-    if (!is_open(log) || (!data && len))
-        return RETURN_WRONG_PARAMETER;
-    Area area = area_of(log);
-    uint8_t size[2] = {(uint8_t)len, (uint8_t)(len >> 8)};
-    bool fits = !log->verbose_mode ? dl_client_c_add_plain(&area, size, 2) && dl_client_c_add_plain(&area, data, len)
-                : name             ? dl_client_c_add_named_raw(&area, (const uint8_t *)name, strlen(name) + 1, data, len)
-                                   : dl_client_c_add_raw(&area, data, len);
-    return added(log, &area, fits);
-}
-
-EXPORT int dlt_user_log_write_raw(DltContextData *log, void *data, uint16_t len) { return add_raw(log, data, len, NULL); }
-
-EXPORT int dlt_user_log_write_raw_attr(DltContextData *log, const void *data, uint16_t len, const char *name) { return add_raw(log, data, len, name); }
-
-/* ---- short calls */
-
-#define SHORT(body)                                                          \
-    DltContextData log;                                                      \
-    int answer = verbose ? dlt_user_log_write_start(handle, &log, level) : RETURN_ERROR; \
-    if (answer != RETURN_TRUE)                                               \
-        return answer;                                                       \
-    answer = body;                                                           \
-    int finished = dlt_user_log_write_finish(&log);                          \
-    return answer != RETURN_OK ? answer : finished;
-
-EXPORT int dlt_log_string(DltContext *handle, int level, const char *text) { SHORT(dlt_user_log_write_string(&log, text)) }
-
-EXPORT int dlt_log_int(DltContext *handle, int level, int data) { SHORT(dlt_user_log_write_int(&log, data)) }
-
-EXPORT int dlt_log_uint(DltContext *handle, int level, unsigned data) { SHORT(dlt_user_log_write_uint(&log, data)) }
-
-EXPORT int dlt_log_string_int(DltContext *handle, int level, const char *text, int data) {
-    SHORT((dlt_user_log_write_string(&log, text), dlt_user_log_write_int(&log, data)))
-}
-
-EXPORT int dlt_log_string_uint(DltContext *handle, int level, const char *text, unsigned data) {
-    SHORT((dlt_user_log_write_string(&log, text), dlt_user_log_write_uint(&log, data)))
-}
-
-EXPORT int dlt_log_raw(DltContext *handle, int level, void *data, uint16_t len) { SHORT(dlt_user_log_write_raw(&log, data, len)) }
-
-/* ---- the rest of what logging programs call */
-
-EXPORT int dlt_verbose_mode(void) {
-    verbose = true;
-    return RETURN_OK;
-}
-
-EXPORT int dlt_nonverbose_mode(void) {
-    verbose = false;
-    return RETURN_OK;
-}
-
-EXPORT int dlt_get_log_state(void) { return link_fd >= 0 ? 1 : -1; }
-
-EXPORT int dlt_user_check_buffer(int *total, int *used) {
+EXPORT DltReturnValue dlt_user_check_buffer(int *total, int *used) {
     if (!total || !used)
-        return RETURN_WRONG_PARAMETER;
-    pthread_mutex_lock(&mutex);
+        return DLT_RETURN_WRONG_PARAMETER;
+    lock();
     *total = QUEUE_BYTES;
     *used = (int)client.queue.used;
-    pthread_mutex_unlock(&mutex);
-    return RETURN_OK;
+    unlock();
+    return DLT_RETURN_OK;
 }
 
-EXPORT int dlt_user_log_resend_buffer(void) {
+EXPORT DltReturnValue dlt_user_log_resend_buffer(void) {
+    lock();
     wake();
-    return RETURN_OK;
+    unlock();
+    return DLT_RETURN_OK;
 }
 
 EXPORT int dlt_user_atexit_blow_out_user_buffer(void) {
-    pthread_mutex_lock(&mutex);
-    flush();
+    lock();
+    drain(ticks_now() + exit_ms * 10);
     int left = (int)client.queue.used;
-    pthread_mutex_unlock(&mutex);
+    unlock();
     return left;
-}
-
-/* Messages always have ECU, SEID, TMSP and an extended header, so what asks for less of that changes nothing. */
-EXPORT int dlt_with_session_id(int8_t with) {
-    (void)with;
-    return RETURN_OK;
-}
-
-EXPORT int dlt_with_timestamp(int8_t with) {
-    (void)with;
-    return RETURN_OK;
-}
-
-EXPORT int dlt_with_ecu_id(int8_t with) {
-    (void)with;
-    return RETURN_OK;
-}
-
-EXPORT int dlt_use_extended_header_for_non_verbose(int8_t with) {
-    (void)with;
-    return RETURN_OK;
-}
-
-EXPORT int dlt_enable_local_print(void) { return RETURN_OK; }
-
-EXPORT int dlt_disable_local_print(void) { return RETURN_OK; }
-
-/* for programs that print through the library's own log */
-EXPORT int dlt_log(int level, char *text) {
-    (void)level;
-    return text ? fprintf(stderr, "%s", text) < 0 : RETURN_WRONG_PARAMETER;
 }

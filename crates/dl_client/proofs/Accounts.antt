@@ -1,11 +1,11 @@
 -- Accounts one after the other, and what they leave.
-use Rattle.std.proofs.Common.{Bool, List, false, inr, true, Some, [], ap, length, refl, slice_get, subst, sym, ℕ, ◌++◌, ◌+◌, ◌<◌, ◌∙◌, ◌∷◌, ◌≡◌}
+use Rattle.std.proofs.Common.{Bool, List, false, inr, true, Some, [], ap, length, refl, slice_get, subst, sym, ℕ, zero, suc, add-zero, arith, ◌++◌, ◌+◌, ◌<◌, ◌∙◌, ◌∷◌, ◌≡◌}
 use Rattle.std.specs.Prelude.{slice_set}
-use Rattle.dl_lemmas.proofs.Lists.{set_here, there}
+use Rattle.dl_lemmas.proofs.Lists.{set_again, set_here, there}
 use Rattle.dl_lemmas.proofs.Options.{one_is}
 use Rattle.dl_user.specs.Layout.{user_message}
-use Rattle.dl_client.specs.Outcomes.{At, CountsAreFull, Ends, IsDecided, IsLogged, IsToldAt, NoneLostBelow, OnlyAccounts}
-use Rattle.dl_client.specs.Program.{AreAccounts, Does, Filters, IsTold, Loses, Opens, Program, Queues, Runs, Step, Tells, opened, registration, told, with_bytes, with_context}
+use Rattle.dl_client.specs.Outcomes.{At, CountsAreFull, Ends, IsDecided, IsLogged, IsToldAt, NoneLostBelow, OnlyAccounts, filters}
+use Rattle.dl_client.specs.Program.{AreAccounts, Does, Filters, IsTold, Loses, Opens, Program, Queues, Runs, Step, Tells, one_filtered, opened, registration, told, with_bytes, with_context}
 use Rattle.dl_client.specs.Seen.{IsSame, seen}
 use Rattle.dl_client.specs.declared.client.Client.{Client}
 use Rattle.dl_client.specs.declared.context.Call.{Call}
@@ -98,3 +98,28 @@ opens_after a b d e place opening within only is_told pushed set =
       (refl, refl, refl),
       set taken ∙ ap (λ (p : Program). with_context p place (opened opening)) (pushed taken),
     ))
+
+set_twice : (xs : List Context) (i : ℕ) (a b : Context) → slice_set (slice_set xs i a) i b ≡ slice_set xs i b
+set_twice [] i a b = refl
+set_twice (x ∷ xs) zero a b = refl
+set_twice (x ∷ xs) (suc i) a b = ap (λ (ys : List Context). x ∷ ys) (set_twice xs i a b)
+
+abbrev more_filtered : Context → ℕ → Context
+more_filtered c count = record c { filtered = c.filtered + count }
+
+pub runs_filters : (count : ℕ) (p : Program) (place : ℕ) (c : Context) → slice_get p.contexts place ≡ Some c
+    → Runs p (filters place c count) (with_context p place (record c { filtered = c.filtered + count }))
+runs_filters zero p place c at =
+    let none : more_filtered c 0 ≡ c = ap (λ (n : ℕ). record c { filtered = n }) (add-zero c.filtered) in
+    sym (ap (with_context p place) none ∙ ap (λ (xs : List Context). record p { contexts = xs }) (set_again p.contexts place c at))
+runs_filters (suc count) p place c at =
+    let one = with_context p place (one_filtered c) in
+    let more : c.filtered + 1 + count ≡ c.filtered + suc count = omega arith in
+    let last : with_context one place (more_filtered (one_filtered c) count) ≡ with_context p place (more_filtered c (suc count)) =
+    ap (λ (xs : List Context). record p { contexts = xs }) (set_twice p.contexts place (one_filtered c) (more_filtered (one_filtered c) count))
+    ∙ ap (λ (n : ℕ). with_context p place (record c { filtered = n })) more in (
+      one,
+      (at, omega arith, refl),
+      subst (λ (q : Program). Runs one (filters place (one_filtered c) count) q) last
+          (runs_filters count one place (one_filtered c) (set_here p.contexts place c (one_filtered c) at)),
+    )

@@ -2,7 +2,7 @@
 use Rattle.std.proofs.Common.{List, Some, [], add-zero, ap, append_assoc, arith, refl, slice_get, subst, sym, take, drop, ℕ, ◌++◌, ◌+◌, ◌∙◌, ◌∷◌, ◌≡◌}
 use Rattle.std.proofs.lemmas.List.{append-nil, take-append-drop}
 use Rattle.dl_client.specs.Law.{AddsUp, EachCallIsAccountedFor, Fate, Filtered, Queued, Lost, bytes_of, calls_of, count_at, count_of, level_after, level_at, level_by, queued_by, told_of}
-use Rattle.dl_client.specs.Program.{Does, Program, Step, Filters, Queues, Loses, Tells, Announces, Opens, Obeys, Takes, IsTold, one_filtered, one_lost, one_queued, told, with_context}
+use Rattle.dl_client.specs.Program.{Does, Program, Step, Filters, Queues, Loses, Tells, Announces, Opens, Obeys, Takes, Sizes, IsTold, one_filtered, one_lost, one_queued, told, with_context}
 use Rattle.dl_client.specs.declared.context.Call.{Call}
 use Rattle.dl_client.specs.declared.context.Context.{Context}
 use Rattle.dl_client.proofs.Places.{emptied, level_moved, level_same, moved, unmoved}
@@ -79,6 +79,11 @@ no_take count Filtered place = (refl, refl)
 no_take count Queued place = (refl, refl)
 no_take count Lost place = (refl, refl)
 
+no_size : (size : ℕ) (fate : Fate) (place : ℕ) → (told_of fate place (Sizes size) ≡ 0) × (calls_of fate place (Sizes size) ≡ 0)
+no_size size Filtered place = (refl, refl)
+no_size size Queued place = (refl, refl)
+no_size size Lost place = (refl, refl)
+
 step_adds : (old : Program) (step : Step) (new : Program) → Does old step new → StepAdds old step new
 step_adds old (Filters p c severity) new d = subst (λ (x : Program). StepAdds old (Filters p c severity) x) (sym d.2) (record {
   bytes = sym (append-nil (old.taken ++ old.waiting));
@@ -130,6 +135,12 @@ step_adds old (Takes count) new d = subst (λ (x : Program). StepAdds old (Takes
   bytes = append_assoc old.taken (take count old.waiting) (drop count old.waiting)
       ∙ ap (λ (bs : List ℕ). old.taken ++ bs) (take-append-drop count old.waiting) ∙ sym (append-nil (old.taken ++ old.waiting));
   counts = quiet_counts old.contexts old.contexts (Takes count) (λ (fate : Fate) (place : ℕ). refl) (no_take count);
+  levels = λ (place : ℕ). refl;
+  sender = refl;
+})
+step_adds old (Sizes size) new d = subst (λ (x : Program). StepAdds old (Sizes size) x) (sym d.1) (record {
+  bytes = sym (append-nil (old.taken ++ old.waiting));
+  counts = quiet_counts old.contexts old.contexts (Sizes size) (λ (fate : Fate) (place : ℕ). refl) (no_size size);
   levels = λ (place : ℕ). refl;
   sender = refl;
 })

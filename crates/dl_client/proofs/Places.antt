@@ -1,8 +1,7 @@
 -- A context set at a place: what stands there, and what its counts and levels come to.
-use Rattle.std.proofs.Common.{List, Some, ap, length, arith, cond, false, inl, inr, refl, slice_get, subst, sym, true, ℕ, ◌+◌, ◌∙◌, ◌≡◌, ◌⊎◌}
+use Rattle.std.proofs.Common.{List, Some, ap, arith, cond, false, inl, inr, refl, slice_get, subst, sym, true, ℕ, ◌+◌, ◌∙◌, ◌≡◌, ◌⊎◌}
 use Rattle.std.proofs.lemmas.Bool.{cases_eq}
 use Rattle.std.proofs.lemmas.Bool.Decides.{eqb_tells}
-use Rattle.std.proofs.lemmas.Option.{slice_get_within}
 use Rattle.std.specs.Prelude.{nat_eq, slice_set}
 use Rattle.dl_lemmas.proofs.Lists.{set_here, set_other}
 use Rattle.dl_lemmas.proofs.Options.{one_is}

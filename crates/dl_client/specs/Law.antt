@@ -1,7 +1,7 @@
 -- What is true of a program after any list of steps.
 use Rattle.std.specs.Prelude.{◌≡◌, ℕ, ◌+◌, List, [], ◌∷◌, ◌++◌, Option, Some, None, slice_get, nat_eq, if◌then◌else◌}
 use Rattle.dl_client.specs.Account.{account}
-use Rattle.dl_client.specs.Program.{Program, Step, Filters, Queues, Loses, Tells, Announces, Opens, Obeys, Takes, Runs, message_of, registration}
+use Rattle.dl_client.specs.Program.{Program, Step, Filters, Queues, Loses, Tells, Announces, Opens, Obeys, Takes, Sizes, Runs, message_of, registration}
 use Rattle.dl_client.specs.declared.context.Context.{Context}
 use Rattle.dl_client.specs.declared.context.Sender.{Sender}
 use Rattle.dl_user.specs.Layout.{user_message}
@@ -16,6 +16,7 @@ bytes_of sender (Announces msg) = user_message msg
 bytes_of sender (Opens place context own pid text) = user_message (registration place context own pid text)
 bytes_of sender (Obeys place context level) = []
 bytes_of sender (Takes count) = []
+bytes_of sender (Sizes size) = []
 
 -- all that was queued, in order
 abbrev pub queued_by : Sender → List Step → List ℕ

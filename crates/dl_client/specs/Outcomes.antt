@@ -1,11 +1,11 @@
 -- What each call of a client comes to.
-use Rattle.std.specs.Prelude.{◌≡◌, ℕ, ◌-◌, ◌^◌, ◌<◌, ◌≤◌, List, [], ◌∷◌, ◌++◌, length, slice_get, Some, ◌⊎◌}
+use Rattle.std.specs.Prelude.{◌≡◌, ℕ, zero, suc, ◌+◌, ◌-◌, ◌^◌, ◌<◌, ◌≤◌, List, [], ◌∷◌, ◌++◌, length, slice_get, Some, ◌⊎◌}
 use Rattle.dl_bytes.specs.Limits.{text_limit}
 use Rattle.dl_bytes.specs.declared.user.UserMsg.{UserMsg}
 use Rattle.dl_bytes.specs.declared.user.UserMsg.TheVariants.{RegisterApp, UnregisterContext}
 use Rattle.dl_user.specs.Layout.{user_message}
 use Rattle.dl_client.specs.Account.{account}
-use Rattle.dl_client.specs.Program.{Step, Filters, Queues, Loses, Announces, Opens, Obeys, Does, Runs, AreAccounts, IsFull, IsTold, opened, registration}
+use Rattle.dl_client.specs.Program.{Step, Filters, Queues, Loses, Announces, Opens, Obeys, Does, Runs, AreAccounts, IsFull, IsTold, one_filtered, opened, registration}
 use Rattle.dl_client.specs.Seen.{seen, IsSame}
 use Rattle.dl_client.specs.declared.client.Client.{Client}
 use Rattle.dl_client.specs.declared.context.Call.{Call}
@@ -53,6 +53,15 @@ abbrev pub IsNotFiltered : List Context → ℕ → ℕ → Type 0
 IsNotFiltered contexts place severity =
     (length contexts ≤ place) ⊎ At contexts place (λ context. (severity ≤ context.level) ⊎ (context.filtered ≡ 2 ^ 64 - 1))
 
+-- so many calls of this context in one go, each filtered by its level
+abbrev pub filters : ℕ → Context → ℕ → List Step
+filters place context zero = []
+filters place context (suc count) = Filters place context (context.level + 1) ∷ filters place (one_filtered context) count
+
+-- so many calls can't be counted: there is no such context, or its count would be above its end
+abbrev pub IsNotCounted : List Context → ℕ → ℕ → Type 0
+IsNotCounted contexts place count = (length contexts ≤ place) ⊎ At contexts place (λ context. 2 ^ 64 ≤ context.filtered + count)
+
 -- what became of a call, where accounts are no matter any more
 abbrev pub IsDecided : Logged → ℕ → Call → List ℕ → Client → Client → Type 0
 IsDecided Filtered place call payload old new = (context : Context) × ((taken : List ℕ) → Does (seen old taken) (Filters place context call.severity) (seen new taken))
@@ -77,6 +86,10 @@ IsObeyed answer.Refused place level ticks old new = IsSame old new × ((length o
 -- no context can be registered so: no place of four bytes, no such level, or too long a description
 abbrev pub IsNoOpening : ℕ → Opening → Type 0
 IsNoOpening place opening = (2 ^ 32 ≤ place) ⊎ ((6 < opening.level) ⊎ (text_limit < length opening.text.now))
+
+-- the bytes that register a context as it is opened
+abbrev pub opening_bytes : ℕ → Context → Opening → List ℕ
+opening_bytes place context opening = user_message (registration place context opening.own opening.pid opening.text.now)
 
 -- the registration of a context
 abbrev pub registration_of : ℕ → Opening → UserMsg

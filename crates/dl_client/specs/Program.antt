@@ -22,7 +22,8 @@ pub record Program : Type 0 where
   pub taken : List ℕ
 
 -- A call is filtered, its message is queued, or it is lost. A context's account is told. A registration is queued, or one with
--- which a context begins at a place. The daemon tells a level. The link takes bytes. The context is given as it was.
+-- which a context begins at a place. The daemon tells a level. The link takes bytes. The queue is given other memory. The context is
+-- given as it was.
 pub data Step : Type 0 where
   Filters : (place : ℕ) (context : Context) (severity : ℕ) → Step
   Queues : (place : ℕ) (context : Context) (call : Call) (payload : List ℕ) → Step
@@ -32,6 +33,7 @@ pub data Step : Type 0 where
   Opens : (place : ℕ) (context : Context) (own : Option ℕ) (pid : ℕ) (text : List ℕ) → Step
   Obeys : (place : ℕ) (context : Context) (level : ℕ) → Step
   Takes : (count : ℕ) → Step
+  Sizes : (size : ℕ) → Step
 
 -- the context of a message, and its MCNT
 abbrev pub source_of : Context → Source
@@ -129,6 +131,7 @@ Does old (Obeys place context level) new =
     × (new ≡ with_context old place (record context { level = level }))
 Does old (Takes count) new =
     new ≡ record old { waiting = drop count old.waiting; taken = old.taken ++ take count old.waiting }
+Does old (Sizes size) new = (length old.waiting ≤ size) × (new ≡ record old { size = size })
 
 -- steps one after the other
 abbrev pub Runs : Program → List Step → Program → Type 0

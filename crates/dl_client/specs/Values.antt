@@ -1,5 +1,6 @@
 -- The values of a call as verbose arguments: AUTOSAR DLT, type info and fields.
 use Rattle.std.specs.Prelude.{ℕ, ◌+◌, ◌<◌, ◌≤◌, ◌^◌, Bool, List, [], ◌∷◌, length, ◌==◌, if◌then◌else◌, ◌⊎◌}
+use Rattle.std.specs.Int.{from_bool}
 use Rattle.dl_args.specs.Argument.{argument, closed_size, size, z}
 use Rattle.dl_client.specs.Area.{held}
 use Rattle.dl_client.specs.declared.area.bytes.Area.{Area}
@@ -8,6 +9,7 @@ use Rattle.dl_client.specs.declared.values.Format.TheVariants.{Plain, Hex, Binar
 use Rattle.dl_client.specs.declared.values.Kind.{Kind}
 use Rattle.dl_client.specs.declared.values.Kind.TheVariants as kind
 use Rattle.dl_client.specs.declared.values.Shape.{Shape}
+use Rattle.dl_client.specs.declared.values.Units.{Units}
 
 -- bits 4 to 7: BOOL, SINT, UINT, FLOA
 abbrev pub kind_bit : Kind → ℕ
@@ -46,12 +48,19 @@ text_argument utf8 text = argument (text_info utf8) (closed_size text ∷ text �
 abbrev pub named_text_argument : Bool → List ℕ → List ℕ → List ℕ
 named_text_argument utf8 name text = argument (text_info utf8 + 0x800) (closed_size text ∷ size name ∷ name ∷ text ∷ z ∷ [])
 
--- RAWD, bit 10
-abbrev pub raw_argument : List ℕ → List ℕ
-raw_argument bytes = argument 0x400 (size bytes ∷ bytes ∷ [])
+-- RAWD, bit 10, with SCOD and TYLE of the units in which the bytes are to be shown
+abbrev pub units_bits : Units → ℕ
+units_bits units = format_bits units.format + (if units.len == 0 then 0 else tyle_of_len units.len)
 
-abbrev pub named_raw_argument : List ℕ → List ℕ → List ℕ
-named_raw_argument name bytes = argument 0xc00 (size bytes ∷ size name ∷ name ∷ bytes ∷ [])
+abbrev pub raw_argument : Units → List ℕ → List ℕ
+raw_argument units bytes = argument (0x400 + units_bits units) (size bytes ∷ bytes ∷ [])
+
+abbrev pub named_raw_argument : Units → List ℕ → List ℕ → List ℕ
+named_raw_argument units name bytes = argument (0xc00 + units_bits units) (size bytes ∷ size name ∷ name ∷ bytes ∷ [])
+
+-- a truth value with a name, which has no unit
+abbrev pub named_bool_argument : List ℕ → Bool → List ℕ
+named_bool_argument name value = argument 0x811 (size name ∷ name ∷ (from_bool value ∷ []) ∷ [])
 
 -- there is no room for these bytes, or one of their fields is too long for a length of two bytes
 abbrev pub HasNoRoom : Area → ℕ → List ℕ → Type 0

@@ -2,8 +2,8 @@
 
 ghost use Rattle.std.specs.Prelude.{◌≡◌, ◌<◌, ◌≤◌, ◌+◌, ◌-◌, ◌^◌, ℕ, List, [], length, true, false, slice_get, Some, ◌⊎◌};
 ghost use Rattle.dl_client.specs.declared.context.Context.{Context};
-ghost use Rattle.dl_client.specs.Outcomes.{CountsAreFull, IsDecided, IsLogged, IsNotFiltered, NoneLostBelow, OnlyAccounts};
-ghost use Rattle.dl_client.specs.Program.{Does, Filters, Loses, NoneLost, CannotTell, IsFull, message_of, with_bytes, with_context, one_queued};
+ghost use Rattle.dl_client.specs.Outcomes.{CountsAreFull, IsDecided, IsLogged, IsNotCounted, IsNotFiltered, NoneLostBelow, OnlyAccounts, filters};
+ghost use Rattle.dl_client.specs.Program.{Does, Filters, Loses, Runs, NoneLost, CannotTell, IsFull, message_of, with_bytes, with_context, one_queued};
 ghost use Rattle.dl_client.specs.Seen.{seen, IsSame};
 
 use crate::account::tell;
@@ -31,6 +31,31 @@ pub fn is_filtered(client: &mut Client, place: usize, severity: u8) -> bool
         return count_filtered(client, place, &context, severity);
     }
     false
+}
+
+/// So many calls of the context at this place were filtered by its level, and are counted. For callers that look at the level themselves.
+pub fn count_calls(client: &mut Client, place: usize, count: u64) -> bool
+    ensures counted { result ≡ true → (context : Context) × ((taken : List ℕ) → Runs (seen client.old taken) (filters place context count) (seen client.new taken)) }
+    ensures refused { result ≡ false → IsNotCounted client.old.contexts.now place count }
+    ensures same { result ≡ false → IsSame client.old client.new }
+{
+    if place >= client.contexts.len() {
+        return false;
+    }
+    let context = context_at(client, place);
+    if context.filtered > u64::MAX - count {
+        return false;
+    }
+    let filtered = context.filtered + count;
+    set_context(
+        client,
+        place,
+        Context {
+            filtered,
+            ..context
+        },
+    );
+    true
 }
 
 /// A log call of the context at this place, whose payload has at most 1390 bytes. Before its message each loss is told.
@@ -208,8 +233,25 @@ fn push_call(client: &mut Client, context: &Context, call: &Call, payload: &[u8]
     true
 }
 
-/// Tells each loss. Where there is no room for an account, the rest stays.
+/// Tells each loss, where any may be untold. Where there is no room for an account, the rest stays.
 fn tell_losses(client: &mut Client, ticks: u32) -> bool
+    ensures accounts { OnlyAccounts client.old client.new }
+    ensures told { result ≡ true → NoneLost client.new.contexts.now }
+    ensures untold { result ≡ false → CannotTell (seen client.new []) ticks }
+    ensures places { length client.new.contexts.now ≡ length client.old.contexts.now }
+{
+    if !client.untold {
+        return true;
+    }
+    if !tell_each(client, ticks) {
+        return false;
+    }
+    client.untold = false;
+    true
+}
+
+/// Tells the losses of each context.
+fn tell_each(client: &mut Client, ticks: u32) -> bool
     ensures accounts { OnlyAccounts client.old client.new }
     ensures told { result ≡ true → NoneLost client.new.contexts.now }
     ensures untold { result ≡ false → CannotTell (seen client.new []) ticks }

@@ -1,5 +1,8 @@
 //! The state of a program that logs, in memory that was handed in.
 
+ghost use Rattle.std.specs.Prelude.{◌≡◌, false};
+ghost use Rattle.dl_client.specs.Program.{NoneLost};
+
 use crate::area::Area;
 use crate::context::{Context, Sender};
 
@@ -15,4 +18,7 @@ pub struct Client<'a> {
     pub sender: Sender,
     /// MCNT of the next account.
     pub accounts: u8,
+    /// Whether a loss may be untold.
+    pub untold: bool,
+    ghost told: { untold ≡ false → NoneLost contexts.now },
 }

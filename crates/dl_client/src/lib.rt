@@ -23,7 +23,7 @@ mod values;
 
 pub use area::{Area, append, drop_front, filled, room};
 pub use arguments::{add_argument, push_argument};
-pub use calls::{is_filtered, log};
+pub use calls::{count_calls, is_filtered, log};
 pub use client::Client;
 pub use context::{Call, Context, Opening, Sender};
 pub use levels::{obey, settle};
@@ -31,6 +31,6 @@ pub use link::took;
 pub use outcome::{Answer, Logged};
 pub use registering::{close, open, register_app, unregister_app};
 pub use values::{
-    Format, Kind, Shape, add_named_number, add_named_raw, add_named_text, add_number, add_plain,
-    add_raw, add_text,
+    Format, Kind, Shape, Units, add_named_bool, add_named_number, add_named_raw, add_named_text,
+    add_number, add_plain, add_raw, add_text,
 };

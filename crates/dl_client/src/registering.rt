@@ -3,8 +3,8 @@
 ghost use Rattle.std.specs.Prelude.{◌≡◌, ◌<◌, ◌≤◌, ◌+◌, ◌^◌, ◌++◌, ℕ, List, [], length, true, false, negsuc};
 ghost use Rattle.dl_bytes.specs.declared.user.UserMsg.TheVariants.{RegisterApp, UnregisterApp, UnregisterContext};
 ghost use Rattle.dl_client.specs.Area.{held};
-ghost use Rattle.dl_client.specs.Outcomes.{IsAnnounced, IsClosed, IsNoOpening, IsOpened, IsRegistered};
-ghost use Rattle.dl_client.specs.Program.{IsFull, registration, registration_front, with_bytes};
+ghost use Rattle.dl_client.specs.Outcomes.{IsAnnounced, IsClosed, IsNoOpening, IsOpened, IsRegistered, opening_bytes};
+ghost use Rattle.dl_client.specs.Program.{IsFull, registration_front, with_bytes};
 ghost use Rattle.dl_client.specs.Seen.{seen, IsSame};
 ghost use Rattle.dl_user.specs.Layout.{user_message, signed, level_number};
 
@@ -116,8 +116,8 @@ fn push_registration(
 ) -> bool
     requires place { place < 2 ^ 32 }
     requires text { length opening.now.text.now ≤ 255 }
-    ensures pushed { result ≡ true → (taken : List ℕ) → seen client.new taken ≡ with_bytes (seen client.old taken) (user_message (registration place context.now opening.now.own opening.now.pid opening.now.text.now)) }
-    ensures full { result ≡ false → IsFull (seen client.new []) (user_message (registration place context.now opening.now.own opening.now.pid opening.now.text.now)) }
+    ensures pushed { result ≡ true → (taken : List ℕ) → seen client.new taken ≡ with_bytes (seen client.old taken) (opening_bytes place context.now opening.now) }
+    ensures full { result ≡ false → IsFull (seen client.new []) (opening_bytes place context.now opening.now) }
     ensures same { result ≡ false → IsSame client.old client.new }
     ensures contexts { client.new.contexts.now ≡ client.old.contexts.now }
 {
@@ -132,7 +132,7 @@ fn push_registration(
 fn push_context(queue: &mut Area, place: u32, context: &Context, opening: &Opening)
     requires text { length opening.now.text.now ≤ 255 }
     requires room { length (held queue.old) + (30 + length opening.now.text.now) ≤ length queue.old.bytes.now }
-    ensures held { held queue.new ≡ held queue.old ++ user_message (registration place context.now opening.now.own opening.now.pid opening.now.text.now) }
+    ensures held { held queue.new ≡ held queue.old ++ opening_bytes place context.now opening.now }
     ensures size { length queue.new.bytes.now ≡ length queue.old.bytes.now }
 {
     push_front(queue, place, context, opening.own);

@@ -1,8 +1,8 @@
 //! The values that a call logs, as arguments of its payload. Each is added whole, or there is no room and nothing is added.
 
-ghost use Rattle.std.specs.Prelude.{◌≡◌, ◌<◌, ◌≤◌, ◌+◌, ◌^◌, ◌++◌, length, true, false};
+ghost use Rattle.std.specs.Prelude.{◌≡◌, ◌<◌, ◌≤◌, ◌+◌, ◌^◌, ◌==◌, ◌++◌, length, true, false, if◌then◌else◌};
 ghost use Rattle.dl_client.specs.Area.{held};
-ghost use Rattle.dl_client.specs.Values.{HasNoRoom, number_argument, named_number_argument, text_argument, named_text_argument, raw_argument, named_raw_argument, info_of, kind_bit, format_bits, tyle_of_len, text_info};
+ghost use Rattle.dl_client.specs.Values.{HasNoRoom, number_argument, named_number_argument, text_argument, named_text_argument, raw_argument, named_raw_argument, named_bool_argument, info_of, kind_bit, format_bits, tyle_of_len, units_bits, text_info};
 
 use crate::area::{Area, append, room};
 use crate::arguments::add_argument;
@@ -40,11 +40,23 @@ pub struct Shape {
     pub format: Format,
 }
 
+/// How bytes of any meaning are to be shown: in a format, and in units of so many bytes.
+#[derive(Clone, Copy, Debug)]
+pub struct Units {
+    /// The format.
+    pub format: Format,
+    /// 1, 2, 4, 8 or 16 bytes a unit; 0 says nothing of it.
+    pub len: usize,
+}
+
 /// VARI: a name, and the unit of a number, come with the value.
 const VARI: u32 = 0x800;
 
 /// RAWD: bytes of any meaning.
 const RAWD: u32 = 0x400;
+
+/// The type info of a truth value with a name: BOOL, VARI and 8 bits.
+const NAMED_BOOL: u32 = 0x811;
 
 /// Adds a number with these bytes, the lowest first: 1, 2, 4, 8 or 16.
 pub fn add_number(payload: &mut Area, shape: Shape, bytes: &[u8]) -> bool
@@ -81,6 +93,20 @@ pub fn add_named_number<'a>(
     )
 }
 
+/// Adds a truth value with a name, which stands with its closing zero byte.
+pub fn add_named_bool<'a>(payload: &mut Area, name: &'a [u8], value: bool) -> bool
+    ensures added { result ≡ true → held payload.new ≡ held payload.old ++ named_bool_argument name.now value }
+    ensures full { result ≡ false → HasNoRoom payload.old (length name.now) (named_bool_argument name.now value) }
+    ensures same { result ≡ false → held payload.new ≡ held payload.old }
+    ensures size { length payload.new.bytes.now ≡ length payload.old.bytes.now }
+{
+    if name.len() > 0xffff {
+        return false;
+    }
+    let name_size = (name.len() as u16).to_le_bytes();
+    add_argument(payload, NAMED_BOOL, &[&name_size, name, &[value as u8]])
+}
+
 /// Adds a text, in UTF-8 or else in ASCII, which isn't checked.
 pub fn add_text(payload: &mut Area, utf8: bool, text: &[u8]) -> bool
     ensures added { result ≡ true → held payload.new ≡ held payload.old ++ text_argument utf8 text.now }
@@ -114,10 +140,10 @@ pub fn add_named_text<'a>(payload: &mut Area, utf8: bool, name: &'a [u8], text: 
     )
 }
 
-/// Adds bytes of any meaning.
-pub fn add_raw(payload: &mut Area, bytes: &[u8]) -> bool
-    ensures added { result ≡ true → held payload.new ≡ held payload.old ++ raw_argument bytes.now }
-    ensures full { result ≡ false → HasNoRoom payload.old (length bytes.now) (raw_argument bytes.now) }
+/// Adds bytes of any meaning, to be shown in these units.
+pub fn add_raw(payload: &mut Area, units: Units, bytes: &[u8]) -> bool
+    ensures added { result ≡ true → held payload.new ≡ held payload.old ++ raw_argument units bytes.now }
+    ensures full { result ≡ false → HasNoRoom payload.old (length bytes.now) (raw_argument units bytes.now) }
     ensures same { result ≡ false → held payload.new ≡ held payload.old }
     ensures size { length payload.new.bytes.now ≡ length payload.old.bytes.now }
 {
@@ -125,13 +151,13 @@ pub fn add_raw(payload: &mut Area, bytes: &[u8]) -> bool
         return false;
     }
     let size = (bytes.len() as u16).to_le_bytes();
-    add_argument(payload, RAWD, &[&size, bytes])
+    add_argument(payload, RAWD + units_bits(units), &[&size, bytes])
 }
 
 /// Adds bytes of any meaning with a name, which stands with its closing zero byte.
-pub fn add_named_raw<'a>(payload: &mut Area, name: &'a [u8], bytes: &'a [u8]) -> bool
-    ensures added { result ≡ true → held payload.new ≡ held payload.old ++ named_raw_argument name.now bytes.now }
-    ensures full { result ≡ false → HasNoRoom payload.old (length name.now + length bytes.now) (named_raw_argument name.now bytes.now) }
+pub fn add_named_raw<'a>(payload: &mut Area, units: Units, name: &'a [u8], bytes: &'a [u8]) -> bool
+    ensures added { result ≡ true → held payload.new ≡ held payload.old ++ named_raw_argument units name.now bytes.now }
+    ensures full { result ≡ false → HasNoRoom payload.old (length name.now + length bytes.now) (named_raw_argument units name.now bytes.now) }
     ensures same { result ≡ false → held payload.new ≡ held payload.old }
     ensures size { length payload.new.bytes.now ≡ length payload.old.bytes.now }
 {
@@ -140,7 +166,11 @@ pub fn add_named_raw<'a>(payload: &mut Area, name: &'a [u8], bytes: &'a [u8]) ->
     }
     let size = (bytes.len() as u16).to_le_bytes();
     let name_size = (name.len() as u16).to_le_bytes();
-    add_argument(payload, RAWD + VARI, &[&size, &name_size, name, bytes])
+    add_argument(
+        payload,
+        RAWD + VARI + units_bits(units),
+        &[&size, &name_size, name, bytes],
+    )
 }
 
 /// Adds a value as it is, with no type info: in a payload that is not verbose.
@@ -188,6 +218,22 @@ fn format_bits(format: Format) -> u32
         Format::Hex => 0x1_0000,
         Format::Binary => 0x1_8000,
     }
+}
+
+/// SCOD and TYLE of units.
+fn units_bits(units: Units) -> u32
+    ensures value { result ≡ units_bits units }
+    ensures limit { result < 2 ^ 17 }
+{
+    format_bits(units.format) + unit_tyle(units.len)
+}
+
+/// TYLE of a unit, or none.
+fn unit_tyle(len: usize) -> u32
+    ensures value { result ≡ if len == 0 then 0 else tyle_of_len len }
+    ensures limit { result < 16 }
+{
+    if len == 0 { 0 } else { tyle_of_len(len) }
 }
 
 /// TYLE of a number with this many bytes: 1 for 8 bits to 5 for 128 bits.

@@ -5,8 +5,8 @@
 ghost use Rattle.std.specs.Prelude.{◌≡◌, ◌<◌, ◌≤◌, ◌++◌, ℕ, List, length, true, false, take, Option, Some};
 ghost use Rattle.dl_bytes.specs.declared.user.UserMsg.TheVariants.{UnregisterApp};
 ghost use Rattle.dl_client.specs.Area.{held};
-ghost use Rattle.dl_client.specs.Outcomes.{Ends, IsAnnounced, IsClosed, IsLogged, IsNotFiltered, IsObeyed, IsRegistered, IsToldAt, NoRoomToTell, OnlyAccounts};
-ghost use Rattle.dl_client.specs.Program.{Does, Filters, Opens, Takes};
+ghost use Rattle.dl_client.specs.Outcomes.{Ends, IsAnnounced, IsClosed, IsLogged, IsNotCounted, IsNotFiltered, IsObeyed, IsRegistered, IsToldAt, NoRoomToTell, OnlyAccounts, filters};
+ghost use Rattle.dl_client.specs.Program.{Does, Filters, Opens, Runs, Takes};
 ghost use Rattle.dl_client.specs.Seen.{seen, IsSame};
 ghost use Rattle.dl_bytes.specs.Level.{own_level_of};
 ghost use Rattle.dl_client.specs.declared.context.Context.{Context};
@@ -18,8 +18,9 @@ mod registration;
 use dl_bytes::OwnLevel;
 use dl_client::{Answer, Call, Client, Logged, Opening};
 pub use payload::{
-    dl_client_c_add_named_number, dl_client_c_add_named_raw, dl_client_c_add_named_text,
-    dl_client_c_add_number, dl_client_c_add_plain, dl_client_c_add_raw, dl_client_c_add_text,
+    dl_client_c_add_named_bool, dl_client_c_add_named_number, dl_client_c_add_named_raw,
+    dl_client_c_add_named_text, dl_client_c_add_number, dl_client_c_add_plain, dl_client_c_add_raw,
+    dl_client_c_add_text,
 };
 pub use registration::Registration;
 
@@ -31,6 +32,16 @@ pub extern "C" fn dl_client_c_is_filtered(client: &mut Client, place: usize, sev
     ensures same { result ≡ false → IsSame client.old client.new }
 {
     dl_client::is_filtered(client, place, severity)
+}
+
+/// So many calls of the context at this place were filtered by its level, and are counted.
+#[unsafe(no_mangle)]
+pub extern "C" fn dl_client_c_count(client: &mut Client, place: usize, count: u64) -> bool
+    ensures counted { result ≡ true → (context : Context) × ((taken : List ℕ) → Runs (seen client.old taken) (filters place context count) (seen client.new taken)) }
+    ensures refused { result ≡ false → IsNotCounted client.old.contexts.now place count }
+    ensures same { result ≡ false → IsSame client.old client.new }
+{
+    dl_client::count_calls(client, place, count)
 }
 
 /// A log call of the context at this place, whose payload has at most 1390 bytes.

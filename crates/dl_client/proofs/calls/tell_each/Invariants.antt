@@ -1,6 +1,6 @@
 use Rattle.std.proofs.Common.{length, ◌≡◌}
 use Rattle.dl_client.specs.Outcomes.{NoneLostBelow, OnlyAccounts}
-use Rattle.dl_client.proofs.calls.tell_losses.Given as goal
+use Rattle.dl_client.proofs.calls.tell_each.Given as goal
 
 abbrev pub invariant-loop-place : goal.invariant-loop-place
 invariant-loop-place l = record {
