@@ -85,7 +85,7 @@ fn push_account(client: &mut Client, context: &Context, ticks: u32) -> bool
         bytes: &mut bytes,
         used: 0,
     };
-    push_payload(&mut payload, context);
+    push_account_payload(&mut payload, context);
     push_told(client, context, ticks, filled(&payload))
 }
 
@@ -136,8 +136,9 @@ fn push_both(
     push_overflow(queue, context);
 }
 
-/// Writes the arguments of an account into a payload that has none.
-fn push_payload(payload: &mut Area, context: &Context)
+/// Writes the arguments of a context's account into a payload of 128 bytes that has none: the account tells its calls since the one before. Who reads
+/// accounts writes one of what was read, and compares.
+pub fn push_account_payload(payload: &mut Area, context: &Context)
     requires empty { length (held payload.old) ≡ 0 }
     requires room { length payload.old.bytes.now ≡ 128 }
     ensures held { held payload.new ≡ account_payload context.now }

@@ -21,6 +21,7 @@ mod registering;
 mod state;
 mod values;
 
+pub use account::push_account_payload;
 pub use area::{Area, append, drop_front, filled, room};
 pub use arguments::{add_argument, push_argument};
 pub use calls::{count_calls, is_filtered, log};

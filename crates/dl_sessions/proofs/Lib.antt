@@ -5,3 +5,5 @@ pub mod ToldFields
 pub mod Readings
 pub mod Lines
 pub mod MissingCalls
+pub mod Sinces
+pub mod Noting

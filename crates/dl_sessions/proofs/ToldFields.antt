@@ -1,6 +1,6 @@
 -- What is read of a message's ECU and timestamp at their places are the fields that it spells.
 use Rattle.std.proofs.Common.{◌≡◌, ℕ, ◌+◌, ◌-◌, ◌<◌, ◌^◌, Bool, true, false, cond, List, [], ◌∷◌, ◌++◌, length, take, drop, Option, Some, None, refl, sym, ap, ◌∙◌, append_assoc, length-append, is_some, arith}
-use Rattle.std.specs.Prelude.{IfSome, unwrap_or}
+use Rattle.std.specs.Prelude.{IfSome, slice_index, unwrap_or}
 use Rattle.std.proofs.lemmas.Bool.{cond-true, cond-false}
 use Rattle.std.proofs.lemmas.List.{take_at, drop_at}
 use Rattle.byteorder.specs.Endian.{big_bytes, big_number}
@@ -11,9 +11,10 @@ use Rattle.dl_headers.specs.Message.{Message, IsMessage}
 use Rattle.dl_headers.proofs.Lengths.{number_long, apid_at, ctid_at}
 use Rattle.dl_headers.specs.declared.header.Extended.{Extended}
 use Rattle.dl_headers.specs.Reading.{mcnt_of}
-use Rattle.dl_receive.specs.MessageKind.{apid_of, behind_standard, ctid_of, session_of}
+use Rattle.dl_receive.specs.MessageKind.{apid_of, behind_standard, ctid_of, msin_of, payload_of, session_of}
 use Rattle.dl_receive.proofs.Fields.{behind_read, mcnt_read, session_read}
-use Rattle.dl_sessions.specs.Stream.{ecu_of, entry_at, entry_by, entry_in, ticks_of}
+use Rattle.dl_sessions.specs.Stream.{calls_by, ecu_of, entry_at, entry_by, entry_in, noar_of, ticks_of}
+use Rattle.dl_sessions.specs.declared.session.Calls.{Calls}
 use Rattle.dl_sessions.specs.declared.session.Told.{Told}
 use Rattle.dl_sessions.specs.declared.session.Told.TheVariants as told
 
@@ -42,7 +43,7 @@ module _ (m : Message) (bytes : List ℕ) (is : IsMessage m bytes) where
   split : bytes ≡ standard_header m.standard ++ (optional extended_header m.extended ++ m.payload)
   split = is.spelled ∙ append_assoc (standard_header m.standard) (optional extended_header m.extended) m.payload
 
-  htyp_read : htyp_of bytes ≡ m.standard.htyp
+  pub htyp_read : htyp_of bytes ≡ m.standard.htyp
   htyp_read = ap htyp_of split
 
   pub ecu_read : (other : List ℕ) → ecu_of other bytes ≡ unwrap_or m.standard.ecu other
@@ -71,20 +72,26 @@ module _ (m : Message) (bytes : List ℕ) (is : IsMessage m bytes) where
       ∙ ap (λ (b : List ℕ). cond (is_some s.ticks) (big_number 4 (drop (standard_len s.htyp - 4) b)) 0) parts
       ∙ ticks_at front s.ticks rest (standard_len s.htyp - 4) long is.standard.ticks
 
-  entry_when : (ecu : List ℕ) (ticks : ℕ) (e : Option Extended) → m.extended ≡ e → IfSome e IsExtended → entry_at ecu ticks bytes ≡ entry_in m.standard e ecu ticks
-  entry_when ecu ticks None there fits =
-      let said : has_extended (htyp_of bytes) ≡ false = ap has_extended htyp_read ∙ sym is.told ∙ ap (λ (e : Option Extended). is_some e) there in
-      cond-false _ _ _ said
-  entry_when ecu ticks (Some head) there fits =
-      let said : has_extended (htyp_of bytes) ≡ true = ap has_extended htyp_read ∙ sym is.told ∙ ap (λ (e : Option Extended). is_some e) there in
-      let at : behind_standard bytes ≡ extended_header head ++ m.payload = behind_read m bytes is ∙ ap (λ (e : Option Extended). optional extended_header e ++ m.payload) there in
-      let apid : apid_of bytes ≡ head.apid = ap (λ (x : List ℕ). take 4 (drop 2 x)) at ∙ apid_at head.msin head.noar head.apid head.ctid m.payload fits.apid in
-      let ctid : ctid_of bytes ≡ head.ctid = ap (λ (x : List ℕ). take 4 (drop 6 x)) at ∙ ctid_at head.msin head.noar head.apid head.ctid m.payload fits.apid fits.ctid in
-      cond-true _ _ _ said
-      ∙ ap (λ (s : Option ℕ). entry_by s (mcnt_of bytes) (apid_of bytes) (ctid_of bytes) ecu ticks) (session_read m bytes is)
-      ∙ ap (λ (n : ℕ). entry_by m.standard.session n (apid_of bytes) (ctid_of bytes) ecu ticks) (mcnt_read m bytes is)
-      ∙ ap (λ (a : List ℕ). entry_by m.standard.session m.standard.mcnt a (ctid_of bytes) ecu ticks) apid
-      ∙ ap (λ (c : List ℕ). entry_by m.standard.session m.standard.mcnt head.apid c ecu ticks) ctid
+  module _ (payload : payload_of bytes ≡ m.payload) where
+    entry_when : (ecu : List ℕ) (ticks : ℕ) (e : Option Extended) → m.extended ≡ e → IfSome e IsExtended → entry_at ecu ticks bytes ≡ entry_in m.standard e m.payload ecu ticks
+    entry_when ecu ticks None there fits =
+        let said : has_extended (htyp_of bytes) ≡ false = ap has_extended htyp_read ∙ sym is.told ∙ ap (λ (e : Option Extended). is_some e) there in
+        cond-false _ _ _ said
+    entry_when ecu ticks (Some head) there fits =
+        let said : has_extended (htyp_of bytes) ≡ true = ap has_extended htyp_read ∙ sym is.told ∙ ap (λ (e : Option Extended). is_some e) there in
+        let at : behind_standard bytes ≡ extended_header head ++ m.payload = behind_read m bytes is ∙ ap (λ (e : Option Extended). optional extended_header e ++ m.payload) there in
+        let apid : apid_of bytes ≡ head.apid = ap (λ (x : List ℕ). take 4 (drop 2 x)) at ∙ apid_at head.msin head.noar head.apid head.ctid m.payload fits.apid in
+        let ctid : ctid_of bytes ≡ head.ctid = ap (λ (x : List ℕ). take 4 (drop 6 x)) at ∙ ctid_at head.msin head.noar head.apid head.ctid m.payload fits.apid fits.ctid in
+        let msin : msin_of bytes ≡ head.msin = ap (λ (x : List ℕ). slice_index x 0) at in
+        let noar : noar_of bytes ≡ head.noar = ap (λ (x : List ℕ). slice_index x 1) at in
+        let read : Calls = calls_by (msin_of bytes) (noar_of bytes) (ctid_of bytes) (payload_of bytes) in
+        let calls : read ≡ calls_by head.msin head.noar head.ctid m.payload = λ i. calls_by (msin i) (noar i) (ctid i) (payload i) in
+        cond-true _ _ _ said
+        ∙ ap (λ (s : Option ℕ). entry_by s (mcnt_of bytes) (apid_of bytes) (ctid_of bytes) ecu ticks read) (session_read m bytes is)
+        ∙ ap (λ (n : ℕ). entry_by m.standard.session n (apid_of bytes) (ctid_of bytes) ecu ticks read) (mcnt_read m bytes is)
+        ∙ ap (λ (a : List ℕ). entry_by m.standard.session m.standard.mcnt a (ctid_of bytes) ecu ticks read) apid
+        ∙ ap (λ (c : List ℕ). entry_by m.standard.session m.standard.mcnt head.apid c ecu ticks read) ctid
+        ∙ ap (entry_by m.standard.session m.standard.mcnt head.apid head.ctid ecu ticks) calls
 
-  pub entry_read : (ecu : List ℕ) (ticks : ℕ) → entry_at ecu ticks bytes ≡ entry_in m.standard m.extended ecu ticks
-  entry_read ecu ticks = entry_when ecu ticks m.extended refl is.extended
+    pub entry_read : (ecu : List ℕ) (ticks : ℕ) → entry_at ecu ticks bytes ≡ entry_in m.standard m.extended m.payload ecu ticks
+    entry_read ecu ticks = entry_when ecu ticks m.extended refl is.extended

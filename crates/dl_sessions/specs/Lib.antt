@@ -1,4 +1,6 @@
 pub mod Gaps
+pub mod Calls
+pub mod Ledger
 pub mod Applications
 pub mod Account
 pub mod Stream

@@ -1,8 +1,9 @@
 -- A stream of messages as a file holds it: where its messages stand, and what each of them tells.
-use Rattle.std.specs.Prelude.{◌≡◌, ℕ, ◌-◌, ◌&&◌, nat_eq, nat_le, Bool, true, false, List, [], ◌∷◌, length, take, drop, slice_index, Option, Some, None, is_none, if◌then◌else◌}
+use Rattle.std.specs.Prelude.{◌≡◌, ℕ, ◌-◌, ◌==◌, ◌&&◌, nat_eq, nat_le, Bool, true, false, List, [], ◌∷◌, length, take, drop, codes, slice_index, Option, Some, None, is_none, if◌then◌else◌}
 use Rattle.std.specs.List.{starts_with}
 use Rattle.byteorder.specs.Endian.{big_number}
 use Rattle.std.specs.Option.{option_map_or}
+use Rattle.std.specs.Str.{bytes_eq}
 use Rattle.dl_bytes.specs.Htyp.{htyp_of, len_of, has_ecu, has_extended, has_ticks, standard_len}
 use Rattle.dl_bytes.specs.Id.{zero_id}
 use Rattle.dl_headers.specs.declared.fault.HeaderFault.{HeaderFault}
@@ -13,7 +14,9 @@ use Rattle.dl_headers.specs.Reading.{front_fault, mcnt_of}
 use Rattle.dl_message.specs.Cut.{serial_header}
 use Rattle.dl_receive.specs.declared.kind.Kind.{Kind}
 use Rattle.dl_receive.specs.declared.kind.Kind.TheVariants.{Log, Overflow, Other}
-use Rattle.dl_receive.specs.MessageKind.{apid_of, ctid_of, kind_of, session_of}
+use Rattle.dl_receive.specs.MessageKind.{apid_of, behind_standard, ctid_of, kind_of, msin_of, payload_of, session_of}
+use Rattle.dl_sessions.specs.Calls.{calls_of, no_calls}
+use Rattle.dl_sessions.specs.declared.session.Calls.{Calls}
 use Rattle.dl_sessions.specs.declared.session.Told.{Told}
 use Rattle.dl_sessions.specs.declared.session.Told.TheVariants as told
 use Rattle.dl_sessions.specs.declared.stream.End.{End}
@@ -30,21 +33,35 @@ ecu_of other message = if has_ecu (htyp_of message) then take 4 (drop 4 message)
 abbrev pub ticks_of : List ℕ → ℕ
 ticks_of message = if has_ticks (htyp_of message) then big_number 4 (drop (standard_len (htyp_of message) - 4) message) else 0
 
+-- NOAR, the second byte of the extended header
+abbrev pub noar_of : List ℕ → ℕ
+noar_of message = slice_index (behind_standard message) 1
+
+-- the head of an account: a log message of severity info, with ten verbose arguments, of the context DLTC
+abbrev pub is_of_account : ℕ → ℕ → List ℕ → Bool
+is_of_account msin noar ctid = msin == 0x41 && (noar == 10 && bytes_eq ctid (codes "DLTC"))
+
+-- what a message tells of a context's calls
+abbrev pub calls_by : ℕ → ℕ → (ctid payload : List ℕ) → Calls
+calls_by msin noar ctid payload = if is_of_account msin noar ctid then calls_of payload else no_calls
+
 -- a message of a session, where one is told
-abbrev pub entry_by : Option ℕ → ℕ → (apid ctid ecu : List ℕ) → ℕ → Told
-entry_by session mcnt apid ctid ecu ticks =
-    option_map_or (λ seid. told.Log (record { session = record { ecu = ecu; apid = apid; seid = seid }; ctid = ctid; mcnt = mcnt; ticks = ticks })) session told.Other
+abbrev pub entry_by : Option ℕ → ℕ → (apid ctid ecu : List ℕ) → ℕ → Calls → Told
+entry_by session mcnt apid ctid ecu ticks calls =
+    option_map_or (λ seid. told.Log (record { session = record { ecu = ecu; apid = apid; seid = seid }; ctid = ctid; mcnt = mcnt; ticks = ticks; calls = calls })) session told.Other
 
 -- whatever its type (MSTP), a message with an extended header that tells its session takes a message counter of it
 abbrev pub entry_at : List ℕ → ℕ → List ℕ → Told
 entry_at ecu ticks message =
     if has_extended (htyp_of message)
     then entry_by (session_of message) (mcnt_of message) (apid_of message) (ctid_of message) ecu ticks
+    (calls_by (msin_of message) (noar_of message) (ctid_of message) (payload_of message))
     else told.Other
 
 -- the same by its headers
-abbrev pub entry_in : Standard → Option Extended → List ℕ → ℕ → Told
-entry_in standard extended ecu ticks = option_map_or (λ head. entry_by standard.session standard.mcnt head.apid head.ctid ecu ticks) extended told.Other
+abbrev pub entry_in : Standard → Option Extended → (payload ecu : List ℕ) → ℕ → Told
+entry_in standard extended payload ecu ticks =
+    option_map_or (λ head. entry_by standard.session standard.mcnt head.apid head.ctid ecu ticks (calls_by head.msin head.noar head.ctid payload)) extended told.Other
 
 -- the report of lost messages, or any other message
 abbrev pub told_by : Kind → List ℕ → Told → Told

@@ -43,7 +43,7 @@ pub struct Account {
 }
 
 /// What is kept of a message.
-fn latest_of(entry: &Entry) -> Latest
+pub fn latest_of(entry: &Entry) -> Latest
     ensures { result ≡ latest_of entry.now }
 {
     Latest {
@@ -60,7 +60,7 @@ fn begins_anew(last: Latest, entry: &Entry) -> bool
 }
 
 /// How many counters were passed over since the last message.
-fn gap(last: Option<Latest>, entry: &Entry) -> u8
+pub fn gap(last: Option<Latest>, entry: &Entry) -> u8
     ensures { result ≡ gap last entry.now }
 {
     match last {

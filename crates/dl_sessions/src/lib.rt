@@ -3,16 +3,19 @@
 
 mod account;
 mod applications;
+mod calls;
 pub mod laws;
+mod ledger;
 mod session;
 mod stream;
 mod text;
 mod told;
 
 pub use account::{Account, account_of};
+pub use ledger::push_accounts;
 pub use session::{
-    Context, Entry, Hole, Latest, Losses, Lost, Position, Session, Source, Tally, Told, Totals,
-    Turn,
+    Calls, Context, Entry, Hole, Latest, Losses, Lost, Position, Session, Since, Source, Tally,
+    Told, Totals, Turn,
 };
 pub use stream::{End, Place, end_of, tell_all};
 pub use text::{missing, missing_here, push_missing, push_number, push_time};

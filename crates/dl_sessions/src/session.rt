@@ -44,6 +44,36 @@ pub struct Position {
     pub number: u64,
 }
 
+/// What a message tells of a context's calls since the account before: a program's library writes accounts (`dl_client`).
+#[derive(Clone, Copy, Debug, PartialEq, Eq)]
+pub struct Calls {
+    /// Whether the message is an account; else all that follows is zero.
+    pub are_told: bool,
+    /// CTID: the context.
+    pub ctid: Id,
+    /// The log level that decided, 0 (off) to 6 (verbose).
+    pub level: u8,
+    /// How many calls it filtered.
+    pub filtered: u64,
+    /// How many calls had their message queued.
+    pub queued: u64,
+    /// How many calls found no room in the program's queue.
+    pub lost: u64,
+}
+
+/// What came of a context since its last account.
+#[derive(Clone, Copy, Debug, PartialEq, Eq)]
+pub struct Since {
+    /// How many accounts of it came so far.
+    pub accounts: u64,
+    /// How many of its messages came since the last of them.
+    pub messages: u64,
+    /// How many are missing between these, by their counters.
+    pub missing: u64,
+    /// The last of these.
+    pub last: Option<Latest>,
+}
+
 /// What a message of a session tells.
 #[derive(Clone, Copy, Debug, PartialEq, Eq)]
 pub struct Entry {
@@ -55,6 +85,8 @@ pub struct Entry {
     pub mcnt: u8,
     /// TMSP: its timestamp, in units of 0.1 ms; 0 where it has none.
     pub ticks: u32,
+    /// What it tells of a context's calls.
+    pub calls: Calls,
 }
 
 /// What the report of lost messages tells.

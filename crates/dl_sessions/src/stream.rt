@@ -1,6 +1,6 @@
 //! A stream of messages as a file holds it, cut into messages.
 
-ghost use Rattle.std.specs.Prelude.{◌≡◌, ◌++◌, ◌∷◌, [], drop, nat_eq, IfOk, OnOk, Some};
+ghost use Rattle.std.specs.Prelude.{◌≡◌, drop, nat_eq, IfOk, Some};
 ghost use Rattle.std.specs.List.{starts_with};
 ghost use Rattle.dl_sessions.specs.Reads.{Reads};
 ghost use Rattle.dl_sessions.specs.Stream.{before_len, end_of, first_place, rest_behind, storage_pattern, stored_ecu, told_at};
@@ -59,7 +59,7 @@ fn before_len(bytes: &[u8]) -> usize
 }
 
 /// What stands behind the first bytes; nothing, where there are no more.
-fn behind(bytes: &[u8], count: usize) -> &[u8]
+pub fn behind(bytes: &[u8], count: usize) -> &[u8]
     ensures { result.now ≡ drop count bytes.now }
 {
     if bytes.len() < count {
@@ -114,20 +114,20 @@ pub fn end_of(rest: &[u8]) -> End
     }
 }
 
-/// Adds what the message tells that stands at the front of these bytes. Answers what stands behind it.
-fn tell_first<'a>(
-    stream: &mut Vec<Told>,
-    bytes: &'a [u8],
-    place: &Place,
-) -> Result<&'a [u8], OutOfMemory>
+/// What the message tells that stands at the front of these bytes.
+fn told_first(bytes: &[u8], place: &Place) -> Told
     requires { first_place bytes.now ≡ Some place.now }
-    ensures rest { IfOk result (λ rest. rest.now ≡ rest_behind place.now bytes.now) }
-    ensures told { OnOk result (stream.new.items ≡ stream.old.items ++ told_at place.now bytes.now ∷ []) }
+    ensures { result ≡ told_at place.now bytes.now }
 {
     let message = behind(bytes, place.before);
-    let len = place.len as usize;
-    stream.push(told_of(place.ecu, &message[..len]))?;
-    Ok(behind(message, len))
+    told_of(place.ecu, &message[..place.len as usize])
+}
+
+/// What stands behind the message at the front of these bytes.
+fn behind_first<'a>(bytes: &'a [u8], place: &Place) -> &'a [u8]
+    ensures { result.now ≡ rest_behind place.now bytes.now }
+{
+    behind(behind(bytes, place.before), place.len as usize)
 }
 
 /// Adds what the messages of a file tell, one behind the other. Answers the rest behind them.
@@ -136,7 +136,8 @@ pub fn tell_all<'a>(stream: &mut Vec<Told>, bytes: &'a [u8]) -> Result<&'a [u8],
 {
     let mut rest = bytes;
     while let Some(place) = first_place(rest) {
-        rest = tell_first(stream, rest, &place)?;
+        stream.push(told_first(rest, &place))?;
+        rest = behind_first(rest, &place);
     }
     Ok(rest)
 }

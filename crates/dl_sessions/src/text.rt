@@ -28,7 +28,7 @@ pub fn push_number<I: Integer>(
 }
 
 /// Adds a label, a number in decimal digits, and words.
-fn push_counted(
+pub fn push_counted(
     text: &mut Vec<u8>,
     label: &[u8],
     number: u64,
@@ -73,7 +73,7 @@ fn push_source(text: &mut Vec<u8>, source: &Source) -> Result<(), OutOfMemory>
 }
 
 /// Adds a session.
-fn push_session(text: &mut Vec<u8>, session: &Session) -> Result<(), OutOfMemory>
+pub fn push_session(text: &mut Vec<u8>, session: &Session) -> Result<(), OutOfMemory>
     ensures { OnOk result (text.new.items ≡ text.old.items ++ session_text session.now) }
 {
     push_source(text, &source_of(session))?;

@@ -3,18 +3,47 @@
 ghost use Rattle.std.specs.Prelude.{◌≡◌, length, None};
 ghost use Rattle.dl_bytes.specs.Htyp.{len_of};
 ghost use Rattle.dl_headers.specs.Reading.{front_fault};
-ghost use Rattle.dl_sessions.specs.Stream.{entry_in, told_by, told_of};
+ghost use Rattle.dl_sessions.specs.Stream.{calls_by, entry_in, is_of_account, told_by, told_of};
 
-use crate::session::{Entry, Lost, Session, Source, Told};
+use crate::calls::{calls_of, no_calls};
+use crate::session::{Calls, Entry, Lost, Session, Source, Told};
+use crate::stream::behind;
 use dl_bytes::Id;
 use dl_headers::{Extended, Standard};
 use dl_message::read_message;
 use dl_receive::{Kind, kind_of};
 
-/// What a message with these headers tells, of this ECU and with this timestamp: whatever its type, it takes a message counter of its session, where
-/// it tells one.
-fn entry_in(standard: &Standard, extended: Option<Extended>, ecu: Id, ticks: u32) -> Told
-    ensures { result ≡ entry_in standard.now extended ecu ticks }
+/// The context of accounts.
+const ACCOUNTS: [u8; 4] = *b"DLTC";
+
+/// Whether an extended header may be an account's: of a log message of severity info with ten verbose arguments, of the context of accounts.
+fn is_of_account(head: &Extended) -> bool
+    ensures { result ≡ is_of_account head.now.msin head.now.noar head.now.ctid }
+{
+    head.msin == 0x41 && head.noar == 10 && head.ctid == Id::from_bytes(ACCOUNTS)
+}
+
+/// What a message with this extended header and this payload tells of a context's calls.
+fn calls_by(head: &Extended, payload: &[u8]) -> Calls
+    ensures { result ≡ calls_by head.now.msin head.now.noar head.now.ctid payload.now }
+{
+    if is_of_account(head) {
+        calls_of(payload)
+    } else {
+        no_calls()
+    }
+}
+
+/// What a message with these headers and this payload tells, of this ECU and with this timestamp: whatever its type, it takes a message counter of its
+/// session, where it tells one.
+fn entry_in(
+    standard: &Standard,
+    extended: Option<Extended>,
+    payload: &[u8],
+    ecu: Id,
+    ticks: u32,
+) -> Told
+    ensures { result ≡ entry_in standard.now extended payload.now ecu ticks }
 {
     let Some(extended) = extended else {
         return Told::Other;
@@ -29,6 +58,7 @@ fn entry_in(standard: &Standard, extended: Option<Extended>, ecu: Id, ticks: u32
             ctid: extended.ctid,
             mcnt: standard.mcnt,
             ticks,
+            calls: calls_by(&extended, payload),
         }),
         None => Told::Other,
     }
@@ -60,6 +90,7 @@ pub fn told_of(ecu: Id, message: &[u8]) -> Told
     let standard = parts.standard;
     let own = standard.ecu.unwrap_or(ecu);
     let ticks = standard.ticks.unwrap_or(0);
-    let entry = entry_in(&standard, parts.extended, own, ticks);
+    let payload = behind(message, parts.start);
+    let entry = entry_in(&standard, parts.extended, payload, own, ticks);
     told_by(kind_of(message), own, entry)
 }

@@ -8,25 +8,43 @@ use Rattle.dl_outside.specs.Folder.{Answers, Files}
 use Rattle.dl_outside.specs.Outside.{Stays}
 use Rattle.dl_outside.specs.Told.{FolderTold}
 use Rattle.dl_outside.specs.declared.folder.FolderFault.{FolderFault}
-use Rattle.dl_trace_files.specs.Files.{files_of, front_in, is_file, listed, or_itself}
+use Rattle.dl_trace_files.specs.Files.{files_of, front_in, is_file, listed, or_itself, plain, with_name, with_names}
 use Rattle.dl_trace_files.specs.Left.{IsLeft, Looks}
 use Rattle.dl_trace_files.proofs.Looking.{later, left_on, left_same}
 
--- a name that a file has
-pub file_alone : (told : Option Files) (name : List ℕ) (names : List (List ℕ)) → IfSome told (λ files. true ≡ is_file files name) → names ≡ name ∷ [] → IfSome told (λ files. names ≡ files_of files name)
-file_alone None name names file alone = tt
-file_alone (Some files) name names file alone = alone ∙ ap (λ (b : Bool). if b then name ∷ [] else or_itself name (listed files (front_in name))) file
+-- the files of a name, by whether a file has it
+abbrev files_if : Files → List ℕ → Bool → List (List ℕ)
+files_if files name b = if b then plain name ∷ [] else or_itself name (listed files (front_in (plain name)))
 
-other : (told : Option Files) (name : List ℕ) (names : List (List ℕ)) → IfSome told (λ files. false ≡ is_file files name) → IfSome told (λ files. names ≡ or_itself name (listed files (front_in name)))
+-- a name that a file has
+pub file_alone : (told : Option Files) (name short : List ℕ) (names : List (List ℕ)) → short ≡ plain name → IfSome told (λ files. true ≡ is_file files short) → names ≡ short ∷ []
     → IfSome told (λ files. names ≡ files_of files name)
-other None name names file is = tt
-other (Some files) name names file is = is ∙ ap (λ (b : Bool). if b then name ∷ [] else or_itself name (listed files (front_in name))) file
+file_alone None name short names is file alone = tt
+file_alone (Some files) name short names is file alone =
+    alone ∙ ap (λ s. s ∷ []) is ∙ ap (files_if files name) (file ∙ ap (is_file files) is)
+
+other : (told : Option Files) (name short : List ℕ) (names : List (List ℕ)) → short ≡ plain name → IfSome told (λ files. false ≡ is_file files short)
+    → IfSome told (λ files. names ≡ or_itself name (listed files (front_in short))) → IfSome told (λ files. names ≡ files_of files name)
+other None name short names is file found = tt
+other (Some files) name short names is file found =
+    found ∙ ap (λ s. or_itself name (listed files (front_in s))) is ∙ ap (files_if files name) (file ∙ ap (is_file files) is)
 
 -- a name that no file has
-pub in_folder : (old mid : Option Files) (name : List ℕ) (r : Result (List (List ℕ)) FolderFault) → IfSome old (λ files. false ≡ is_file files name) → Stays old mid
-    → Answers mid r (λ files. or_itself name (listed files (front_in name))) → Answers old r (λ files. files_of files name)
-in_folder old mid name (Ok names) file stays answers = other old name names file (later old mid (Ok names) (λ files. or_itself name (listed files (front_in name))) stays answers)
-in_folder old mid name (Err fault) file stays answers = tt
+pub in_folder : (old mid : Option Files) (name short : List ℕ) (r : Result (List (List ℕ)) FolderFault) → short ≡ plain name → IfSome old (λ files. false ≡ is_file files short) → Stays old mid
+    → Answers mid r (λ files. or_itself name (listed files (front_in short))) → Answers old r (λ files. files_of files name)
+in_folder old mid name short (Ok names) is file stays answers = other old name short names is file (later old mid (Ok names) (λ files. or_itself name (listed files (front_in short))) stays answers)
+in_folder old mid name short (Err fault) is file stays answers = tt
+
+-- names behind others, in two parts
+pub with_names-append : (all xs ys : List (List ℕ)) → with_names all (xs ++ ys) ≡ with_names (with_names all xs) ys
+with_names-append all [] ys = refl
+with_names-append all (x ∷ xs) ys = with_names-append (with_name all x) xs ys
+
+-- each name once, of names of which the folder told
+pub each_once : (told : Option Files) (found kept : List (List ℕ)) (of : Files → List (List ℕ)) → IfSome told (λ files. found ≡ of files) → kept ≡ with_names [] found
+    → IfSome told (λ files. kept ≡ with_names [] (of files))
+each_once None found kept of is made = tt
+each_once (Some files) found kept of is made = made ∙ ap (with_names []) is
 
 -- the names so far
 pub record SoFar (old now : FolderTold) (all names : List (List ℕ)) : Type 0 where

@@ -1,27 +1,16 @@
 //! The files of a trace: those that are named, and the trace files of the folders that are named.
 
-ghost use Rattle.std.specs.Prelude.{◌≡◌, ◌++◌, ◌∷◌, [], IfOk, OnOk, codes, filter, map, string_bytes};
+ghost use Rattle.std.specs.Prelude.{◌≡◌, ◌++◌, ◌∷◌, [], IfOk, OnOk, filter, map, string_bytes};
 ghost use Rattle.std.specs.List.{flat_map, list_all, list_any};
 ghost use Rattle.std.specs.Str.{bytes_eq};
 ghost use Rattle.dl_outside.specs.Folder.{Answers};
-ghost use Rattle.dl_trace_files.specs.Files.{files_asked, files_of, front_in, is_digit, is_file, is_numbered, is_trace_name, listed, or_itself};
+ghost use Rattle.dl_trace_files.specs.Files.{files_asked, files_of, front_in, is_digit, is_file, is_numbered, is_trace_name, listed, or_itself, plain, with_name, with_names};
 ghost use Rattle.dl_trace_files.specs.Left.{Looks};
 
+use crate::names::{TRACE_FRONT, front_in, plain};
 use dl_bytes::{OutOfMemory, Sequence};
 use dl_outside::{Folder, FolderFault, Name, NameList};
 use std::alloc::Global;
-
-/// What the names of trace files begin with.
-const TRACE_FRONT: &str = "dlt_offlinetrace.";
-
-/// What the names of a folder's trace files begin with.
-fn front_in(alloc: Global, folder: &str) -> Result<String, OutOfMemory>
-    ensures { IfOk result (λ front. string_bytes front ≡ front_in folder.now) }
-{
-    let mut front = String::from_str(alloc, folder)?;
-    front.push_str("/dlt_offlinetrace.")?;
-    Ok(front)
-}
 
 /// Whether all of these letters are digits.
 fn are_digits(letters: &[u8]) -> bool
@@ -110,12 +99,17 @@ fn or_itself(alloc: Global, name: &str, names: NameList) -> Result<NameList, Out
     }
 }
 
-/// The trace files of the folder of this name, or else the name itself.
-fn in_folder<F: Folder>(alloc: Global, folder: &mut F, name: &str) -> Result<NameList, FolderFault>
-    ensures found { Answers (F.told folder.old).files result (λ all. or_itself name.now (listed all (front_in name.now))) }
+/// The trace files of a folder, or else the name by which it was asked for.
+fn in_folder<F: Folder>(
+    alloc: Global,
+    folder: &mut F,
+    plain_name: &str,
+    name: &str,
+) -> Result<NameList, FolderFault>
+    ensures found { Answers (F.told folder.old).files result (λ all. or_itself name.now (listed all (front_in plain_name.now))) }
     ensures looks { Looks (F.told folder.old) (F.told folder.new) result }
 {
-    let Ok(front) = front_in(alloc, name) else {
+    let Ok(front) = front_in(alloc, plain_name) else {
         return Err(FolderFault::OutOfMemory);
     };
     let files = match listed(folder, front.as_str()) {
@@ -128,18 +122,35 @@ fn in_folder<F: Folder>(alloc: Global, folder: &mut F, name: &str) -> Result<Nam
     }
 }
 
+/// The files that a name stands for, which is this one where it has no part that names nothing.
+fn files_by<F: Folder>(
+    alloc: Global,
+    folder: &mut F,
+    plain_name: &str,
+    name: &str,
+) -> Result<NameList, FolderFault>
+    requires { plain_name.now ≡ plain name.now }
+    ensures found { Answers (F.told folder.old).files result (λ all. files_of all name.now) }
+    ensures looks { Looks (F.told folder.old) (F.told folder.new) result }
+{
+    match is_file(folder, plain_name) {
+        Ok(true) => match alone(alloc, plain_name) {
+            Ok(names) => Ok(names),
+            Err(_) => Err(FolderFault::OutOfMemory),
+        },
+        Ok(false) => in_folder(alloc, folder, plain_name, name),
+        Err(fault) => Err(fault),
+    }
+}
+
 /// The files that a name stands for.
 fn files_of<F: Folder>(alloc: Global, folder: &mut F, name: &str) -> Result<NameList, FolderFault>
     ensures found { Answers (F.told folder.old).files result (λ all. files_of all name.now) }
     ensures looks { Looks (F.told folder.old) (F.told folder.new) result }
 {
-    match is_file(folder, name) {
-        Ok(true) => match alone(alloc, name) {
-            Ok(names) => Ok(names),
-            Err(_) => Err(FolderFault::OutOfMemory),
-        },
-        Ok(false) => in_folder(alloc, folder, name),
-        Err(fault) => Err(fault),
+    match plain(alloc, name) {
+        Ok(plain_name) => files_by(alloc, folder, plain_name.as_str(), name),
+        Err(_) => Err(FolderFault::OutOfMemory),
     }
 }
 
@@ -169,7 +180,48 @@ fn named<F: Folder>(alloc: Global, folder: &mut F, names: &[&str]) -> Result<Nam
     Ok(Sequence::over(all))
 }
 
-/// The files that are asked for by these names; without a name the trace files of the current folder.
+/// Adds a name that isn't among these.
+fn add_once(all: &mut Vec<Name>, name: Name) -> Result<(), OutOfMemory>
+    ensures { OnOk result (all.new.items ≡ with_name all.old.items name) }
+{
+    if !has(all, name.as_str()) {
+        all.push(name)?;
+    }
+    Ok(())
+}
+
+/// These names, each once.
+fn once(alloc: Global, names: NameList) -> Result<NameList, OutOfMemory>
+    ensures { IfOk result (λ kept. kept ≡ with_names [] names) }
+{
+    let mut all = Vec::new(alloc);
+    for name in names.into_vec() {
+        add_once(&mut all, name)?;
+    }
+    Ok(Sequence::over(all))
+}
+
+/// The files that these names stand for, in their order, each once.
+#[tactic(auto, using(crate::proofs::Naming::each_once))]
+fn named_once<F: Folder>(
+    alloc: Global,
+    folder: &mut F,
+    names: &[&str],
+) -> Result<NameList, FolderFault>
+    ensures found { Answers (F.told folder.old).files result (λ all. with_names [] (flat_map (files_of all) (map (λ name. name.now) names.now))) }
+    ensures looks { Looks (F.told folder.old) (F.told folder.new) result }
+{
+    let files = match named(alloc, folder, names) {
+        Ok(files) => files,
+        Err(fault) => return Err(fault),
+    };
+    match once(alloc, files) {
+        Ok(files) => Ok(files),
+        Err(_) => Err(FolderFault::OutOfMemory),
+    }
+}
+
+/// The files that are asked for by these names, each once; without a name the trace files of the current folder.
 pub fn files_asked<F: Folder>(
     alloc: Global,
     folder: &mut F,
@@ -181,6 +233,6 @@ pub fn files_asked<F: Folder>(
     if names.is_empty() {
         listed(folder, TRACE_FRONT)
     } else {
-        named(alloc, folder, names)
+        named_once(alloc, folder, names)
     }
 }

@@ -2,5 +2,6 @@
 #![tactic(auto)]
 
 mod files;
+mod names;
 
 pub use files::{alone, files_asked, has};

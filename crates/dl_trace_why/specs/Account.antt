@@ -6,6 +6,7 @@ use Rattle.dl_outside.specs.Outside.{HasRisen, Stays, one_more}
 use Rattle.dl_outside.specs.Told.{FolderTold, SinkTold}
 use Rattle.dl_outside.specs.Written.{WroteAll, WroteFront, WroteNothing}
 use Rattle.dl_picture.specs.Picture.{picture}
+use Rattle.dl_sessions.specs.Ledger.{accounts_text}
 use Rattle.dl_sessions.specs.Text.{printed}
 use Rattle.dl_sessions.specs.declared.session.Told.{Told}
 use Rattle.dl_timeline.specs.Timeline.{timeline}
@@ -28,9 +29,9 @@ sides folder out = record { folder = folder; out = out }
 abbrev pub seen : {F O : Type 0} → (F → FolderTold) → (O → SinkTold) → F → O → Sides
 seen folder_told out_told folder out = sides (folder_told folder) (out_told out)
 
--- what is written of what files tell: the account, and what is said of their ends
+-- what is written of what files tell: the account, the accounts that programs give of themselves, and what is said of the files' ends
 abbrev pub text_of : List Told → List ℕ → List ℕ
-text_of stream ends = printed stream ++ ends
+text_of stream ends = printed stream ++ accounts_text stream ++ ends
 
 -- ---- files
 

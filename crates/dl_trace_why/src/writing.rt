@@ -14,7 +14,7 @@ use crate::wanted::Wanted;
 use dl_bytes::OutOfMemory;
 use dl_outside::{Folder, FolderFault, Sink, write_text};
 use dl_picture::draw;
-use dl_sessions::{Account, Told, account_of};
+use dl_sessions::{Account, Told, account_of, push_accounts};
 use dl_timeline::timeline_of;
 use std::alloc::Global;
 
@@ -25,6 +25,7 @@ fn text_of(alloc: Global, reading: &Reading, account: &Account) -> Result<Vec<u8
 {
     let mut text = Vec::new(alloc);
     account.print(&mut text)?;
+    push_accounts(alloc, &mut text, &reading.stream)?;
     text.extend_from_slice(&reading.ends)?;
     Ok(text)
 }

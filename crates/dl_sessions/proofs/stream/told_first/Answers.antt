@@ -1,11 +1,10 @@
-use Rattle.std.proofs.Common.{◌≡◌, ◌≤◌, ℕ, List, ◌∷◌, [], ◌++◌, length, take, None, sym, ap, subst, ◌∙◌, arith}
+use Rattle.std.proofs.Common.{◌≡◌, ◌≤◌, ℕ, List, length, take, None, sym, ap, subst, ◌∙◌, arith}
 use Rattle.std.proofs.lemmas.List.{length-take}
 use Rattle.dl_bytes.specs.Htyp.{len_of}
 use Rattle.dl_headers.specs.Reading.{front_fault}
 use Rattle.dl_sessions.specs.Stream.{told_of}
-use Rattle.dl_sessions.specs.declared.session.Told.{Told}
 use Rattle.dl_sessions.proofs.Readings.{message_there, place_is}
-use Rattle.dl_sessions.proofs.stream.tell_first.Goals as goal
+use Rattle.dl_sessions.proofs.stream.told_first.Goals as goal
 
 pub told_of-requires-clause-front : goal.told_of-requires-clause-front
 told_of-requires-clause-front c =
@@ -20,7 +19,5 @@ slice_bounds-told_of-end c =
     let within = subst (λ (m : List ℕ). c.args.place.now.len ≤ length m) (sym c.behind-message.ensures) (place_is c.args.bytes.now c.args.place.now c.requires).within in
     omega (arith, within, length-take c.args.place.now.len c.behind-message.result.now)
 
-pub returns-clause-told : goal.returns-clause-told
-returns-clause-told c =
-    c.in_ok-push.ensures.items
-    ∙ ap (λ (t : Told). c.args.stream.now.items ++ t ∷ []) (c.told_of.ensures ∙ ap (λ (m : List ℕ). told_of c.args.place.now.ecu (take c.args.place.now.len m)) c.behind-message.ensures)
+pub returns : goal.returns
+returns c = c.told_of.ensures ∙ ap (λ (m : List ℕ). told_of c.args.place.now.ecu (take c.args.place.now.len m)) c.behind-message.ensures
