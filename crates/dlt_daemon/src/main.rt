@@ -43,7 +43,8 @@ fn main(rt: HostRuntime) -> ExitCode {
     let mut users = TcpNet::make(rt, prepared.address);
     let clock = SystemClock::make(rt);
     let begins = prepared.begins.take();
-    let mut watch = Watching::over(rt, &asked, begins, clock.now());
+    let taken = prepared.folder.taken();
+    let mut watch = Watching::over(rt, &asked, begins, taken, clock.now());
     let mut err = Writing::over(rt.stderr());
     let ended = keep(
         &rt,

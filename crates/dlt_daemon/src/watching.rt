@@ -7,7 +7,7 @@ use dl_bytes::Moment;
 use dl_daemon::{Passed, Teller, Watch};
 use dl_events::Unkept;
 use dl_outside::{Link, Sink};
-use dl_real::{InputEnd, PromptOutput, TraceSync};
+use dl_real::{InputEnd, PromptOutput, Taken, TraceSync};
 use dl_server::Server;
 use std::fs::Files;
 use std::io::Eprint;
@@ -25,6 +25,8 @@ pub struct Watching<R, O> {
     pub ending: Option<Ending>,
     /// What syncs the trace, where that is asked for.
     pub sync: Option<TraceSync>,
+    /// How often a trace file was taken away.
+    pub taken: Taken,
 }
 
 impl Watching<HostRuntime, PromptOutput> {
@@ -33,6 +35,7 @@ impl Watching<HostRuntime, PromptOutput> {
         rt: HostRuntime,
         asked: &Asked,
         begins: Option<String>,
+        taken: Taken,
         moment: Moment,
     ) -> Watching<HostRuntime, PromptOutput> {
         let out = PromptOutput::over(rt.alloc(), rt.stdout());
@@ -52,6 +55,7 @@ impl Watching<HostRuntime, PromptOutput> {
             input,
             ending: None,
             sync,
+            taken,
         }
     }
 }
@@ -94,6 +98,10 @@ impl<R: Files + Eprint + AllocGlobal, O: Sink> Watch for Watching<R, O> {
                 sync.turn(&self.rt, state.files.all(), moment.secs);
             }
         }
+        let passed = Passed {
+            taken: self.taken.count(),
+            ..passed
+        };
         let goes_on = self.teller.goes_on(server, passed, moment);
         goes_on && !self.is_over(moment.ticks, server.core.hub().admitted())
     }
