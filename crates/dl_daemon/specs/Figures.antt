@@ -39,5 +39,6 @@ figures_of s passed = record {
   files = length (files_of s.core.trace);
   bytes = sum_of (files_of s.core.trace);
   renewed = passed.renewed;
+  taken = passed.taken;
   ended = has_ended s.core.trace;
 }

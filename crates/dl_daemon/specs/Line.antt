@@ -13,10 +13,10 @@ unfoldable pub traffic : Figures → List ℕ
 traffic f =
     codes " frames " ++ decimal f.frames ++ codes " waiting " ++ decimal f.waiting ++ codes " refused " ++ decimal f.refused ++ codes " dropped " ++ decimal f.dropped
 
--- the faults of both nets, the trace files, and how often the trace was begun anew
+-- the faults of both nets, the trace files, how often the trace was begun anew, and how often one of its files was taken away
 unfoldable pub outside : Figures → List ℕ
 outside f =
-    codes " faults " ++ decimal f.client_faults ++ codes " " ++ decimal f.program_faults ++ codes " files " ++ decimal f.files ++ codes " " ++ decimal f.bytes ++ codes " renewed " ++ decimal f.renewed
+    codes " faults " ++ decimal f.client_faults ++ codes " " ++ decimal f.program_faults ++ codes " files " ++ decimal f.files ++ codes " " ++ decimal f.bytes ++ codes " renewed " ++ decimal f.renewed ++ codes " taken " ++ decimal f.taken
 
 -- whether the trace goes on
 abbrev pub trace_word : Bool → List ℕ

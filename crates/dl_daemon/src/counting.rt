@@ -77,6 +77,7 @@ pub fn figures_of<L: Link>(server: &Server<Unkept, L>, passed: Passed) -> Figure
         files: files.len() as u64,
         bytes: sum_of(files),
         renewed: passed.renewed,
+        taken: passed.taken,
         ended: has_ended(&server.core),
     }
 }

@@ -9,6 +9,8 @@ pub struct Passed {
     pub program_faults: u64,
     /// How often the trace was begun anew, at most 2^64 - 1.
     pub renewed: u64,
+    /// How often a trace file was taken away while it was written, as who looks on knows it; 0 where nobody does.
+    pub taken: u64,
 }
 
 /// What a daemon counts, at one moment.
@@ -40,6 +42,8 @@ pub struct Figures {
     pub bytes: u64,
     /// How often the trace was begun anew, at most 2^64 - 1.
     pub renewed: u64,
+    /// How often a trace file was taken away while it was written, as who looks on knows it; 0 where nobody does.
+    pub taken: u64,
     /// Whether nothing more is stored in trace files.
     pub ended: bool,
 }

@@ -39,7 +39,7 @@ fn push_traffic(text: &mut Vec<u8>, figures: &Figures) -> Result<(), OutOfMemory
     push_number(text, b" dropped ", figures.dropped)
 }
 
-/// Adds the faults of both nets, the trace files, and how often the trace was begun anew.
+/// Adds the faults of both nets, the trace files, how often the trace was begun anew, and how often one of its files was taken away.
 #[tactic(auto, unfolding(crate::specs::Line::outside))]
 fn push_outside(text: &mut Vec<u8>, figures: &Figures) -> Result<(), OutOfMemory>
     ensures { OnOk result (text.new.items ≡ text.old.items ++ outside figures.now) }
@@ -48,7 +48,8 @@ fn push_outside(text: &mut Vec<u8>, figures: &Figures) -> Result<(), OutOfMemory
     push_number(text, b" ", figures.program_faults)?;
     push_number(text, b" files ", figures.files)?;
     push_number(text, b" ", figures.bytes)?;
-    push_number(text, b" renewed ", figures.renewed)
+    push_number(text, b" renewed ", figures.renewed)?;
+    push_number(text, b" taken ", figures.taken)
 }
 
 /// The word for whether the trace goes on.

@@ -55,6 +55,7 @@ fn passed<N: Net>(net: &N, users: &N, renewal: &Renewal) -> Passed {
         client_faults: net.faults(),
         program_faults: users.faults(),
         renewed: renewal.tries.renewed,
+        taken: 0,
     }
 }
 

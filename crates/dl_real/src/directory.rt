@@ -7,6 +7,7 @@ ghost use Rattle.dl_outside.specs.Outside.{HasRisen};
 use crate::answers::{found, is_memory};
 use crate::manner::{Manner, read_of, replaces, writable};
 use crate::paths::{is_trace_file, parent, parted};
+use crate::taken::Taken;
 use crate::troubles::Troubles;
 use crate::whole::write_whole;
 use dl_bytes::Bytes;
@@ -37,6 +38,7 @@ pub struct Directory<R: Files> {
     rt: R,
     manner: Manner,
     last: Option<Last<R::File>>,
+    taken: Taken,
     troubles: Troubles,
     // a name that was read last and isn't there
     absent: Option<String>,
@@ -177,9 +179,11 @@ fn is_there<R: Files>(rt: &R, last: &Last<R::File>) -> bool {
     }
 }
 
-/// The file that is kept open, where it has the name. It is looked at once a second, and let go where another one has its name, or none.
+/// The file that is kept open, where it has the name. It is looked at once a second, and let go where another one has its name, or none: then it was
+/// taken away, and that is counted.
 fn kept_open<R: Files>(
     rt: &R,
+    taken: &Taken,
     kept: Option<Last<R::File>>,
     name: &str,
     now: u64,
@@ -190,6 +194,7 @@ fn kept_open<R: Files>(
     }
     if last.looked != now {
         if !is_there(rt, &last) {
+            taken.raise();
             return None;
         }
         last.looked = now;
@@ -201,11 +206,12 @@ fn kept_open<R: Files>(
 fn opened<R: Files + AllocGlobal + Clock>(
     rt: &R,
     manner: Manner,
+    taken: &Taken,
     kept: Option<Last<R::File>>,
     name: &str,
 ) -> io::Result<Last<R::File>> {
     let now = seconds(rt);
-    if let Some(last) = kept_open(rt, kept, name, now) {
+    if let Some(last) = kept_open(rt, taken, kept, name, now) {
         return Ok(last);
     }
     let name = writable(manner, name)?;
@@ -310,11 +316,13 @@ impl<R: Files + AllocGlobal> Directory<R> {
         ensures changes { result.changes ≡ 0 }
         ensures appends { result.appends ≡ 0 }
     {
+        let taken = Taken::none(rt.alloc());
         let troubles = Troubles::none(rt.alloc());
         Directory {
             rt,
             manner,
             last: None,
+            taken,
             troubles,
             absent: None,
             faults: 0,
@@ -337,6 +345,11 @@ impl<R: Files + AllocGlobal> Directory<R> {
             Some(name) => Some(name.as_str()),
             None => None,
         }
+    }
+
+    /// The count of the files that were taken away while they were kept open, which goes on.
+    pub fn taken(&self) -> Taken {
+        self.taken.shared()
     }
 
     /// Notes whether a name that was read is there.
@@ -379,7 +392,7 @@ impl<R: Files + AllocGlobal + Clock> Directory<R> {
         ensures appends { self.new.appends ≡ self.old.appends }
     {
         let kept = self.last.take();
-        let mut last = opened(&self.rt, self.manner, kept, name)?;
+        let mut last = opened(&self.rt, self.manner, &self.taken, kept, name)?;
         write_whole(&mut last.file, piece)?;
         self.last = Some(last);
         Ok(())

@@ -1,6 +1,6 @@
 -- What is read of a message's bytes at their places are the fields of the message that they spell.
 use Rattle.std.proofs.Common.{◌≡◌, ℕ, ◌+◌, ◌<◌, ◌^◌, Bool, true, false, cond, List, [], ◌∷◌, ◌++◌, length, take, drop, Option, Some, None, refl, sym, ap, ◌∙◌, append_assoc, length-append, is_some, arith}
-use Rattle.std.specs.Prelude.{IfSome, slice_index}
+use Rattle.std.specs.Prelude.{IfSome, option_map, slice_index}
 use Rattle.std.specs.Option.{option_map_or}
 use Rattle.std.proofs.lemmas.Bool.{cond-true, cond-false}
 use Rattle.std.proofs.lemmas.List.{drop_at}
@@ -13,7 +13,8 @@ use Rattle.dl_headers.specs.Message.{Message, IsMessage}
 use Rattle.dl_headers.specs.Reading.{mcnt_of}
 use Rattle.dl_headers.proofs.Lengths.{apid_at, ctid_at, standard_long}
 use Rattle.dl_receive.specs.declared.kind.Kind.TheVariants.{Other}
-use Rattle.dl_receive.specs.MessageKind.{session_of, behind_standard, payload_of, kind_by, kind_of, headed, kind_in}
+use Rattle.dl_receive.specs.Counting.{context_counter, counter_at, counter_in}
+use Rattle.dl_receive.specs.MessageKind.{apid_of, ctid_of, session_of, behind_standard, payload_of, kind_by, kind_of, headed, kind_in}
 
 -- ---- the standard header
 
@@ -105,3 +106,22 @@ module _ (m : Message) (bytes : List ℕ) (is : IsMessage m bytes) where
 
   pub kind_read : kind_of bytes ≡ kind_in m
   kind_read = by_extended m.extended refl is.extended
+
+  counter_when : (e : Option Extended) → m.extended ≡ e → IfSome e IsExtended → counter_at bytes ≡ counter_in m.standard e
+  counter_when None there fits =
+      let told : has_extended (htyp_of bytes) ≡ false = ap has_extended htyp_read ∙ sym is.told ∙ ap (λ (e : Option Extended). is_some e) there in
+      cond-false _ _ _ told
+  counter_when (Some head) there fits =
+      let told : has_extended (htyp_of bytes) ≡ true = ap has_extended htyp_read ∙ sym is.told ∙ ap (λ (e : Option Extended). is_some e) there in
+      let at : behind_standard bytes ≡ extended_header head ++ m.payload = behind_read ∙ ap (λ (e : Option Extended). optional extended_header e ++ m.payload) there in
+      let apid : apid_of bytes ≡ head.apid = ap (λ (x : List ℕ). take 4 (drop 2 x)) at ∙ apid_at head.msin head.noar head.apid head.ctid m.payload fits.apid in
+      let ctid : ctid_of bytes ≡ head.ctid = ap (λ (x : List ℕ). take 4 (drop 6 x)) at ∙ ctid_at head.msin head.noar head.apid head.ctid m.payload fits.apid fits.ctid in
+      cond-true _ _ _ told
+      ∙ ap (λ (s : Option ℕ). option_map (context_counter (mcnt_of bytes) (apid_of bytes) (ctid_of bytes)) s) session_read
+      ∙ ap (λ (n : ℕ). option_map (context_counter n (apid_of bytes) (ctid_of bytes)) m.standard.session) mcnt_read
+      ∙ ap (λ (a : List ℕ). option_map (context_counter m.standard.mcnt a (ctid_of bytes)) m.standard.session) apid
+      ∙ ap (λ (c : List ℕ). option_map (context_counter m.standard.mcnt head.apid c) m.standard.session) ctid
+
+  -- the counter, too
+  pub counter_read : counter_at bytes ≡ counter_in m.standard m.extended
+  counter_read = counter_when m.extended refl is.extended

@@ -3,6 +3,7 @@ use Rattle.std.proofs.Common.{◌≡◌, ℕ, ◌+◌, List, [], ◌++◌, lengt
 use Rattle.std.specs.Prelude.{IfSome, option_map}
 use Rattle.dl_outside.specs.declared.source.Got.TheVariants as got
 use Rattle.dl_outside.specs.Outside.{HasRisen, Reads}
+use Rattle.dl_receive.specs.declared.counting.Counting.{Counting}
 use Rattle.dl_receive.specs.declared.receiver.Receiver.{Receiver}
 use Rattle.dl_receive.specs.declared.status.Status.{Status}
 use Rattle.dl_receive.specs.declared.status.Status.TheVariants.{Ok, WordsRefused, BadMessage, Truncated, WriteFault, NetFault, OutOfMemory, ReadFault, Limit}
@@ -18,39 +19,39 @@ use Rattle.dl_receive.proofs.Sources.{given_more}
 use Rattle.dl_receive.proofs.StreamCuts.{good_now}
 use Rattle.dl_lemmas.proofs.Options.{if_some_of}
 
-pub is_good : (stream : List ℕ) (receiver : Receiver) → IsAt stream receiver → IsGood stream
-is_good stream receiver at = good_now stream (received stream) receiver at.after at.ready.is_open
+pub is_good : (counting : Counting) (stream : List ℕ) (receiver : Receiver) → IsAt counting stream receiver → IsGood stream
+is_good counting stream receiver at = good_now counting stream (received counting stream) receiver at.after at.ready.is_open
 
 -- ---- a piece more was read
 
-module _ (first before now : Sides) (total : ℕ) (receiver new : Receiver) (is : IsListening first before total receiver) (into : List ℕ) (count : ℕ)
+module _ (counting : Counting) (first before now : Sides) (total : ℕ) (receiver new : Receiver) (is : IsListening counting first before total receiver) (into : List ℕ) (count : ℕ)
     (reads : Reads before.source.left now.source.left (got.Bytes count) into) (reads_on : now.source.faults ≡ before.source.faults)
-    (more : List ℕ) (prints : received (is.stream ++ take count into) ≡ received is.stream ++ more) where
+    (more : List ℕ) (prints : received counting (is.stream ++ take count into) ≡ received counting is.stream ++ more) where
   gave_more : Gave first.source.left now.source.left (is.stream ++ take count into)
   gave_more = given_more first.source.left before.source.left now.source.left is.stream into count is.printed.0 reads
 
   long : length (is.stream ++ take count into) ≡ total + count
   long = omega (arith, is.count, reads.1, length-append is.stream (take count into), length-take count into)
 
-  printed_more : WroteAll before.out now.out more → WroteAll first.out now.out (received (is.stream ++ take count into))
+  printed_more : WroteAll before.out now.out more → WroteAll first.out now.out (received counting (is.stream ++ take count into))
   printed_more wrote = record {
-    all = took_both first.out.held before.out.held now.out.held (received is.stream) more _ prints is.printed.1.all wrote.all;
+    all = took_both first.out.held before.out.held now.out.held (received counting is.stream) more _ prints is.printed.1.all wrote.all;
     well = wrote.well ∙ is.printed.1.well;
   }
 
-  cut_more : WroteFront before.out now.out more → WroteFront first.out now.out (received (is.stream ++ take count into))
+  cut_more : WroteFront before.out now.out more → WroteFront first.out now.out (received counting (is.stream ++ take count into))
   cut_more wrote = record {
-    front = took_front first.out.held before.out.held now.out.held (received is.stream) more _ prints is.printed.1.all wrote.front;
+    front = took_front first.out.held before.out.held now.out.held (received counting is.stream) more _ prints is.printed.1.all wrote.front;
     failed = subst (λ (n : ℕ). HasRisen n now.out.faults) is.printed.1.well wrote.failed;
   }
 
   -- nothing more was written
-  left_there : WroteNothing before.out now.out → WroteSome first.out now.out (received (is.stream ++ take count into))
+  left_there : WroteNothing before.out now.out → WroteSome first.out now.out (received counting (is.stream ++ take count into))
   left_there same =
-      let is_now : WroteAll first.out now.out (received is.stream) = subst (λ (o : SinkTold). WroteAll first.out o (received is.stream)) (sym same) is.printed.1 in
-      record { front = whole_is_front first.out.held now.out.held (received is.stream) more _ prints is_now.all; well = is_now.well }
+      let is_now : WroteAll first.out now.out (received counting is.stream) = subst (λ (o : SinkTold). WroteAll first.out o (received counting is.stream)) (sym same) is.printed.1 in
+      record { front = whole_is_front first.out.held now.out.held (received counting is.stream) more _ prints is_now.all; well = is_now.well }
 
-  pub goes_on : Heard (is.stream ++ take count into) more before.out now.out new None → IsListening first now (total + count) new
+  pub goes_on : Heard counting (is.stream ++ take count into) more before.out now.out new None → IsListening counting first now (total + count) new
   goes_on heard = record {
     stream = is.stream ++ take count into;
     printed = (gave_more, printed_more heard.1);
@@ -59,7 +60,7 @@ module _ (first before now : Sides) (total : ℕ) (receiver new : Receiver) (is 
     reads_on = reads_on ∙ is.reads_on;
   }
 
-  pub ends : (status : Status) → Heard (is.stream ++ take count into) more before.out now.out new (Some status) → Listened first now status
+  pub ends : (status : Status) → Heard counting (is.stream ++ take count into) more before.out now.out new (Some status) → Listened counting first now status
   ends BadMessage heard = (is.stream ++ take count into, (gave_more, printed_more heard.1), heard.0, reads_on ∙ is.reads_on)
   ends WriteFault heard = (is.stream ++ take count into, gave_more, reads_on ∙ is.reads_on, cut_more heard)
   ends OutOfMemory heard = (is.stream ++ take count into, (gave_more, reads_on ∙ is.reads_on, left_there heard))
@@ -85,12 +86,12 @@ up_served : (serves left now : Option (List ℕ)) → IfSome serves (λ bytes. l
 up_served None left now e up = tt
 up_served (Some bytes) left now e up = if_some_of left bytes (λ all. now ≡ Some []) e up
 
-module _ (serves : Option (List ℕ)) (first now : Sides) (dial dial_now : DialTold) (dials : dial_now.faults ≡ dial.faults) (sound : first.source.faults ≡ 0)
+module _ (counting : Counting) (serves : Option (List ℕ)) (first now : Sides) (dial dial_now : DialTold) (dials : dial_now.faults ≡ dial.faults) (sound : first.source.faults ≡ 0)
     (had : IfSome serves (λ bytes. first.source.left ≡ Some bytes)) where
   gives : (given : List ℕ) → Gave first.source.left now.source.left given → Gives serves (Some now.source) given
   gives given gave = record { back = now.source; handed_back = refl; gave = gave_served serves first.source.left now.source.left given had gave }
 
-  pub outcome : (status : Status) → Listened first now status → Outcome serves (told dial first.out) (told dial_now now.out) (Some now.source) status
+  pub outcome : (status : Status) → Listened counting first now status → Outcome counting serves (told dial first.out) (told dial_now now.out) (Some now.source) status
   unfolding gives
   outcome Ok l = (dials, (l.0, (gives l.0 l.1.0, l.4 ∙ sound, up_served serves first.source.left now.source.left had l.3), l.1.1, l.2))
   outcome BadMessage l = (dials, (l.0, (gives l.0 l.1.0, l.3 ∙ sound), l.1.1, l.2))

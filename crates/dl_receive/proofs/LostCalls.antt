@@ -29,9 +29,13 @@ use Rattle.dl_laws.proofs.Lists.{along_from-append}
 use Rattle.dl_laws.proofs.ClientStreams.{same_number}
 use Rattle.dl_receive.specs.declared.kind.Kind.{Kind}
 use Rattle.dl_receive.specs.declared.kind.Kind.TheVariants.{Log}
+use Rattle.dl_receive.specs.declared.counting.Counted.{Counted}
+use Rattle.dl_receive.specs.declared.counting.Counting.TheVariants.{Sessions}
+use Rattle.dl_receive.specs.declared.counting.Entry.{Entry}
 use Rattle.dl_receive.specs.Calls.{heard_frames, AreFramed, logged, AreInOrder, lost, Neighbours}
+use Rattle.dl_receive.specs.Counting.{by_session, entry_of, entry_with, of_session, same_counted, session_counter}
 use Rattle.dl_receive.specs.MessageKind.{kind_of, kind_by}
-use Rattle.dl_receive.specs.Text.{counter_of, last_counter, passed_over}
+use Rattle.dl_receive.specs.Text.{counter_for, last_counter, passed_over}
 use Rattle.dl_receive.proofs.Fields.{kind_read, extended_long}
 use Rattle.dl_lemmas.proofs.Options.{or_assoc}
 use Rattle.dl_lemmas.proofs.Lists.{all_here}
@@ -157,21 +161,28 @@ counters_apart passed missing a b ea eb few = omega (arith, ea, eb, few)
 
 -- ---- the last counter of a session
 
+same_session : (session : ℕ) → same_counted (of_session session) (of_session session) ≡ true
+same_session session = rw (same_number session) refl
+
 or_none : (x : Option ℕ) → option_or x None ≡ x
 or_none None = refl
 or_none (Some x) = refl
 
-last_counter-append : (session : ℕ) (xs ys : List Kind) → last_counter session (xs ++ ys) ≡ option_or (last_counter session ys) (last_counter session xs)
-last_counter-append session [] ys = sym (or_none (last_counter session ys))
-last_counter-append session (x ∷ xs) ys =
-    ap (λ (o : Option ℕ). option_or o (counter_of session x)) (last_counter-append session xs ys) ∙ or_assoc (last_counter session ys) (last_counter session xs) (counter_of session x)
+last_counter-append : (who : Counted) (xs ys : List Entry) → last_counter who (xs ++ ys) ≡ option_or (last_counter who ys) (last_counter who xs)
+last_counter-append who [] ys = sym (or_none (last_counter who ys))
+last_counter-append who (x ∷ xs) ys =
+    ap (λ (o : Option ℕ). option_or o (counter_for who x)) (last_counter-append who xs ys) ∙ or_assoc (last_counter who ys) (last_counter who xs) (counter_for who x)
 
-last_here : (session mcnt len : ℕ) (apid ctid : List ℕ) (before between : List Kind) → last_counter session between ≡ None
-    → last_counter session (before ++ Log session mcnt apid ctid len ∷ between) ≡ Some mcnt
-last_here session mcnt len apid ctid before between none =
-    let here : last_counter session (Log session mcnt apid ctid len ∷ between) ≡ Some mcnt =
-    ap (λ (o : Option ℕ). option_or o (cond (eqb session session) (Some mcnt) None)) none ∙ ap (λ (b : Bool). cond b (Some mcnt) None) (same_number session) in
-    last_counter-append session before (Log session mcnt apid ctid len ∷ between) ∙ ap (λ (o : Option ℕ). option_or o (last_counter session before)) here
+-- a log message of a session with this counter
+abbrev logs : (session mcnt : ℕ) → Kind → Entry
+logs session mcnt kind = entry_with kind (Some (session_counter session mcnt))
+
+last_here : (session mcnt : ℕ) (kind : Kind) (before between : List Entry) → last_counter (of_session session) between ≡ None
+    → last_counter (of_session session) (before ++ logs session mcnt kind ∷ between) ≡ Some mcnt
+last_here session mcnt kind before between none =
+    let here : last_counter (of_session session) (logs session mcnt kind ∷ between) ≡ Some mcnt =
+    ap (λ (o : Option ℕ). option_or o (counter_for (of_session session) (logs session mcnt kind))) none ∙ ap (λ (b : Bool). cond b (Some mcnt) None) (same_session session) in
+    last_counter-append (of_session session) before (logs session mcnt kind ∷ between) ∙ ap (λ (o : Option ℕ). option_or o (last_counter (of_session session) before)) here
 
 -- ---- the law
 
@@ -289,12 +300,25 @@ module _ (source : FrameSource) (client app writer first second : ℕ) (at then 
   abbrev said_before : List (List ℕ)
   said_before = earlier ++ front_frames
 
-  last_is : last_counter writer (map kind_of between_frames) ≡ None → last_counter writer (map kind_of (said_before ++ source.frame writer first ∷ between_frames)) ≡ Some m.it.item.mcnt
+  -- what a receiver that counts by session has of a call's frame
+  entry_at : (r : Record) (call : ℕ) → name_of r.item ≡ (writer, call) → IsFramed r
+      → entry_of Sessions (source.frame writer call) ≡ logs writer r.item.mcnt (Log writer r.item.mcnt r.item.apid r.item.ctid (26 + length r.item.payload.bytes))
+  entry_at r call is fr = ap (λ (k : Kind). entry_with k (by_session k)) (kind_at r call is fr)
+
+  abbrev entries_before : List Entry
+  entries_before = map (entry_of Sessions) said_before
+
+  abbrev entries_between : List Entry
+  entries_between = map (entry_of Sessions) between_frames
+
+  last_is : last_counter (of_session writer) entries_between ≡ None
+      → last_counter (of_session writer) (map (entry_of Sessions) (said_before ++ source.frame writer first ∷ between_frames)) ≡ Some m.it.item.mcnt
   last_is quiet =
       let item = m.it.item in
-      ap (last_counter writer) (map-append kind_of said_before (source.frame writer first ∷ between_frames))
-      ∙ ap (λ (k : Kind). last_counter writer (map kind_of said_before ++ k ∷ map kind_of between_frames)) (kind_at m.it first m.is framed_one)
-      ∙ last_here writer item.mcnt (26 + length item.payload.bytes) item.apid item.ctid (map kind_of said_before) (map kind_of between_frames) quiet
+      let kind = Log writer item.mcnt item.apid item.ctid (26 + length item.payload.bytes) in
+      ap (last_counter (of_session writer)) (map-append (entry_of Sessions) said_before (source.frame writer first ∷ between_frames))
+      ∙ ap (λ (e : Entry). last_counter (of_session writer) (entries_before ++ e ∷ entries_between)) (entry_at m.it first m.is framed_one)
+      ∙ last_here writer item.mcnt kind entries_before entries_between quiet
 
   pub gaps : Neighbours source writer first second (earlier ++ (heard_frames source client before heard ++ later)) between_frames records
   gaps = record {

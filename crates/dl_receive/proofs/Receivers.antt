@@ -1,5 +1,5 @@
 -- What each call of a receiver leaves.
-use Rattle.std.proofs.Common.{◌≡◌, ℕ, ◌+◌, ◌-◌, ◌<◌, min, nat_eq, Bool, true, false, Option, List, [], ◌∷◌, ◌++◌, length, take, drop, map, Some, refl, sym, ap, subst, ◌∙◌, append_assoc, length-append, take-append-drop, arith}
+use Rattle.std.proofs.Common.{◌≡◌, ℕ, ◌+◌, ◌-◌, ◌<◌, min, Bool, true, false, Option, List, [], ◌∷◌, ◌++◌, length, take, drop, map, Some, refl, sym, ap, subst, ◌∙◌, append_assoc, length-append, take-append-drop, arith}
 use Rattle.std.specs.Prelude.{IsSome}
 use Rattle.std.specs.HashMap as hash
 use Rattle.std.proofs.lemmas.List.{append-nil, map-append}
@@ -10,10 +10,11 @@ use Rattle.dl_message.specs.Cutting.{Cutting, Begins, Cuts, Feeds, unfed}
 use Rattle.dl_message.specs.declared.cutter.Cut.TheVariants.{Message, NeedMore, Bad}
 use Rattle.dl_message.proofs.Cuts.{its_cut}
 use Rattle.dl_message.proofs.Pieces.{piece_long}
-use Rattle.dl_receive.specs.declared.kind.Kind.{Kind}
+use Rattle.dl_receive.specs.declared.counting.Counting.{Counting}
+use Rattle.dl_receive.specs.declared.counting.Entry.{Entry}
 use Rattle.dl_receive.specs.declared.printer.Printer.{Printer}
 use Rattle.dl_receive.specs.declared.receiver.Receiver.{Receiver}
-use Rattle.dl_receive.specs.MessageKind.{kind_of}
+use Rattle.dl_receive.specs.Counting.{entry_of, same_counted}
 use Rattle.dl_receive.specs.Program.{stream_rest, IsBad, IsWhole, IsTruncated}
 use Rattle.dl_receive.specs.Receiving.{Keeps, IsAfter, IsReady, IsAt, Took}
 use Rattle.dl_outside.specs.Written.{TookAll}
@@ -24,17 +25,17 @@ use Rattle.dl_receive.proofs.StreamCuts.{cut_fed, cut_one, bad_stream, shown_is,
 use Rattle.dl_lemmas.proofs.Lists.{empty_of}
 
 -- a receiver of these parts
-abbrev pub with : Cutting → Printer → Receiver
-with cutter printer = record { cutter = cutter; printer = printer }
+abbrev pub with : Counting → Cutting → Printer → Receiver
+with counting cutter printer = record { counting = counting; cutter = cutter; printer = printer }
 
 -- ---- made
 
-received-none : received [] ≡ text_of []
+received-none : (counting : Counting) → received counting [] ≡ text_of []
 unfolding received
-received-none = refl
+received-none counting = refl
 
-pub made : (cutter : Cutting) (printer : Printer) → cutter ≡ unfed len_limit → printer.text.items ≡ [] → Keeps printer [] → IsAt [] (with cutter printer)
-made cutter printer is empty keeps =
+pub made : (counting : Counting) (cutter : Cutting) (printer : Printer) → cutter ≡ unfed len_limit → printer.text.items ≡ [] → Keeps printer [] → IsAt counting [] (with counting cutter printer)
+made counting cutter printer is empty keeps =
     let unread : cutter.unread ≡ [] = ap (λ (c : Cutting). c.unread) is in
     let room : cutter.room ≡ len_limit + 4 = ap (λ (c : Cutting). c.room) is in
     let limit : cutter.limit ≡ len_limit = ap (λ (c : Cutting). c.limit) is in
@@ -42,10 +43,11 @@ made cutter printer is empty keeps =
     record {
       after = record {
         given = [];
+        counts = refl;
         limit = limit;
         cut = sym unread;
         keeps = keeps;
-        text = ap (λ (t : List ℕ). received [] ++ t) empty ∙ append-nil (received []) ∙ received-none;
+        text = ap (λ (t : List ℕ). received counting [] ++ t) empty ∙ append-nil (received counting []) ∙ received-none counting;
       };
       ready = record {
         limit = limit;
@@ -58,26 +60,27 @@ made cutter printer is empty keeps =
 
 -- ---- a message is given
 
-module _ (stream shown : List ℕ) (old : Receiver) (cutter : Cutting) (printer : Printer) (after : IsAfter stream shown old) (cuts : Cuts old.cutter Message cutter)
-    (keeps : (before : List Kind) → Keeps old.printer before → Keeps printer (before ++ kind_of cutter.message ∷ []))
-    (text : (before : List Kind) → Keeps old.printer before → printer.text.items ≡ old.printer.text.items ++ lines_of before (kind_of cutter.message)) where
-  given_one : map kind_of (after.given ++ cutter.message ∷ []) ≡ map kind_of after.given ++ kind_of cutter.message ∷ []
-  given_one = map-append kind_of after.given (cutter.message ∷ [])
+module _ (counting : Counting) (stream shown : List ℕ) (old : Receiver) (cutter : Cutting) (printer : Printer) (after : IsAfter counting stream shown old) (cuts : Cuts old.cutter Message cutter)
+    (keeps : (before : List Entry) → Keeps old.printer before → Keeps printer (before ++ entry_of counting cutter.message ∷ []))
+    (text : (before : List Entry) → Keeps old.printer before → printer.text.items ≡ old.printer.text.items ++ lines_of before (entry_of counting cutter.message)) where
+  given_one : map (entry_of counting) (after.given ++ cutter.message ∷ []) ≡ map (entry_of counting) after.given ++ entry_of counting cutter.message ∷ []
+  given_one = map-append (entry_of counting) after.given (cutter.message ∷ [])
 
   begins_here : Begins len_limit old.cutter.unread cutter.message cutter.unread
   begins_here = subst (λ (n : ℕ). Begins n old.cutter.unread cutter.message cutter.unread) after.limit cuts.0
 
-  pub message_printed : IsAfter stream shown (with cutter printer)
+  pub message_printed : IsAfter counting stream shown (with old.counting cutter printer)
   message_printed = record {
     given = after.given ++ cutter.message ∷ [];
+    counts = after.counts;
     limit = ap (λ (c : Cutting). c.limit) cuts.1 ∙ after.limit;
     cut = cut_one len_limit stream old.cutter.unread cutter.unread cutter.message after.given after.cut begins_here;
-    keeps = subst (λ (ks : List Kind). Keeps printer ks) (sym given_one) (keeps (map kind_of after.given) after.keeps);
+    keeps = subst (λ (es : List Entry). Keeps printer es) (sym given_one) (keeps (map (entry_of counting) after.given) after.keeps);
     text =
-        ap (λ (t : List ℕ). shown ++ t) (text (map kind_of after.given) after.keeps)
-        ∙ sym (append_assoc shown old.printer.text.items (lines_of (map kind_of after.given) (kind_of cutter.message)))
-        ∙ ap (λ (t : List ℕ). t ++ lines_of (map kind_of after.given) (kind_of cutter.message)) after.text
-        ∙ sym (text-one (map kind_of after.given) (kind_of cutter.message))
+        ap (λ (t : List ℕ). shown ++ t) (text (map (entry_of counting) after.given) after.keeps)
+        ∙ sym (append_assoc shown old.printer.text.items (lines_of (map (entry_of counting) after.given) (entry_of counting cutter.message)))
+        ∙ ap (λ (t : List ℕ). t ++ lines_of (map (entry_of counting) after.given) (entry_of counting cutter.message)) after.text
+        ∙ sym (text-one (map (entry_of counting) after.given) (entry_of counting cutter.message))
         ∙ ap text_of (sym given_one);
   }
 
@@ -85,12 +88,13 @@ module _ (stream shown : List ℕ) (old : Receiver) (cutter : Cutting) (printer 
 
 -- ---- fed
 
-pub fed : (stream shown piece : List ℕ) (old : Receiver) (count : ℕ) (cutter : Cutting) → Feeds old.cutter piece count cutter → IsAfter stream shown old
-    → IsAfter (stream ++ take count piece) shown (with cutter old.printer)
-fed stream shown piece old count cutter feeds after =
+pub fed : (counting : Counting) (stream shown piece : List ℕ) (old : Receiver) (count : ℕ) (cutter : Cutting) → Feeds old.cutter piece count cutter → IsAfter counting stream shown old
+    → IsAfter counting (stream ++ take count piece) shown (with old.counting cutter old.printer)
+fed counting stream shown piece old count cutter feeds after =
     let unread : cutter.unread ≡ old.cutter.unread ++ take count piece = ap (λ (c : Cutting). c.unread) feeds.taken in
     record {
       given = after.given;
+      counts = after.counts;
       limit = ap (λ (c : Cutting). c.limit) feeds.taken ∙ after.limit;
       cut = subst (AreCut (Begins len_limit) (stream ++ take count piece) after.given) (sym unread) (cut_fed len_limit stream old.cutter.unread (take count piece) after.given after.cut);
       keeps = after.keeps;
@@ -99,26 +103,27 @@ fed stream shown piece old count cutter feeds after =
 
 -- ---- taken
 
-pub is_shown : (stream shown : List ℕ) (receiver : Receiver) → IsAfter stream shown receiver → IsReady receiver → shown ++ receiver.printer.text.items ≡ received stream
-is_shown stream shown receiver after ready = shown_is stream shown receiver after ready.is_open
+pub is_shown : (counting : Counting) (stream shown : List ℕ) (receiver : Receiver) → IsAfter counting stream shown receiver → IsReady receiver → shown ++ receiver.printer.text.items ≡ received counting stream
+is_shown counting stream shown receiver after ready = shown_is counting stream shown receiver after ready.is_open
 
-pub is_bad_stream : (stream shown more : List ℕ) (receiver : Receiver) → IsAfter stream shown receiver → IsSome (rest_fault len_limit receiver.cutter.unread)
-    → IsBad (stream ++ more) × (shown ++ receiver.printer.text.items ≡ received (stream ++ more))
-is_bad_stream stream shown more receiver after bad =
-    let b = bad_stream stream receiver.cutter.unread more after.given after.cut bad in
+pub is_bad_stream : (counting : Counting) (stream shown more : List ℕ) (receiver : Receiver) → IsAfter counting stream shown receiver → IsSome (rest_fault len_limit receiver.cutter.unread)
+    → IsBad (stream ++ more) × (shown ++ receiver.printer.text.items ≡ received counting (stream ++ more))
+is_bad_stream counting stream shown more receiver after bad =
+    let b = bad_stream counting stream receiver.cutter.unread more after.given after.cut bad in
     (b.0, after.text ∙ b.1)
 
-pub cleared : (stream shown : List ℕ) (old : Receiver) (printer : Printer) → printer.counters ≡ old.printer.counters → printer.text.items ≡ []
-    → IsAfter stream shown old → IsReady old → IsAt stream (with old.cutter printer)
-cleared stream shown old printer counters empty after ready =
-    let whole = shown_is stream shown old after ready.is_open in
+pub cleared : (counting : Counting) (stream shown : List ℕ) (old : Receiver) (printer : Printer) → printer.counters ≡ old.printer.counters → printer.text.items ≡ []
+    → IsAfter counting stream shown old → IsReady old → IsAt counting stream (with old.counting old.cutter printer)
+cleared counting stream shown old printer counters empty after ready =
+    let whole = shown_is counting stream shown old after ready.is_open in
     record {
       after = record {
         given = after.given;
+        counts = after.counts;
         limit = after.limit;
         cut = after.cut;
-        keeps = λ session. ap (λ m. hash.get nat_eq m session) counters ∙ after.keeps session;
-        text = ap (λ (t : List ℕ). received stream ++ t) empty ∙ append-nil (received stream) ∙ sym whole ∙ after.text;
+        keeps = λ who. ap (λ m. hash.get same_counted m who) counters ∙ after.keeps who;
+        text = ap (λ (t : List ℕ). received counting stream ++ t) empty ∙ append-nil (received counting stream) ∙ sym whole ∙ after.text;
       };
       ready = record { limit = ready.limit; is_open = ready.is_open; room = ready.room; more = ready.more };
       shown = empty;
@@ -126,44 +131,44 @@ cleared stream shown old printer counters empty after ready =
 
 -- ---- at the end
 
-module _ (stream : List ℕ) (receiver : Receiver) (at : IsAt stream receiver) where
+module _ (counting : Counting) (stream : List ℕ) (receiver : Receiver) (at : IsAt counting stream receiver) where
   left_is : receiver.cutter.unread ≡ stream_rest stream
-  left_is = rest_now stream (received stream) receiver at.after at.ready.is_open
+  left_is = rest_now counting stream (received counting stream) receiver at.after at.ready.is_open
 
   pub ends_whole : (count : ℕ) → count ≡ min (len_limit + 4) receiver.cutter.room → count ≡ len_limit + 4 → IsWhole stream
   ends_whole count is all = sym left_is ∙ empty_of receiver.cutter.unread (omega (arith, is, all, at.ready.room))
 
   pub ends_truncated : (count : ℕ) → count ≡ min (len_limit + 4) receiver.cutter.room → (count ≡ len_limit + 4 → ⊥) → IsTruncated stream
   ends_truncated count is less = (
-    good_now stream (received stream) receiver at.after at.ready.is_open,
+    good_now counting stream (received counting stream) receiver at.after at.ready.is_open,
     λ none. less (omega (arith, is, at.ready.room, ap length (left_is ∙ none))),
   )
 
 -- ---- between
 
-pub took_text : (more : Bool) (stream shown : List ℕ) (receiver : Receiver) → Took more stream shown receiver → shown ++ receiver.printer.text.items ≡ received stream
-took_text true stream shown receiver took = is_shown stream shown receiver took.0 took.1
-took_text false stream shown receiver took = took.1
+pub took_text : (more : Bool) (counting : Counting) (stream shown : List ℕ) (receiver : Receiver) → Took more counting stream shown receiver → shown ++ receiver.printer.text.items ≡ received counting stream
+took_text true counting stream shown receiver took = is_shown counting stream shown receiver took.0 took.1
+took_text false counting stream shown receiver took = took.1
 
-pub takes_start : (old : Option (List ℕ)) → TookAll old old (received [])
+pub takes_start : (counting : Counting) (old : Option (List ℕ)) → TookAll old old (received counting [])
 unfolding received text_of
-takes_start old = took_nothing old
+takes_start counting old = took_nothing old
 
 -- so much of a piece is taken, and its messages are printed
-pub takes : (stream shown done rest : List ℕ) (old new : Receiver) (taken : ℕ) (cutter : Cutting) → IsAfter (stream ++ done) shown old → Feeds old.cutter rest taken cutter
-    → ((s t : List ℕ) → IsAfter s t (with cutter old.printer) → IsAfter s t new) → IsAfter (stream ++ (done ++ take taken rest)) shown new
-takes stream shown done rest old new taken cutter after feeds prints =
-    let here = prints ((stream ++ done) ++ take taken rest) shown (fed (stream ++ done) shown rest old taken cutter feeds after) in
-    subst (λ (s : List ℕ). IsAfter s shown new) (append_assoc stream done (take taken rest)) here
+pub takes : (counting : Counting) (stream shown done rest : List ℕ) (old new : Receiver) (taken : ℕ) (cutter : Cutting) → IsAfter counting (stream ++ done) shown old → Feeds old.cutter rest taken cutter
+    → ((s t : List ℕ) → IsAfter counting s t (with old.counting cutter old.printer) → IsAfter counting s t new) → IsAfter counting (stream ++ (done ++ take taken rest)) shown new
+takes counting stream shown done rest old new taken cutter after feeds prints =
+    let here = prints ((stream ++ done) ++ take taken rest) shown (fed counting (stream ++ done) shown rest old taken cutter feeds after) in
+    subst (λ (s : List ℕ). IsAfter counting s shown new) (append_assoc stream done (take taken rest)) here
 
 -- with what is left of the piece, all of it
 pub whole_piece : (done rest piece : List ℕ) (taken : ℕ) → done ++ rest ≡ piece → (done ++ take taken rest) ++ drop taken rest ≡ piece
 whole_piece done rest piece taken e = append_assoc done (take taken rest) (drop taken rest) ∙ ap (λ (x : List ℕ). done ++ x) (take-append-drop taken rest) ∙ e
 
-pub bad_piece : (stream shown done rest piece : List ℕ) (new : Receiver) (taken : ℕ) → done ++ rest ≡ piece → IsAfter (stream ++ (done ++ take taken rest)) shown new
-    → IsSome (rest_fault len_limit new.cutter.unread) → IsBad (stream ++ piece) × (shown ++ new.printer.text.items ≡ received (stream ++ piece))
-bad_piece stream shown done rest piece new taken e after bad =
+pub bad_piece : (counting : Counting) (stream shown done rest piece : List ℕ) (new : Receiver) (taken : ℕ) → done ++ rest ≡ piece → IsAfter counting (stream ++ (done ++ take taken rest)) shown new
+    → IsSome (rest_fault len_limit new.cutter.unread) → IsBad (stream ++ piece) × (shown ++ new.printer.text.items ≡ received counting (stream ++ piece))
+bad_piece counting stream shown done rest piece new taken e after bad =
     let all : (stream ++ (done ++ take taken rest)) ++ drop taken rest ≡ stream ++ piece =
     append_assoc stream (done ++ take taken rest) (drop taken rest) ∙ ap (λ (x : List ℕ). stream ++ x) (whole_piece done rest piece taken e) in
-    subst (λ (s : List ℕ). IsBad s × (shown ++ new.printer.text.items ≡ received s)) all
-    (is_bad_stream (stream ++ (done ++ take taken rest)) shown (drop taken rest) new after bad)
+    subst (λ (s : List ℕ). IsBad s × (shown ++ new.printer.text.items ≡ received counting s)) all
+    (is_bad_stream counting (stream ++ (done ++ take taken rest)) shown (drop taken rest) new after bad)

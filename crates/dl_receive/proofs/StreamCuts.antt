@@ -13,8 +13,9 @@ use Rattle.dl_message.proofs.Calls.{begins_more, pieces_of}
 use Rattle.dl_message.proofs.Cuts.{one_cut, its_cut, pieces-append}
 use Rattle.dl_message.proofs.Pieces.{bad_no_piece, bad_stays}
 use Rattle.dl_model.specs.Along.{along_from}
+use Rattle.dl_receive.specs.declared.counting.Counting.{Counting}
 use Rattle.dl_receive.specs.declared.receiver.Receiver.{Receiver}
-use Rattle.dl_receive.specs.MessageKind.{kind_of}
+use Rattle.dl_receive.specs.Counting.{entry_of}
 use Rattle.dl_receive.specs.Program.{stream_rest, IsBad, IsGood}
 use Rattle.dl_receive.specs.Receiving.{IsAfter}
 use Rattle.dl_receive.specs.Text.{lines_of, text_of, len_limit, received}
@@ -44,9 +45,9 @@ cut_is limit stream rest given a ends =
 
 -- ---- the text of a stream
 
-pub received-is : (stream : List ℕ) (given : List (List ℕ)) → given ≡ messages len_limit stream → text_of (map kind_of given) ≡ received stream
+pub received-is : (counting : Counting) (stream : List ℕ) (given : List (List ℕ)) → given ≡ messages len_limit stream → text_of (map (entry_of counting) given) ≡ received counting stream
 unfolding received
-received-is stream given e = ap (λ (ms : List (List ℕ)). text_of (map kind_of ms)) e
+received-is counting stream given e = ap (λ (ms : List (List ℕ)). text_of (map (entry_of counting) ms)) e
 
 pub rest-is : (stream rest : List ℕ) → rest ≡ rest_of len_limit stream → rest ≡ stream_rest stream
 unfolding stream_rest
@@ -70,24 +71,24 @@ no_serials limit (m ∷ frames) all =
     ap (λ (x : List ℕ). x ∷ map without_serial frames) (no_serial limit m all.0) ∙ ap (λ (ms : List (List ℕ)). m ∷ ms) (no_serials limit frames all.1)
 
 -- whole messages one behind another print as they are
-pub received-frames : (frames : List (List ℕ)) → AllByRecursion (IsWholeMessage len_limit) frames → received (concat frames) ≡ text_of (map kind_of frames)
+pub received-frames : (counting : Counting) (frames : List (List ℕ)) → AllByRecursion (IsWholeMessage len_limit) frames → received counting (concat frames) ≡ text_of (map (entry_of counting) frames)
 unfolding received
-received-frames frames all =
+received-frames counting frames all =
     let nothing : NoPiece len_limit [] = (its_cut len_limit []).ends in
     let is : IsCut len_limit (concat frames) frames [] = record { parts = sym (append-nil (concat frames)); each = are_pieces len_limit frames all; ends = nothing } in
     let one = one_cut len_limit (concat frames) (pieces len_limit (concat frames)) frames (rest_of len_limit (concat frames)) [] (its_cut len_limit (concat frames)) is in
-    ap (λ (ms : List (List ℕ)). text_of (map kind_of ms)) (ap (map without_serial) one.0 ∙ no_serials len_limit frames all)
+    ap (λ (ms : List (List ℕ)). text_of (map (entry_of counting) ms)) (ap (map without_serial) one.0 ∙ no_serials len_limit frames all)
 
 -- more bytes print more
-pub received-more : (a b : List ℕ) → (more : List ℕ) × (received (a ++ b) ≡ received a ++ more)
+pub received-more : (counting : Counting) (a b : List ℕ) → (more : List ℕ) × (received counting (a ++ b) ≡ received counting a ++ more)
 unfolding received
-received-more a b =
-    let first = map kind_of (messages len_limit a) in
-    let second = map kind_of (map without_serial (pieces len_limit (rest_of len_limit a ++ b))) in
+received-more counting a b =
+    let first = map (entry_of counting) (messages len_limit a) in
+    let second = map (entry_of counting) (map without_serial (pieces len_limit (rest_of len_limit a ++ b))) in
     let all : messages len_limit (a ++ b) ≡ messages len_limit a ++ map without_serial (pieces len_limit (rest_of len_limit a ++ b)) =
     ap (map without_serial) (pieces-append len_limit a b) ∙ map-append without_serial (pieces len_limit a) (pieces len_limit (rest_of len_limit a ++ b)) in (
       along_from lines_of first second,
-      ap (λ (ms : List (List ℕ)). text_of (map kind_of ms)) all ∙ ap text_of (map-append kind_of (messages len_limit a) (map without_serial (pieces len_limit (rest_of len_limit a ++ b)))) ∙ text-append first second,
+      ap (λ (ms : List (List ℕ)). text_of (map (entry_of counting) ms)) all ∙ ap text_of (map-append (entry_of counting) (messages len_limit a) (map without_serial (pieces len_limit (rest_of len_limit a ++ b)))) ∙ text-append first second,
     )
 
 -- ---- a stream that is bad stays so, and prints no more
@@ -104,21 +105,21 @@ bad_more stream rest more given a bad =
     let one = cut_is len_limit (stream ++ more) (rest ++ more) given (cut_fed len_limit stream rest more given a) (bad_no_piece len_limit (rest ++ more) fault.0 still) in
     record { given_is = one.0; rest_is = one.1; bad = is_some_of _ fault.0 still }
 
-pub bad_stream : (stream rest more : List ℕ) (given : List (List ℕ)) → AreCut (Begins len_limit) stream given rest → IsSome (rest_fault len_limit rest)
-    → IsBad (stream ++ more) × (text_of (map kind_of given) ≡ received (stream ++ more))
+pub bad_stream : (counting : Counting) (stream rest more : List ℕ) (given : List (List ℕ)) → AreCut (Begins len_limit) stream given rest → IsSome (rest_fault len_limit rest)
+    → IsBad (stream ++ more) × (text_of (map (entry_of counting) given) ≡ received counting (stream ++ more))
 unfolding stream_rest
-bad_stream stream rest more given a bad =
+bad_stream counting stream rest more given a bad =
     let b = bad_more stream rest more given a bad in
-    (subst (λ (r : List ℕ). IsSome (rest_fault len_limit r)) b.rest_is b.bad, received-is (stream ++ more) given b.given_is)
+    (subst (λ (r : List ℕ). IsSome (rest_fault len_limit r)) b.rest_is b.bad, received-is counting (stream ++ more) given b.given_is)
 
 -- ---- a receiver between two pieces
 
-module _ (stream shown : List ℕ) (receiver : Receiver) (after : IsAfter stream shown receiver) (is_open : IsOpen len_limit receiver.cutter.unread) where
+module _ (counting : Counting) (stream shown : List ℕ) (receiver : Receiver) (after : IsAfter counting stream shown receiver) (is_open : IsOpen len_limit receiver.cutter.unread) where
   cut_now : (after.given ≡ messages len_limit stream) × (receiver.cutter.unread ≡ rest_of len_limit stream)
   cut_now = cut_is len_limit stream receiver.cutter.unread after.given after.cut is_open.ends
 
-  pub shown_is : shown ++ receiver.printer.text.items ≡ received stream
-  shown_is = after.text ∙ received-is stream after.given cut_now.0
+  pub shown_is : shown ++ receiver.printer.text.items ≡ received counting stream
+  shown_is = after.text ∙ received-is counting stream after.given cut_now.0
 
   pub rest_now : receiver.cutter.unread ≡ stream_rest stream
   rest_now = rest-is stream receiver.cutter.unread cut_now.1

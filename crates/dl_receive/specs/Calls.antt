@@ -12,6 +12,8 @@ use Rattle.dl_model.specs.ClientStream.{traffic_of}
 use Rattle.dl_model.specs.Frames.{FrameSource}
 use Rattle.dl_model.specs.Traffic.{meant_for}
 use Rattle.dl_receive.specs.declared.kind.Kind.TheVariants.{Log}
+use Rattle.dl_receive.specs.declared.counting.Counting.TheVariants.{Sessions}
+use Rattle.dl_receive.specs.Counting.{entry_of, of_session, session_counter}
 use Rattle.dl_receive.specs.MessageKind.{kind_of}
 use Rattle.dl_receive.specs.Text.{gap, last_counter}
 
@@ -69,5 +71,5 @@ pub record Neighbours (source : FrameSource) (writer first second : ℕ) (stream
   pub after : List (List ℕ)
   pub stream_is : stream ≡ (before ++ source.frame writer first ∷ between) ++ source.frame writer second ∷ after
   pub kind_is : kind_of (source.frame writer second) ≡ Log writer two.item.mcnt two.item.apid two.item.ctid (26 + length two.item.payload.bytes)
-  pub gap_is : lost middle < 256 → last_counter writer (map kind_of between) ≡ None
-      → gap (map kind_of (before ++ source.frame writer first ∷ between)) writer two.item.mcnt ≡ lost middle
+  pub gap_is : lost middle < 256 → last_counter (of_session writer) (map (entry_of Sessions) between) ≡ None
+      → gap (map (entry_of Sessions) (before ++ source.frame writer first ∷ between)) (session_counter writer two.item.mcnt) ≡ lost middle

@@ -1,4 +1,5 @@
 pub mod MessageKind
+pub mod Counting
 pub mod Text
 pub mod Words
 pub mod Status

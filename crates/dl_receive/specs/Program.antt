@@ -2,6 +2,7 @@
 use Rattle.std.specs.Prelude.{◌≡◌, ◌≢◌, ℕ, ◌^◌, ◌≤◌, ◌⊎◌, List, [], length, Option, Some, None, IfSome, IsSome, option_map}
 use Rattle.dl_outside.specs.Outside.{HasRisen}
 use Rattle.dl_message.specs.Cut.{rest_of, rest_fault}
+use Rattle.dl_receive.specs.declared.counting.Counting.{Counting}
 use Rattle.dl_receive.specs.declared.status.Status.{Status}
 use Rattle.dl_receive.specs.declared.status.Status.TheVariants.{Ok, WordsRefused, BadMessage, Truncated, WriteFault, NetFault, OutOfMemory, ReadFault, Limit}
 use Rattle.dl_receive.specs.Status.{line_of}
@@ -77,40 +78,40 @@ abbrev pub FailsToRead : Option (List ℕ) → Option SourceTold → List ℕ �
 FailsToRead serves source given = (gives : Gives serves source given) × HasRisen 0 gives.back.faults
 
 -- the text of what the source gave was written whole
-abbrev pub IsPrinted : Told → Told → List ℕ → Type 0
-IsPrinted old new given = WroteAll old.out new.out (received given)
+abbrev pub IsPrinted : Counting → Told → Told → List ℕ → Type 0
+IsPrinted counting old new given = WroteAll old.out new.out (received counting given)
 
--- What each status says, of a port that serves these bytes, where that is told: how the bytes that came from there end,
+-- What each status says, with messages counted so, of a port that serves these bytes, where that is told: how the bytes that came from there end,
 -- that their text was written, and what failed.
-abbrev pub Outcome : Option (List ℕ) → Told → Told → Option SourceTold → Status → Type 0
-Outcome serves old new source Ok =
-    DialsWell old new × ((given : List ℕ) × ReadsUp serves source given × IsPrinted old new given × IsWhole given)
-Outcome serves old new source WordsRefused = ⊥
-Outcome serves old new source BadMessage =
-    DialsWell old new × ((given : List ℕ) × ReadsWell serves source given × IsPrinted old new given × IsBad given)
-Outcome serves old new source Truncated =
-    DialsWell old new × ((given : List ℕ) × ReadsUp serves source given × IsPrinted old new given × IsTruncated given)
-Outcome serves old new source WriteFault =
-    DialsWell old new × ((given : List ℕ) × ReadsWell serves source given × WroteFront old.out new.out (received given))
-Outcome serves old new source NetFault = HasRisen old.dial.faults new.dial.faults × (source ≡ None) × WroteNothing old.out new.out
-Outcome serves old new source OutOfMemory = DialsWell old new
+abbrev pub Outcome : Counting → Option (List ℕ) → Told → Told → Option SourceTold → Status → Type 0
+Outcome counting serves old new source Ok =
+    DialsWell old new × ((given : List ℕ) × ReadsUp serves source given × IsPrinted counting old new given × IsWhole given)
+Outcome counting serves old new source WordsRefused = ⊥
+Outcome counting serves old new source BadMessage =
+    DialsWell old new × ((given : List ℕ) × ReadsWell serves source given × IsPrinted counting old new given × IsBad given)
+Outcome counting serves old new source Truncated =
+    DialsWell old new × ((given : List ℕ) × ReadsUp serves source given × IsPrinted counting old new given × IsTruncated given)
+Outcome counting serves old new source WriteFault =
+    DialsWell old new × ((given : List ℕ) × ReadsWell serves source given × WroteFront old.out new.out (received counting given))
+Outcome counting serves old new source NetFault = HasRisen old.dial.faults new.dial.faults × (source ≡ None) × WroteNothing old.out new.out
+Outcome counting serves old new source OutOfMemory = DialsWell old new
     × (((source ≡ None) × WroteNothing old.out new.out)
-    ⊎ ((given : List ℕ) × ReadsWell serves source given × WroteSome old.out new.out (received given)))
-Outcome serves old new source ReadFault =
-    DialsWell old new × ((given : List ℕ) × FailsToRead serves source given × IsPrinted old new given × IsGood given)
-Outcome serves old new source Limit =
-    DialsWell old new × ((given : List ℕ) × ReadsWell serves source given × IsPrinted old new given × IsGood given × (2 ^ 40 ≤ length given))
+    ⊎ ((given : List ℕ) × ReadsWell serves source given × WroteSome old.out new.out (received counting given)))
+Outcome counting serves old new source ReadFault =
+    DialsWell old new × ((given : List ℕ) × FailsToRead serves source given × IsPrinted counting old new given × IsGood given)
+Outcome counting serves old new source Limit =
+    DialsWell old new × ((given : List ℕ) × ReadsWell serves source given × IsPrinted counting old new given × IsGood given × (2 ^ 40 ≤ length given))
 
 -- What is done with a port that the words name, and without one: then nothing is dialled and nothing is written.
-abbrev pub Asked : Option ℕ → Told → Told → Option SourceTold → Status → Type 0
-Asked None old new source status = (status ≡ WordsRefused) × (source ≡ None) × (new ≡ old)
-Asked (Some port) old new source status = Outcome (served port old.dial) old new source status
+abbrev pub Asked : Counting → Option ℕ → Told → Told → Option SourceTold → Status → Type 0
+Asked counting None old new source status = (status ≡ WordsRefused) × (source ≡ None) × (new ≡ old)
+Asked counting (Some port) old new source status = Outcome counting (served port old.dial) old new source status
 
 -- What a run of the program comes to: the words, what dial and output told before and after, what the source that is handed back tells,
 -- what standard error told before and after, and the status.
-pub record IsRun (words : List (List ℕ)) (old new : Told) (source : Option SourceTold) (err err_now : SinkTold) (status : Status) : Type 0 where
+pub record IsRun (counting : Counting) (words : List (List ℕ)) (old new : Told) (source : Option SourceTold) (err err_now : SinkTold) (status : Status) : Type 0 where
   -- the words decide first, and then what comes from the port that they name
-  pub asked : Asked (asked_port words) old new source status
+  pub asked : Asked counting (asked_port words) old new source status
   -- nothing is said where all went well
   pub silent : status ≡ Ok → WroteNothing err err_now
   -- else the status's line, whole; or a front of it, where standard error failed

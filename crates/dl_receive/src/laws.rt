@@ -7,6 +7,8 @@ ghost use Rattle.dl_headers.specs.Message.{Message, IsMessage};
 ghost use Rattle.dl_message.specs.Cut.{IsWholeMessage};
 ghost use Rattle.dl_model.specs.Backlog.{refused};
 ghost use Rattle.dl_model.specs.ClientStream.{stream};
+ghost use Rattle.dl_receive.specs.Counting.{entry_of};
+ghost use Rattle.dl_receive.specs.declared.counting.Counting.{Counting};
 ghost use Rattle.dl_receive.specs.Laws.{GapsAreLostCalls, HearsFromComing, HearsWithBacklog};
 ghost use Rattle.dl_receive.specs.MessageKind.{kind_in, kind_of};
 ghost use Rattle.dl_receive.specs.Text.{len_limit, received, text_of};
@@ -18,12 +20,12 @@ pub fn read_by_layout()
 
 /// Messages that are sent one behind another, as the daemon sends its frames, print as themselves.
 pub fn frames_print()
-    ensures { (frames : List (List ℕ)) → AllByRecursion (IsWholeMessage len_limit) frames → received (concat frames) ≡ text_of (map kind_of frames) }
+    ensures { (by : Counting) (frames : List (List ℕ)) → AllByRecursion (IsWholeMessage len_limit) frames → received by (concat frames) ≡ text_of (map (entry_of by) frames) }
 {}
 
 /// With more bytes the text goes on, and nothing in it changes.
 pub fn text_goes_on()
-    ensures { (stream more : List ℕ) → (lines : List ℕ) × (received (stream ++ more) ≡ received stream ++ lines) }
+    ensures { (by : Counting) (stream more : List ℕ) → (lines : List ℕ) × (received by (stream ++ more) ≡ received by stream ++ lines) }
 {}
 
 /// A client hears all that is admitted while it is there. It hears from where it came on; and where nobody was there

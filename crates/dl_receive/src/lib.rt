@@ -1,6 +1,7 @@
 //! A receiver: a client that prints each message of a daemon, and where messages are missing and how many.
 #![tactic(auto)]
 
+mod counting;
 mod kind;
 pub mod laws;
 mod listen;
@@ -10,6 +11,7 @@ mod receiver;
 mod status;
 mod words;
 
+pub use counting::{Counted, Counter, Counting, Entry, entry_of};
 pub use kind::{Kind, kind_of};
 pub use program::{Received, receive};
 pub use status::Status;

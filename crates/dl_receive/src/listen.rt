@@ -4,6 +4,7 @@ ghost use Rattle.std.specs.Prelude.{ℕ, List};
 ghost use Rattle.dl_receive.specs.Listening.{Listened, sides};
 ghost use Rattle.dl_receive.specs.Receiving.{Hears, IsAt, IsReady};
 
+use crate::counting::Counting;
 use crate::receiver::Receiver;
 use crate::status::Status;
 use dl_bytes::INPUT_PIECE;
@@ -17,7 +18,7 @@ const LIMIT: u64 = 1_099_511_627_776;
 /// it goes no further.
 fn hear<O: Sink>(receiver: &mut Receiver, piece: &[u8], out: &mut O) -> Option<Status>
     requires { IsReady receiver.old }
-    ensures { (stream : List ℕ) → IsAt stream receiver.old → Hears stream piece.now (O.told out.old) (O.told out.new) receiver.new result }
+    ensures { (counting : Counting) (stream : List ℕ) → IsAt counting stream receiver.old → Hears counting stream piece.now (O.told out.old) (O.told out.new) receiver.new result }
 {
     let Ok(more) = receiver.take(piece) else {
         return Some(Status::OutOfMemory);
@@ -30,11 +31,16 @@ fn hear<O: Sink>(receiver: &mut Receiver, piece: &[u8], out: &mut O) -> Option<S
 }
 
 /// Reads a source to its end, and writes the lines of each message once it has come. The memory that it takes doesn't
-/// grow with the stream, but for the counter of each session.
-pub fn listen<S: Source, O: Sink>(alloc: Global, source: &mut S, out: &mut O) -> Status
-    ensures { Listened (sides (S.told source.old) (O.told out.old)) (sides (S.told source.new) (O.told out.new)) result }
+/// grow with the stream, but for each message counter.
+pub fn listen<S: Source, O: Sink>(
+    alloc: Global,
+    counting: Counting,
+    source: &mut S,
+    out: &mut O,
+) -> Status
+    ensures { Listened counting (sides (S.told source.old) (O.told out.old)) (sides (S.told source.new) (O.told out.new)) result }
 {
-    let Ok(mut receiver) = Receiver::make(alloc) else {
+    let Ok(mut receiver) = Receiver::make(alloc, counting) else {
         return Status::OutOfMemory;
     };
     let mut buffer = [0; INPUT_PIECE];

@@ -1,25 +1,24 @@
 //! The lines of messages.
 
-ghost use Rattle.std.specs.Prelude.{◌≡◌, ◌≤◌, ◌==◌, ◌++◌, ◌∷◌, ℕ, List, [], None, Some, OnOk, IfOk, length, if◌then◌else◌};
-ghost use Rattle.dl_bytes.specs.Htyp.{len_of};
-ghost use Rattle.dl_headers.specs.Reading.{front_fault};
-ghost use Rattle.dl_receive.specs.MessageKind.{kind_of};
+ghost use Rattle.std.specs.Prelude.{◌≡◌, ◌++◌, ◌∷◌, List, [], Some, OnOk, IfOk, if◌then◌else◌};
+ghost use Rattle.dl_receive.specs.Counting.{entry_with, same_counted};
 ghost use Rattle.dl_receive.specs.Receiving.{kept, Keeps};
-ghost use Rattle.dl_receive.specs.Text.{gap, gap_line, lines_of, log_line, names, other_line, overflow_line, passed_over};
+ghost use Rattle.dl_receive.specs.Text.{gap, gap_before, gap_line, kind_line, lines_of, log_line, names, other_line, overflow_line, passed_over};
 
-use crate::kind::{Kind, kind_of};
+use crate::counting::{Counted, Counter, Entry};
+use crate::kind::Kind;
 use dl_bytes::{Id, OutOfMemory};
 use dl_text::push_id;
 use itoa::{Buffer, Integer};
 use std::alloc::Global;
 use std::collections::HashMap;
 
-/// Turns messages into lines, and keeps the last message counter of each session. It takes memory for its lines, until
-/// they are taken, and for each session.
+/// Turns messages into lines, and keeps the last message counter of all that are counted together. It takes memory for its lines, until
+/// they are taken, and for each counter.
 #[derive(Drop)]
 pub struct Printer {
-    /// The last message counter of each session.
-    counters: HashMap<u32, u8>,
+    /// The last message counter of those that are counted together.
+    counters: HashMap<Counted, u8>,
     /// The lines that were not taken yet.
     text: Vec<u8>,
 }
@@ -97,7 +96,24 @@ fn push_other(text: &mut Vec<u8>, len: u16) -> Result<(), OutOfMemory>
     text.extend_from_slice(b"\n")
 }
 
-/// How many counters were passed over from one message of a session to its next.
+/// Adds the line of a message of this kind.
+fn push_kind(text: &mut Vec<u8>, kind: Kind) -> Result<(), OutOfMemory>
+    ensures { OnOk result (text.new.items ≡ text.old.items ++ kind_line kind) }
+{
+    match kind {
+        Kind::Log {
+            seid,
+            mcnt,
+            apid,
+            ctid,
+            len,
+        } => push_log(text, seid, mcnt, &apid, &ctid, len),
+        Kind::Overflow { apid, counter } => push_overflow(text, &apid, counter),
+        Kind::Other { len } => push_other(text, len),
+    }
+}
+
+/// How many counters were passed over from one message to the next that is counted with it.
 fn passed_over(last: u8, mcnt: u8) -> u8
     ensures { result ≡ passed_over last mcnt }
 {
@@ -116,49 +132,48 @@ impl Printer {
         }
     }
 
-    /// Notes a log message, and answers how many of its session are missing before it.
-    fn note(&mut self, seid: u32, mcnt: u8) -> Result<u8, OutOfMemory>
-        ensures missing { (before : List Kind) → Keeps self.old before → IfOk result (λ missing. missing ≡ gap before seid mcnt) }
-        ensures noted { OnOk result ((session : ℕ) → kept self.new session ≡ (if seid == session then Some mcnt else kept self.old session)) }
+    /// Notes the counter of a message, and answers how many of those that are counted with it are missing before it.
+    fn note(&mut self, counter: Counter) -> Result<u8, OutOfMemory>
+        ensures missing { (before : List Entry) → Keeps self.old before → IfOk result (λ missing. missing ≡ gap before counter) }
+        ensures noted { OnOk result ((who : Counted) → kept self.new who ≡ (if same_counted counter.counted who then Some counter.mcnt else kept self.old who)) }
         ensures text { self.new.text ≡ self.old.text }
     {
-        let last = self.counters.insert(seid, mcnt)?;
+        let last = self.counters.insert(counter.counted, counter.mcnt)?;
         Ok(match last {
-            Some(last) => passed_over(last, mcnt),
+            Some(last) => passed_over(last, counter.mcnt),
             None => 0,
         })
     }
 
-    /// Adds the lines of a message of this kind.
-    fn add(&mut self, kind: Kind) -> Result<(), OutOfMemory>
-        ensures keeps { (before : List Kind) → Keeps self.old before → OnOk result (Keeps self.new (before ++ kind ∷ [])) }
-        ensures text { (before : List Kind) → Keeps self.old before → OnOk result (self.new.text.items ≡ self.old.text.items ++ lines_of before kind) }
+    /// Adds the line of the gap before a message with this counter, where there is one, and notes the counter.
+    fn add_gap(&mut self, counter: Counter) -> Result<(), OutOfMemory>
+        ensures keeps { (before : List Entry) → Keeps self.old before → OnOk result ((kind : Kind) → Keeps self.new (before ++ entry_with kind (Some counter) ∷ [])) }
+        ensures text { (before : List Entry) → Keeps self.old before
+            → OnOk result (self.new.text.items ≡ self.old.text.items ++ gap_line counter.counted.seid (gap before counter)) }
     {
-        match kind {
-            Kind::Log {
-                seid,
-                mcnt,
-                apid,
-                ctid,
-                len,
-            } => {
-                let missing = self.note(seid, mcnt)?;
-                push_gap(&mut self.text, seid, missing)?;
-                push_log(&mut self.text, seid, mcnt, &apid, &ctid, len)
-            }
-            Kind::Overflow { apid, counter } => push_overflow(&mut self.text, &apid, counter),
-            Kind::Other { len } => push_other(&mut self.text, len),
+        let counted = counter.counted;
+        let missing = self.note(counter)?;
+        push_gap(&mut self.text, counted.seid, missing)
+    }
+
+    /// The same before any message: one without a counter has no gap.
+    fn add_before(&mut self, counter: Option<Counter>) -> Result<(), OutOfMemory>
+        ensures keeps { (before : List Entry) → Keeps self.old before → OnOk result ((kind : Kind) → Keeps self.new (before ++ entry_with kind counter ∷ [])) }
+        ensures text { (before : List Entry) → Keeps self.old before → OnOk result (self.new.text.items ≡ self.old.text.items ++ gap_before before counter) }
+    {
+        match counter {
+            Some(counter) => self.add_gap(counter),
+            None => Ok(()),
         }
     }
 
-    /// Adds the lines of a whole message.
-    pub fn print(&mut self, message: &[u8]) -> Result<(), OutOfMemory>
-        requires front { front_fault message.now ≡ None }
-        requires len { length message.now ≡ len_of message.now }
-        ensures keeps { (before : List Kind) → Keeps self.old before → OnOk result (Keeps self.new (before ++ kind_of message.now ∷ [])) }
-        ensures text { (before : List Kind) → Keeps self.old before → OnOk result (self.new.text.items ≡ self.old.text.items ++ lines_of before (kind_of message.now)) }
+    /// Adds the lines of a message.
+    pub fn print(&mut self, entry: Entry) -> Result<(), OutOfMemory>
+        ensures keeps { (before : List Entry) → Keeps self.old before → OnOk result (Keeps self.new (before ++ entry ∷ [])) }
+        ensures text { (before : List Entry) → Keeps self.old before → OnOk result (self.new.text.items ≡ self.old.text.items ++ lines_of before entry) }
     {
-        self.add(kind_of(message))
+        self.add_before(entry.counter)?;
+        push_kind(&mut self.text, entry.kind)
     }
 
     /// The lines that were not taken yet.

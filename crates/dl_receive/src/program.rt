@@ -4,6 +4,7 @@ ghost use Rattle.std.specs.Prelude.{Some};
 ghost use Rattle.dl_receive.specs.Handed.{AskedFor, Asks, Receives, Runs};
 ghost use Rattle.dl_receive.specs.Program.{told};
 
+use crate::counting::Counting;
 use crate::listen::listen;
 use crate::status::Status;
 use crate::words::asked_port;
@@ -27,8 +28,14 @@ struct Ended<S> {
 }
 
 /// Connects to a port, and prints what comes from there.
-fn connect<D: Dial, O: Sink>(alloc: Global, port: u16, dial: &mut D, out: &mut O) -> Ended<D::S>
-    ensures { Asks (Some port) D.S.told (told (D.told dial.old) (O.told out.old)) (told (D.told dial.new) (O.told out.new)) result }
+fn connect<D: Dial, O: Sink>(
+    alloc: Global,
+    counting: Counting,
+    port: u16,
+    dial: &mut D,
+    out: &mut O,
+) -> Ended<D::S>
+    ensures { Asks counting (Some port) D.S.told (told (D.told dial.old) (O.told out.old)) (told (D.told dial.new) (O.told out.new)) result }
 {
     let mut source = match dial.dial(port) {
         Ok(source) => source,
@@ -45,7 +52,7 @@ fn connect<D: Dial, O: Sink>(alloc: Global, port: u16, dial: &mut D, out: &mut O
             };
         }
     };
-    let status = listen(alloc, &mut source, out);
+    let status = listen(alloc, counting, &mut source, out);
     Ended {
         status,
         source: Some(source),
@@ -53,8 +60,14 @@ fn connect<D: Dial, O: Sink>(alloc: Global, port: u16, dial: &mut D, out: &mut O
 }
 
 /// The same with the port that the words name, if they do.
-fn ask<D: Dial, O: Sink>(alloc: Global, words: &[String], dial: &mut D, out: &mut O) -> Ended<D::S>
-    ensures { AskedFor words.now D.S.told (told (D.told dial.old) (O.told out.old)) (told (D.told dial.new) (O.told out.new)) result }
+fn ask<D: Dial, O: Sink>(
+    alloc: Global,
+    counting: Counting,
+    words: &[String],
+    dial: &mut D,
+    out: &mut O,
+) -> Ended<D::S>
+    ensures { AskedFor counting words.now D.S.told (told (D.told dial.old) (O.told out.old)) (told (D.told dial.new) (O.told out.new)) result }
 {
     let Some(port) = asked_port(words) else {
         return Ended {
@@ -62,21 +75,22 @@ fn ask<D: Dial, O: Sink>(alloc: Global, words: &[String], dial: &mut D, out: &mu
             source: None,
         };
     };
-    connect(alloc, port, dial, out)
+    connect(alloc, counting, port, dial, out)
 }
 
 /// What `receive` does, with the status by its name.
 fn run<D: Dial, O: Sink, E: Sink>(
     alloc: Global,
+    counting: Counting,
     words: &[String],
     dial: &mut D,
     out: &mut O,
     err: &mut E,
 ) -> Ended<D::S>
-    ensures { Runs words.now D.S.told (D.told dial.old) (D.told dial.new) (O.told out.old) (O.told out.new)
+    ensures { Runs counting words.now D.S.told (D.told dial.old) (D.told dial.new) (O.told out.old) (O.told out.new)
         (E.told err.old) (E.told err.new) result }
 {
-    let ended = ask(alloc, words, dial, out);
+    let ended = ask(alloc, counting, words, dial, out);
     if ended.status != Status::Ok {
         let _ = write_text(err, ended.status.line());
     }
@@ -84,21 +98,22 @@ fn run<D: Dial, O: Sink, E: Sink>(
 }
 
 /// Receives what comes from the port that the words name, and writes a line to `out` for each message, once it has come:
-/// `log` with its session, counter, application, context and length, behind a line `gap` where messages of its session
-/// are missing, `overflow` for the report of lost messages of an application, or `other`. The words are those of the
+/// `log` with its session, counter, application, context and length, `overflow` for the report of lost messages of an
+/// application, or `other`, behind a line `gap` where messages that are counted with it are missing. The words are those of the
 /// command line, the program's name first. Each status but `Ok` is said on `err` in one line, and a fault of `err`
 /// changes nothing.
 pub fn receive<D: Dial, O: Sink, E: Sink>(
     alloc: Global,
+    counting: Counting,
     words: &[String],
     dial: &mut D,
     out: &mut O,
     err: &mut E,
 ) -> Received<D::S>
-    ensures { Receives words.now D.S.told (D.told dial.old) (D.told dial.new) (O.told out.old) (O.told out.new)
+    ensures { Receives counting words.now D.S.told (D.told dial.old) (D.told dial.new) (O.told out.old) (O.told out.new)
         (E.told err.old) (E.told err.new) result }
 {
-    let Ended { status, source } = run(alloc, words, dial, out, err);
+    let Ended { status, source } = run(alloc, counting, words, dial, out, err);
     Received {
         status: status.number(),
         source,

@@ -2,3 +2,4 @@ pub mod Sinks
 pub mod Sources
 pub mod StoredText
 pub mod Told
+pub mod Renamed

@@ -6,3 +6,4 @@ pub mod Failures
 pub mod Unchanged
 pub mod Setup
 pub mod Configuration
+pub mod Aside

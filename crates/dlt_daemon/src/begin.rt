@@ -101,16 +101,23 @@ fn unused_in<F: Folder>(alloc: Global, folder: &mut F, name: &str) -> Option<Str
 /// Looks at the configuration of this name.
 pub fn look<F: Folder>(alloc: Global, folder: &mut F, name: &str) -> Begin {
     let has_conf = is_there(folder, name);
+    let directory = if has_conf {
+        directory_in(alloc, folder, name)
+    } else {
+        None
+    };
+    // One that is refused is not read once more.
+    let unused = if directory.is_some() {
+        unused_in(alloc, folder, name)
+    } else {
+        None
+    };
     Begin {
         has_conf,
-        unused: if has_conf {
-            unused_in(alloc, folder, name)
-        } else {
-            None
-        },
-        directory: match directory_in(alloc, folder, name) {
-            Some(directory) if has_conf => directory,
-            _ => String::new(alloc),
+        unused,
+        directory: match directory {
+            Some(directory) => directory,
+            None => String::new(alloc),
         },
     }
 }

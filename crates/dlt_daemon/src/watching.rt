@@ -1,12 +1,13 @@
 //! Who looks on while the daemon runs: it says a line at the begin, a status line each so many seconds, syncs the trace, and ends the daemon when
 //! standard input ends.
 
+use crate::asked::Asked;
 use crate::ending::Ending;
 use dl_bytes::Moment;
 use dl_daemon::{Passed, Teller, Watch};
 use dl_events::Unkept;
 use dl_outside::{Link, Sink};
-use dl_real::{InputEnd, TraceSync};
+use dl_real::{InputEnd, PromptOutput, Taken, TraceSync};
 use dl_server::Server;
 use std::fs::Files;
 use std::io::Eprint;
@@ -24,6 +25,39 @@ pub struct Watching<R, O> {
     pub ending: Option<Ending>,
     /// What syncs the trace, where that is asked for.
     pub sync: Option<TraceSync>,
+    /// How often a trace file was taken away.
+    pub taken: Taken,
+}
+
+impl Watching<HostRuntime, PromptOutput> {
+    /// Looks on as it is asked for, from this moment on: status lines go to standard output.
+    pub fn over(
+        rt: HostRuntime,
+        asked: &Asked,
+        begins: Option<String>,
+        taken: Taken,
+        moment: Moment,
+    ) -> Watching<HostRuntime, PromptOutput> {
+        let out = PromptOutput::over(rt.alloc(), rt.stdout());
+        let input = if asked.until_eof {
+            Some(InputEnd::of(rt.stdin()))
+        } else {
+            None
+        };
+        let sync = match asked.sync {
+            Some(every) => Some(TraceSync::each(rt.alloc(), every)),
+            None => None,
+        };
+        Watching {
+            rt,
+            teller: Teller::make(rt.alloc(), out, moment),
+            begins,
+            input,
+            ending: None,
+            sync,
+            taken,
+        }
+    }
 }
 
 impl<R, O> Watching<R, O> {
@@ -64,6 +98,10 @@ impl<R: Files + Eprint + AllocGlobal, O: Sink> Watch for Watching<R, O> {
                 sync.turn(&self.rt, state.files.all(), moment.secs);
             }
         }
+        let passed = Passed {
+            taken: self.taken.count(),
+            ..passed
+        };
         let goes_on = self.teller.goes_on(server, passed, moment);
         goes_on && !self.is_over(moment.ticks, server.core.hub().admitted())
     }

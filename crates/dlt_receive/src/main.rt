@@ -1,9 +1,10 @@
 //! `dlt_receive PORT`: connects to a daemon on this machine, and prints each message that it sends, and where messages
-//! are missing. `dlt_receive HOST:PORT` connects to one on another machine.
+//! are missing. `dlt_receive HOST:PORT` connects to one on another machine. With `--contexts` before or behind that word
+//! each context's messages are counted by themselves, as COVESA's programs count.
 #![tactic(auto)]
 
 use dl_real::{TcpDial, Writing};
-use dl_receive::{Status, receive};
+use dl_receive::{Counting, Status, receive};
 use std::alloc::Global;
 use std::env;
 use std::io::ErrorKind;
@@ -16,6 +17,20 @@ fn words(rt: &(impl Env + AllocGlobal)) -> Option<Vec<String>> {
         Ok(args) => args.collect(rt.alloc()).ok(),
         Err(error) if error.kind() == ErrorKind::OutOfMemory => None,
         Err(_) => Some(Vec::new(rt.alloc())),
+    }
+}
+
+/// The word that asks for messages to be counted by context.
+const CONTEXTS: &str = "--contexts";
+
+/// What messages are counted by, and the words without the one that says so. A second such word stays, and is refused.
+fn counted(mut words: Vec<String>) -> (Counting, Vec<String>) {
+    match words.iter().position(|word| word.as_str() == CONTEXTS) {
+        Some(at) if at > 0 => {
+            words.remove(at);
+            (Counting::Contexts, words)
+        }
+        Some(_) | None => (Counting::Sessions, words),
     }
 }
 
@@ -63,13 +78,14 @@ fn main(rt: HostRuntime) -> ExitCode {
     let Some(words) = words(&rt) else {
         return out_of_memory(&rt);
     };
+    let (counting, words) = counted(words);
     let Some((host, words)) = parted(alloc, words) else {
         return out_of_memory(&rt);
     };
     let mut out = Writing::over(rt.stdout());
     let mut err = Writing::over(rt.stderr());
     let mut dial = TcpDial::over(rt, host);
-    let received = receive(alloc, &words, &mut dial, &mut out, &mut err);
+    let received = receive(alloc, counting, &words, &mut dial, &mut out, &mut err);
     if received.status == Status::NetFault.number() {
         let why = dial.why();
         let _ = eprintln!(&rt; "dlt_receive: {why}");

@@ -4,7 +4,7 @@ ghost use Rattle.std.specs.Prelude.{None};
 
 use dl_memory::{Failing, MemoryDial, MemorySink, MemorySource};
 use dl_outside::{Dial, DialFault};
-use dl_receive::{Received, receive};
+use dl_receive::{Counting, Received, receive};
 use std::alloc::Global;
 
 /// The port of the objects in memory.
@@ -67,7 +67,14 @@ where
     D::S: Drop,
 {
     let mut err = MemorySink::make(alloc, 100);
-    let Received { status, source } = receive(alloc, words, dial, &mut out, &mut err);
+    let Received { status, source } = receive(
+        alloc,
+        Counting::Sessions,
+        words,
+        dial,
+        &mut out,
+        &mut err,
+    );
     let has_source = source.is_some();
     Run {
         status,

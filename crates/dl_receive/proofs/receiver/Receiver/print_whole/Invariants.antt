@@ -1,4 +1,5 @@
 use Rattle.std.proofs.Common.{◌≡◌, List, ℕ, length}
+use Rattle.dl_receive.specs.declared.counting.Counting.{Counting}
 use Rattle.dl_receive.specs.Receiving.{IsAfter}
 use Rattle.dl_receive.specs.Text.{len_limit}
 use Rattle.dl_receive.proofs.receiver.Receiver.print_whole.Given as goal
@@ -7,7 +8,7 @@ use Rattle.dl_receive.proofs.receiver.Receiver.print_whole.Given as goal
 abbrev pub invariant-loop-self : goal.invariant-loop-self
 invariant-loop-self l = record {
   limit : l.self.cutter.limit ≡ len_limit;
-  after : (stream shown : List ℕ) → IsAfter stream shown l.fn.self → IsAfter stream shown l.self;
+  after : (counting : Counting) (stream shown : List ℕ) → IsAfter counting stream shown l.fn.self → IsAfter counting stream shown l.self;
 }
 
 abbrev pub decreases-loop-self : goal.decreases-loop-self

@@ -6,14 +6,14 @@ use Rattle.dl_receive.proofs.receiver.Receiver.take.Goals as goal
 use Rattle.dl_lemmas.proofs.Lists.{empty_of}
 
 pub returns-then-not-branch : goal.returns-then-not-branch
-returns-then-not-branch c = λ stream shown after.
+returns-then-not-branch c = λ counting stream shown after.
     let i = c.loop-rest.invariant in
     let done = i.1.0 in
     let rest = c.loop-rest.rest.now in
     let new = c.print_whole.new.self in
     let bad = subst (λ (b : Bool). Stands b new) c.if-not-branch.true c.in_ok-print_whole.ensures.stands in
-    bad_piece stream shown done rest c.args.piece.now new c.feed-taken.result i.1.1
-    (takes stream shown done rest c.loop-rest.self new c.feed-taken.result c.feed-taken.new.self (i.1.2 stream shown after) c.feed-taken.ensures c.in_ok-print_whole.ensures.after) bad
+    bad_piece counting stream shown done rest c.args.piece.now new c.feed-taken.result i.1.1
+    (takes counting stream shown done rest c.loop-rest.self new c.feed-taken.result c.feed-taken.new.self (i.1.2 counting stream shown after) c.feed-taken.ensures (c.in_ok-print_whole.ensures.after counting)) bad
 
 pub loop-rest-preserved : goal.loop-rest-preserved
 loop-rest-preserved c =
@@ -27,16 +27,16 @@ loop-rest-preserved c =
       (
         done ++ take taken rest,
         ap (λ (x : List ℕ). (done ++ take taken rest) ++ x) (take_rest rest taken) ∙ whole_piece done rest c.args.piece.now taken i.1.1,
-        λ stream shown after.
-            takes stream shown done rest c.loop-rest.self new taken c.feed-taken.new.self (i.1.2 stream shown after) c.feed-taken.ensures c.in_ok-print_whole.ensures.after,
+        λ counting stream shown after.
+            takes counting stream shown done rest c.loop-rest.self new taken c.feed-taken.new.self (i.1.2 counting stream shown after) c.feed-taken.ensures (c.in_ok-print_whole.ensures.after counting),
       ),
     )
 
 pub returns : goal.returns
-returns c = λ stream shown after.
+returns c = λ counting stream shown after.
     let i = c.loop-rest.invariant in
     let done = i.1.0 in
     let rest = c.loop-rest.rest.now in
     let empty : rest ≡ [] = empty_of rest (eqb-true (length rest) 0 (sym c.is_empty.ensures ∙ c.loop-rest-test.false)) in
     let all : done ≡ c.args.piece.now = sym (append-nil done) ∙ ap (λ (x : List ℕ). done ++ x) (sym empty) ∙ i.1.1 in
-    (subst (λ (d : List ℕ). IsAfter (stream ++ d) shown c.loop-rest.self) all (i.1.2 stream shown after), i.0)
+    (subst (λ (d : List ℕ). IsAfter counting (stream ++ d) shown c.loop-rest.self) all (i.1.2 counting stream shown after), i.0)
