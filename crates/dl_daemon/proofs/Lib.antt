@@ -12,3 +12,4 @@ pub mod HeardToTheEnd
 pub mod Steps
 pub mod LeftServers
 pub mod Keepings
+pub mod Renamed

@@ -10,3 +10,4 @@ pub mod Comes
 pub mod Program
 pub mod Figures
 pub mod Line
+pub mod Aside

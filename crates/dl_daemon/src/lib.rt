@@ -6,6 +6,7 @@
 //! that the daemon goes by, what is promised then is what holds of the program at each of its rounds, were it closed there.
 #![tactic(auto)]
 
+mod aside;
 mod beginning;
 mod closing;
 mod counting;
@@ -23,6 +24,7 @@ mod rounds;
 mod teller;
 mod watch;
 
+pub use aside::{BAD_NAME, BadStored, set_aside};
 pub use counting::figures_of;
 pub use figures::{Figures, Passed};
 pub use left::Left;

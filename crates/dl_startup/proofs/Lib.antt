@@ -2,4 +2,3 @@ pub mod Sinks
 pub mod Sources
 pub mod StoredText
 pub mod Told
-pub mod Renamed

@@ -6,4 +6,3 @@ pub mod Failures
 pub mod Unchanged
 pub mod Setup
 pub mod Configuration
-pub mod Aside

@@ -2,7 +2,6 @@
 //! text that they write, and how they end.
 #![tactic(auto)]
 
-mod aside;
 mod configuration;
 mod failures;
 mod input;
@@ -12,7 +11,6 @@ mod setup;
 mod status;
 mod storage_kind;
 
-pub use aside::{BAD_NAME, BadStored, set_aside};
 pub use configuration::{Setup, set_up};
 pub use failures::{Failures, unserved};
 pub use input::{ReadError, read_text};

@@ -1,7 +1,8 @@
 //! A stored configuration that isn't of the form doesn't keep the daemon from starting: it is put under another name, and that is said.
 
+use dl_daemon::{BAD_NAME, set_aside};
 use dl_outside::Folder;
-use dl_startup::{BAD_NAME, STORED_NAME, set_aside};
+use dl_startup::STORED_NAME;
 use dl_text::SIZE_LIMIT;
 use std::fs;
 

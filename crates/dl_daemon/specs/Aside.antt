@@ -8,7 +8,7 @@ use Rattle.dl_outside.specs.declared.folder.FolderFault.{FolderFault}
 use Rattle.dl_outside.specs.declared.folder.FolderFault.TheVariants.{Failed, OutOfMemory}
 use Rattle.dl_startup.specs.Setup.{stored_in, stored_name}
 use Rattle.dl_startup.specs.Unchanged.{IsQuiet}
-use Rattle.dl_startup.specs.declared.aside.BadStored.{BadStored}
+use Rattle.dl_daemon.specs.declared.aside.BadStored.{BadStored}
 
 -- the name under which it is kept
 abbrev pub bad_name : List ℕ

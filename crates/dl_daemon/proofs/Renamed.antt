@@ -9,9 +9,9 @@ use Rattle.dl_outside.specs.Outside.{Stays}
 use Rattle.dl_outside.specs.declared.folder.FolderFault.{FolderFault}
 use Rattle.dl_outside.specs.declared.folder.FolderFault.TheVariants.{Failed, OutOfMemory}
 use Rattle.dl_trace.proofs.Holding.{gone_other, put_other, put_same}
-use Rattle.dl_startup.specs.Aside.{IsAside, IsKept, Renames, bad_name, renamed}
+use Rattle.dl_daemon.specs.Aside.{IsAside, IsKept, Renames, bad_name, renamed}
 use Rattle.dl_startup.specs.Setup.{none_stored, stored_in, stored_name}
-use Rattle.dl_startup.specs.declared.aside.BadStored.{BadStored}
+use Rattle.dl_daemon.specs.declared.aside.BadStored.{BadStored}
 use Rattle.dl_lemmas.proofs.Options.{if_some_of}
 
 -- ---- two names

@@ -1,11 +1,11 @@
 //! A stored configuration that isn't of the form, put under another name, so that a daemon can begin without it.
 
 ghost use Rattle.dl_outside.specs.Folder.{HasCause};
-ghost use Rattle.dl_startup.specs.Aside.{Renames, SaysFault, SetsAside};
+ghost use Rattle.dl_daemon.specs.Aside.{Renames, SaysFault, SetsAside};
 
-use crate::setup::STORED_NAME;
 use dl_conf::{StoredError, StoredKind, read_stored};
 use dl_outside::{Folder, FolderFault};
+use dl_startup::STORED_NAME;
 use std::alloc::Global;
 
 /// The name under which a stored configuration is kept that isn't of the form.

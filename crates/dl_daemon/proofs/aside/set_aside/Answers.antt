@@ -1,6 +1,6 @@
-use Rattle.dl_startup.proofs.Renamed.{fault_kept, good_stands, is_aside, none_stands, stays_kept}
+use Rattle.dl_daemon.proofs.Renamed.{fault_kept, good_stands, is_aside, none_stands, stays_kept}
 use Rattle.dl_startup.proofs.Told.{quiet}
-use Rattle.dl_startup.proofs.aside.set_aside.Goals as goal
+use Rattle.dl_daemon.proofs.aside.set_aside.Goals as goal
 
 pub returns-in-Ok-None-clause-aside : goal.returns-in-Ok-None-clause-aside
 returns-in-Ok-None-clause-aside g c =

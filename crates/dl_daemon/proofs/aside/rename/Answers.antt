@@ -1,5 +1,5 @@
-use Rattle.dl_startup.proofs.Renamed.{not_put, put_so}
-use Rattle.dl_startup.proofs.aside.rename.Goals as goal
+use Rattle.dl_daemon.proofs.Renamed.{not_put, put_so}
+use Rattle.dl_daemon.proofs.aside.rename.Goals as goal
 
 pub returns-in-Ok-clause-renamed : goal.returns-in-Ok-clause-renamed
 returns-in-Ok-clause-renamed g c =
