@@ -5,6 +5,7 @@ ghost use Rattle.std.specs.List.{range_with_len};
 ghost use Rattle.dl_desk.specs.Made.{IsLater, IsMadeWith};
 ghost use Rattle.dl_desk.specs.State.{DeskState};
 ghost use Rattle.dl_account.specs.Known.{IsDrained};
+ghost use Rattle.dl_account.specs.Making.{AreMadeWith};
 ghost use Rattle.dl_writer.specs.State.{numbers};
 
 use crate::jobs::{Job, OfWriter, Worked, work};
@@ -151,12 +152,62 @@ fn join_all<R: Threads>(rt: &R, children: Vec<PromisedHandle<Worked, OfWriter>>)
     Back { books, full }
 }
 
+/// What the daemon heard while the threads worked, and what they give back.
+#[derive(Drop)]
+struct Met {
+    heard: Heard,
+    back: Back,
+}
+
+/// Lets all books work beside the daemon, each in a thread of its own.
+fn work_beside<'s, E: 's, R: Threads + Wait + Sync>(
+    scope: &'s Scope<'s, E>,
+    rt: &'s R,
+    alloc: Global,
+    desk: &mut Desk,
+    books: Vec<Book>,
+    declared: Ctx,
+    job: Job,
+    meanwhile: Meanwhile,
+) -> Result<Met, OutOfMemory>
+    requires apps { 0 < length desk.old.apps }
+    requires few { vec_len books ≤ 32 }
+    requires made { All (λ b. IsMadeWith desk.old b.writer) books.items }
+    requires numbered { map (λ b. b.writer.push.number) books.items ≡ range_with_len 1 (vec_len books) }
+    requires bases { All (λ b. b.writer.base ≡ 1) books.items }
+    ensures made { IfOk result (λ met. AreMadeWith desk.new met.back.books) }
+{
+    match start(scope, rt, alloc, desk, books, declared, job) {
+        Ok(children) => {
+            let heard = serve(rt, desk, meanwhile);
+            let back = join_all(rt, children);
+            Ok(Met { heard, back })
+        }
+        Err(fault) => Err(fault),
+    }
+}
+
 /// What happened while the threads worked, and the daemon's side once all are back.
 #[derive(Drop)]
 struct Gathered {
     heard: Heard,
     full: u64,
     closing: Closing,
+}
+
+/// The daemon's side once all are back, where that is all.
+fn gather(heard: Heard, desk: Desk, back: Back) -> Option<Gathered>
+    requires { AreMadeWith desk back.books }
+{
+    let Back { books, full } = back;
+    match Closing::make(desk, books) {
+        Ok(closing) => Some(Gathered {
+            heard,
+            full,
+            closing,
+        }),
+        Err(_) => None,
+    }
 }
 
 /// All books at once, each in a thread of its own that does its part of the job.
@@ -186,16 +237,9 @@ fn crowd<R: Threads + Wait + Sync>(
             requires bases { All (λ b. b.writer.base ≡ 1) books.items }
         {
             let mut desk = desk;
-            let children = start(scope, rt, alloc, &desk, books, declared, job)?;
-            let heard = serve(rt, &mut desk, meanwhile);
-            let Back { books, full } = join_all(rt, children);
-            match Closing::make(desk, books) {
-                Ok(closing) => Ok(Some(Gathered {
-                    heard,
-                    full,
-                    closing,
-                })),
-                Err(_) => Ok(None),
+            match work_beside(scope, rt, alloc, &mut desk, books, declared, job, meanwhile) {
+                Ok(Met { heard, back }) => Ok(gather(heard, desk, back)),
+                Err(fault) => Err(fault),
             }
         },
     )
@@ -311,6 +355,24 @@ fn hear_rest<R: Wait>(rt: &R, closing: &mut Closing) -> Option<Heard>
     Some(heard)
 }
 
+/// What an account tells.
+fn told_by(account: &Account, full: u64, heard: Heard) -> Outcome {
+    Outcome {
+        calls: counted(account),
+        claimed: claimed(account.claims()),
+        full,
+        heard,
+    }
+}
+
+/// What the account of a drained daemon's side tells.
+fn told(alloc: Global, closing: Closing, full: u64, heard: Heard) -> Outcome
+    requires { IsDrained closing }
+{
+    let account = closing.finish(Kept::make(alloc), no_ends(alloc));
+    told_by(&account, full, heard)
+}
+
 /// What became of all calls and claims, of what was heard before the threads were back and of the daemon's side then.
 fn drained<R: Wait>(rt: &R, alloc: Global, gathered: Gathered) -> Option<Outcome> {
     let Gathered {
@@ -319,15 +381,7 @@ fn drained<R: Wait>(rt: &R, alloc: Global, gathered: Gathered) -> Option<Outcome
         mut closing,
     } = gathered;
     match hear_rest(rt, &mut closing) {
-        Some(after) => {
-            let account = closing.finish(Kept::make(alloc), no_ends(alloc));
-            Some(Outcome {
-                calls: counted(&account),
-                claimed: claimed(account.claims()),
-                full,
-                heard: heard.and(after),
-            })
-        }
+        Some(after) => Some(told(alloc, closing, full, heard.and(after))),
         None => None,
     }
 }

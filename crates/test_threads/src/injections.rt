@@ -6,7 +6,6 @@ use dl_bytes::{Injection, OutOfMemory, Payload};
 use dl_ring::{InjectPush, InjectTake, make_injections};
 use std::alloc::Global;
 use std::sync::Wait;
-use std::test::Fail;
 use std::thread;
 use std::thread::Threads;
 
@@ -81,31 +80,67 @@ fn crowd<R: Threads + Wait + Sync>(
     )
 }
 
-#[test]
-fn sixteen_wait_at_most(rt: HostRuntime) -> Result<(), Fail> {
-    let (mut push, mut take) = make_injections(rt.alloc())?;
-    let other = take.split();
-    assert_eq!(rt; fill(&rt, &mut push), 16);
-    assert!(rt; gives(&rt, &mut take, 0, 1));
-    assert!(rt; push.push(&rt, injection(16)).is_ok());
-    assert!(rt; gives(&rt, &mut take, 1, 17));
-    assert!(rt; take.take(&rt).is_none());
-    assert_eq!(rt; push.join(take), 1);
-    assert_eq!(rt; push.join(other), 0);
-    push.look();
-    Ok(())
+/// Whether sixteen wait at most, and are given in order, and one more waits once one was given.
+fn wait_sixteen<R: Wait>(rt: &R, push: &mut InjectPush, take: &mut InjectTake) -> [bool; 5]
+    ensures push { push.new.queue ≡ push.old.queue }
+    ensures take { take.new.queue ≡ take.old.queue }
+{
+    [
+        fill(rt, push) == 16,
+        gives(rt, take, 0, 1),
+        push.push(rt, injection(16)).is_ok(),
+        gives(rt, take, 1, 17),
+        take.take(rt).is_none(),
+    ]
+}
+
+/// The same of a queue that was just made, and how many each pass was given.
+fn sixteen_of_one<R: Wait>(rt: &R, alloc: Global) -> Option<([bool; 5], [u64; 2])> {
+    match make_injections(alloc) {
+        Ok((mut push, mut take)) => {
+            let other = take.split();
+            let are_so = wait_sixteen(rt, &mut push, &mut take);
+            let joined = [push.join(take), push.join(other)];
+            push.look();
+            Some((are_so, joined))
+        }
+        Err(_) => None,
+    }
 }
 
 #[test]
-fn each_is_taken_once(rt: HostRuntime) -> Result<(), Fail> {
-    let (mut push, mut first) = make_injections(rt.alloc())?;
-    assert_eq!(rt; fill(&rt, &mut push), 16);
-    let takers = [first.split(), first.split(), first.split(), first.split()];
+fn sixteen_wait_at_most(rt: HostRuntime) {
+    assert!(rt; sixteen_of_one(&rt, rt.alloc()) == Some(([true; 5], [1, 0])));
+}
+
+/// All service ids that were taken, where none was taken twice.
+fn taken_once(taken: &[u32]) -> Option<u32> {
     let mut all = 0;
-    for services in crowd(&rt, rt.alloc(), takers)? {
-        assert_eq!(rt; all & services, 0);
-        all |= services;
+    for services in taken {
+        if all & *services != 0 {
+            return None;
+        }
+        all |= *services;
     }
-    assert_eq!(rt; all, 0xffff);
-    Ok(())
+    Some(all)
+}
+
+/// What four threads take of sixteen injections.
+fn taken_of_one<R: Threads + Wait + Sync>(rt: &R, alloc: Global) -> Option<(u32, u32)> {
+    match make_injections(alloc) {
+        Ok((mut push, mut first)) => {
+            let filled = fill(rt, &mut push);
+            let takers = [first.split(), first.split(), first.split(), first.split()];
+            match crowd(rt, alloc, takers) {
+                Ok(taken) => taken_once(&taken).map(|all| (filled, all)),
+                Err(_) => None,
+            }
+        }
+        Err(_) => None,
+    }
+}
+
+#[test]
+fn each_is_taken_once(rt: HostRuntime) {
+    assert!(rt; taken_of_one(&rt, rt.alloc()) == Some((16, 0xffff)));
 }

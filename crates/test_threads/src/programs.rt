@@ -28,14 +28,47 @@ pub fn one_app(alloc: Global, capacity: u16, writers: u8, room: u32) -> Result<P
     ensures bases { IfOk result (λ p. All (λ b. b.writer.base ≡ 1) p.books.items) }
 {
     let specs = [spec(alloc, *b"LOG1", capacity)];
-    let (mut desk, mut apps) = Desk::make(alloc, &specs)?;
-    let app = apps.of_mut(0);
+    match Desk::make(alloc, &specs) {
+        Ok((mut desk, mut apps)) => match open(alloc, apps.of_mut(0), &mut desk, writers, room) {
+            Ok(Opened { ctx, books }) => Ok(Program { desk, ctx, books }),
+            Err(fault) => Err(fault),
+        },
+        Err(fault) => Err(fault),
+    }
+}
+
+/// An application's context, and the books of its writers.
+#[derive(Drop)]
+struct Opened {
+    ctx: Ctx,
+    books: Vec<Book>,
+}
+
+/// The context at level info of a desk's first application, and the books of so many writers.
+fn open(
+    alloc: Global,
+    app: &mut App,
+    desk: &mut Desk,
+    writers: u8,
+    room: u32,
+) -> Result<Opened, OutOfMemory>
+    requires app { IsAppOf desk.old app.old }
+    requires some { 0 < length desk.old.apps }
+    requires first { desk.old.owners ≡ [] }
+    requires one { length app.old.hello ≡ 1 }
+    ensures apps { IfOk result (λ _. desk.new.apps ≡ desk.old.apps) }
+    ensures made { IfOk result (λ o. All (λ b. IsMadeWith desk.new b.writer) o.books.items) }
+    ensures numbered { IfOk result (λ o. map (λ b. b.writer.push.number) o.books.items ≡ range_with_len 1 writers) }
+    ensures bases { IfOk result (λ o. All (λ b. b.writer.base ≡ 1) o.books.items) }
+{
     let ctx = context(app)?;
     let Ok(()) = desk.set(0, Level::from(Severity::Info)) else {
         return Err(OutOfMemory);
     };
-    let books = open_books(alloc, app, &mut desk, writers, room)?;
-    Ok(Program { desk, ctx, books })
+    match open_books(alloc, app, desk, writers, room) {
+        Ok(books) => Ok(Opened { ctx, books }),
+        Err(fault) => Err(fault),
+    }
 }
 
 /// An application with this id.

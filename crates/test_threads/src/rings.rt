@@ -9,7 +9,6 @@ use dl_bytes::{Claim, ClaimText, Id, Item, OutOfMemory, OwnLevel, Payload, Sever
 use dl_ring::{Call, RingItem, RingPush, RingTake, Taken, make_ring};
 use std::alloc::Global;
 use std::sync::Wait;
-use std::test::Fail;
 use std::thread;
 use std::thread::Threads;
 
@@ -227,75 +226,172 @@ fn drain<R: Wait>(rt: &R, take: &mut RingTake) -> u64 {
     MANY
 }
 
-#[test]
-fn ring_exact_at_each_capacity(rt: HostRuntime) -> Result<(), Fail> {
-    for capacity in [1u16, 2, 3, 16, 4096] {
-        let (mut push, mut take) = make_ring(rt.alloc(), capacity)?;
-        let size = u64::from(capacity);
-        let half = size.div_ceil(2);
-        assert_eq!(rt; fill(&rt, &mut push, 0, 0), size);
-        assert!(rt; gives(&rt, &mut take, 0, 0, half));
-        assert_eq!(rt; fill(&rt, &mut push, 0, size), size + half);
-        assert!(rt; gives(&rt, &mut take, 0, half, size + half));
-        assert!(rt; take.take(&rt).is_none());
+/// Of a ring of this size: whether it takes just so many calls, gives the first half of them, and then takes as many again as it gave.
+fn is_exact<R: Wait>(rt: &R, push: &mut RingPush, take: &mut RingTake, size: u64) -> [bool; 5]
+    requires number { push.old.number ≡ 0 }
+    requires size { size ≤ 4096 }
+{
+    let half = size.div_ceil(2);
+    [
+        fill(rt, push, 0, 0) == size,
+        gives(rt, take, 0, 0, half),
+        fill(rt, push, 0, size) == size + half,
+        gives(rt, take, 0, half, size + half),
+        take.take(rt).is_none(),
+    ]
+}
+
+/// The same of a ring that was just made.
+fn is_exact_at<R: Wait>(rt: &R, alloc: Global, capacity: u16) -> [bool; 5]
+    requires { (1 ≤ capacity) × (capacity ≤ 4096) }
+{
+    match make_ring(alloc, capacity) {
+        Ok((mut push, mut take)) => is_exact(rt, &mut push, &mut take, u64::from(capacity)),
+        Err(_) => [false; 5],
     }
-    Ok(())
 }
 
 #[test]
-fn ring_exact_of_two_writers(rt: HostRuntime) -> Result<(), Fail> {
-    let (mut first, mut take) = make_ring(rt.alloc(), 16)?;
-    let mut one = first.split(1);
-    let mut two = first.split(2);
-    assert!(rt; fill_in_turn(&rt, &mut one, &mut two, 8));
-    assert!(rt; comes_back(&rt, &mut one, 1, 9));
-    assert!(rt; comes_back(&rt, &mut two, 2, 9));
-    assert!(rt; gives_in_turn(&rt, &mut take, 8));
-    assert!(rt; take.take(&rt).is_none());
-    assert_eq!(rt; take.join(one), 1);
-    assert_eq!(rt; take.join(two), 1);
-    assert_eq!(rt; take.join(first), 0);
-    take.look();
-    Ok(())
+fn ring_exact_at_each_capacity(rt: HostRuntime) {
+    assert!(rt; is_exact_at(&rt, rt.alloc(), 1) == [true; 5]);
+    assert!(rt; is_exact_at(&rt, rt.alloc(), 2) == [true; 5]);
+    assert!(rt; is_exact_at(&rt, rt.alloc(), 3) == [true; 5]);
+    assert!(rt; is_exact_at(&rt, rt.alloc(), 16) == [true; 5]);
+    assert!(rt; is_exact_at(&rt, rt.alloc(), 4096) == [true; 5]);
+}
+
+/// Whether a ring of sixteen takes eight calls of each of two writers, refuses the ninth, and gives the eight in turn and nothing more.
+fn is_exact_in_turn<R: Wait>(rt: &R, one: &mut RingPush, two: &mut RingPush, take: &mut RingTake) -> [bool; 5]
+    requires numbers { (one.old.number ≡ 1) × (two.old.number ≡ 2) }
+    ensures one { one.new.ring ≡ one.old.ring }
+    ensures two { two.new.ring ≡ two.old.ring }
+    ensures take { take.new.ring ≡ take.old.ring }
+{
+    [
+        fill_in_turn(rt, one, two, 8),
+        comes_back(rt, one, 1, 9),
+        comes_back(rt, two, 2, 9),
+        gives_in_turn(rt, take, 8),
+        take.take(rt).is_none(),
+    ]
+}
+
+/// The same of a ring that was just made, and how many pushes of each pass were refused.
+fn two_writers<R: Wait>(rt: &R, alloc: Global) -> Option<([bool; 5], [u64; 3])> {
+    match make_ring(alloc, 16) {
+        Ok((mut first, mut take)) => {
+            let mut one = first.split(1);
+            let mut two = first.split(2);
+            let are_so = is_exact_in_turn(rt, &mut one, &mut two, &mut take);
+            let refused = [take.join(one), take.join(two), take.join(first)];
+            take.look();
+            Some((are_so, refused))
+        }
+        Err(_) => None,
+    }
 }
 
 #[test]
-fn ring_exact_of_claims(rt: HostRuntime) -> Result<(), Fail> {
-    let (mut first, mut take) = make_ring(rt.alloc(), 2)?;
-    let mut push = first.split(1);
-    let mut kept = call_item(2, 7);
-    assert_eq!(rt; refused_place(&rt, &mut push, 5), None);
-    assert_eq!(rt; refused_place(&rt, &mut push, 63), None);
-    assert_eq!(rt; refused_place(&rt, &mut push, 8), Some(8));
-    assert_eq!(rt; claimed_place(&rt, &mut take, &mut kept), Some(5));
-    assert_eq!(rt; claimed_place(&rt, &mut take, &mut kept), Some(63));
-    assert!(rt; matches!(take.take_into(&rt, &mut kept), Taken::Nothing));
-    assert_eq!(rt; kept.call, 7);
-    assert_eq!(rt; take.join(push), 1);
-    Ok(())
+fn ring_exact_of_two_writers(rt: HostRuntime) {
+    assert!(rt; two_writers(&rt, rt.alloc()) == Some(([true; 5], [1, 1, 0])));
+}
+
+/// Whether a ring of two takes two claims, refuses the third, and gives the two and nothing more; the caller's item stays.
+fn is_exact_of_claims<R: Wait>(rt: &R, push: &mut RingPush, take: &mut RingTake, kept: &mut Item) -> [bool; 7]
+    requires { push.old.number ≡ 1 }
+    ensures push { push.new.ring ≡ push.old.ring }
+    ensures take { take.new.ring ≡ take.old.ring }
+{
+    [
+        refused_place(rt, push, 5).is_none(),
+        refused_place(rt, push, 63).is_none(),
+        refused_place(rt, push, 8) == Some(8),
+        claimed_place(rt, take, kept) == Some(5),
+        claimed_place(rt, take, kept) == Some(63),
+        matches!(take.take_into(rt, kept), Taken::Nothing),
+        kept.call == 7,
+    ]
+}
+
+/// The same of a ring that was just made, and how many pushes were refused.
+fn claims_of_one<R: Wait>(rt: &R, alloc: Global) -> Option<([bool; 7], u64)> {
+    match make_ring(alloc, 2) {
+        Ok((mut first, mut take)) => {
+            let mut push = first.split(1);
+            let are_so = is_exact_of_claims(rt, &mut push, &mut take, &mut call_item(2, 7));
+            Some((are_so, take.join(push)))
+        }
+        Err(_) => None,
+    }
 }
 
 #[test]
-fn ring_boxes_hold_claims_and_calls_in_turn(rt: HostRuntime) -> Result<(), Fail> {
-    let (mut first, mut take) = make_ring(rt.alloc(), 1)?;
-    let mut push = first.split(1);
+fn ring_exact_of_claims(rt: HostRuntime) {
+    assert!(rt; claims_of_one(&rt, rt.alloc()) == Some(([true; 7], 1)));
+}
+
+/// Whether a ring of one holds a claim and then a call, each in turn.
+fn holds_both<R: Wait>(rt: &R, push: &mut RingPush, take: &mut RingTake, kept: &mut Item, turn: u8) -> bool
+    requires number { push.old.number ≡ 1 }
+    requires place { turn < 64 }
+    ensures { push.new.number ≡ 1 }
+{
+    let call = u64::from(turn);
+    refused_place(rt, push, turn).is_none()
+        && claimed_place(rt, take, kept) == Some(turn)
+        && push_call(rt, push, call)
+        && !push_call(rt, push, call)
+        && copied_call(rt, take, kept) == Some(call)
+}
+
+/// The same 64 times.
+fn holds_both_in_turn<R: Wait>(rt: &R, push: &mut RingPush, take: &mut RingTake) -> bool
+    requires { push.old.number ≡ 1 }
+{
     let mut kept = call_item(2, 7);
     for turn in 0..64u8 {
-        let call = u64::from(turn);
-        assert_eq!(rt; refused_place(&rt, &mut push, turn), None);
-        assert_eq!(rt; claimed_place(&rt, &mut take, &mut kept), Some(turn));
-        assert!(rt; push_call(&rt, &mut push, call));
-        assert!(rt; !push_call(&rt, &mut push, call));
-        assert_eq!(rt; copied_call(&rt, &mut take, &mut kept), Some(call));
+        if !holds_both(rt, push, take, &mut kept, turn) {
+            return false;
+        }
     }
-    Ok(())
+    true
+}
+
+/// The same of a ring that was just made.
+fn boxes_hold_both<R: Wait>(rt: &R, alloc: Global) -> bool {
+    match make_ring(alloc, 1) {
+        Ok((mut first, mut take)) => holds_both_in_turn(rt, &mut first.split(1), &mut take),
+        Err(_) => false,
+    }
 }
 
 #[test]
-fn ring_crowd(rt: HostRuntime) -> Result<(), Fail> {
-    let (mut first, mut take) = make_ring(rt.alloc(), 4096)?;
-    let writers = writers(rt.alloc(), &mut first)?;
-    assert_eq!(rt; crowd(&rt, rt.alloc(), writers)?, 4000);
-    assert_eq!(rt; drain(&rt, &mut take), 4000);
-    Ok(())
+fn ring_boxes_hold_claims_and_calls_in_turn(rt: HostRuntime) {
+    assert!(rt; boxes_hold_both(&rt, rt.alloc()));
+}
+
+/// How many calls of eight threads the ring takes, and how many come out.
+fn crowd_through<R: Threads + Wait + Sync>(rt: &R, alloc: Global, first: &mut RingPush, take: &mut RingTake) -> Option<[u64; 2]>
+    requires { first.old ≡ unused_push first.old.ring first.old.capacity 0 true }
+{
+    match writers(alloc, first) {
+        Ok(writers) => match crowd(rt, alloc, writers) {
+            Ok(queued) => Some([queued, drain(rt, take)]),
+            Err(_) => None,
+        },
+        Err(_) => None,
+    }
+}
+
+/// The same of a ring that holds them all.
+fn crowd_on_one<R: Threads + Wait + Sync>(rt: &R, alloc: Global) -> Option<[u64; 2]> {
+    match make_ring(alloc, 4096) {
+        Ok((mut first, mut take)) => crowd_through(rt, alloc, &mut first, &mut take),
+        Err(_) => None,
+    }
+}
+
+#[test]
+fn ring_crowd(rt: HostRuntime) {
+    assert!(rt; crowd_on_one(&rt, rt.alloc()) == Some([4000, 4000]));
 }
