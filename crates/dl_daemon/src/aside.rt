@@ -44,10 +44,7 @@ fn rename<F: Folder>(folder: &mut F, text: &[u8]) -> Result<(), FolderFault>
 
 /// Puts a stored configuration that isn't of the form under `dlt_stored.cfg.bad`, in the place of an older one, and answers what is wrong with it. One that
 /// is of the form stays, and so does a folder without one. After a fault one of the two names has it.
-pub fn set_aside<F: Folder>(
-    alloc: Global,
-    folder: &mut F,
-) -> Result<Option<BadStored>, FolderFault>
+pub fn set_aside<F: Folder>(alloc: Global, folder: &mut F) -> Result<Option<BadStored>, FolderFault>
     ensures aside { SetsAside (F.told folder.old) (F.told folder.new) result }
     ensures cause { HasCause (F.told folder.old).faults (F.told folder.new).faults result }
 {

@@ -30,6 +30,8 @@ pub fn put_aside<F: Folder>(rt: &HostRuntime, folder: &mut F) {
     }
     if let Ok(Some(bad)) = set_aside(rt.alloc(), folder) {
         let number = bad.line;
-        let _ = eprintln!(rt; "dlt_daemon: {STORED_NAME}: line {number} is not of the form: kept as {BAD_NAME}");
+        let _ = eprintln!(rt;
+            "dlt_daemon: {STORED_NAME}: line {number} is not of the form: kept as {BAD_NAME}"
+        );
     }
 }

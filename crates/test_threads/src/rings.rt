@@ -261,7 +261,12 @@ fn ring_exact_at_each_capacity(rt: HostRuntime) {
 }
 
 /// Whether a ring of sixteen takes eight calls of each of two writers, refuses the ninth, and gives the eight in turn and nothing more.
-fn is_exact_in_turn<R: Wait>(rt: &R, one: &mut RingPush, two: &mut RingPush, take: &mut RingTake) -> [bool; 5]
+fn is_exact_in_turn<R: Wait>(
+    rt: &R,
+    one: &mut RingPush,
+    two: &mut RingPush,
+    take: &mut RingTake,
+) -> [bool; 5]
     requires numbers { (one.old.number ≡ 1) × (two.old.number ≡ 2) }
     ensures one { one.new.ring ≡ one.old.ring }
     ensures two { two.new.ring ≡ two.old.ring }
@@ -297,7 +302,12 @@ fn ring_exact_of_two_writers(rt: HostRuntime) {
 }
 
 /// Whether a ring of two takes two claims, refuses the third, and gives the two and nothing more; the caller's item stays.
-fn is_exact_of_claims<R: Wait>(rt: &R, push: &mut RingPush, take: &mut RingTake, kept: &mut Item) -> [bool; 7]
+fn is_exact_of_claims<R: Wait>(
+    rt: &R,
+    push: &mut RingPush,
+    take: &mut RingTake,
+    kept: &mut Item,
+) -> [bool; 7]
     requires { push.old.number ≡ 1 }
     ensures push { push.new.ring ≡ push.old.ring }
     ensures take { take.new.ring ≡ take.old.ring }
@@ -331,7 +341,13 @@ fn ring_exact_of_claims(rt: HostRuntime) {
 }
 
 /// Whether a ring of one holds a claim and then a call, each in turn.
-fn holds_both<R: Wait>(rt: &R, push: &mut RingPush, take: &mut RingTake, kept: &mut Item, turn: u8) -> bool
+fn holds_both<R: Wait>(
+    rt: &R,
+    push: &mut RingPush,
+    take: &mut RingTake,
+    kept: &mut Item,
+    turn: u8,
+) -> bool
     requires number { push.old.number ≡ 1 }
     requires place { turn < 64 }
     ensures { push.new.number ≡ 1 }
@@ -371,7 +387,12 @@ fn ring_boxes_hold_claims_and_calls_in_turn(rt: HostRuntime) {
 }
 
 /// How many calls of eight threads the ring takes, and how many come out.
-fn crowd_through<R: Threads + Wait + Sync>(rt: &R, alloc: Global, first: &mut RingPush, take: &mut RingTake) -> Option<[u64; 2]>
+fn crowd_through<R: Threads + Wait + Sync>(
+    rt: &R,
+    alloc: Global,
+    first: &mut RingPush,
+    take: &mut RingTake,
+) -> Option<[u64; 2]>
     requires { first.old ≡ unused_push first.old.ring first.old.capacity 0 true }
 {
     match writers(alloc, first) {

@@ -11,7 +11,11 @@ const LAST: u64 = 0xff_ffff_ffff_ffff;
 
 /// Sets the slot twice, one version before the last: whether it was off, is set, is worn then, is at the last version, and both readers see
 /// what was set.
-fn wears_out(keeper: &mut LevelKeeper, reader: &mut LevelReader, other: &mut LevelReader) -> [bool; 6]
+fn wears_out(
+    keeper: &mut LevelKeeper,
+    reader: &mut LevelReader,
+    other: &mut LevelReader,
+) -> [bool; 6]
     requires keeper { 0 < keeper.old.slots }
     requires reader { 0 < reader.old.slots }
     requires other { 0 < other.old.slots }
