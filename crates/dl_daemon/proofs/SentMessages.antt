@@ -18,9 +18,7 @@ use Rattle.dl_serve.specs.declared.beginning.Begun.{Begun}
 use Rattle.dl_serve.specs.declared.closed.Closed.{Closed}
 use Rattle.dl_serve.specs.Admitted.{AllAdmitted, TellGiven}
 use Rattle.dl_serve.specs.Closed.{IsLeft}
-use Rattle.dl_serve.specs.Shown.{AllShowEnds, TellLeft}
 use Rattle.dl_serve.proofs.AdmittedRuns.{GoesOn, Known, all_admitted, closing_known, nothing_known, on_both, on_still, round_known}
-use Rattle.dl_serve.proofs.ShownEnds.{ShownIn, all_show, closing_shown, nothing_shown, round_shown}
 use Rattle.dl_daemon.specs.declared.limits.Limits.{Limits}
 use Rattle.dl_daemon.specs.declared.rounds.Stop.{Stop}
 use Rattle.dl_daemon.specs.Outside.{Outside}
@@ -73,25 +71,3 @@ module _ {L : Type 0} (link_told : L → LinkTold) (tells : TellGiven link_told)
         let known : Known (Unit {0}) closed.events.events final = subst (λ (es : List Event). Known (Unit {0}) es final) same all.1 in
         subst (λ (es : List (Option ChannelEnd)). AllAdmitted closed.events.events (map link_told closed.users.links) es) (sym left.ends)
         (subst (λ (ls : List LinkTold). AllAdmitted closed.events.events ls (take (length final.programs) final.ends)) (sym left.users) (all_admitted closed.events.events final known))
-
-module _ {L : Type 0} (link_told : L → LinkTold) where
-  rounds_shown : (conf : Conf) (many : ℕ) (kept kept_now : Renewed) (net net_now users users_now : NetTold L) (old new : State)
-      → AreRounds link_told conf many kept kept_now net net_now users users_now old new → ShownIn (TellLeft link_told) old → ShownIn (TellLeft link_told) new
-  rounds_shown conf zero kept kept_now net net_now users users_now old new same all = subst (λ (s : State). ShownIn (TellLeft link_told) s) (sym same.3) all
-  rounds_shown conf (suc many) kept kept_now net net_now users users_now old new rounds all =
-      let r = rounds.5 in
-      round_shown (TellLeft link_told) link_told (λ link tells. tells link) rounds.1 net_now rounds.2 users_now (asked_again (with_trace rounds.3 r.core r.folder)) new r.round
-      (rounds_shown conf many kept rounds.0 net rounds.1 users rounds.2 old rounds.3 rounds.4 all)
-
-  module _ (most : Limits) (begun : Begun) (old new : Outside L) (why : Stop) (closed : Closed L) (has : HasOpened link_told most begun why old new closed) where
-    pub ended_so : AllShowEnds (TellLeft link_told) (map link_told closed.users.links) closed.ends
-    ended_so =
-        let made = has.is_opened.made in
-        let start : State = seen link_told noted old.folder has.opened.server in
-        let final : State = has.run.closes.0 in
-        let left : IsLeft link_told final closed = has.run.closes.3 in
-        let first = nothing_shown (TellLeft link_told) start.programs start.ends most.channels (ap (λ (ls : Links L). map link_told ls.links) made.no_program) made.no_end in
-        let went = rounds_shown begun.conf has.run.served.many (record { tries = untried; anew = None }) has.run.served.kept has.net new.net has.users new.users start has.run.last has.run.served.rounds first in
-        let all = closing_shown (TellLeft link_told) link_told (λ link tells. tells link) has.run.moment has.run.last final has.run.closes.2 went in
-        subst (λ (es : List (Option ChannelEnd)). AllShowEnds (TellLeft link_told) (map link_told closed.users.links) es) (sym left.ends)
-        (subst (λ (ls : List LinkTold). AllShowEnds (TellLeft link_told) ls (take (length final.programs) final.ends)) (sym left.users) (all_show (TellLeft link_told) final all))

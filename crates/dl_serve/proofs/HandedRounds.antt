@@ -34,7 +34,7 @@ use Rattle.dl_user.specs.Channel.{unfed}
 use Rattle.dl_serve.specs.Admitted.{TellGiven}
 use Rattle.dl_serve.specs.Handed.{GaveOrIdled}
 use Rattle.dl_serve.specs.Rounds.{AreRounds, HasRoom, IsSeen, event_limit, kept}
-use Rattle.dl_serve.proofs.DroppedLinks.{each_lasts, heard_one, linked_in, sent_one}
+use Rattle.dl_serve.proofs.LastingScenes.{each_lasts, heard_one, linked_in, sent_one}
 use Rattle.dl_serve.proofs.FewFrames.{NoMessage, nothing_begins}
 use Rattle.dl_serve.proofs.GaveClients.{AllGave, fresh_gave, round_gave}
 use Rattle.dl_serve.proofs.GavePrograms.{Read, all_read, all_sent}

@@ -1,6 +1,5 @@
 -- What became of all that programs outside sent to a server that was opened, ran and closed.
 use Rattle.std.proofs.Common.{◌≡◌, Bool, List, [], ◌++◌, length, map, take, Option, Some, sym, ap, subst, arith}
-use Rattle.std.specs.Prelude.{IsSome}
 use Rattle.dl_channel.specs.declared.outcome.ChannelEnd.{ChannelEnd}
 use Rattle.dl_events.specs.Journal.{Journaled}
 use Rattle.dl_events.specs.declared.event.Event.{Event}
@@ -18,10 +17,8 @@ use Rattle.dl_serve.specs.Admitted.{AllAdmitted, TellGiven}
 use Rattle.dl_serve.specs.Closed.{IsLeft}
 use Rattle.dl_serve.specs.Program.{HasOpened}
 use Rattle.dl_serve.specs.Rounds.{kept}
-use Rattle.dl_serve.specs.Shown.{AllShowEnds, TellLeft}
 use Rattle.dl_serve.specs.Told.{Told}
 use Rattle.dl_serve.proofs.AdmittedRuns.{GoesOn, Known, all_admitted, closing_known, nothing_known, rounds_known}
-use Rattle.dl_serve.proofs.ShownEnds.{all_show, closing_shown, nothing_shown, rounds_shown}
 
 module _ {L : Type 0} (link_told : L → LinkTold) (tells : TellGiven link_told) (heard : (moved : Bool) (old new : Clients) → HearsAll moved old new → AreLater old new)
     (pumped : (moved : Bool) (old new : Clients) → VisitsAll Pumped moved old new → AreLater old new) (closed_so : (old new : Clients) → ClosesAll (TellOver link_told) old new → AreLater old new)
@@ -51,17 +48,3 @@ module _ {L : Type 0} (link_told : L → LinkTold) (tells : TellGiven link_told)
       let known : Known (Unit {0}) closed.events.events final = subst (λ (es : List Event). Known (Unit {0}) es final) same all.1 in
       subst (λ (es : List (Option ChannelEnd)). AllAdmitted closed.events.events (map link_told closed.users.links) es) (sym left.ends)
       (subst (λ (ls : List LinkTold). AllAdmitted closed.events.events ls (take (length final.programs) final.ends)) (sym left.users) (all_admitted closed.events.events final known))
-
-module _ {L : Type 0} (link_told : L → LinkTold) (begun : Begun) (old new : Told L) (full : Bool) (closed : Closed L) (has : HasOpened link_told begun full old new closed) where
-  pub ended_so : AllShowEnds (TellLeft link_told) (map link_told closed.users.links) closed.ends
-  ended_so =
-      let made = has.is_opened.made in
-      let start : State = seen link_told kept old.folder has.opened.server in
-      let final : State = has.run.closes.0 in
-      let left : IsLeft link_told final closed = has.run.closes.3 in
-      let first = nothing_shown (TellLeft link_told) start.programs start.ends channel_limit (ap (λ (ls : Links L). map link_told ls.links) made.no_program) made.no_end in
-      let fresh : (link : L) → TellLeft link_told → IsSome (link_told link).left = (λ link tells. tells link) in
-      let went = rounds_shown (TellLeft link_told) link_told fresh has.run.served.many has.net new.net has.users new.users start has.run.last has.run.served.rounds first in
-      let all = closing_shown (TellLeft link_told) link_told fresh has.run.moment has.run.last final has.run.closes.2 went in
-      subst (λ (es : List (Option ChannelEnd)). AllShowEnds (TellLeft link_told) (map link_told closed.users.links) es) (sym left.ends)
-      (subst (λ (ls : List LinkTold). AllShowEnds (TellLeft link_told) ls (take (length final.programs) final.ends)) (sym left.users) (all_show (TellLeft link_told) final all))

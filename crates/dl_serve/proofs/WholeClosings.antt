@@ -23,7 +23,7 @@ use Rattle.dl_socket.specs.Turns.{Sight}
 use Rattle.dl_serve.specs.Levels.{levels_put}
 use Rattle.dl_serve.proofs.EmptiedChannels.{EachOpen}
 use Rattle.dl_serve.proofs.HeardChannels.{ends_held, adds_so}
-use Rattle.dl_serve.proofs.NamedSlots.{AreApart}
+use Rattle.dl_machine.proofs.NamedSlots.{AreApart}
 use Rattle.dl_serve.proofs.NobodyPuts.{apart_on, none_put}
 use Rattle.dl_serve.proofs.OtherEntries.{none_found, set_apart, set_here}
 use Rattle.dl_serve.proofs.PutEvents.{put_on, quiet_own, quiet_puts}
