@@ -4,6 +4,7 @@ use Rattle.dl_bytes.specs.declared.conf.Conf.{Conf}
 use Rattle.dl_bytes.specs.declared.moment.Moment.{Moment}
 use Rattle.dl_core.specs.Follows.{BeginsAnew}
 use Rattle.dl_core.specs.State.{Core}
+use Rattle.dl_events.specs.Told.{Told as JournalTold}
 use Rattle.dl_outside.specs.Links.{Links}
 use Rattle.dl_outside.specs.Told.{FolderTold, LinkTold, NetTold}
 use Rattle.dl_server.specs.State as server
@@ -17,7 +18,9 @@ use Rattle.dl_machine.proofs.Composed.{goes_both, goes_one}
 use Rattle.dl_machine.proofs.ServerSteps.{IsReady, Leading, closing_goes, lead_both, lead_same, round_leads, state_in, state_of}
 use Rattle.dl_serve.specs.declared.beginning.Begun.{Begun}
 use Rattle.dl_serve.specs.declared.closed.Closed.{Closed}
+use Rattle.dl_serve.specs.Admitted.{AllAdmitted, TellGiven}
 use Rattle.dl_serve.specs.Shown.{AllShowEnds, TellLeft}
+use Rattle.dl_serve.proofs.AdmittedSteps.{left_admitted}
 use Rattle.dl_serve.proofs.ServingSteps.{first_ready}
 use Rattle.dl_serve.proofs.ShownEnds.{left_shown}
 use Rattle.dl_daemon.specs.declared.limits.Limits.{Limits}
@@ -70,8 +73,14 @@ module _ {L : Type 0} (told : L → LinkTold) where
         let made = has.is_opened.made in
         let last : server.State = has.run.last in
         let rounds = rounds_lead begun.conf has.run.served.many (record { tries = untried; anew = None }) has.run.served.kept has.net new.net has.users new.users first last has.run.served.rounds
-        (first_ready first _ _ (ap (λ (c : Channels). c.inboxes) made.channels_are) made.listeners_are made.no_end) in
+        (first_ready first most.clients most.channels (ap (λ (c : Channels). c.inboxes) made.channels_are) made.listeners_are made.no_end) in
         goes_both (IsToldBy told) (state_of first) (state_of last) (state_in true has.run.closes.0) rounds.0 (closing_goes told (TellOver told) has.run.moment last has.run.closes.0 rounds.1.low has.run.closes.2)
 
     pub ended_so : AllShowEnds (TellLeft told) (map told closed.users.links) closed.ends
     ended_so = left_shown told first has.run.closes.0 closed keeping_goes (ap (λ (ls : Links L). map told ls.links) has.is_opened.made.no_program) has.run.closes.3
+
+    pub sent : TellGiven told → AllAdmitted closed.events.events (map told closed.users.links) closed.ends
+    sent tells =
+        let made = has.is_opened.made in
+        left_admitted told tells first has.run.closes.0 closed keeping_goes (ap (λ (j : JournalTold). Some j.events) made.journal_is) (ap (λ (ls : Links L). map told ls.links) made.no_program)
+        (ap (λ (c : Channels). c.opened) made.channels_are) (ap (λ (c : Channels). c.inboxes) made.channels_are) has.run.closes.3

@@ -115,3 +115,18 @@ pub replicate_at : {A : Type 0} (many place : ℕ) (x y : A) → slice_get (repl
 replicate_at zero place x y at = absurd (cc at)
 replicate_at (suc many) zero x y at = sym (cc at)
 replicate_at (suc many) (suc place) x y at = replicate_at many place x y at
+
+-- by number, from 1
+abbrev pub EachNumbered : {A : Type 0} → (ℕ → A → Type 0) → List A → Type 0
+EachNumbered {A} P xs = (place : ℕ) (x : A) → slice_get xs place ≡ Some x → P (place + 1) x
+
+-- it comes to this of one that was changed, and to that of the others
+pub numbered_changed : {A : Type 0} (P Q : ℕ → A → Type 0) (number : ℕ) (was now : A) (old new : List A) → 1 ≤ number → Changes number was now old new
+    → ((other : ℕ) (x : A) → 1 ≤ other → other ≢ number → P other x → Q other x) → (P number was → Q number now) → EachNumbered P old → EachNumbered Q new
+numbered_changed P Q number was now old new low c others its all = λ place x at.
+    set_cases (λ (y : _). Q (place + 1) y) old (number - 1) place was now x c.there
+    (λ same. let number_is : number ≡ place + 1 = omega (arith, low, same) in
+    let back : number - 1 + 1 ≡ number = omega (arith, low) in
+    subst (λ (n : ℕ). Q n now) number_is (its (subst (λ (n : ℕ). P n was) back (all (number - 1) was c.there))))
+    (λ apart there. others (place + 1) x (omega arith) (λ same. apart (omega (arith, same))) (all place x there))
+    (subst (λ (ys : List _). slice_get ys place ≡ Some x) c.is at)

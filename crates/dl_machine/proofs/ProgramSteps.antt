@@ -182,17 +182,17 @@ module _ (IsTold : LinkTold → Type 0) (base : State) where
         (goes_one IsTold (OfProgram number (ShutOff after.link)) (at (part_seen before) old was) (at (part_seen before) old now) (low, (was, changes was now, ends.shut, refl, refl), refl))
         (by closed ends.closes)
       where
-      now : Program
-      now = program_with after.link end
+        now : Program
+        now = program_with after.link end
 
-      by : (b : Bool) → Closes b number moment (side_of before old) (side_of after new) old new → Goes IsTold (at (part_seen before) old now) (at (part_seen after) new now)
-      by true closes =
-          let mid : Side = record (side_of after new) { outboxes = closes.outboxes } in
-          both _ (on mid old now) _ (unregisters_go closes.unregistered.0 (side_of before old) mid old now refl may closes.unregistered.1)
-          (goes_one IsTold (OfProgram number Ended) (on mid old now) (at (part_seen after) new now) (low, (closes.none_left, closes.is, refl, refl), refl))
-      by false closes =
-          both _ (on (side_of after new) old now) _ (unregisters_go closes.unregistered.0 (side_of before old) (side_of after new) old now refl may closes.unregistered.1)
-          (same _ _ (ap (λ (c : Channels). at (part_seen after) c now) closes.is))
+        by : (b : Bool) → Closes b number moment (side_of before old) (side_of after new) old new → Goes IsTold (at (part_seen before) old now) (at (part_seen after) new now)
+        by true closes =
+            let mid : Side = record (side_of after new) { outboxes = closes.outboxes } in
+            both _ (on mid old now) _ (unregisters_go closes.unregistered.0 (side_of before old) mid old now refl may closes.unregistered.1)
+            (goes_one IsTold (OfProgram number Ended) (on mid old now) (at (part_seen after) new now) (low, (closes.none_left, closes.is, refl, refl, (now, (changes now now).there, refl, may)), refl))
+        by false closes =
+            both _ (on (side_of after new) old now) _ (unregisters_go closes.unregistered.0 (side_of before old) (side_of after new) old now refl may closes.unregistered.1)
+            (same _ _ (ap (λ (c : Channels). at (part_seen after) c now) closes.is))
 
     ends_for_go : (end : Option ChannelEnd) (before after : Sight) (old new : Channels) → EndsFor end number moment before after old new
         → Goes IsTold (at (part_seen before) old (program_with before.link end)) (at (part_seen after) new (program_with after.link end))

@@ -103,10 +103,10 @@ module _ {L : Type 0} (told : L → LinkTold) where
   abbrev pub Leading : server.State → server.State → Type 0
   Leading old new = Leads (IsToldBy told) state_of IsReady old new
 
-  lead_same : (old new : server.State) → new ≡ old → Leading old new
+  pub lead_same : (old new : server.State) → new ≡ old → Leading old new
   lead_same = leads_same (IsToldBy told) state_of IsReady
 
-  lead_both : (old between new : server.State) → Leading old between → Leading between new → Leading old new
+  pub lead_both : (old between new : server.State) → Leading old between → Leading between new → Leading old new
   lead_both = leads_both (IsToldBy told) state_of IsReady
 
   long_as : (xs ys : List LinkTold) → ys ≡ xs → length xs ≤ length ys
@@ -115,11 +115,14 @@ module _ {L : Type 0} (told : L → LinkTold) where
   -- programs and ends stand, and no client has gone
   aside : (old new : server.State) → new.programs ≡ old.programs → new.ends ≡ old.ends → length old.clients ≤ length new.clients → new.listeners ≡ old.listeners
       → Goes_on (state_of old) (state_of new) → Leading old new
-  aside old new programs ends clients listeners goes = λ ready. (goes, record {
-    low = low_after (IsToldBy told) (state_of old) (state_of new) goes ready.low;
-    ends = beyond_more None old.programs new.programs old.ends new.ends (long_as old.programs new.programs programs) ends ready.ends;
-    listeners = beyond_more fresh_listener old.clients new.clients old.listeners new.listeners clients listeners ready.listeners;
-  })
+  aside old new programs ends clients listeners goes = λ ready. (
+    goes,
+    record {
+      low = low_after (IsToldBy told) (state_of old) (state_of new) goes ready.low;
+      ends = beyond_more None old.programs new.programs old.ends new.ends (long_as old.programs new.programs programs) ends ready.ends;
+      listeners = beyond_more fresh_listener old.clients new.clients old.listeners new.listeners clients listeners ready.listeners;
+    },
+  )
 
   want_leads : (old new : server.State) → new ≡ with_want old → Leading old new
   want_leads old new want =
@@ -186,12 +189,15 @@ module _ {L : Type 0} (told : L → LinkTold) where
     program_leads : (came : Entry) → AcceptsProgram told came net net_now old new → Leading old new
     program_leads came a = λ ready. by ready came a.enters a.wanted where
       beside : IsReady old → length old.programs ≤ length new.programs → Goes_on (state_of old) (state_of new) → Goes_on (state_of old) (state_of new) × IsReady new
-      beside ready long goes = (goes, record {
-        low = low_after (IsToldBy told) (state_of old) (state_of new) goes ready.low;
-        ends = beyond_more None old.programs new.programs old.ends new.ends long (ap (λ (s : server.State). s.ends) a.rest) ready.ends;
-        listeners = beyond_more fresh_listener old.clients new.clients old.listeners new.listeners (long_as old.clients new.clients (ap (λ (s : server.State). s.clients) a.rest))
-            (ap (λ (s : server.State). s.listeners) a.rest) ready.listeners;
-      })
+      beside ready long goes = (
+        goes,
+        record {
+          low = low_after (IsToldBy told) (state_of old) (state_of new) goes ready.low;
+          ends = beyond_more None old.programs new.programs old.ends new.ends long (ap (λ (s : server.State). s.ends) a.rest) ready.ends;
+          listeners = beyond_more fresh_listener old.clients new.clients old.listeners new.listeners (long_as old.clients new.clients (ap (λ (s : server.State). s.clients) a.rest))
+              (ap (λ (s : server.State). s.listeners) a.rest) ready.listeners;
+        },
+      )
 
       stands : (d : ℕ) (w : Bool) → new.channels ≡ old.channels → a.links_now ≡ a.links → new.dropped ≡ d → new.wanted ≡ w → state_of new ≡ record (state_of old) { dropped = d; wanted = w }
       stands d w channels links dropped wanted =
@@ -270,13 +276,15 @@ module _ {L : Type 0} (told : L → LinkTold) where
       let goes : Goes_on (state_of old) (state_of new) =
       served_go false (HearsAll moved) (λ base registry sets is was now heard. visits_lead (IsToldBy told) base registry sets visits.Heard
       (λ number low all first there here c d visit. heard_leads (IsToldBy told) base registry sets number low all first there here c d visit) 0 heard.0 moved was now heard.1) old new hears.serves
-      (ap state_of hears.rest) in
-      (goes, record {
-        low = low_after (IsToldBy told) (state_of old) (state_of new) goes ready.low;
-        ends = beyond_more None old.programs new.programs old.ends new.ends (long_as old.programs new.programs (ap (λ (s : server.State). s.programs) hears.rest))
-            (ap (λ (s : server.State). s.ends) hears.rest) ready.ends;
-        listeners = visits_beyond visits.Heard 0 visited.0 moved (clients_of old hears.serves.desk) (clients_of new hears.serves.desk_now) visited.1 ready.listeners;
-      })
+      (ap state_of hears.rest) in (
+        goes,
+        record {
+          low = low_after (IsToldBy told) (state_of old) (state_of new) goes ready.low;
+          ends = beyond_more None old.programs new.programs old.ends new.ends (long_as old.programs new.programs (ap (λ (s : server.State). s.programs) hears.rest))
+              (ap (λ (s : server.State). s.ends) hears.rest) ready.ends;
+          listeners = visits_beyond visits.Heard 0 visited.0 moved (clients_of old hears.serves.desk) (clients_of new hears.serves.desk_now) visited.1 ready.listeners;
+        },
+      )
 
   pump_clients : (moved : Bool) (old new : server.State) → PumpsClientsIfMay moved old new → Leading old new
   pump_clients moved old new (inl want) = want_leads old new want.1
@@ -327,11 +335,14 @@ module _ {L : Type 0} (told : L → LinkTold) where
   -- clients and listeners stand
   beside_clients : (old new : server.State) → new.clients ≡ old.clients → new.listeners ≡ old.listeners → Goes_on (state_of old) (state_of new) → Beyond None new.programs new.ends → IsReady old
       → Goes_on (state_of old) (state_of new) × IsReady new
-  beside_clients old new clients listeners goes ends ready = (goes, record {
-    low = low_after (IsToldBy told) (state_of old) (state_of new) goes ready.low;
-    ends = ends;
-    listeners = beyond_more fresh_listener old.clients new.clients old.listeners new.listeners (long_as old.clients new.clients clients) listeners ready.listeners;
-  })
+  beside_clients old new clients listeners goes ends ready = (
+    goes,
+    record {
+      low = low_after (IsToldBy told) (state_of old) (state_of new) goes ready.low;
+      ends = ends;
+      listeners = beyond_more fresh_listener old.clients new.clients old.listeners new.listeners (long_as old.clients new.clients clients) listeners ready.listeners;
+    },
+  )
 
   hear_programs : (moment : Moment) (moved : Bool) (old new : server.State) → HearsPrograms moment moved old new → Leading old new
   hear_programs moment moved old new hears = λ ready.
@@ -352,17 +363,31 @@ module _ {L : Type 0} (told : L → LinkTold) where
 
   -- ---- rounds and the closing
 
-  pub round_leads : (net net_now users users_now : NetTold L) (old new : server.State) → IsRound told net net_now users users_now old new → Leading old new
-  round_leads net net_now users users_now old new round =
-      let a = round.accepts in
-      let h = round.hears in
-      let p = round.pumps in
-      lead_both old a.accepted new (accept_leads net net_now old a.accepted a.came a.accepts)
-      (lead_both a.accepted round.accepted new (enter_leads users users_now a.accepted round.accepted a.entered a.enters)
-      (lead_both round.accepted h.served new (hear_clients h.asked round.accepted h.served h.clients)
-      (lead_both h.served round.heard new (hear_programs h.moment h.moved h.served round.heard h.programs)
-      (lead_both round.heard p.sent new (pump_clients p.moved round.heard p.sent p.clients)
-      (lead_both p.sent p.pumped new (pump_programs p.moment p.sent p.pumped p.programs) (part_clients p.pumped new p.parts))))))
+  module _ (net net_now users users_now : NetTold L) (old new : server.State) (round : IsRound told net net_now users users_now old new) where
+    -- once a client was accepted
+    pub came_leads : Leading old round.accepts.accepted
+    came_leads = accept_leads net net_now old round.accepts.accepted round.accepts.came round.accepts.accepts
+
+    -- before channels are listened to
+    pub served_leads : Leading old round.hears.served
+    served_leads =
+        lead_both old round.accepts.accepted round.hears.served came_leads
+        (lead_both round.accepts.accepted round.accepted round.hears.served (enter_leads users users_now round.accepts.accepted round.accepted round.accepts.entered round.accepts.enters)
+        (hear_clients round.hears.asked round.accepted round.hears.served round.hears.clients))
+
+    -- before channels are pumped
+    pub sent_leads : Leading old round.pumps.sent
+    sent_leads =
+        lead_both old round.hears.served round.pumps.sent served_leads
+        (lead_both round.hears.served round.heard round.pumps.sent (hear_programs round.hears.moment round.hears.moved round.hears.served round.heard round.hears.programs)
+        (pump_clients round.pumps.moved round.heard round.pumps.sent round.pumps.clients))
+
+    -- behind it
+    pub round_leads : Leading old new
+    round_leads =
+        lead_both old round.pumps.sent new sent_leads
+        (lead_both round.pumps.sent round.pumps.pumped new (pump_programs round.pumps.moment round.pumps.sent round.pumps.pumped round.pumps.programs)
+        (part_clients round.pumps.pumped new round.pumps.parts))
 
   pub closing_goes : (Tells : Type 0) (moment : Moment) (old new : server.State) → HasLow (state_of old) → IsClosed Tells moment old new → Goes (IsToldBy told) (state_of old) (state_in true new)
   closing_goes Tells moment old new low closes =

@@ -220,7 +220,7 @@ IsProgramStep number (ShutOff link) old new =
 IsProgramStep number Ended old new =
     (first_app old.core.registry.registry number ≡ None)
     × (new.channels ≡ record old.channels { outboxes = without number old.channels.outboxes; inboxes = without_inbox number old.channels.inboxes })
-    × (new.programs ≡ old.programs) × (part_of new ≡ part_of old)
+    × (new.programs ≡ old.programs) × (part_of new ≡ part_of old) × MayPart number old
 
 -- ---- what is taken of this process
 

@@ -1,13 +1,14 @@
 -- A server that was opened, ran and closed, as steps.
-use Rattle.std.proofs.Common.{◌≡◌, ℕ, zero, suc, Bool, List, [], ◌∷◌, length, map, replicate, Option, Some, None, refl, sym, ap, subst, ◌∙◌}
+use Rattle.std.proofs.Common.{◌≡◌, ℕ, zero, suc, Bool, true, List, [], ◌∷◌, length, map, replicate, Option, Some, None, refl, sym, ap, subst, ◌∙◌}
 use Rattle.std.specs.Prelude.{slice_get}
+use Rattle.dl_bytes.specs.Limits.{client_limit}
 use Rattle.dl_channel.specs.declared.outcome.ChannelEnd.{ChannelEnd}
 use Rattle.dl_outside.specs.Links.{Links}
 use Rattle.dl_outside.specs.Told.{LinkTold, NetTold}
 use Rattle.dl_rounds.specs.Ready.{fresh_listener}
 use Rattle.dl_rounds.specs.declared.listener.Listener.{Listener}
 use Rattle.dl_server.specs.State as server
-use Rattle.dl_socket.specs.Channels.{Channels}
+use Rattle.dl_socket.specs.Channels.{Channels, channel_limit}
 use Rattle.dl_server.specs.State.{seen}
 use Rattle.dl_turns.specs.Gone.{TellOver}
 use Rattle.dl_machine.specs.Steps.{Goes, IsToldBy}
@@ -47,5 +48,5 @@ module _ {L : Type 0} (told : L → LinkTold) where
     serving_goes =
         let made = has.is_opened.made in
         let last : server.State = has.run.last in
-        let rounds = rounds_lead has.run.served.many has.net new.net has.users new.users first last has.run.served.rounds (first_ready first _ _ (ap (λ (c : Channels). c.inboxes) made.channels_are) made.listeners_are made.no_end) in
+        let rounds = rounds_lead has.run.served.many has.net new.net has.users new.users first last has.run.served.rounds (first_ready first client_limit channel_limit (ap (λ (c : Channels). c.inboxes) made.channels_are) made.listeners_are made.no_end) in
         goes_both (IsToldBy told) (state_of first) (state_of last) (state_in true final) rounds.0 (closing_goes told (TellOver told) has.run.moment last final rounds.1.low has.run.closes.2)

@@ -41,7 +41,6 @@ use Rattle.dl_user.specs.Channel as cutter
 use Rattle.dl_user.specs.Channel.{unfed}
 use Rattle.dl_turns.specs.Later.{level_in}
 use Rattle.dl_serve.specs.Levels.{levels_put}
-use Rattle.dl_serve.proofs.AdmittedRuns.{keys_added, low_added}
 use Rattle.dl_machine.proofs.NamedSlots.{NamesSame, names_none}
 use Rattle.dl_serve.proofs.NobodyPuts.{IsNotOf, nothing_put}
 use Rattle.dl_serve.proofs.NotedMessages.{all_both}
@@ -52,6 +51,7 @@ use Rattle.dl_serve.proofs.PutVisits.{Takes, put_takes}
 use Rattle.dl_serve.proofs.TookScenes.{AllTake, all_heard, all_sent, all_stopped, levels_more}
 use Rattle.dl_machine.proofs.Joined.{replicate_at}
 use Rattle.dl_serve.proofs.TookScenes as scenes
+use Rattle.dl_serve.proofs.HeldInboxes.{keys_added, low_added}
 use Rattle.dl_lemmas.proofs.Options.{nothing_taken as fresh_taken}
 
 pub clients_not : (channel : ℕ) (events : List Event) → AllByRecursion IsOfClients events → AllByRecursion (IsNotOf channel) events
