@@ -1,5 +1,5 @@
 -- A daemon that was opened, ran and closed, as steps; and what its links of programs show in the end.
-use Rattle.std.proofs.Common.{◌≡◌, ◌⊎◌, ℕ, zero, suc, Bool, true, false, inl, inr, List, [], map, Option, Some, None, Result, Ok, Err, refl, ap}
+use Rattle.std.proofs.Common.{◌≡◌, ◌⊎◌, ℕ, zero, suc, Bool, true, false, inl, inr, map, Option, Some, None, Result, Ok, Err, refl, ap}
 use Rattle.dl_bytes.specs.declared.conf.Conf.{Conf}
 use Rattle.dl_bytes.specs.declared.moment.Moment.{Moment}
 use Rattle.dl_core.specs.Follows.{BeginsAnew}
@@ -15,7 +15,7 @@ use Rattle.dl_trace.specs.declared.trace.TraceFault.{TraceFault}
 use Rattle.dl_turns.specs.Gone.{TellOver}
 use Rattle.dl_machine.specs.Steps.{Goes, IsToldBy, Renewed as RenewedKind}
 use Rattle.dl_machine.proofs.Composed.{goes_both, goes_one}
-use Rattle.dl_machine.proofs.ServerSteps.{IsReady, Leading, closing_goes, lead_both, lead_same, round_leads, state_in, state_of}
+use Rattle.dl_machine.proofs.ServerSteps.{Leading, closing_goes, lead_both, lead_same, round_leads, state_in, state_of}
 use Rattle.dl_serve.specs.declared.beginning.Begun.{Begun}
 use Rattle.dl_serve.specs.declared.closed.Closed.{Closed}
 use Rattle.dl_serve.specs.Admitted.{AllAdmitted, TellGiven}

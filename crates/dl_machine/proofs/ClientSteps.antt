@@ -1,9 +1,9 @@
 -- Turns, pumps and stops of clients, and visits to them, as steps. The levels that a turn sets are put for the programs one by one.
-use Rattle.std.proofs.Common.{◌≡◌, ◌≢◌, ◌/◌, ◌-◌, ◌<◌, ◌≤◌, ◌⊎◌, ℕ, zero, suc, Bool, true, false, inl, inr, List, [], ◌∷◌, ◌++◌, length, drop, Option, Some, None, refl, sym, ap, subst, ◌∙◌, append_assoc, append-nil, arith}
-use Rattle.std.specs.Prelude.{IfSome, slice_get, slice_set}
+use Rattle.std.proofs.Common.{◌≡◌, ◌/◌, ◌-◌, ◌≤◌, ◌⊎◌, ℕ, zero, suc, Bool, true, false, inl, inr, List, [], ◌∷◌, ◌++◌, length, drop, Option, Some, None, refl, sym, ap, subst, ◌∙◌, append_assoc, arith}
+use Rattle.std.specs.Prelude.{IfSome, slice_set}
 use Rattle.std.proofs.Math.Seq.{drop-append_seam}
 use Rattle.dl_admission.specs.Part.{part}
-use Rattle.dl_bytes.specs.Limits.{context_limit, message_limit}
+use Rattle.dl_bytes.specs.Limits.{context_limit}
 use Rattle.dl_cells.specs.LevelHistory.{change}
 use Rattle.dl_cells.specs.declared.level_history.Change.{Change}
 use Rattle.dl_channel.specs.State.{Outbox}
@@ -14,7 +14,6 @@ use Rattle.dl_events.specs.declared.event.Why.{Why}
 use Rattle.dl_events.specs.declared.event.Why.TheVariants as why
 use Rattle.dl_lemmas.proofs.Lists.{set_again}
 use Rattle.dl_message.specs.Cutting.{Cutting}
-use Rattle.dl_message.specs.Requests.{requests}
 use Rattle.dl_model.specs.Registry.{Registry}
 use Rattle.dl_model.specs.Reply.{asked}
 use Rattle.dl_model.specs.declared.registry.LevelChange.{LevelChange}
@@ -24,21 +23,20 @@ use Rattle.dl_outside.specs.declared.link.Gave.TheVariants as answer
 use Rattle.dl_core.specs.Settings.{seen}
 use Rattle.dl_registry.specs.Kept.{slots}
 use Rattle.dl_rounds.specs.Clients as rounds
-use Rattle.dl_rounds.specs.Clients.{Clients, HaveVisited, IsClient, Visits, stage_of, with_client}
+use Rattle.dl_rounds.specs.Clients.{Clients, IsClient, Visits, stage_of, with_client}
 use Rattle.dl_rounds.specs.Ready.{fresh_listener}
 use Rattle.dl_rounds.specs.Visits as visits
 use Rattle.dl_rounds.specs.Visits.{IsShut, ShutsFor}
 use Rattle.dl_rounds.specs.declared.listener.Listener.{Listener}
 use Rattle.dl_rounds.proofs.ByPlace.{set_length}
 use Rattle.dl_socket.specs.Turns.{told_each}
-use Rattle.dl_turns.specs.Events.{Asks, Closes, ServesOne, SetsLevel, SetsLevels}
-use Rattle.dl_turns.specs.Sent.{is_bad}
+use Rattle.dl_turns.specs.Events.{Asks, Closes, SetsLevel, SetsLevels}
 use Rattle.dl_turns.specs.State.{Side, Stage}
 use Rattle.dl_turns.specs.Stopping.{GoesOn, IsClosedIn, IsStop, IsWoundUp, TurnsOn}
 use Rattle.dl_turns.specs.Turns.{ClosesFor, Heeds, IsPump, IsTurn, Listens, Refuses, ServesEach}
 use Rattle.dl_turns.proofs.PostedSides.{posts_keep}
 use Rattle.dl_machine.specs.State.{Changes, Client, IsOne, State}
-use Rattle.dl_machine.specs.Steps.{Asked, Closed, Gave, Goes, IsAsked, IsDue, IsStep, Levelled, OfClient, Parted, Sent}
+use Rattle.dl_machine.specs.Steps.{Asked, Closed, Gave, IsAsked, IsDue, Levelled, OfClient, Parted, Sent}
 use Rattle.dl_machine.proofs.Composed.{Leads, goes_one, leads_both, leads_same}
 use Rattle.dl_machine.proofs.Joined.{Beyond, beyond_set, changes_on, joined, joined_get, joined_set}
 use Rattle.dl_machine.proofs.NamedSlots.{NamesSame, names_both, names_served}

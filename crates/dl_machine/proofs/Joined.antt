@@ -1,5 +1,5 @@
 -- Lists of which one entry changes, and two lists as one.
-use Rattle.std.proofs.Common.{◌≡◌, ◌≢◌, ◌<◌, ◌≤◌, ◌-◌, ◌+◌, ℕ, zero, suc, List, [], ◌∷◌, ◌++◌, length, map, replicate, Some, Option, refl, sym, ap, subst, pred, arith, slice_get, ◌∙◌}
+use Rattle.std.proofs.Common.{◌≡◌, ◌≢◌, ◌<◌, ◌≤◌, ◌-◌, ◌+◌, ℕ, zero, suc, List, [], ◌∷◌, ◌++◌, length, map, replicate, Some, refl, sym, ap, subst, pred, arith, slice_get, ◌∙◌}
 use Rattle.std.specs.Prelude.{slice_set}
 use Rattle.dl_lemmas.proofs.Lists.{last_or_before, set_here, set_other, within_of}
 use Rattle.dl_rounds.proofs.ByPlace.{set_cases, set_length}

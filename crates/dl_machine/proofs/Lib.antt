@@ -7,3 +7,4 @@ pub mod SaidEvents
 pub mod ClientSteps
 pub mod ProgramSteps
 pub mod ServerSteps
+pub mod LoopSteps

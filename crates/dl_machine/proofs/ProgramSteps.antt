@@ -1,5 +1,5 @@
 -- Turns, pumps and ends of channels, and visits to them, as steps.
-use Rattle.std.proofs.Common.{◌≡◌, ◌≢◌, ◌-◌, ◌<◌, ◌≤◌, ◌⊎◌, ℕ, zero, suc, Bool, true, false, inl, inr, List, [], ◌∷◌, ◌++◌, length, take, Option, Some, None, refl, sym, ap, subst, ◌∙◌, arith, append-nil}
+use Rattle.std.proofs.Common.{◌≡◌, ◌-◌, ◌≤◌, ◌⊎◌, ℕ, Bool, true, false, inl, inr, List, [], ◌∷◌, ◌++◌, length, Option, Some, None, refl, sym, ap, subst, ◌∙◌, append-nil}
 use Rattle.std.specs.Prelude.{nat_eq, IsSome, slice_get, slice_set}
 use Rattle.std.specs.List.{AllByRecursion}
 use Rattle.std.specs.Map.{set_value}
@@ -7,9 +7,8 @@ use Rattle.dl_admission.specs.Admission.{Admits, Forwards, ForwardsAll, message_
 use Rattle.dl_admission.specs.Part.{Part, part}
 use Rattle.dl_bytes.specs.declared.moment.Moment.{Moment}
 use Rattle.dl_bytes.specs.declared.user.UserMsg.{UserMsg}
-use Rattle.dl_channel.specs.State.{Outbox}
 use Rattle.dl_channel.specs.declared.outcome.ChannelEnd.{ChannelEnd}
-use Rattle.dl_channel_turns.specs.Levels.{HaveToldLevels, TellsLevels}
+use Rattle.dl_channel_turns.specs.Levels.{TellsLevels}
 use Rattle.dl_channel_turns.specs.Messages.{Alone, Group, Notes, Serves, ServesGroup, Together, messages_in_group, messages_of}
 use Rattle.dl_channel_turns.specs.State.{Side}
 use Rattle.dl_channel_turns.specs.Turns.{Heeds, ServesEach}
@@ -19,15 +18,13 @@ use Rattle.dl_model.specs.declared.registry.LevelChange.{LevelChange}
 use Rattle.dl_outside.specs.Told.{LinkTold}
 use Rattle.dl_outside.specs.declared.link.Gave.{Gave as Answer}
 use Rattle.dl_outside.specs.declared.link.Gave.TheVariants as answer
-use Rattle.dl_rounds.specs.Visits.{IsShut}
 use Rattle.dl_serving.specs.Rounds as rounds
 use Rattle.dl_serving.specs.Rounds.{Scene, VisitsEach, Visited, seen_by}
 use Rattle.dl_serving.specs.Visits.{Closes, Ends, EndsFor, Hears, Pumps, side_of}
 use Rattle.dl_socket.specs.Channels.{Channels}
 use Rattle.dl_socket.specs.Closing.{UnregistersEach}
-use Rattle.dl_socket.specs.Turns.{HasPumped, HasTurned, Sight}
+use Rattle.dl_socket.specs.Turns.{HasTurned, Sight}
 use Rattle.dl_turns.specs.Turns as client
-use Rattle.dl_user.specs.Channel as cutter
 use Rattle.dl_machine.specs.State.{Changes, IsOne, Program, State}
 use Rattle.dl_machine.specs.Steps.{Ended, Forwarded, Goes, Levelled, Noted, OfProgram, Said, Says, ShutOff, TookLevels, Unregistered}
 use Rattle.dl_machine.proofs.Composed.{Leads, goes_both, goes_one, goes_same, leads_both, leads_same}

@@ -1,43 +1,38 @@
 -- Accepts, rounds and the closing of a server, as steps.
-use Rattle.std.proofs.Common.{◌≡◌, ◌≤◌, ◌-◌, ◌+◌, ℕ, zero, suc, Bool, true, false, inl, inr, List, [], ◌∷◌, ◌++◌, drop, length, map, replicate, Option, Some, None, refl, sym, ap, subst, ◌∙◌, arith, append-nil, length-append}
-use Rattle.std.specs.Prelude.{◌||◌, slice_get}
+use Rattle.std.proofs.Common.{◌≡◌, ◌≤◌, ◌+◌, ℕ, Bool, true, false, inl, inr, List, [], ◌∷◌, ◌++◌, length, map, replicate, None, refl, sym, ap, subst, ◌∙◌, arith, append-nil, length-append}
+use Rattle.std.specs.Prelude.{◌||◌}
 use Rattle.std.proofs.lemmas.List.{length-replicate, map-append}
 use Rattle.dl_bytes.specs.declared.moment.Moment.{Moment}
 use Rattle.dl_cells.specs.declared.level_history.Change.{Change}
-use Rattle.dl_channel.specs.State.{Outbox}
-use Rattle.dl_channel.specs.declared.outcome.ChannelEnd.{ChannelEnd}
 use Rattle.dl_desk.specs.Told.{PostTold}
 use Rattle.dl_model.specs.Registry.{Registry}
 use Rattle.dl_outside.specs.Links.{Links}
 use Rattle.dl_outside.specs.Told.{LinkTold, NetTold}
 use Rattle.dl_rounds.specs.Arrivals.{Arrives, ConnectsAs}
-use Rattle.dl_rounds.specs.Clients.{Clients, HaveVisited}
-use Rattle.dl_rounds.specs.Clients as rounds
+use Rattle.dl_rounds.specs.Clients.{Clients}
 use Rattle.dl_rounds.specs.Partings.{ShutsGone}
 use Rattle.dl_rounds.specs.Ready.{fresh_listener}
-use Rattle.dl_rounds.specs.Visits.{ClosesAll, HearsAll, Pumped}
+use Rattle.dl_rounds.specs.Visits.{ClosesAll, HearsAll}
 use Rattle.dl_rounds.specs.Visits as visits
 use Rattle.dl_rounds.specs.declared.accepting.Arrival.TheVariants as arrival
 use Rattle.dl_rounds.specs.declared.accepting.Arrival.{Arrival}
 use Rattle.dl_rounds.specs.declared.listener.Listener.{Listener}
 use Rattle.dl_server.specs.Accepts.{AcceptsClient, AcceptsClientIfMay, AcceptsProgram, AcceptsProgramIfMay, has_wanted, has_wanted_to_enter}
 use Rattle.dl_server.specs.Closing.{ClosesClients, ClosesPrograms, IsClosed, closing_scene}
-use Rattle.dl_server.specs.Round.{Hears, IsRound, Pumps}
+use Rattle.dl_server.specs.Round.{IsRound}
 use Rattle.dl_server.specs.State as server
 use Rattle.dl_server.specs.State.{clients_of, scene_of, with_want}
-use Rattle.dl_server.specs.Steps.{HearsClients, HearsClientsIfMay, HearsPrograms, PartsClients, PumpsClients, PumpsClientsIfMay, PumpsPrograms}
+use Rattle.dl_server.specs.Steps.{HearsClientsIfMay, HearsPrograms, PartsClients, PumpsClientsIfMay, PumpsPrograms}
 use Rattle.dl_serving.specs.Accepting.{Enters, entry_of}
-use Rattle.dl_serving.specs.Rounds.{Scene}
 use Rattle.dl_serving.specs.declared.accepting.Entry.{Entry}
 use Rattle.dl_serving.specs.declared.accepting.Entry.TheVariants as entry
-use Rattle.dl_socket.specs.Channels.{Channels, open_in, Refuses}
+use Rattle.dl_socket.specs.Channels.{open_in, Refuses}
 use Rattle.dl_socket.specs.Listening.{HaveServed}
-use Rattle.dl_socket.specs.Turns.{told_each}
 use Rattle.dl_socket.specs.declared.fault.ChannelFault.{ChannelFault}
 use Rattle.dl_socket.specs.declared.fault.ChannelFault.TheVariants as fault
 use Rattle.dl_taking.specs.Took.{Took}
 use Rattle.dl_turns.specs.State.{side}
-use Rattle.dl_machine.specs.State.{Client, IsOne, Program, State, new_client, new_program}
+use Rattle.dl_machine.specs.State.{Client, State, new_client, new_program}
 use Rattle.dl_machine.specs.Steps.{Came, Entered, Goes, IsToldBy, LetGo, MayLetGo, PartedAll, Stopping, Wanted}
 use Rattle.dl_machine.proofs.ClientSteps as clients
 use Rattle.dl_machine.proofs.ClientSteps.{boxes, boxes_now, client_with, clients_with, closed_leads, heard_leads, lift, pumped_leads, spot_of, visits_beyond, visits_lead, visits_long}

@@ -1,15 +1,13 @@
 -- What steps leave of the counts of a daemon: of the clients in its hub, and of clients, channels and programs.
-use Rattle.std.proofs.Common.{◌≡◌, ◌≤◌, ◌-◌, ◌+◌, ℕ, Bool, inl, inr, List, [], ◌∷◌, ◌++◌, length, map, Option, Some, None, refl, sym, ap, subst, ◌∙◌, arith}
+use Rattle.std.proofs.Common.{◌≡◌, ◌≤◌, ◌-◌, ℕ, inl, inr, List, length, map, Option, Some, None, refl, sym, ap, subst, ◌∙◌, arith}
 use Rattle.std.specs.Prelude.{nat_eq, not, slice_set}
 use Rattle.std.specs.Option.{option_map_or}
 use Rattle.std.proofs.lemmas.List.{length-map}
 use Rattle.std.proofs.lemmas.List.Sums.{count_by-le-length, length-filter}
 use Rattle.std.proofs.lemmas.Map.{length-set_value}
-use Rattle.dl_admission.specs.Admission.{KeepsClients}
 use Rattle.dl_admission.specs.Part.{Part}
 use Rattle.dl_core.specs.Serving.{reply_now}
 use Rattle.dl_core.specs.State.{Core}
-use Rattle.dl_events.specs.declared.event.Event.{Event}
 use Rattle.dl_hub.specs.State.{Client as HubClient, Hub, IsSameHub, changed, client_of, replies_of, shut, with_reply, without}
 use Rattle.dl_rounds.proofs.ByPlace.{set_length}
 use Rattle.dl_socket.specs.Channels.{Channels}

@@ -1,5 +1,5 @@
 -- What a daemon is between two steps, whatever else it is made of.
-use Rattle.std.specs.Prelude.{◌≡◌, ℕ, ◌-◌, Bool, List, [], ◌∷◌, slice_get, slice_set, Option, Some, None}
+use Rattle.std.specs.Prelude.{◌≡◌, ℕ, ◌-◌, Bool, List, [], slice_get, slice_set, Option, Some, None}
 use Rattle.dl_bytes.specs.Limits.{message_limit}
 use Rattle.dl_bytes.specs.declared.user.UserMsg.{UserMsg}
 use Rattle.dl_channel.specs.declared.outcome.ChannelEnd.{ChannelEnd}

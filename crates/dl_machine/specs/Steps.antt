@@ -38,7 +38,7 @@ use Rattle.dl_rounds.specs.Arrivals.{Connects}
 use Rattle.dl_rounds.specs.Greetings.{own_channel}
 use Rattle.dl_rounds.specs.Partings.{ShutsGone}
 use Rattle.dl_rounds.specs.Visits.{IsShut}
-use Rattle.dl_socket.specs.Channels.{Channels, Opens, Refuses, inbox_of, without_inbox}
+use Rattle.dl_socket.specs.Channels.{Opens, Refuses, inbox_of, without_inbox}
 use Rattle.dl_socket.specs.declared.fault.ChannelFault.TheVariants.{Full, Spent}
 use Rattle.dl_taking.specs.Takes.{owned, owned_claim}
 use Rattle.dl_taking.specs.Took.{with_items, with_losses}
@@ -175,7 +175,7 @@ BeginsOrStays old new =
     (new.core ≡ old.core)
     ⊎ ((conf : Conf) × (trace : Trace) × (new.core ≡ record old.core { trace = Some trace }) × BeginsAnew conf trace old.core new.core)
 
--- ---- what is done with one client, beside its core, events and folder
+-- ---- what is done with one client; beside it no more than core, events and folder changes
 
 abbrev pub IsClientStep : ℕ → ClientKind → State → State → Type 0
 IsClientStep number (Gave due link cut) old new =
@@ -195,7 +195,7 @@ IsClientStep number (Closed cause) old new =
 IsClientStep number (Parted link) old new =
     (was : Client) × Changes number was (record was { link = link }) old.clients new.clients × IsShut was.link link × (part_of new ≡ part_of old)
 
--- ---- what is done with one channel
+-- ---- what is done with one channel; beside it and its program no more than core, events and folder changes
 
 abbrev pub IsProgramStep : ℕ → ProgramKind → State → State → Type 0
 IsProgramStep number (Said ends link inbox msgs) old new =
@@ -222,7 +222,7 @@ IsProgramStep number Ended old new =
     × (new.channels ≡ record old.channels { outboxes = without number old.channels.outboxes; inboxes = without_inbox number old.channels.inboxes })
     × (new.programs ≡ old.programs) × (part_of new ≡ part_of old) × MayPart number old
 
--- ---- what is taken of this process
+-- ---- what is taken of this process, or noted of it
 
 abbrev pub IsRingStep : RingKind → State → State → Type 0
 IsRingStep (TookCalls app moment items) old new =

@@ -15,7 +15,7 @@ use Rattle.dl_channel.specs.declared.outcome.ChannelEnd.TheVariants.{Left, Broke
 use Rattle.dl_channel_turns.specs.Turns.{StopsAt}
 use Rattle.dl_channel_turns.proofs.HeardMore.{nothing_heard}
 use Rattle.dl_events.specs.declared.event.Event.{Event}
-use Rattle.dl_lemmas.proofs.Lists.{all_both, get_end, last_or_before, set_again, within_of}
+use Rattle.dl_lemmas.proofs.Lists.{all_both, last_or_before, set_again, within_of}
 use Rattle.dl_loop.proofs.LaterDaemons.{grown}
 use Rattle.dl_events.specs.Journal.{Journaled}
 use Rattle.dl_outside.specs.Links.{Links}
@@ -32,13 +32,13 @@ use Rattle.dl_user.specs.Channel.{unfed}
 use Rattle.dl_user.specs.Cut.{Begins, Stops}
 use Rattle.dl_user.specs.declared.fault.Stop.TheVariants as stops
 use Rattle.dl_user.proofs.Cuts.{begins_more}
-use Rattle.dl_machine.specs.State.{Changes, IsOne, Program, State, new_program}
+use Rattle.dl_machine.specs.State.{Changes, Program, State, new_program}
 use Rattle.dl_machine.specs.Steps.{Came, Ended, Entered, Forwarded, Goes, IsProgramStep, IsStep, IsToldBy, Kind, LetGo, Levelled, Noted, OfClient, OfProgram, OfRings, PartedAll, ProgramKind, Renewed, Said, Says, ShutOff, Stopping, TookLevels, Unregistered, Wanted}
 use Rattle.dl_machine.proofs.Composed.{steps_keep}
 use Rattle.dl_machine.proofs.Joined.{EachNumbered, joined_get, numbered_changed}
 use Rattle.dl_machine.proofs.ProgramSteps.{program_with, programs_with}
 use Rattle.dl_machine.proofs.SaidEvents as events
-use Rattle.dl_machine.proofs.SaidEvents.{only, only_it, only_other, program_says, said_by, said_in, step_says, told_of}
+use Rattle.dl_machine.proofs.SaidEvents.{only, only_it, only_other, program_says, said_by, step_says, told_of}
 use Rattle.dl_machine.proofs.ServerSteps.{state_in, state_of}
 use Rattle.dl_machine.proofs.Standing.{changed_length}
 use Rattle.dl_serve.specs.declared.beginning.Begun.{Begun}

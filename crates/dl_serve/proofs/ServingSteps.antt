@@ -1,9 +1,8 @@
 -- A server that was opened, ran and closed, as steps.
-use Rattle.std.proofs.Common.{◌≡◌, ℕ, zero, suc, Bool, true, List, [], ◌∷◌, length, map, replicate, Option, Some, None, refl, sym, ap, subst, ◌∙◌}
+use Rattle.std.proofs.Common.{◌≡◌, ℕ, zero, suc, Bool, true, List, [], replicate, Option, Some, None, sym, ap, subst}
 use Rattle.std.specs.Prelude.{slice_get}
 use Rattle.dl_bytes.specs.Limits.{client_limit}
 use Rattle.dl_channel.specs.declared.outcome.ChannelEnd.{ChannelEnd}
-use Rattle.dl_outside.specs.Links.{Links}
 use Rattle.dl_outside.specs.Told.{LinkTold, NetTold}
 use Rattle.dl_rounds.specs.Ready.{fresh_listener}
 use Rattle.dl_rounds.specs.declared.listener.Listener.{Listener}
@@ -12,7 +11,7 @@ use Rattle.dl_socket.specs.Channels.{Channels, channel_limit}
 use Rattle.dl_server.specs.State.{seen}
 use Rattle.dl_turns.specs.Gone.{TellOver}
 use Rattle.dl_machine.specs.Steps.{Goes, IsToldBy}
-use Rattle.dl_machine.proofs.Composed.{goes_both, goes_same}
+use Rattle.dl_machine.proofs.Composed.{goes_both}
 use Rattle.dl_machine.proofs.Joined.{replicate_at}
 use Rattle.dl_machine.proofs.LowNumbers.{AreLowIn}
 use Rattle.dl_machine.proofs.ServerSteps.{IsReady, Leading, closing_goes, lead_both, lead_same, round_leads, state_in, state_of}

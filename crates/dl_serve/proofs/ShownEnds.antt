@@ -1,6 +1,6 @@
 -- Why channels have ended, as their links show it, step by step.
-use Rattle.std.proofs.Common.{◌≡◌, ◌<◌, ℕ, Bool, true, false, List, [], ◌++◌, length, map, take, Option, Some, None, is_some, sym, ap, subst, ◌∙◌, arith}
-use Rattle.std.specs.Prelude.{IfSome, IsSome, slice_get}
+use Rattle.std.proofs.Common.{◌≡◌, ◌<◌, ℕ, Bool, true, false, List, [], length, map, take, Option, Some, None, is_some, sym, ap, subst, ◌∙◌, arith}
+use Rattle.std.specs.Prelude.{IfSome, IsSome}
 use Rattle.dl_channel.specs.Pumping.{PumpsBy}
 use Rattle.dl_channel.specs.State.{Outbox}
 use Rattle.dl_channel.specs.declared.outcome.ChannelEnd.{ChannelEnd}
