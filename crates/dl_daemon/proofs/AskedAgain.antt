@@ -1,21 +1,16 @@
 -- A trace that is begun anew, and nets that are asked again: nothing else of a daemon changes.
-use Rattle.std.proofs.Common.{◌≡◌, ◌⊎◌, inl, inr, Bool, List, refl, sym, subst}
+use Rattle.std.proofs.Common.{◌≡◌, ◌⊎◌, inl, inr, Bool, sym, subst}
 use Rattle.dl_bytes.specs.declared.conf.Conf.{Conf}
 use Rattle.dl_core.specs.State.{Core}
-use Rattle.dl_events.specs.declared.event.Event.{Event}
 use Rattle.dl_outside.specs.Told.{FolderTold, LinkTold}
 use Rattle.dl_rounds.specs.Seats.{Seated}
 use Rattle.dl_server.specs.Server.{IsServer}
-use Rattle.dl_server.specs.State.{State}
 use Rattle.dl_server.specs.declared.server.Server.{Server}
 use Rattle.dl_socket.specs.Listening.{HaveListeners}
 use Rattle.dl_trace.specs.State.{Trace}
 use Rattle.dl_events.specs.Told.{Told}
-use Rattle.dl_serve.proofs.AdmittedRuns as admitted
-use Rattle.dl_daemon.specs.Rounds.{asked_again, opened_again, with_trace}
+use Rattle.dl_daemon.specs.Rounds.{opened_again}
 use Rattle.dl_daemon.proofs.Renewals.{IsAnew, IsStill, with_new}
-
--- ---- the daemon between two calls
 
 server_again : {L : Type 0} (told : L → LinkTold) (s : Server Told L) → IsServer told s → IsServer told (opened_again s)
 server_again told s is = record {
@@ -63,8 +58,3 @@ server_renewed told conf begun old new folder folder_now rest (inl still) is =
     subst (IsServer told) (sym rest) (subst (λ (c : Core). IsServer told (record old { core = c })) (sym still.same) (server_as told old is))
 server_renewed told conf begun old new folder folder_now rest (inr anew) is =
     subst (IsServer told) (sym rest) (subst (λ (c : Core). IsServer told (record old { core = c })) (sym anew.is) (server_with told old anew.trace is))
-
--- ---- what its programs sent
-
-pub known_again : (past : List Event) (s : State) (core : Core) (folder : FolderTold) → admitted.Known ⊥ past s → admitted.GoesOn ⊥ past (asked_again (with_trace s core folder))
-known_again past s core folder known = admitted.on_still ⊥ past s (asked_again (with_trace s core folder)) refl refl refl refl known

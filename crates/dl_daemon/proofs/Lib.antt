@@ -5,7 +5,7 @@ pub mod Renewals
 pub mod AskedAgain
 pub mod MoreRounds
 pub mod KeptJournals
-pub mod SentMessages
+pub mod DaemonSteps
 pub mod WentClients
 pub mod TookLevels
 pub mod HeardToTheEnd

@@ -40,9 +40,7 @@ pub fn what_was_kept_is_its_journal<L: Link>()
 pub fn what_programs_sent_is_admitted<L: Link>()
     ensures { (most : Limits) (begun : Begun) (old new : Outside L) (why : Stop) (closed : Closed L) → HasOpened L.told most begun why old new closed
         → TellGiven L.told → AllAdmitted closed.events.events (map L.told closed.users.links) closed.ends }
-{
-    dl_rounds::laws::a_round_is_its_events::<L>();
-}
+{}
 
 /// The links of programs that ended show why: nothing is left to read of one that left, where links tell that, and a broken one has counted a fault.
 pub fn how_programs_ended<L: Link>()

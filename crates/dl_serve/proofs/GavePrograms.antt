@@ -26,9 +26,9 @@ use Rattle.dl_user.specs.Channel as cutter
 use Rattle.dl_serve.specs.Handed.{GaveOrIdled}
 use Rattle.dl_serve.proofs.EmptiedChannels.{EachOpen, IsAmong, among_keys}
 use Rattle.dl_serve.proofs.FewFrames.{NoMessage, hears_few, pumps_few}
-use Rattle.dl_serve.proofs.HeardChannels.{hears_held, pumps_held, adds_so}
 use Rattle.dl_serve.proofs.LaterLinks.{AreLater, IsLater, are_both, are_same, gave_less, gave_more, gave_on, later_heard, later_same, later_sent, later_shut, one_later}
 use Rattle.dl_serve.proofs.OtherEntries.{set_apart, set_here, set_long, value_here, within}
+use Rattle.dl_serve.proofs.HeldInboxes.{adds_so, hears_held, pumps_held}
 
 -- ---- one visit
 

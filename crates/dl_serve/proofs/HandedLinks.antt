@@ -25,7 +25,7 @@ use Rattle.dl_serving.specs.declared.accepting.Entry.TheVariants as entry
 use Rattle.dl_socket.specs.Channels.{open_in}
 use Rattle.dl_serve.specs.Handed.{HandsOut}
 use Rattle.dl_serve.specs.Rounds.{AreRounds}
-use Rattle.dl_serve.proofs.DroppedLinks.{closed_many, each_lasts, heard_many, heard_one, one_more, pumped_many, sent_one, stopped_one}
+use Rattle.dl_serve.proofs.LastingScenes.{closed_many, each_lasts, heard_many, heard_one, one_more, pumped_many, sent_one, stopped_one}
 
 -- ---- what waits
 

@@ -34,14 +34,14 @@ use Rattle.dl_user.specs.Channel.{unfed}
 use Rattle.dl_serve.specs.Admitted.{TellGiven}
 use Rattle.dl_serve.specs.Handed.{GaveOrIdled}
 use Rattle.dl_serve.specs.Rounds.{AreRounds, HasRoom, IsSeen, event_limit, kept}
-use Rattle.dl_serve.proofs.DroppedLinks.{each_lasts, heard_one, linked_in, sent_one}
+use Rattle.dl_serve.proofs.LastingScenes.{each_lasts, heard_one, linked_in, sent_one}
 use Rattle.dl_serve.proofs.FewFrames.{NoMessage, nothing_begins}
 use Rattle.dl_serve.proofs.GaveClients.{AllGave, fresh_gave, round_gave}
 use Rattle.dl_serve.proofs.GavePrograms.{Read, all_read, all_sent}
 use Rattle.dl_serve.proofs.HandedLinks.{Handed, came, next_place, rose_within, round_faults, round_handed, round_undropped, round_unwanted, rounds_faults}
-use Rattle.dl_serve.proofs.HeardChannels.{adds_so}
 use Rattle.dl_serve.proofs.OpenChannels.{OpenIn, came_open, round_open, sent_open, served_open}
 use Rattle.dl_serve.proofs.OtherEntries.{added_apart, added_here, last_at, within}
+use Rattle.dl_serve.proofs.HeldInboxes.{adds_so}
 
 -- ---- how many are open
 

@@ -28,7 +28,7 @@ use Rattle.dl_model.specs.declared.registry.RegistryFault.TheVariants.{ZeroId, T
 use Rattle.dl_model.specs.declared.registry.Slot.{Slot}
 use Rattle.dl_registry.specs.Kept.{channel_at, position_at}
 use Rattle.dl_serve.specs.Levels.{levels_put, message_at}
-use Rattle.dl_serve.proofs.NamedSlots.{AreApart, names_served}
+use Rattle.dl_machine.proofs.NamedSlots.{AreApart, names_served}
 
 -- no message of this channel
 abbrev pub IsNotOf : ℕ → Event → Type 0

@@ -24,11 +24,9 @@ use Rattle.dl_socket.specs.Channels.{Channels, IsOpen, Opens, inbox_of, open_in}
 use Rattle.dl_socket.specs.Turns.{Sight}
 use Rattle.dl_user.specs.Channel as cutter
 use Rattle.dl_user.specs.Channel.{unfed}
-use Rattle.dl_serve.proofs.AdmittedRuns.{keys_added, low_added}
 use Rattle.dl_serve.proofs.EmptiedChannels.{EachOpen}
-use Rattle.dl_serve.proofs.HeardChannels.{OthersHeld, hears_held, pumps_held}
-use Rattle.dl_serve.proofs.KnownChannels.{left_low}
 use Rattle.dl_serve.proofs.OtherEntries.{added_apart, added_some, last_at, set_apart, set_here, set_long, value_here, within}
+use Rattle.dl_serve.proofs.HeldInboxes.{OthersHeld, hears_held, keys_added, left_low, low_added, pumps_held}
 
 -- Each channel that came has its link, and the ones that go on are open.
 pub record AllOpen (links : List LinkTold) (ends : List (Option ChannelEnd)) (channels : Channels) : Type 0 where

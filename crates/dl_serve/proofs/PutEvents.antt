@@ -37,7 +37,7 @@ use Rattle.dl_socket.specs.Turns.{told_each}
 use Rattle.dl_turns.specs.Later.{level_in}
 use Rattle.dl_user.specs.Channel as cutter
 use Rattle.dl_serve.specs.Levels.{message_at}
-use Rattle.dl_serve.proofs.NamedSlots.{NamesSame, names_both, names_served}
+use Rattle.dl_machine.proofs.NamedSlots.{NamesSame, names_both, names_served}
 use Rattle.dl_serve.proofs.NotedMessages.{IsOwn}
 use Rattle.dl_serve.proofs.PutMessages.{put_all, put_both, same_map, told_one}
 use Rattle.dl_lemmas.proofs.Lists.{all_both}

@@ -31,7 +31,7 @@ use Rattle.dl_serving.specs.Visits.{Ends, EndsFor, Pumps, side_of}
 use Rattle.dl_socket.specs.Channels.{Channels}
 use Rattle.dl_socket.specs.Closing.{UnregistersEach}
 use Rattle.dl_socket.specs.Turns.{Sight}
-use Rattle.dl_serve.proofs.NamedSlots.{AreApart}
+use Rattle.dl_machine.proofs.NamedSlots.{AreApart}
 use Rattle.dl_serve.proofs.NotedMessages.{all_both}
 use Rattle.dl_serve.proofs.OtherEntries.{gone_apart, value_apart, value_here}
 use Rattle.dl_serve.proofs.PutEvents.{IsQuiet}

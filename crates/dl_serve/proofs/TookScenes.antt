@@ -19,7 +19,6 @@ use Rattle.dl_serving.specs.Rounds.{Heard, HearsAll, PumpsAll, Scene, Sent, Stop
 use Rattle.dl_serving.proofs.LeftOpen.{Leaves, ended_leaves, heard_leaves, pumped_leaves}
 use Rattle.dl_socket.specs.Channels.{Channels, open_in}
 use Rattle.dl_serve.specs.Levels.{levels_put, message_at}
-use Rattle.dl_serve.proofs.KnownChannels.{left_low}
 use Rattle.dl_serve.proofs.NobodyPuts.{IsNotOf}
 use Rattle.dl_serve.proofs.NotedMessages.{IsOwn, all_both}
 use Rattle.dl_serve.proofs.OtherEntries.{set_apart, set_here, set_long, within}
@@ -27,7 +26,7 @@ use Rattle.dl_serve.proofs.PutEvents.{put_on}
 use Rattle.dl_serve.proofs.PutMessages.{put_all}
 use Rattle.dl_serve.proofs.PutVisits.{Takes, concat_both, put_takes}
 use Rattle.dl_serve.proofs.TookVisits.{ends_move, hears_move, pumps_move}
-use Rattle.dl_serve.proofs.HeardChannels.{adds_so}
+use Rattle.dl_serve.proofs.HeldInboxes.{adds_so, left_low}
 
 -- the bytes of the messages of more events
 pub levels_more : (setting : Setting) (channel : ℕ) (past more : List Event) → levels_put setting channel past ++ concat (put_on setting channel past more) ≡ levels_put setting channel (past ++ more)

@@ -41,8 +41,7 @@ use Rattle.dl_user.specs.Channel as cutter
 use Rattle.dl_user.specs.Channel.{unfed}
 use Rattle.dl_turns.specs.Later.{level_in}
 use Rattle.dl_serve.specs.Levels.{levels_put}
-use Rattle.dl_serve.proofs.AdmittedRuns.{keys_added, low_added}
-use Rattle.dl_serve.proofs.NamedSlots.{NamesSame, names_none}
+use Rattle.dl_machine.proofs.NamedSlots.{NamesSame, names_none}
 use Rattle.dl_serve.proofs.NobodyPuts.{IsNotOf, nothing_put}
 use Rattle.dl_serve.proofs.NotedMessages.{all_both}
 use Rattle.dl_serve.proofs.OtherEntries.{added_apart, added_here, last_at, within}
@@ -50,8 +49,9 @@ use Rattle.dl_serve.proofs.PutEvents.{clients_put, put_on}
 use Rattle.dl_serve.proofs.PutMessages.{Waits, put_all, same_map}
 use Rattle.dl_serve.proofs.PutVisits.{Takes, put_takes}
 use Rattle.dl_serve.proofs.TookScenes.{AllTake, all_heard, all_sent, all_stopped, levels_more}
-use Rattle.dl_serve.proofs.ShownEnds.{none_at}
+use Rattle.dl_machine.proofs.Joined.{replicate_at}
 use Rattle.dl_serve.proofs.TookScenes as scenes
+use Rattle.dl_serve.proofs.HeldInboxes.{keys_added, low_added}
 use Rattle.dl_lemmas.proofs.Options.{nothing_taken as fresh_taken}
 
 pub clients_not : (channel : ℕ) (events : List Event) → AllByRecursion IsOfClients events → AllByRecursion (IsNotOf channel) events
@@ -340,7 +340,7 @@ module _ (Tells : Type 0) (run : Run) where
     after = after;
     many = opened ∙ ap (λ (ls : List LinkTold). length ls) (sym no_links);
     each = λ place link end there slot. absurd (let bad : slice_get [] place ≡ Some link = subst (λ (ls : List LinkTold). slice_get ls place ≡ Some link) no_links there in cc bad);
-    none = λ place end above slot. none_at many place end (subst (λ (es : List (Option ChannelEnd)). slice_get es place ≡ Some end) no_ends slot);
+    none = λ place end above slot. replicate_at many place None end (subst (λ (es : List (Option ChannelEnd)). slice_get es place ≡ Some end) no_ends slot);
     other = λ channel above. tt;
     unheld = λ channel above. ap (λ (es : List (ℕ × Outbox)). outbox_of es channel) no_outboxes;
     low = subst (AllByRecursion (λ channel. 1 ≤ channel)) (sym (ap (λ (is : List (ℕ × cutter.Channel)). keys_of is) no_inboxes)) tt;

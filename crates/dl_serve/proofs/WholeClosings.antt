@@ -22,14 +22,14 @@ use Rattle.dl_socket.specs.Channels.{IsOpen, inbox_of, open_in}
 use Rattle.dl_socket.specs.Turns.{Sight}
 use Rattle.dl_serve.specs.Levels.{levels_put}
 use Rattle.dl_serve.proofs.EmptiedChannels.{EachOpen}
-use Rattle.dl_serve.proofs.HeardChannels.{ends_held, adds_so}
-use Rattle.dl_serve.proofs.NamedSlots.{AreApart}
+use Rattle.dl_machine.proofs.NamedSlots.{AreApart}
 use Rattle.dl_serve.proofs.NobodyPuts.{apart_on, none_put}
 use Rattle.dl_serve.proofs.OtherEntries.{none_found, set_apart, set_here}
 use Rattle.dl_serve.proofs.PutEvents.{put_on, quiet_own, quiet_puts}
 use Rattle.dl_serve.proofs.QuietEnds.{ends_quietly, none_first}
 use Rattle.dl_serve.proofs.TookScenes.{levels_more, own_not}
 use Rattle.dl_serve.proofs.TookServers.{clients_not}
+use Rattle.dl_serve.proofs.HeldInboxes.{adds_so, ends_held}
 use Rattle.dl_lemmas.proofs.Options.{not_some}
 
 stays_so : (old new : Option (List ℕ)) (bytes : List ℕ) → Stays old new → old ≡ Some bytes → new ≡ Some bytes

@@ -38,9 +38,7 @@ pub fn what_was_served_is_its_journal<L: Link>()
 pub fn what_programs_sent_is_admitted<L: Link>()
     ensures { (begun : Begun) (old new : Told L) (full : Bool) (closed : Closed L) → HasOpened L.told begun full old new closed → TellGiven L.told
         → AllAdmitted closed.events.events (map L.told closed.users.links) closed.ends }
-{
-    dl_rounds::laws::a_round_is_its_events::<L>();
-}
+{}
 
 /// The links of programs that ended show why: nothing is left to read of one that left, where links tell that, and a broken one has counted a fault.
 pub fn how_programs_ended<L: Link>()
@@ -73,9 +71,7 @@ pub fn what_programs_took<L: Link>()
 pub fn why_links_were_dropped<L: Link>()
     ensures { (begun : Begun) (old new : Told L) (full : Bool) (closed : Closed L) (first : FolderTold) → IsBegun begun.conf first.files begun.trace
         → HasOpened L.told begun full old new closed → HasDropped closed }
-{
-    dl_rounds::laws::a_round_is_its_events::<L>();
-}
+{}
 
 /// Where the journal had room for all rounds, memory was not wanting and the count of faults of neither net rose: each net handed out the first of those
 /// that waited, one in each round, or all of them, and each of these came or was dropped. Where none was dropped, each that was not ended before the closing

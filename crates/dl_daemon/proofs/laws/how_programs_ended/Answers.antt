@@ -1,4 +1,4 @@
-use Rattle.dl_daemon.proofs.SentMessages.{ended_so}
+use Rattle.dl_daemon.proofs.DaemonSteps.{ended_so}
 use Rattle.dl_daemon.proofs.laws.how_programs_ended.Goals as goal
 
 pub returns : goal.returns

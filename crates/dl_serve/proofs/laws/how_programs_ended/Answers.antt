@@ -1,4 +1,4 @@
-use Rattle.dl_serve.proofs.SentPrograms.{ended_so}
+use Rattle.dl_serve.proofs.ShownEnds.{ended_so}
 use Rattle.dl_serve.proofs.laws.how_programs_ended.Goals as goal
 
 pub returns : goal.returns

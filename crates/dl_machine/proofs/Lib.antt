@@ -1,0 +1,10 @@
+pub mod Joined
+pub mod Composed
+pub mod NamedSlots
+pub mod Standing
+pub mod LowNumbers
+pub mod SaidEvents
+pub mod ClientSteps
+pub mod ProgramSteps
+pub mod ServerSteps
+pub mod LoopSteps
