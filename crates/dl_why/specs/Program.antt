@@ -1,5 +1,6 @@
 -- What `dlt_why` promises.
-use Rattle.std.specs.Prelude.{◌≡◌, ◌<◌, ℕ, length, List, [], ◌∷◌, codes, map, IfSome, IsOk, Option, Result, Ok, Err, String, string_bytes}
+use Rattle.std.specs.Prelude.{◌≡◌, ◌<◌, ◌⊎◌, ℕ, length, List, [], ◌∷◌, codes, map, IfSome, IsOk, Option, Some, None, Result, Ok, Err, String, string_bytes}
+use Rattle.std.specs.FinMap as entries
 use Rattle.dl_bytes.specs.declared.conf.Conf.{Conf}
 use Rattle.dl_core.specs.Settings.{HasSizes, setting_of}
 use Rattle.dl_model.specs.Setting.{Setting}
@@ -10,6 +11,7 @@ use Rattle.dl_outside.specs.Told.{FolderTold, SinkTold, SourceTold}
 use Rattle.dl_outside.specs.Written.{Wrote, WroteAll, WroteFront, WroteNothing}
 use Rattle.dl_script.specs.Script.{steps_of}
 use Rattle.dl_script.specs.declared.error.ScriptError.TheVariants as bad
+use Rattle.dl_script_fields.specs.declared.kind.ScriptKind.TheVariants.{Missing}
 use Rattle.dl_startup.specs.Configuration.{SayConfs}
 use Rattle.dl_startup.specs.Setup.{conf_in, conf_name, stored_in}
 use Rattle.dl_startup.specs.Status as startup
@@ -21,7 +23,7 @@ use Rattle.dl_fates.specs.declared.stored_calls.Rotation.{Rotation}
 use Rattle.dl_trace.specs.Stands.{HasFiles}
 use Rattle.dl_trace_files.specs.Files.{files_asked}
 use Rattle.dl_trace_why.specs.Account as trace
-use Rattle.dl_trace_why.specs.Account.{Spares}
+use Rattle.dl_trace_why.specs.Account.{Sides, Spares, sides}
 use Rattle.dl_why_words.specs.Words as given_words
 use Rattle.dl_why_words.specs.Words.{Asked, AsksSteps, AsksTrace, AsksStream, said}
 use Rattle.dl_why_words.specs.declared.parse.WhyFault.{WhyFault}
@@ -147,7 +149,7 @@ abbrev pub program : List ℕ
 program = codes "dlt_why"
 
 abbrev pub usage : List ℕ
-usage = codes "dlt_why steps [--picture FILE], trace [--picture FILE] [FOLDER|FILE].. or stream [--picture FILE] FILE"
+usage = codes "dlt_why steps [--picture FILE] [FILE], trace [--picture FILE] [FOLDER|FILE].. or stream [--picture FILE] FILE"
 
 abbrev pub line_of : Status → List ℕ
 line_of status = startup.line_of program usage status
@@ -173,6 +175,43 @@ pub record RunsSteps (drawn : Option (List ℕ)) (old new : Told) (err err_now :
   pub ends : Ends drawn old new status
   pub said : SaysSteps status err err_now
 
+-- the text of the file of this name; or why there is none. The folder is left as it was.
+abbrev pub HasText : List ℕ → FolderTold → FolderTold → Result (List ℕ) Status → Type 0
+HasText name old new (Ok text) = IfSome old.files (λ files. entries.get files name ≡ Some text) × IsQuiet old new
+HasText name old new (Err (end.ScriptRefused line kind)) =
+    (line ≡ 0) × (kind ≡ Missing) × (IfSome old.files (λ files. entries.get files name ≡ None)) × IsUnchanged old new
+HasText name old new (Err end.FolderFault) = HasRisen old.faults new.faults × IsUnchanged old new
+HasText name old new (Err end.OutOfMemory) = IsUnchanged old new
+HasText name old new (Err _) = ⊥
+
+-- a source that has this text
+abbrev pub source_of : List ℕ → SourceTold
+source_of text = record { left = Some text; faults = 0 }
+
+-- what `steps` comes to with a script that has this text
+abbrev pub RunsText : List ℕ → Option (List ℕ) → Sides → Sides → SinkTold → SinkTold → ℕ → Type 0
+RunsText text drawn old new err err_now answer =
+    (over : SourceTold) × RunsSteps drawn (told (source_of text) old.folder old.out) (told over new.folder new.out) err err_now answer
+
+-- the file of this name was read
+pub record RunsRead (name : List ℕ) (drawn : Option (List ℕ)) (old new : Sides) (err err_now : SinkTold) (answer : ℕ) : Type 0 where
+  pub text : List ℕ
+  pub read : FolderTold
+  pub has : HasText name old.folder read (Ok text)
+  pub runs : RunsText text drawn (sides read old.out) new err err_now answer
+
+-- it could not be read
+pub record RunsUnread (name : List ℕ) (old new : Sides) (err err_now : SinkTold) (answer : ℕ) : Type 0 where
+  pub status : Status
+  pub lacks : HasText name old.folder new.folder (Err status)
+  pub silent : WroteNothing old.out new.out
+  pub number_is : answer ≡ startup.number status
+  pub said : Says status err err_now
+
+-- what `steps` comes to with the script of the file of this name
+abbrev pub RunsFile : List ℕ → Option (List ℕ) → Sides → Sides → SinkTold → SinkTold → ℕ → Type 0
+RunsFile name drawn old new err err_now answer = RunsRead name drawn old new err err_now answer ⊎ RunsUnread name old new err err_now answer
+
 -- what `trace` and `stream` come to: the input is left alone
 abbrev pub RunsAccount : (Files → List (List ℕ)) → Option (List ℕ) → Told → Told → SinkTold → SinkTold → ℕ → Type 0
 RunsAccount names picture old new err err_now answer =
@@ -180,7 +219,9 @@ RunsAccount names picture old new err err_now answer =
 
 -- what a run comes to by what is asked for
 abbrev pub RunsAsked : Asked → Told → Told → SinkTold → SinkTold → ℕ → Type 0
-RunsAsked (AsksSteps picture) old new err err_now answer = RunsSteps picture old new err err_now answer
+RunsAsked (AsksSteps None picture) old new err err_now answer = RunsSteps picture old new err err_now answer
+RunsAsked (AsksSteps (Some name) picture) old new err err_now answer =
+    (new.input ≡ old.input) × RunsFile name picture (sides old.folder old.out) (sides new.folder new.out) err err_now answer
 RunsAsked (AsksTrace names picture) old new err err_now answer = RunsAccount (λ files. files_asked files names) picture old new err err_now answer
 RunsAsked (AsksStream name picture) old new err err_now answer = RunsAccount (λ files. name ∷ []) picture old new err err_now answer
 
@@ -188,17 +229,22 @@ RunsAsked (AsksStream name picture) old new err err_now answer = RunsAccount (λ
 
 -- what the program says of itself
 unfoldable pub help : List ℕ
-help = codes "Says why messages are missing.\n\nUsage: dlt_why steps [--picture FILE] < SCRIPT\n       dlt_why trace [--picture FILE] [FOLDER|FILE]..\n       dlt_why stream [--picture FILE] FILE\n\nTasks:\n  steps   what became of each log call of a step script\n  trace   what is missing of traces; without a name of those in this folder\n  stream  what is missing of a stream as a client recorded it\n\nOptions:\n      --picture <FILE>  draws the calls or the sessions into this file, as SVG\n  -h, --help            Print help\n"
+help = codes "Says why messages are missing.\n\nUsage: dlt_why steps [--picture FILE] [FILE]\n       dlt_why trace [--picture FILE] [FOLDER|FILE]..\n       dlt_why stream [--picture FILE] FILE\n\nTasks:\n  steps   what became of each log call of a step script; without a name of that of standard input\n  trace   what is missing of traces; without a name of those in this folder\n  stream  what is missing of a stream as a client recorded it\n\nOptions:\n      --picture <FILE>  draws the calls or the sessions into this file, as SVG\n  -h, --help            Print help\n  -V, --version         Print version\n"
+
+-- and of its version
+abbrev pub version : List ℕ
+version = codes "dlt_why 1\n"
 
 -- it was written, or its front
-abbrev pub Helps : SinkTold → SinkTold → Status → Type 0
-Helps old new end.Ok = WroteAll old new help
-Helps old new end.WriteFault = WroteFront old new help
-Helps old new _ = ⊥
+abbrev pub Tells : List ℕ → SinkTold → SinkTold → Status → Type 0
+Tells text old new end.Ok = WroteAll old new text
+Tells text old new end.WriteFault = WroteFront old new text
+Tells text old new _ = ⊥
 
 -- what the status says where words ask for nothing
 abbrev pub AnswersFault : WhyFault → SinkTold → SinkTold → Status → Type 0
-AnswersFault fault.Help old new status = Helps old new status
+AnswersFault fault.Help old new status = Tells help old new status
+AnswersFault fault.Version old new status = Tells version old new status
 AnswersFault fault.Refused old new status = (status ≡ end.WordsRefused) × WroteNothing old new
 AnswersFault fault.OutOfMemory old new status = (status ≡ end.OutOfMemory) × WroteNothing old new
 

@@ -8,19 +8,22 @@ ghost use Rattle.dl_outside.specs.Told.{FolderTold, SinkTold};
 ghost use Rattle.dl_script.specs.Playable.{IsPlayable};
 ghost use Rattle.dl_startup.specs.Configuration.{SetsUp};
 ghost use Rattle.dl_startup.specs.Setup.{IsBegun, conf_name};
+ghost use Rattle.dl_startup.specs.Status as startup;
 ghost use Rattle.dl_trace_files.specs.Files.{files_asked};
 ghost use Rattle.dl_trace_why.specs.Account.{Runs, sides};
 ghost use Rattle.dl_why_words.specs.Words.{said};
-ghost use Rattle.dl_why.specs.Program.{AnswersFault, Begins, Ends, Helps, LooksAt, Prints, RunsAsked, RunsNot, RunsSteps, SaysSteps, Standing, TellsWhy, Writes, help, told};
+ghost use Rattle.dl_why.specs.Program.{AnswersFault, Begins, Ends, HasText, LooksAt, Prints, RunsAsked, RunsFile, RunsNot, RunsSteps, RunsText, Says, SaysSteps, Standing, Tells, TellsWhy, Writes, help, told};
 ghost use Rattle.dl_fates.specs.Written.{IsRotating};
 
 use crate::drawing::put_where_wanted;
 use crate::explanation::explain;
 use crate::script::{Script, read_script};
 use crate::steps_status::StepsStatus;
-use dl_bytes::Conf;
+use dl_bytes::{Bytes, Conf};
 use dl_fates::{Rotation, newest_number};
-use dl_outside::{Folder, Sink, Source, write_text};
+use dl_memory::MemorySource;
+use dl_outside::{Folder, FolderFault, Sink, Source, write_text};
+use dl_script::ScriptKind;
 use dl_startup::{CONF_NAME, Setup, Status, set_up, trace_over};
 use dl_trace::{Trace, TraceFault};
 use dl_trace_why::{Wanted, Which, account};
@@ -30,9 +33,15 @@ use std::alloc::Global;
 /// The program's name, with which each line on standard error begins.
 const PROGRAM: &[u8] = b"dlt_why";
 
+/// How many bytes of a file's text are read at once.
+const PIECE: usize = 65_536;
+
 /// The words that it takes, as the line says it that refuses others.
 const USAGE: &[u8] =
-    b"dlt_why steps [--picture FILE], trace [--picture FILE] [FOLDER|FILE].. or stream [--picture FILE] FILE";
+    b"dlt_why steps [--picture FILE] [FILE], trace [--picture FILE] [FOLDER|FILE].. or stream [--picture FILE] FILE";
+
+/// What it says of its version.
+const VERSION: &[u8] = b"dlt_why 1\n";
 
 /// What it says where the picture of a script can't be written.
 const PICTURE_FAULT: &[u8] = b"dlt_why: picture fault\n";
@@ -44,18 +53,19 @@ fn help() -> &'static [u8]
 {
     b"Says why messages are missing.
 
-Usage: dlt_why steps [--picture FILE] < SCRIPT
+Usage: dlt_why steps [--picture FILE] [FILE]
        dlt_why trace [--picture FILE] [FOLDER|FILE]..
        dlt_why stream [--picture FILE] FILE
 
 Tasks:
-  steps   what became of each log call of a step script
+  steps   what became of each log call of a step script; without a name of that of standard input
   trace   what is missing of traces; without a name of those in this folder
   stream  what is missing of a stream as a client recorded it
 
 Options:
       --picture <FILE>  draws the calls or the sessions into this file, as SVG
   -h, --help            Print help
+  -V, --version         Print version
 "
 }
 
@@ -182,7 +192,7 @@ fn say_steps<E: Sink>(status: StepsStatus, err: &mut E)
     }
 }
 
-/// Explains the script of the input, and says how that ended.
+/// Explains the script of a source, and says how that ended.
 fn run_steps<F: Folder, I: Source, O: Sink, E: Sink>(
     alloc: Global,
     picture: Option<&str>,
@@ -197,6 +207,64 @@ fn run_steps<F: Folder, I: Source, O: Sink, E: Sink>(
     let status = explain_steps(alloc, picture, input, folder, out);
     say_steps(status, err);
     status.number()
+}
+
+/// The text of the file of this name; or why there is none.
+fn text_in<F: Folder>(folder: &mut F, name: &str) -> Result<Bytes, Status>
+    ensures { HasText name.now (F.told folder.old) (F.told folder.new) result }
+{
+    match folder.read(name) {
+        Ok(Some(text)) => Ok(text),
+        Ok(None) => Err(Status::ScriptRefused {
+            line: 0,
+            kind: ScriptKind::Missing,
+        }),
+        Err(FolderFault::Failed) => Err(Status::FolderFault),
+        Err(FolderFault::OutOfMemory) => Err(Status::OutOfMemory),
+    }
+}
+
+/// Explains the script that has this text, and says how that ended.
+fn run_text<F: Folder, O: Sink, E: Sink>(
+    alloc: Global,
+    text: Bytes,
+    picture: Option<&str>,
+    folder: &mut F,
+    out: &mut O,
+    err: &mut E,
+) -> u8
+    ensures { RunsText text (option_map (λ name. name.now) picture.entry) (sides (F.told folder.old) (O.told out.old)) (sides (F.told folder.new) (O.told out.new))
+        (E.told err.old) (E.told err.new) result }
+{
+    let mut input = MemorySource::make(text.into_vec(), PIECE);
+    run_steps(alloc, picture, &mut input, folder, out, err)
+}
+
+/// Says why there is no script.
+fn refuse<E: Sink>(status: Status, err: &mut E) -> u8
+    ensures number { result ≡ startup.number status }
+    ensures said { Says status (E.told err.old) (E.told err.new) }
+{
+    status.say(PROGRAM, USAGE, err);
+    status.number()
+}
+
+/// Explains the script of the file of this name, and says how that ended.
+fn run_file<F: Folder, O: Sink, E: Sink>(
+    alloc: Global,
+    name: &str,
+    picture: Option<&str>,
+    folder: &mut F,
+    out: &mut O,
+    err: &mut E,
+) -> u8
+    ensures { RunsFile name.now (option_map (λ name. name.now) picture.entry) (sides (F.told folder.old) (O.told out.old)) (sides (F.told folder.new) (O.told out.new))
+        (E.told err.old) (E.told err.new) result }
+{
+    match text_in(folder, name) {
+        Ok(text) => run_text(alloc, text, picture, folder, out, err),
+        Err(status) => refuse(status, err),
+    }
 }
 
 /// Writes the account of traces, and says how that ended.
@@ -232,10 +300,10 @@ fn run_stream<F: Folder, O: Sink, E: Sink>(
 }
 
 /// Writes what the program says of itself.
-fn write_help<O: Sink>(out: &mut O) -> Status
-    ensures { Helps (O.told out.old) (O.told out.new) result }
+fn write_own<O: Sink>(out: &mut O, text: &[u8]) -> Status
+    ensures { Tells text.now (O.told out.old) (O.told out.new) result }
 {
-    match write_text(out, help()) {
+    match write_text(out, text) {
         Ok(()) => Status::Ok,
         Err(_) => Status::WriteFault,
     }
@@ -246,7 +314,8 @@ fn fault_status<O: Sink>(fault: WhyFault, out: &mut O) -> Status
     ensures { AnswersFault fault (O.told out.old) (O.told out.new) result }
 {
     match fault {
-        WhyFault::Help => write_help(out),
+        WhyFault::Help => write_own(out, help()),
+        WhyFault::Version => write_own(out, VERSION),
         WhyFault::Refused => Status::WordsRefused,
         WhyFault::OutOfMemory => Status::OutOfMemory,
     }
@@ -274,7 +343,14 @@ fn run_asked<F: Folder, I: Source, O: Sink, E: Sink>(
         (told (I.told input.new) (F.told folder.new) (O.told out.new)) (E.told err.old) (E.told err.new) result }
 {
     match asked {
-        WhyWords::Steps { picture } => run_steps(alloc, picture, input, folder, out, err),
+        WhyWords::Steps {
+            script: None,
+            picture,
+        } => run_steps(alloc, picture, input, folder, out, err),
+        WhyWords::Steps {
+            script: Some(name),
+            picture,
+        } => run_file(alloc, name, picture, folder, out, err),
         WhyWords::Trace { names, picture } => {
             run_traces(alloc, &names, picture, folder, out, err)
         }
@@ -282,8 +358,8 @@ fn run_asked<F: Folder, I: Source, O: Sink, E: Sink>(
     }
 }
 
-/// Tells why messages aren't there: with the word `steps` what became of each log call of the script of the input, with `trace` and `stream`
-/// what is missing of what was recorded, with `--help` what the program is for. The words are those of the command line, the program's name
+/// Tells why messages aren't there: with the word `steps` what became of each log call of the script of a file or of the input, with `trace` and
+/// `stream` what is missing of what was recorded, with `--help` what the program is for. The words are those of the command line, the program's name
 /// first. No file of the folder is changed but that of a picture. The answer is the exit status. Each but the good one is said on `err` in
 /// one line, and a fault of `err` changes nothing.
 pub fn tell_why<F: Folder, I: Source, O: Sink, E: Sink>(

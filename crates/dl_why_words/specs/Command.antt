@@ -13,9 +13,13 @@ files = record (new_rule (codes "FILE")) { action = Some Append }
 abbrev pub file : Rule
 file = record (new_rule (codes "FILE")) { required = true }
 
--- `steps [--picture FILE]`
+-- the name of a file, which may be there
+abbrev pub file_if_any : Rule
+file_if_any = new_rule (codes "FILE")
+
+-- `steps [--picture FILE] [FILE]`
 abbrev pub steps_command : App
-steps_command = with_rule (new_app (codes "steps")) (option (codes "picture"))
+steps_command = with_rule (with_rule (new_app (codes "steps")) (option (codes "picture"))) file_if_any
 
 -- `trace [--picture FILE] [FILE]..`
 abbrev pub trace_command : App

@@ -9,11 +9,12 @@ use Rattle.clap.specs.declared.error.kind.ErrorKind.{ErrorKind}
 use Rattle.clap.specs.declared.error.kind.ErrorKind.TheVariants as kind
 use Rattle.clap.specs.declared.parser.matches.ArgMatches.{ArgMatches}
 use Rattle.dl_why_words.specs.declared.parse.WhyFault.{WhyFault}
-use Rattle.dl_why_words.specs.declared.parse.WhyFault.TheVariants.{Help, Refused, OutOfMemory}
+use Rattle.dl_why_words.specs.declared.parse.WhyFault.TheVariants.{Help, Version, Refused, OutOfMemory}
 
--- Why a command refuses words: they ask for help, or there is another cause. Of want of memory this says nothing.
+-- Why a command refuses words: they ask for help, or there is another cause. The version is no command's. Of want of memory this says nothing.
 abbrev pub IsRefused : App → List Text → WhyFault → Type 0
 IsRefused command words Help = IsAmong kind.DisplayHelp (fault_of command words)
+IsRefused command words Version = ⊥
 IsRefused command words Refused = (cause : ErrorKind) × IsAmong cause (fault_of command words) × (cause ≢ kind.DisplayHelp)
 IsRefused command words OutOfMemory = Unit {0}
 

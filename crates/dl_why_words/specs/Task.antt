@@ -3,7 +3,7 @@ use Rattle.std.specs.Prelude.{List, ◌∷◌, codes, if◌then◌else◌}
 use Rattle.std.specs.Str.{bytes_eq}
 use Rattle.clap.specs.Walk.{Text}
 use Rattle.dl_why_words.specs.declared.task.Task.{Task}
-use Rattle.dl_why_words.specs.declared.task.Task.TheVariants.{Steps, Trace, Stream, Help, Unknown}
+use Rattle.dl_why_words.specs.declared.task.Task.TheVariants.{Steps, Trace, Stream, Help, Version, Unknown}
 
 abbrev pub task_named : Text → Task
 task_named word =
@@ -12,6 +12,8 @@ task_named word =
     else if bytes_eq word (codes "stream") then Stream
     else if bytes_eq word (codes "--help") then Help
     else if bytes_eq word (codes "-h") then Help
+    else if bytes_eq word (codes "--version") then Version
+    else if bytes_eq word (codes "-V") then Version
     else Unknown
 
 -- what the first word behind the program's name asks for

@@ -9,20 +9,20 @@ use Rattle.dl_why_words.specs.Task.{task_of}
 use Rattle.dl_why_words.specs.declared.parse.WhyFault.{WhyFault}
 use Rattle.dl_why_words.specs.declared.parse.WhyFault.TheVariants as fault
 use Rattle.dl_why_words.specs.declared.task.Task.{Task}
-use Rattle.dl_why_words.specs.declared.task.Task.TheVariants.{Steps, Trace, Stream, Help, Unknown}
+use Rattle.dl_why_words.specs.declared.task.Task.TheVariants.{Steps, Trace, Stream, Help, Version, Unknown}
 use Rattle.dl_why_words.specs.declared.words.WhyWords.{WhyWords}
 use Rattle.dl_why_words.specs.declared.words.WhyWords.TheVariants as words
 
--- what is asked for: what became of a script's calls, what is missing of the files that names stand for, or what is missing of one file's
--- stream; with the name of a picture, where one is wanted
+-- what is asked for: what became of the calls of a script, of the file of this name where one is given; what is missing of the files that names stand
+-- for; or what is missing of one file's stream; with the name of a picture, where one is wanted
 pub data Asked : Type 0 where
-  AsksSteps : (picture : Option Text) → Asked
+  AsksSteps : (script picture : Option Text) → Asked
   AsksTrace : (names : List Text) → (picture : Option Text) → Asked
   AsksStream : (name : Text) → (picture : Option Text) → Asked
 
 -- by what was found
 abbrev pub steps_in : List Row → Asked
-steps_in rows = AsksSteps (first_of (codes "picture") rows)
+steps_in rows = AsksSteps (first_of (codes "FILE") rows) (first_of (codes "picture") rows)
 
 abbrev pub trace_in : List Row → Asked
 trace_in rows = AsksTrace (texts_in (codes "FILE") rows) (first_of (codes "picture") rows)
@@ -32,7 +32,7 @@ stream_in rows = AsksStream (text_in (codes "FILE") rows) (first_of (codes "pict
 
 -- what was read of the words, in these terms
 abbrev pub said : WhyWords → Asked
-said (words.Steps picture) = AsksSteps (option_map (λ name. name.now) picture)
+said (words.Steps script picture) = AsksSteps (option_map (λ name. name.now) script) (option_map (λ name. name.now) picture)
 said (words.Trace names picture) = AsksTrace (map (λ name. name.now) names.items) (option_map (λ name. name.now) picture)
 said (words.Stream name picture) = AsksStream name.now (option_map (λ name. name.now) picture)
 
@@ -51,6 +51,7 @@ SaysOf Steps words result = Finds steps_command steps_in (drop 1 words) result
 SaysOf Trace words result = Finds trace_command trace_in (drop 1 words) result
 SaysOf Stream words result = Finds stream_command stream_in (drop 1 words) result
 SaysOf Help words result = result ≡ Err fault.Help
+SaysOf Version words result = result ≡ Err fault.Version
 SaysOf Unknown words result = result ≡ Err fault.Refused
 
 -- What the words ask for, the program's name first; or why they ask for nothing.

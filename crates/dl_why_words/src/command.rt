@@ -3,7 +3,7 @@
 ghost use Rattle.std.specs.Prelude.{◌≡◌, IfOk, codes, false};
 ghost use Rattle.clap.specs.Words.{app_of, rule_of};
 ghost use Rattle.dl_words.specs.Command.{option};
-ghost use Rattle.dl_why_words.specs.Command.{file, files, steps_command, stream_command, trace_command};
+ghost use Rattle.dl_why_words.specs.Command.{file, file_if_any, files, steps_command, stream_command, trace_command};
 
 use clap::{Arg, ArgAction, Command};
 use std::alloc::{AllocError, Global};
@@ -32,11 +32,21 @@ fn file<'a>(alloc: Global) -> Arg<'a>
     Arg::new(alloc, "FILE").required(true)
 }
 
+/// The name of a file, where one is given.
+fn file_if_any<'a>(alloc: Global) -> Arg<'a>
+    ensures rule { rule_of result ≡ file_if_any }
+    ensures own { result.global ≡ false }
+{
+    Arg::new(alloc, "FILE")
+}
+
 /// The command `steps`.
 pub fn steps_command<'a>(alloc: Global) -> Result<Command<'a>, AllocError>
     ensures { IfOk result (λ command. app_of command ≡ steps_command) }
 {
-    Command::new(alloc, "steps").arg(picture(alloc))
+    Command::new(alloc, "steps")
+        .arg(picture(alloc))?
+        .arg(file_if_any(alloc))
 }
 
 /// The command `trace`.

@@ -14,6 +14,8 @@ use std::alloc::{AllocError, Global};
 pub enum WhyFault {
     /// They ask for help.
     Help,
+    /// They ask for the version.
+    Version,
     /// They aren't of the form.
     Refused,
     /// Memory ran out.

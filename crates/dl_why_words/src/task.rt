@@ -14,6 +14,8 @@ pub enum Task {
     Stream,
     /// `--help` or `-h`.
     Help,
+    /// `--version` or `-V`.
+    Version,
     /// Nothing that is known.
     Unknown,
 }
@@ -28,6 +30,8 @@ fn task_named(word: &str) -> Task
         "stream" => Task::Stream,
         "--help" => Task::Help,
         "-h" => Task::Help,
+        "--version" => Task::Version,
+        "-V" => Task::Version,
         _ => Task::Unknown,
     }
 }

@@ -12,8 +12,10 @@ use std::alloc::Global;
 /// What the words ask for.
 #[derive(Drop)]
 pub enum WhyWords<'a> {
-    /// `steps [--picture FILE]`: what became of each log call of a script.
+    /// `steps [--picture FILE] [FILE]`: what became of each log call of a script.
     Steps {
+        /// The name of its file; standard input has it where none is named.
+        script: Option<&'a str>,
         /// The name of the file that a picture goes into, where one is wanted.
         picture: Option<&'a str>,
     },
@@ -44,9 +46,9 @@ fn steps_words<'a>(alloc: Global, words: &'a [String]) -> Result<WhyWords<'a>, W
         Ok(matches) => matches,
         Err(fault) => return Err(fault),
     };
-    Ok(WhyWords::Steps {
-        picture: given(&matches, "picture"),
-    })
+    let script = given(&matches, "FILE");
+    let picture = given(&matches, "picture");
+    Ok(WhyWords::Steps { script, picture })
 }
 
 /// What the words from `trace` on ask for.
@@ -104,6 +106,7 @@ pub fn why_words<'a>(alloc: Global, words: &'a [String]) -> Result<WhyWords<'a>,
         Task::Trace => trace_words(alloc, words),
         Task::Stream => stream_words(alloc, words),
         Task::Help => Err(WhyFault::Help),
+        Task::Version => Err(WhyFault::Version),
         Task::Unknown => Err(WhyFault::Refused),
     }
 }

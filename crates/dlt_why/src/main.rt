@@ -1,4 +1,4 @@
-//! `dlt_why steps` plays the script of standard input, and prints what became of each of its log calls. `dlt_why trace [FOLDER|FILE]..` reads
+//! `dlt_why steps [FILE]` plays the script of a file or of standard input, and prints what became of each of its log calls. `dlt_why trace [FOLDER|FILE]..` reads
 //! trace files, and `dlt_why stream FILE` a stream as a client recorded it, and prints which messages are missing of each session, where, and
 //! what the traces tell of the cause. No file is changed but that of a picture.
 #![tactic(auto)]
@@ -19,6 +19,29 @@ fn words(rt: &(impl Env + AllocGlobal)) -> Option<Vec<String>> {
     }
 }
 
+/// The status of a script that is refused, or that isn't there.
+const NO_SCRIPT: u8 = 4;
+
+/// Whether `steps` was asked for, with this name among its words.
+fn is_script(words: &[String], name: &str) -> bool {
+    words.iter().any(|word| word.as_str() == "steps")
+        && words.iter().any(|word| word.as_str() == name)
+}
+
+/// Says what went wrong with files: which one, and why. A script that isn't there has no fault, so its name is said.
+fn say_files(rt: &HostRuntime, status: u8, words: &[String], folder: &Directory<HostRuntime>) {
+    if status == NO_SCRIPT {
+        if let Some(name) = folder.absent() {
+            if is_script(words, name) {
+                let _ = eprintln!(rt; "dlt_why: {name}: not found");
+            }
+        }
+    }
+    if status != 0 {
+        say_troubles(rt, "dlt_why", folder.troubles());
+    }
+}
+
 fn main(rt: HostRuntime) -> ExitCode {
     let Some(words) = words(&rt) else {
         let _ = rt.eprintln("dlt_why: out of memory");
@@ -30,9 +53,6 @@ fn main(rt: HostRuntime) -> ExitCode {
     let mut out = Writing::over(rt.stdout());
     let mut err = Writing::over(rt.stderr());
     let status = tell_why(alloc, &words, &mut input, &mut folder, &mut out, &mut err);
-    if status != 0 {
-        // which file it was, and why
-        say_troubles(&rt, "dlt_why", folder.troubles());
-    }
+    say_files(&rt, status, &words, &folder);
     ExitCode::from(status)
 }

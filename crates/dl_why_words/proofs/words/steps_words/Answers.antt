@@ -11,5 +11,5 @@ returns-in-Err c = refused (app_of c.in-Ok.command) steps_command (map string_by
 
 pub returns : goal.returns
 returns c =
-    taken (app_of c.in-Ok.command) steps_command steps_in (map string_bytes c.args.words.now) c.in-Ok-parse.matches (said (words.Steps c.given.result)) c.in-Ok.ensures c.in-Ok-parse.ensures
-    (λ i. AsksSteps (c.given.ensures i))
+    taken (app_of c.in-Ok.command) steps_command steps_in (map string_bytes c.args.words.now) c.in-Ok-parse.matches (said (words.Steps c.given-script.result c.given-picture.result)) c.in-Ok.ensures c.in-Ok-parse.ensures
+    (λ i. AsksSteps (c.given-script.ensures i) (c.given-picture.ensures i))
