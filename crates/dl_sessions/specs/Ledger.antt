@@ -108,6 +108,10 @@ accounts_text stream = along account_line stream
 abbrev pub no_since : Since
 no_since = record { accounts = 0; messages = 0; missing = 0; last = None }
 
+-- one context has this, and every other one what it had
+abbrev pub HasPut : {S : Type 0} → (old new : hash.HashMap Context Since S) → Context → Since → Type 0
+HasPut old new own since = (context : Context) → hash.get same_context new context ≡ (if same_context own context then Some since else hash.get same_context old context)
+
 -- with one account about it more
 abbrev pub with_account : Since → Since
 with_account since = record { accounts = counted (since.accounts + 1); messages = 0; missing = 0; last = None }

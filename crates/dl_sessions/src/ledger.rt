@@ -4,7 +4,7 @@ ghost use Rattle.std.specs.Prelude.{◌≡◌, ◌+◌, ◌++◌, ◌∷◌, [],
 ghost use Rattle.std.specs.HashMap as hash;
 ghost use Rattle.dl_sessions.specs.Calls.{calls_in};
 ghost use Rattle.dl_sessions.specs.Gaps.{context_of, counted, entries, same_context};
-ghost use Rattle.dl_sessions.specs.Ledger.{KeepsSince, Notes, about, about_text, account_text, accounts_text, calls_text, filtered_text, heading_text, no_since, place_text, queued_text, verdict_text, with_account, with_message};
+ghost use Rattle.dl_sessions.specs.Ledger.{HasPut, KeepsSince, Notes, about, about_text, account_text, accounts_text, calls_text, filtered_text, heading_text, no_since, place_text, queued_text, verdict_text, with_account, with_message};
 ghost use Rattle.dl_sessions.specs.declared.session.Entry.{Entry};
 ghost use Rattle.dl_sessions.specs.declared.session.Told.{Told};
 ghost use Rattle.dl_sessions.specs.declared.session.Told.TheVariants as told;
@@ -211,7 +211,7 @@ fn push_account(
 /// Notes a message of its context. Answers what came since the context's last account, with it.
 fn note_message(kept: &mut HashMap<Context, Since>, entry: &Entry) -> Result<Since, OutOfMemory>
     ensures value { IfOk result (λ since. since ≡ with_message (unwrap_or (hash.get same_context kept.old (context_of entry.now)) no_since) entry.now) }
-    ensures kept { IfOk result (λ since. (context : Context) → hash.get same_context kept.new context ≡ (if same_context (context_of entry.now) context then Some since else hash.get same_context kept.old context)) }
+    ensures kept { IfOk result (λ since. HasPut kept.old kept.new (context_of entry.now) since) }
 {
     let context = context_of(entry);
     let since = with_message(&since_so_far(kept, &context), entry);
