@@ -28,16 +28,24 @@ fn open(app: &mut App, desk: &mut Desk) -> Option<(Ctx, Writer)>
     Some((ctx, writer))
 }
 
-/// The daemon's side of an application whose ring holds two calls, its context and a writer.
-fn declare(alloc: Global) -> Result<(Desk, Ctx, Writer), OutOfMemory>
-    ensures { IfOk result (λ made. length made.0.apps ≡ 1) }
+/// An application whose ring holds two calls.
+fn spec(alloc: Global) -> AppSpec
+    ensures capacity { result.capacity ≡ 2 }
+    ensures text { result.text ≡ [] }
 {
-    let spec = AppSpec {
+    AppSpec {
         apid: Id::from_bytes(*b"LOG1"),
         capacity: 2,
         text: Bytes::over(Vec::new(alloc)),
-    };
-    let (mut desk, mut apps) = Desk::make(alloc, &[spec])?;
+    }
+}
+
+/// The daemon's side of the application, its context and a writer.
+fn declare(alloc: Global) -> Result<(Desk, Ctx, Writer), OutOfMemory>
+    ensures { IfOk result (λ made. length made.0.apps ≡ 1) }
+{
+    let specs = [spec(alloc)];
+    let (mut desk, mut apps) = Desk::make(alloc, &specs)?;
     match open(apps.of_mut(0), &mut desk) {
         Some((ctx, writer)) => Ok((desk, ctx, writer)),
         None => Err(OutOfMemory),
@@ -72,20 +80,50 @@ fn take_all<R: Wait>(rt: &R, desk: &mut Desk) -> u32
     taken
 }
 
-fn main(rt: HostRuntime) -> ExitCode {
-    let Ok((mut desk, ctx, mut writer)) = declare(rt.alloc()) else {
-        return ExitCode::FAILURE;
-    };
-    let debug = log(&rt, &mut writer, &ctx, Severity::Debug, 0);
-    let first = log(&rt, &mut writer, &ctx, Severity::Info, 1);
-    let second = log(&rt, &mut writer, &ctx, Severity::Info, 2);
-    let third = log(&rt, &mut writer, &ctx, Severity::Info, 3);
-    let taken = take_all(&rt, &mut desk);
+/// What became of a call at debug and three at info, how many were taken, and how many were told as lost.
+#[derive(Clone, Copy)]
+struct Became {
+    debug: &'static str,
+    info: [&'static str; 3],
+    taken: u32,
+    told: u64,
+}
+
+/// Logs four messages, and takes what the ring holds.
+fn play<R: Wait>(rt: &R, desk: &mut Desk, ctx: &Ctx, writer: &mut Writer) -> Became
+    requires { 0 < length desk.old.apps }
+{
+    Became {
+        debug: log(rt, writer, ctx, Severity::Debug, 0),
+        info: [
+            log(rt, writer, ctx, Severity::Info, 1),
+            log(rt, writer, ctx, Severity::Info, 2),
+            log(rt, writer, ctx, Severity::Info, 3),
+        ],
+        taken: take_all(rt, desk),
+        told: desk.losses(0),
+    }
+}
+
+/// Says it on standard output.
+fn say(rt: &HostRuntime, became: Became) -> ExitCode {
+    let Became {
+        debug,
+        info: [first, second, third],
+        taken,
+        told,
+    } = became;
     match println!(rt;
-        "debug {debug}; info {first}, {second}, {third}; taken {taken}, told as lost {}",
-        desk.losses(0)
+        "debug {debug}; info {first}, {second}, {third}; taken {taken}, told as lost {told}"
     ) {
         Ok(()) => ExitCode::SUCCESS,
+        Err(_) => ExitCode::FAILURE,
+    }
+}
+
+fn main(rt: HostRuntime) -> ExitCode {
+    match declare(rt.alloc()) {
+        Ok((mut desk, ctx, mut writer)) => say(&rt, play(&rt, &mut desk, &ctx, &mut writer)),
         Err(_) => ExitCode::FAILURE,
     }
 }
