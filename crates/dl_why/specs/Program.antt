@@ -181,7 +181,7 @@ HasText name old new (Ok text) = IfSome old.files (λ files. entries.get files n
 HasText name old new (Err (end.ScriptRefused line kind)) =
     (line ≡ 0) × (kind ≡ Missing) × (IfSome old.files (λ files. entries.get files name ≡ None)) × IsUnchanged old new
 HasText name old new (Err end.FolderFault) = HasRisen old.faults new.faults × IsUnchanged old new
-HasText name old new (Err end.OutOfMemory) = IsUnchanged old new
+HasText name old new (Err end.OutOfMemory) = IsQuiet old new
 HasText name old new (Err _) = ⊥
 
 -- a source that has this text
