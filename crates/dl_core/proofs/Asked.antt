@@ -22,8 +22,10 @@ use Rattle.dl_model.specs.Traffic as traffic
 use Rattle.dl_hub.specs.Follows as hub
 use Rattle.dl_hub.specs.State.{Hub}
 use Rattle.dl_control.specs.Reply.{control_reply}
-use Rattle.dl_model.specs.Reply.{apid_of, asked, bare, ctid_of, info_body, info_reply, inject_status, is_too_long, reply_to, reset_status, served, where_done}
+use Rattle.dl_model.specs.Reply.{apid_of, asked, bare, ctid_of, info_body, info_reply, inject_status, is_too_long, reply_to, reset_status, version_reply, served, where_done}
 use Rattle.dl_model.specs.Setting.{Setting}
+use Rattle.dl_model.specs.declared.software.Software.{Software}
+use Rattle.dl_model.specs.declared.software.Software.TheVariants as program
 use Rattle.dl_registry.specs.Kept.{Kept, slots}
 use Rattle.dl_services.specs.Service.{Replies, HasBody}
 use Rattle.dl_services.specs.Wish.{wanted}
@@ -34,18 +36,19 @@ use Rattle.dl_core.specs.State.{Core}
 
 -- ---- what a request sees of the configuration
 
--- a request sees the level and `InjectionMode` alone
+-- a request sees the level, `InjectionMode` and the program alone
 pub reply_alike : (one other : Setting) (slots : ℕ → Slot) (registry : Registry) (apid ctid : List ℕ) (request : Result Request RequestFault) (answer : Done)
-    → one.level ≡ other.level → one.injection ≡ other.injection
+    → one.level ≡ other.level → one.injection ≡ other.injection → one.software ≡ other.software
     → reply_to one slots registry apid ctid request answer ≡ reply_to other slots registry apid ctid request answer
-reply_alike one other slots registry apid ctid (Ok Reset) answer level mode =
+reply_alike one other slots registry apid ctid (Ok Reset) answer level mode named =
     ap (λ (n : ℕ). bare 0x06 (reset_status (result_ok (reset slots registry n)) answer)) level
-reply_alike one other slots registry apid ctid (Ok (Inject service body)) answer level mode =
+reply_alike one other slots registry apid ctid (Ok (Inject service body)) answer level mode named =
     ap (λ (b : Bool). bare service (inject_status
     (if b then option_and_then (λ app. option_map (λ context. (app, context)) (context_of app ctid)) (app_of registry 0 apid) else None) answer)) mode
-reply_alike one other slots registry apid ctid (Err (Short service)) answer level mode = refl
-reply_alike one other slots registry apid ctid (Err (Excess service)) answer level mode = refl
-reply_alike one other slots registry apid ctid _ answer level mode = refl
+reply_alike one other slots registry apid ctid (Ok Version) answer level mode named = ap version_reply named
+reply_alike one other slots registry apid ctid (Err (Short service)) answer level mode named = refl
+reply_alike one other slots registry apid ctid (Err (Excess service)) answer level mode named = refl
+reply_alike one other slots registry apid ctid _ answer level mode named = refl
 
 pub served_alike : (one other : Setting) (slots : ℕ → Slot) (registry : Registry) (request : Result Request RequestFault) (answer : Done)
     → one.level ≡ other.level → served one slots registry request answer ≡ served other slots registry request answer
@@ -86,25 +89,25 @@ ids_read m bytes head is there =
 
 -- ---- from every configuration to that which the core sees
 
-pub replies_seen : (core : Core) (injection : Bool) (level : ℕ) (kept : Kept) (target : List ℕ × List ℕ) (request : Result Request RequestFault) {E : Type 0} (answer : Done) (result : Result Reply E)
-    → core.injection ≡ injection → core.level ≡ level → core.registry ≡ kept
-    → IfOk result (Replies injection level kept target request answer)
+pub replies_seen : (core : Core) (software : Software) (injection : Bool) (level : ℕ) (kept : Kept) (target : List ℕ × List ℕ) (request : Result Request RequestFault) {E : Type 0} (answer : Done) (result : Result Reply E)
+    → core.software ≡ software → core.injection ≡ injection → core.level ≡ level → core.registry ≡ kept
+    → IfOk result (Replies software injection level kept target request answer)
     → IfOk result (λ reply. reply ≡ reply_to (seen core) (slots core.registry) core.registry.registry target.0 target.1 request answer)
-replies_seen core injection level kept target request answer (Ok reply) mode at is replies =
-    let here : Replies injection level core.registry target request answer reply =
-    subst (λ (k : Kept). Replies injection level k target request answer reply) (sym is) replies in
-    here (seen core) (record { mode_is = mode; level_is = at })
-replies_seen core injection level kept target request answer (Err fault) mode at is replies = tt {0}
+replies_seen core software injection level kept target request answer (Ok reply) named mode at is replies =
+    let here : Replies software injection level core.registry target request answer reply =
+    subst (λ (k : Kept). Replies software injection level k target request answer reply) (sym is) replies in
+    here (seen core) (record { mode_is = mode; level_is = at }) named
+replies_seen core software injection level kept target request answer (Err fault) named mode at is replies = tt {0}
 
-pub body_seen : (core : Core) (injection : Bool) (level : ℕ) (kept : Kept) (target : List ℕ × List ℕ) (request : Result Request RequestFault) {E : Type 0} (answer : Done) (result : Result Reply E)
-    → core.injection ≡ injection → core.level ≡ level → core.registry ≡ kept
-    → OnErr result (HasBody injection level kept target request answer)
+pub body_seen : (core : Core) (software : Software) (injection : Bool) (level : ℕ) (kept : Kept) (target : List ℕ × List ℕ) (request : Result Request RequestFault) {E : Type 0} (answer : Done) (result : Result Reply E)
+    → core.software ≡ software → core.injection ≡ injection → core.level ≡ level → core.registry ≡ kept
+    → OnErr result (HasBody software injection level kept target request answer)
     → OnErr result (0 < length (reply_to (seen core) (slots core.registry) core.registry.registry target.0 target.1 request answer).body)
-body_seen core injection level kept target request answer (Ok reply) mode at is has = tt {0}
-body_seen core injection level kept target request answer (Err fault) mode at is has =
-    let here : HasBody injection level core.registry target request answer =
-    subst (λ (k : Kept). HasBody injection level k target request answer) (sym is) has in
-    here (seen core) (record { mode_is = mode; level_is = at })
+body_seen core software injection level kept target request answer (Ok reply) named mode at is has = tt {0}
+body_seen core software injection level kept target request answer (Err fault) named mode at is has =
+    let here : HasBody software injection level core.registry target request answer =
+    subst (λ (k : Kept). HasBody software injection level k target request answer) (sym is) has in
+    here (seen core) (record { mode_is = mode; level_is = at }) named
 
 -- ---- the reply's frame
 
@@ -149,9 +152,14 @@ info_fits registry options apid ctid = by_tests (not (eqb options 6 || eqb optio
   by_tests false false true is = omega arith
   by_tests false false false is = ltb-false 65535 (23 + length body) is
 
+version_fits : (software : Software) → 23 + length (version_reply software).body ≤ 65535
+version_fits program.Run = omega arith
+version_fits program.Daemon = omega arith
+
 reply_fits : (setting : Setting) (slots : ℕ → Slot) (registry : Registry) (apid ctid : List ℕ) (request : Result Request RequestFault) (answer : Done)
     → 23 + length (reply_to setting slots registry apid ctid request answer).body ≤ 65535
 reply_fits setting slots registry apid ctid (Ok (GetLogInfo options app context)) answer = info_fits registry options app context
+reply_fits setting slots registry apid ctid (Ok Version) answer = version_fits setting.software
 reply_fits setting slots registry apid ctid (Err (Short service)) answer = omega arith
 reply_fits setting slots registry apid ctid (Err (Excess service)) answer = omega arith
 reply_fits setting slots registry apid ctid _ answer = omega arith

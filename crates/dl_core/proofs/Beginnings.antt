@@ -4,6 +4,7 @@ use Rattle.std.specs.Prelude.{IfSome}
 use Rattle.dl_bytes.specs.declared.conf.Conf.{Conf}
 use Rattle.dl_bytes.specs.declared.conf.Stored.{Stored}
 use Rattle.dl_model.specs.Setting.{Setting}
+use Rattle.dl_model.specs.declared.software.Software.{Software}
 use Rattle.dl_registry.specs.Kept as registry
 use Rattle.dl_registry.proofs.Following.{made_follows}
 use Rattle.dl_hub.specs.Follows as hub
@@ -29,19 +30,20 @@ trace_begins run conf kept sizes made stood = record {
   spent = λ at. absurd (cc (made.goes_on, at));
 }
 
-pub begins : (run : Run) (conf : Conf) (stored : Stored) (first clients : ℕ) (kept : Option Trace) → run.setting ≡ setting_for conf stored first clients → run.before ≡ 0
+pub begins : (run : Run) (software : Software) (conf : Conf) (stored : Stored) (first clients : ℕ) (kept : Option Trace) → run.setting ≡ setting_for software conf stored first clients → run.before ≡ 0
     → hub.IsAfter [] (λ (number : ℕ). []) (fresh conf.ecu conf.buffer clients) → IfSome kept (IsMade conf) → IfSome kept (traces.IsAfter run.stood [])
-    → IsAfter run [] (λ (number : ℕ). []) (begun_for conf stored first kept clients)
-begins run conf stored first clients kept set none hubs made stood = record {
+    → IsAfter run [] (λ (number : ℕ). []) (begun_for software conf stored first kept clients)
+begins run software conf stored first clients kept set none hubs made stood = record {
   set_to = record {
     ecu = sym (ap (λ (s : Setting). s.ecu) set);
     unit = sym (ap (λ (s : Setting). s.ecu) set);
     buffer = sym (ap (λ (s : Setting). s.buffer) set);
     level = sym (ap (λ (s : Setting). s.level) set);
     injection = sym (ap (λ (s : Setting). s.injection) set);
+    software = sym (ap (λ (s : Setting). s.software) set);
     clients = sym (ap (λ (s : Setting). s.clients) set);
   };
-  registry = subst (λ (s : Setting). registry.IsAfter s [] (registry.made conf.level stored first)) (sym set) (made_follows (setting_for conf stored first clients));
+  registry = subst (λ (s : Setting). registry.IsAfter s [] (registry.made conf.level stored first)) (sym set) (made_follows (setting_for software conf stored first clients));
   hub = hubs;
   begun = omega (arith, none);
   trace = subst (λ (n : ℕ). IfSome kept (IsTraceAfter run (drop n []))) (sym none) (traced kept made stood);

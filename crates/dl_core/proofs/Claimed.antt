@@ -16,7 +16,7 @@ use Rattle.dl_core.proofs.Journals.{quiet_event}
 claim_follows : (claim : Claimed) (moment : Moment) (old : Core) (now : Kept) → Claims claim old.registry now → AddsAlone (event.Claim claim moment ∷ []) old (record old { registry = now })
 claim_follows claim moment old now call = λ told run events taken gives after.
     quiet_event run events taken (event.Claim claim moment) old (record old { registry = now }) told
-    (record { ecu = refl; level = refl; injection = refl; hub = record { ecu = refl; buffer = refl; limit = refl } }) refl
+    (record { ecu = refl; level = refl; injection = refl; software = refl; hub = record { ecu = refl; buffer = refl; limit = refl } }) refl
     (claim_is_event run.setting events claim moment old.registry now after.registry call)
     (admits-none old.hub) refl after
 

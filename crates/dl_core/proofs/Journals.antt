@@ -27,6 +27,7 @@ pub record IsSameCore (old new : Core) : Type 0 where
   pub ecu : new.ecu ≡ old.ecu
   pub level : new.level ≡ old.level
   pub injection : new.injection ≡ old.injection
+  pub software : new.software ≡ old.software
   pub hub : IsSameHub old.hub new.hub
 
 set_later : (run : Run) (old new : Core) → IsSameCore old new → IsSetTo run.setting old → IsSetTo run.setting new
@@ -36,6 +37,7 @@ set_later run old new same is = record {
   buffer = same.hub.buffer ∙ is.buffer;
   level = same.level ∙ is.level;
   injection = same.injection ∙ is.injection;
+  software = same.software ∙ is.software;
   clients = same.hub.limit ∙ is.clients;
 }
 

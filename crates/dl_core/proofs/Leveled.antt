@@ -1,6 +1,6 @@
 -- How many Level events wait: one fewer after each that is noted, and at most one after a user message or a claim.
-use Rattle.std.proofs.Common.{◌≡◌, ◌≢◌, ◌⊎◌, inl, inr, ℕ, zero, suc, ◌+◌, ◌/◌, ◌%◌, ◌<◌, ◌≤◌, Bool, true, false, not, cond, leb-false, List, [], ◌∷◌, ◌++◌, length, Option, Some, None, Result, Ok, Err, IfOk, refl, sym, ap, subst, ◌∙◌, true≢false, arith}
-use Rattle.std.specs.Prelude.{nat_eq, nat_le, ◌==◌, ◌||◌, if◌then◌else◌, unwrap_or, IfSome}
+use Rattle.std.proofs.Common.{◌≡◌, ◌≢◌, ◌⊎◌, inl, inr, ℕ, zero, suc, ◌+◌, ◌/◌, ◌%◌, ◌<◌, ◌≤◌, Bool, true, false, not, cond, List, [], ◌∷◌, ◌++◌, length, Option, Some, None, Result, Ok, Err, IfOk, refl, sym, ap, subst, ◌∙◌, true≢false, arith}
+use Rattle.std.specs.Prelude.{nat_eq, ◌==◌, ◌||◌, if◌then◌else◌, unwrap_or}
 use Rattle.std.specs.List.{AllByRecursion, IsDistinct, cons_option, filter, filter_map, list_any, range_with_len}
 use Rattle.std.specs.Map.{lookup}
 use Rattle.std.specs.Option.{option_and_then, option_map, option_or}
@@ -9,9 +9,7 @@ use Rattle.std.proofs.lemmas.Bool.{cases_lt}
 use Rattle.std.proofs.lemmas.Bool.Decides.{eqb_tells}
 use Rattle.std.proofs.lemmas.List.{get_or-set_same, get_or-set_other}
 use Rattle.std.proofs.lemmas.Map.Keys.{IsDistinct-head, IsDistinct-tail}
-use Rattle.dl_lemmas.proofs.Options.{ifok_unless, ifsome_unless}
 use Rattle.dl_bytes.specs.Claim.{Claimed}
-use Rattle.dl_bytes.specs.Id.{zero_id}
 use Rattle.dl_bytes.specs.declared.user.UserMsg.{UserMsg}
 use Rattle.dl_bytes.specs.declared.user.UserMsg.TheVariants.{RegisterApp, UnregisterApp, RegisterContext, UnregisterContext}
 use Rattle.dl_model.specs.declared.context.Context.{Context}
@@ -19,11 +17,11 @@ use Rattle.dl_model.specs.declared.registry.LevelChange.{LevelChange}
 use Rattle.dl_model.specs.declared.registry.RegistryFault.{RegistryFault}
 use Rattle.dl_model.specs.declared.registry.RegistryFault.TheVariants as fault
 use Rattle.dl_model.specs.declared.registry.Slot.{Slot}
-use Rattle.dl_bytes.specs.Limits.{last_version}
-use Rattle.dl_model.specs.Registry.{App, Registry, IsInOrder, IsNumbered, app_of, apid_numbered, context_of, effective, is_free, least_free, numbers, places, places_of, slot_of, stored_level, with_app, with_new_app, with_context, with_new_context, without, app_registered, app_unregistered, context_registered, context_unregistered, for_app, applied, with_claim, context_claimed, claimed, change_at, first_change, level_at}
+use Rattle.dl_model.specs.Registry.{App, Registry, IsInOrder, IsNumbered, effective, least_free, numbers, places, places_of, slot_of, with_app, with_new_app, with_context, with_new_context, without, applied, claimed, change_at, first_change, level_at}
 use Rattle.dl_model.proofs.Numbered.{AllByRecursion-map_filter, least_free-le-length, least_free-is_free}
-use Rattle.dl_model.proofs.Order.{app_of_found, placed_of_found}
-use Rattle.dl_model.proofs.Placed.{Free, apart-right, free_tells, numbered-among, places-further, places-same}
+use Rattle.dl_model.proofs.Changes.{app_registers, app_unregisters, claim_makes, context_registers, context_unregisters, new_app, new_context}
+use Rattle.dl_model.proofs.Order.{placed_of_found}
+use Rattle.dl_model.proofs.Placed.{apart-right, free_tells, numbered-among, places-further, places-same}
 use Rattle.dl_registry.proofs.Finding.{valued, valued-absent, valued-set_value, numbers_of}
 use Rattle.dl_registry.proofs.Placing.{all_of, not_both, placed, placed-free}
 use Rattle.dl_registry.specs.Change.{placed_again}
@@ -173,7 +171,7 @@ pub level_follows : (old : Core) (now : Kept) (change : LevelChange) → Some ch
     → AddsAlone (event.Level change.slot change.level ∷ []) old (record old { registry = now })
 level_follows old now change is made = λ told run events taken gives after.
     quiet_event run events taken (event.Level change.slot change.level) old (record old { registry = now }) told
-    (record { ecu = refl; level = refl; injection = refl; hub = record { ecu = refl; buffer = refl; limit = refl } }) refl
+    (record { ecu = refl; level = refl; injection = refl; software = refl; hub = record { ecu = refl; buffer = refl; limit = refl } }) refl
     (subst (λ (k : Kept). registry.IsAfter run.setting (events ++ event.Level change.slot change.level ∷ []) k) (sym made) (change_follows run.setting events old.registry change after.registry (sym is)))
     (admits-none old.hub) refl after
 
@@ -303,23 +301,6 @@ stays old new same = λ slot. inl (same slot)
 one_of : (old new : Registry) → ChangesNone old new → ChangesOne old new
 one_of old new none = (0, λ slot apart. none slot)
 
-app_changes : (r : Registry) (channel : ℕ) (apid : List ℕ) (pid : ℕ) (text : List ℕ) (o : Option App) → lookup (bytes_eq apid) r.apps ≡ o → IsInOrder r → IfOk (app_registered r channel apid pid text o) (ChangesNone r)
-app_changes r channel apid pid text (Some app) found is = by (app.channel == channel) where
-  by : (b : Bool) → IfOk (if b then Ok (with_app r apid (record app { pid = pid; text = text })) else Err fault.Taken) (ChangesNone r)
-  by true = stays r (with_app r apid (record app { pid = pid; text = text })) (level_at-same r apid app (record app { pid = pid; text = text }) is found refl (λ slot. refl))
-  by false = tt
-app_changes r channel apid pid text None found is = ifok_unless (ChangesNone r) (nat_le 16 (length r.apps)) fault.AppsFull _ (λ room.
-    stays r (with_new_app r apid (record { channel = channel; number = least_free (numbers r.apps); pid = pid; text = text; contexts = [] }))
-    (level_at-new_app r apid channel (least_free (numbers r.apps)) pid text))
-
-app_leaves : (r : Registry) (apid : List ℕ) (o : Option App) → IsInOrder r → IfOk (app_unregistered r apid o) (ChangesNone r)
-app_leaves r apid None is = tt
-app_leaves r apid (Some app) is = app_gone r apid is
-
-context_leaves : (r : Registry) (apid ctid : List ℕ) (app : App) (o : Option Context) → IsInOrder r → lookup (bytes_eq apid) r.apps ≡ Some app → IfOk (context_unregistered r apid ctid app o) (ChangesNone r)
-context_leaves r apid ctid app None is found = tt
-context_leaves r apid ctid app (Some context) is found = context_gone r apid ctid app is found
-
 -- one place of an application gets a level
 place_changes : (r : Registry) (apid : List ℕ) (old new : App) (place : ℕ) (level : Option ℕ) → IsInOrder r → lookup (bytes_eq apid) r.apps ≡ Some old → new.number ≡ old.number → place < 64
     → ((slot : ℕ) → level_of r.level (Some new) slot ≡ cond (list_any (nat_eq (slot % 64)) (place ∷ [])) level (level_of r.level (Some old) slot))
@@ -343,79 +324,39 @@ new_at : (r : Registry) (apid ctid : List ℕ) (app : App) (new : Context) → I
 new_at r apid ctid app new is found alone below free =
     place_changes r apid app (with_new_context app ctid new) new.place (Some (effective r.level new)) is found refl below (level_of-new r.level app ctid new alone free)
 
-context_comes : (s : ℕ → Slot) (r : Registry) (apid ctid : List ℕ) (position : ℕ) (own : Option ℕ) (text : List ℕ) (app : App) (o : Option Context) → context_of app ctid ≡ o → IsInOrder r → lookup (bytes_eq apid) r.apps ≡ Some app
-    → IfOk (context_registered s r apid ctid position own text app o) (ChangesOne r)
-context_comes s r apid ctid position own text app (Some context) there is found =
-    one_of r (with_app r apid (with_context app ctid told))
-    (stays r (with_app r apid (with_context app ctid told))
-    (level_at-same r apid app (with_context app ctid told) is found refl
-    (level_of-told r.level app ctid context position text all
-    (subst (IsNumbered 64) (sym (places-same (bytes_eq ctid) app.contexts context told there refl)) all) there)))
-  where
-    told : Context
-    told = record context { position = position; text = text }
+module _ (s : ℕ → Slot) (r : Registry) (is : IsInOrder r) where
+  applied_changes : (channel : ℕ) (msg : UserMsg) → IfOk (applied s r channel msg) (ChangesAsMany (changes_by msg) r)
+  applied_changes channel (RegisterApp apid pid text) =
+      app_registers s r channel (ChangesNone r) apid pid text
+      (λ app found of. stays r (with_app r apid (record app { pid = pid; text = text })) (level_at-same r apid app (record app { pid = pid; text = text }) is found refl (λ slot. refl)))
+      (λ none room. stays r (with_new_app r apid (new_app r channel pid text)) (level_at-new_app r apid channel (least_free (numbers r.apps)) pid text))
+  applied_changes channel (UnregisterApp apid pid) = app_unregisters s r channel (ChangesNone r) apid pid (λ app found of. app_gone r apid is)
+  applied_changes channel (RegisterContext apid ctid position level trace pid text) =
+      context_registers s r channel (ChangesOne r) apid ctid position level trace pid text
+      (λ app context found of there.
+      let told : Context = record context { position = position; text = text } in
+      let all = placed_of_found r apid app is found in
+      one_of r (with_app r apid (with_context app ctid told))
+      (stays r (with_app r apid (with_context app ctid told)) (level_at-same r apid app (with_context app ctid told) is found refl
+      (level_of-told r.level app ctid context position text all (subst (IsNumbered 64) (sym (places-same (bytes_eq ctid) app.contexts context told there refl)) all) there))))
+      (λ app found of there room. new_at r apid ctid app (new_context r apid ctid (least_free (places app.contexts)) level position text) is found refl
+      (omega (arith, least_free-le-length (places app.contexts), room)) (least_free-is_free (places app.contexts)))
+  applied_changes channel (UnregisterContext apid ctid pid) = context_unregisters s r channel (ChangesNone r) apid ctid pid (λ app context found of there. context_gone r apid ctid app is found)
+  applied_changes channel _ = λ slot. inl refl
 
-    all : IsNumbered 64 (places app.contexts)
-    all = placed_of_found r apid app is found
-context_comes s r apid ctid position own text app None there is found =
-    ifok_unless (ChangesOne r) (nat_le 64 (length (places app.contexts))) fault.ContextsFull _ (λ room.
-    ifok_unless (ChangesOne r) ((s (slot_of app.number new.place)).version == last_version) fault.Worn _ (λ fresh.
-    new_at r apid ctid app new is found refl (below room) (least_free-is_free (places app.contexts))))
-  where
-    new : Context
-    new = record { place = least_free (places app.contexts); further = []; own = option_or (stored_level r.stored apid ctid) own; position = position; text = text }
-
-    below : nat_le 64 (length (places app.contexts)) ≡ false → least_free (places app.contexts) < 64
-    below room = omega (arith, least_free-le-length (places app.contexts), leb-false 64 (length (places app.contexts)) room)
-
-for_app_found : (P : Registry → Type 0) (r : Registry) (apid : List ℕ) (channel : ℕ) (o : Option App) (next : App → Result Registry RegistryFault) → app_of r channel apid ≡ o
-    → ((app : App) → lookup (bytes_eq apid) r.apps ≡ Some app → IfOk (next app) P) → IfOk (for_app o next) P
-for_app_found P r apid channel None next found each = tt
-for_app_found P r apid channel (Some app) next found each = each app (app_of_found r channel apid app found)
-
-applied_changes : (s : ℕ → Slot) (r : Registry) (channel : ℕ) (msg : UserMsg) → IsInOrder r → IfOk (applied s r channel msg) (ChangesAsMany (changes_by msg) r)
-applied_changes s r channel (RegisterApp apid pid text) is =
-    ifok_unless (ChangesNone r) (bytes_eq apid zero_id) fault.ZeroId _ (λ named. app_changes r channel apid pid text (lookup (bytes_eq apid) r.apps) refl is)
-applied_changes s r channel (UnregisterApp apid pid) is = app_leaves r apid (app_of r channel apid) is
-applied_changes s r channel (RegisterContext apid ctid position level trace pid text) is =
-    ifok_unless (ChangesOne r) (bytes_eq apid zero_id || bytes_eq ctid zero_id) fault.ZeroId _ (λ named.
-    for_app_found (ChangesOne r) r apid channel (app_of r channel apid) _ refl (λ app found. context_comes s r apid ctid position level text app (context_of app ctid) refl is found))
-applied_changes s r channel (UnregisterContext apid ctid pid) is =
-    for_app_found (ChangesNone r) r apid channel (app_of r channel apid) _ refl (λ app found. context_leaves r apid ctid app (context_of app ctid) is found)
-applied_changes s r channel _ is = λ slot. inl refl
-
--- ---- what a claim leaves
-
-with_claim_changes : (r : Registry) (apid : List ℕ) (claim : Claimed) (app : App) (o : Option Context) → context_of app claim.ctid ≡ o → IsInOrder r → lookup (bytes_eq apid) r.apps ≡ Some app
-    → Free claim.place app.contexts → ChangesOne r (with_app r apid (with_claim r.stored apid claim app o))
-with_claim_changes r apid claim app (Some context) there is found free =
-    place_changes r apid app (with_context app claim.ctid (placed_again claim.place context)) claim.place (Some (effective r.level context)) is found refl free.below
-    (level_of-further r.level app claim.ctid context claim.place all
-    (numbered-among 64 claim.place (places app.contexts) _ (places-further (bytes_eq claim.ctid) app.contexts context claim.place there) all free.unused free.below) there)
-  where
-    all : IsNumbered 64 (places app.contexts)
-    all = placed_of_found r apid app is found
-with_claim_changes r apid claim app None there is found free =
-    new_at r apid claim.ctid app (record { place = claim.place; further = []; own = option_or (stored_level r.stored apid claim.ctid) claim.level; position = 0; text = claim.text })
-    is found refl free.below free.unused
-
-context_claim_changes : (s : ℕ → Slot) (r : Registry) (apid : List ℕ) (claim : Claimed) (app : App) → IsInOrder r → lookup (bytes_eq apid) r.apps ≡ Some app
-    → IfSome (context_claimed s r apid claim app) (ChangesOne r)
-context_claim_changes s r apid claim app is found =
-    ifsome_unless (ChangesOne r) (not (is_free claim.place app.contexts)) _ (λ free.
-    ifsome_unless (ChangesOne r) ((s (slot_of app.number claim.place)).version == last_version) _ (λ fresh.
-    with_claim_changes r apid claim app (context_of app claim.ctid) refl is found (free_tells claim.place app.contexts free)))
-
-app_claim_changes : (s : ℕ → Slot) (r : Registry) (apid : List ℕ) (claim : Claimed) (o : Option App) → app_of r 0 apid ≡ o → IsInOrder r
-    → IfSome (option_and_then (context_claimed s r apid claim) o) (ChangesOne r)
-app_claim_changes s r apid claim None found is = tt
-app_claim_changes s r apid claim (Some app) found is = context_claim_changes s r apid claim app is (app_of_found r 0 apid app found)
-
-claimed_changes : (s : ℕ → Slot) (r : Registry) (claim : Claimed) → IsInOrder r → IfSome (claimed s r claim) (ChangesOne r)
-claimed_changes s r claim is = by (apid_numbered r claim.app) where
-  by : (o : Option (List ℕ)) → IfSome (option_and_then (λ apid. option_and_then (context_claimed s r apid claim) (app_of r 0 apid)) o) (ChangesOne r)
-  by None = tt
-  by (Some apid) = app_claim_changes s r apid claim (app_of r 0 apid) refl is
+  -- a claim
+  claimed_changes : (claim : Claimed) → ChangesOne r (unwrap_or (claimed s r claim) r)
+  claimed_changes claim =
+      claim_makes s r claim (λ o msgs. ChangesOne r (unwrap_or o r)) (one_of r r (λ slot. inl refl))
+      (λ apid app context may there.
+      let free = free_tells claim.place app.contexts may.free in
+      let all = placed_of_found r apid app is may.found in
+      place_changes r apid app (with_context app claim.ctid (placed_again claim.place context)) claim.place (Some (effective r.level context)) is may.found refl free.below
+      (level_of-further r.level app claim.ctid context claim.place all
+      (numbered-among 64 claim.place (places app.contexts) _ (places-further (bytes_eq claim.ctid) app.contexts context claim.place there) all free.unused free.below) there))
+      (λ apid app may there.
+      let free = free_tells claim.place app.contexts may.free in
+      new_at r apid claim.ctid app (new_context r apid claim.ctid claim.place claim.level 0 claim.text) is may.found refl free.below free.unused)
 
 -- ---- what waits then
 
@@ -447,7 +388,7 @@ message_waits {A} channel msg old new result order settled call = by result call
   by (Ok done) call =
       subst (λ (k : Kept). waiting k ≤ changes_by msg) (sym call.1)
       (settled_waits old new.registry (changes_by msg) settled
-      (subst (λ (o : Result Registry RegistryFault). IfOk o (ChangesAsMany (changes_by msg) old.registry)) call.0 (applied_changes (slots old) old.registry channel msg order)) (at_most_one msg))
+      (subst (λ (o : Result Registry RegistryFault). IfOk o (ChangesAsMany (changes_by msg) old.registry)) call.0 (applied_changes (slots old) old.registry order channel msg)) (at_most_one msg))
   by (Err fault.OutOfMemory) call = stayed call.1
   by (Err fault.ZeroId) call = stayed call.1
   by (Err fault.Taken) call = stayed call.1
@@ -461,7 +402,5 @@ message_waits {A} channel msg old new result order settled call = by result call
 
 -- at most one level waits after it
 pub claim_waits : (claim : Claimed) (old new : Kept) → IsInOrder old.registry → owed_change old ≡ None → Claims claim old new → waiting new ≤ 1
-claim_waits claim old new order settled call = subst (λ (k : Kept). waiting k ≤ 1) (sym call) (by (claimed (slots old) old.registry claim) (claimed_changes (slots old) old.registry claim order)) where
-  by : (o : Option Registry) → IfSome o (ChangesOne old.registry) → waiting (with_registry old (unwrap_or o old.registry)) ≤ 1
-  by None none = settled_waits old old.registry 1 settled (one_of old.registry old.registry (λ slot. inl refl)) (omega arith)
-  by (Some left) changes = settled_waits old left 1 settled changes (omega arith)
+claim_waits claim old new order settled call =
+    subst (λ (k : Kept). waiting k ≤ 1) (sym call) (settled_waits old (unwrap_or (claimed (slots old) old.registry claim) old.registry) 1 settled (claimed_changes (slots old) old.registry order claim) (omega arith))

@@ -45,6 +45,7 @@ same_core old new rest hub = record {
   ecu = ap (λ (k : Core). k.ecu) rest;
   level = ap (λ (k : Core). k.level) rest;
   injection = ap (λ (k : Core). k.injection) rest;
+  software = ap (λ (k : Core). k.software) rest;
   hub = hub;
 }
 

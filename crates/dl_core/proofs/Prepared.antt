@@ -136,6 +136,7 @@ module _ (core : Core) (ready : Ready) (request : Result Request RequestFault) (
         ecu = ap (λ (c : Core). c.ecu) rest;
         level = ap (λ (c : Core). c.level) rest;
         injection = ap (λ (c : Core). c.injection) rest;
+        software = ap (λ (c : Core). c.software) rest;
         hub = same;
       } in
       record {

@@ -34,7 +34,7 @@ reply_is run events taken core frame answer is =
     ap (λ (held : ℕ → Slot). reply_frame_to run.setting held (registry_of run.setting events) frame answer) (sym is.registry.slots)
     ∙ ap (λ (registry : Registry). reply_frame_to run.setting s registry frame answer) (sym is.registry.registry)
     ∙ ap (control_reply run.setting.ecu)
-    (reply_alike run.setting (seen core) s r (apid_of frame) (ctid_of frame) (asked frame) answer (sym is.set_to.level) (sym is.set_to.injection))
+    (reply_alike run.setting (seen core) s r (apid_of frame) (ctid_of frame) (asked frame) answer (sym is.set_to.level) (sym is.set_to.injection) (sym is.set_to.software))
     ∙ ap (λ (ecu : List ℕ). control_reply ecu (reply_to (seen core) s r (apid_of frame) (ctid_of frame) (asked frame) answer)) (sym is.set_to.ecu)
 
 -- ---- what a request wants

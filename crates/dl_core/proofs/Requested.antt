@@ -129,7 +129,7 @@ reply_seen : (setting : Setting) (core : Core) (frame : List ℕ) (answer : Done
     → reply_frame_to setting (slots core.registry) core.registry.registry frame answer ≡ reply_now core frame answer
 reply_seen setting core frame answer is =
     ap (λ (r : Reply). control_reply setting.ecu r)
-    (reply_alike setting (seen core) (slots core.registry) core.registry.registry (apid_of frame) (ctid_of frame) (asked frame) answer (sym is.level) (sym is.injection))
+    (reply_alike setting (seen core) (slots core.registry) core.registry.registry (apid_of frame) (ctid_of frame) (asked frame) answer (sym is.level) (sym is.injection) (sym is.software))
     ∙ ap (λ (e : List ℕ). control_reply e (reply_to (seen core) (slots core.registry) core.registry.registry (apid_of frame) (ctid_of frame) (asked frame) answer)) (sym is.ecu)
 
 reply_of_run : (run : Run) (events : List Event) (core : Core) (frame : List ℕ) (answer : Done) → IsSetTo run.setting core → registry.IsAfter run.setting events core.registry

@@ -4,15 +4,17 @@ use Rattle.dl_bytes.specs.Limits.{client_limit}
 use Rattle.dl_bytes.specs.declared.conf.Conf.{Conf}
 use Rattle.dl_bytes.specs.declared.conf.Stored.{Stored}
 use Rattle.dl_model.specs.Setting.{Setting}
+use Rattle.dl_model.specs.declared.software.Software.{Software}
+use Rattle.dl_model.specs.declared.software.Software.TheVariants.{Run}
 use Rattle.dl_hub.specs.State.{fresh}
 use Rattle.dl_registry.specs.Kept.{made}
 use Rattle.dl_trace.specs.State.{Trace}
 use Rattle.dl_core.specs.State.{Core}
 
--- what does not change in a run: of this configuration, after this stored configuration, with this first version, to which
--- at most so many clients come
-abbrev pub setting_for : Conf → Stored → ℕ → ℕ → Setting
-setting_for conf stored first clients = record {
+-- what does not change in a run: of this program and this configuration, after this stored configuration, with this first
+-- version, to which at most so many clients come
+abbrev pub setting_for : Software → Conf → Stored → ℕ → ℕ → Setting
+setting_for software conf stored first clients = record {
   ecu = conf.ecu;
   level = conf.level;
   buffer = conf.buffer;
@@ -23,18 +25,20 @@ setting_for conf stored first clients = record {
   stored = stored;
   first = first;
   clients = clients;
+  software = software;
 }
 
 -- the same of a run that ends
 abbrev pub setting_of : Conf → Stored → ℕ → Setting
-setting_of conf stored first = setting_for conf stored first client_limit
+setting_of conf stored first = setting_for Run conf stored first client_limit
 
 -- a core before its first event
-abbrev pub begun_for : Conf → Stored → ℕ → Option Trace → ℕ → Core
-begun_for conf stored first trace clients = record {
+abbrev pub begun_for : Software → Conf → Stored → ℕ → Option Trace → ℕ → Core
+begun_for software conf stored first trace clients = record {
   ecu = conf.ecu;
   level = conf.level;
   injection = conf.injection;
+  software = software;
   registry = made conf.level stored first;
   hub = fresh conf.ecu conf.buffer clients;
   trace = trace;
@@ -42,7 +46,7 @@ begun_for conf stored first trace clients = record {
 
 -- the same of a run that ends
 abbrev pub begun : Conf → Stored → ℕ → Option Trace → Core
-begun conf stored first trace = begun_for conf stored first trace client_limit
+begun conf stored first trace = begun_for Run conf stored first trace client_limit
 
 -- a setting has the directory and the sizes of trace files of a configuration
 pub record HasSizes (conf : Conf) (setting : Setting) : Type 0 where
@@ -58,6 +62,7 @@ pub record IsSetTo (setting : Setting) (core : Core) : Type 0 where
   pub level : core.level ≡ setting.level
   pub injection : core.injection ≡ setting.injection
   pub clients : core.hub.limit ≡ setting.clients
+  pub software : core.software ≡ setting.software
 
 -- the configuration as far as a request sees it
 abbrev pub seen : Core → Setting
@@ -72,4 +77,5 @@ seen core = record {
   stored = record { level = None; own = [] };
   first = core.registry.first;
   clients = core.hub.limit;
+  software = core.software;
 }

@@ -42,7 +42,7 @@ impl Core {
             &mut self.trace,
             self.ecu,
             moment,
-            &self.frame,
+            self.frame.bytes(),
             folder,
         );
         journal.note(logged(item, moment));

@@ -6,7 +6,7 @@ ghost use Rattle.dl_message.specs.Frames.{log_message};
 ghost use Rattle.dl_model.specs.Backlog.{size_of};
 ghost use Rattle.dl_model.specs.Frames.{stored, user_frames};
 ghost use Rattle.dl_model.specs.Traffic.{Admitted};
-ghost use Rattle.dl_bytes.specs.Limits.{admitted_limit};
+ghost use Rattle.dl_bytes.specs.Limits.{admitted_limit, frame_limit};
 ghost use Rattle.dl_hub.specs.State.{EachHasRoom, IsSameHub, is_open, replies_of};
 ghost use Rattle.dl_hub.specs.Follows.{Adds};
 ghost use Rattle.dl_core.specs.Admission.{log_event, lost_frames, message_frames, more_noted, user_event, Admits, AddsEach, IsLog};
@@ -66,10 +66,11 @@ pub fn admit<F: Folder>(
     writer: &mut Option<TraceWriter>,
     ecu: Id,
     moment: Moment,
-    frame: &Frame,
+    frame: &[u8],
     folder: &mut F,
 )
     requires some { 0 < length frame.now }
+    requires size { length frame.now ≤ frame_limit }
     requires room { EachHasRoom (length frame.now) hub.old }
     requires few { hub.old.admitted < admitted_limit }
     ensures adds { Adds (Admitted frame.now) hub.old hub.new }
@@ -103,7 +104,7 @@ pub fn report<F: Folder>(
     while left > 0 {
         let counter = left.min(COUNTER_LIMIT);
         let frame = overflow_frame(ecu, apid, Id::from_bytes(NO_ID), counter as u32);
-        admit(hub, writer, ecu, moment, &frame, folder);
+        admit(hub, writer, ecu, moment, frame.bytes(), folder);
         left -= counter;
     }
 }
@@ -136,21 +137,22 @@ pub fn admit_each<J: Journal>(
 {
     for item in items {
         write_log_frame(frame, ecu, item);
-        hub.admit(frame);
-        add_to_batch(writer, ecu, moment, frame);
+        let bytes = frame.bytes();
+        hub.admit(bytes);
+        add_to_batch(writer, ecu, moment, bytes);
         journal.note(logged(item, moment));
     }
 }
 
-/// Writes the frame of a log message of a program.
-fn write_message(frame: &mut Frame, msg: &UserMsg)
+/// The frame of a log message of a program.
+fn frame_of(msg: &UserMsg) -> &[u8]
     requires log { IsLog msg.now }
-    ensures frame { (ecu : List ℕ) → user_frames ecu msg.now ≡ frame.new ∷ [] }
-    ensures some { 0 < length frame.new }
+    ensures frame { (ecu : List ℕ) → user_frames ecu msg.now ≡ result.now ∷ [] }
+    ensures some { 0 < length result.now }
+    ensures size { length result.now ≤ frame_limit }
 {
-    frame.clear();
     match msg {
-        UserMsg::Log(message) => frame.extend_from_slice(message.all()),
+        UserMsg::Log(message) => message.all(),
         UserMsg::RegisterApp { .. }
         | UserMsg::UnregisterApp { .. }
         | UserMsg::RegisterContext { .. }
@@ -161,7 +163,7 @@ fn write_message(frame: &mut Frame, msg: &UserMsg)
     }
 }
 
-/// Admits and notes log messages of a channel, and gathers their frames for the trace. Each is written into `frame` in turn, and none is left.
+/// Admits and notes log messages of a channel, and gathers their frames for the trace. None is left.
 pub fn admit_messages<J: Journal>(
     hub: &mut Hub,
     writer: &mut Option<TraceWriter>,
@@ -169,7 +171,6 @@ pub fn admit_messages<J: Journal>(
     channel: u16,
     moment: Moment,
     msgs: &mut HeapCircularBuffer<UserMsg>,
-    frame: &mut Frame,
     journal: &mut J,
 )
     requires few_messages { length msgs.old.items ≤ 64 }
@@ -191,7 +192,7 @@ pub fn admit_messages<J: Journal>(
     ensures none { msgs.new ≡ record msgs.old { items = [] } }
 {
     while let Some(msg) = msgs.pop_front() {
-        write_message(frame, &msg);
+        let frame = frame_of(&msg);
         hub.admit(frame);
         add_to_batch(writer, ecu, moment, frame);
         journal.note(Event::User {

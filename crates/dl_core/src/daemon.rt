@@ -10,6 +10,7 @@ ghost use Rattle.dl_trace.specs.Writer.{trace_in};
 
 use dl_bytes::{CLIENT_LIMIT, Conf, Frame, Id, Level, OutOfMemory, Stored, TraceState};
 use dl_hub::Hub;
+use dl_model::Software;
 use dl_registry::Registry;
 use dl_trace::{Trace, TraceWriter};
 use std::alloc::Global;
@@ -22,6 +23,7 @@ pub struct Core {
     pub(crate) ecu: Id,
     pub(crate) level: Level,
     pub(crate) injection: bool,
+    pub(crate) software: Software,
     pub(crate) registry: Registry,
     pub(crate) hub: Hub,
     pub(crate) trace: Option<TraceWriter>,
@@ -39,6 +41,7 @@ impl Model for Core {
       ecu = c.ecu;
       level = c.level;
       injection = c.injection;
+      software = c.software;
       registry = c.registry;
       hub = c.hub;
       trace = trace_in c.trace;
@@ -60,12 +63,21 @@ impl Core {
         ensures value { IfOk result (λ core. core ≡ begun conf.now stored first trace) }
         ensures after { IfOk result (λ core. Begins (setting_of conf.now stored first) trace core) }
     {
-        Core::make_for(alloc, conf, stored, trace, first, CLIENT_LIMIT)
+        Core::make_for(
+            alloc,
+            Software::Run,
+            conf,
+            stored,
+            trace,
+            first,
+            CLIENT_LIMIT,
+        )
     }
 
-    /// The same for a run to which at most this many clients come.
+    /// The same of this program, for a run to which at most this many clients come.
     pub fn make_for(
         alloc: Global,
+        software: Software,
         conf: &Conf,
         stored: Stored,
         trace: Option<Trace>,
@@ -74,14 +86,15 @@ impl Core {
     ) -> Result<Core, OutOfMemory>
         requires first { first ≤ last_version }
         requires trace { IfSome trace (IsMade conf.now) }
-        ensures value { IfOk result (λ core. core ≡ begun_for conf.now stored first trace clients) }
-        ensures after { IfOk result (λ core. Begins (setting_for conf.now stored first clients) trace core) }
+        ensures value { IfOk result (λ core. core ≡ begun_for software conf.now stored first trace clients) }
+        ensures after { IfOk result (λ core. Begins (setting_for software conf.now stored first clients) trace core) }
     {
         Ok(Core {
             alloc,
             ecu: conf.ecu,
             level: conf.level,
             injection: conf.injection,
+            software,
             registry: Registry::make(alloc, conf.level, stored, first)?,
             hub: Hub::make_for(alloc, conf.ecu, conf.buffer, clients)?,
             trace: writer_of(alloc, trace)?,

@@ -19,7 +19,7 @@ ghost use Rattle.dl_core.specs.Waiting.{changes_by, waiting};
 use crate::admitting::{admit, admit_messages, report};
 use crate::daemon::Core;
 use circular_buffer::HeapCircularBuffer;
-use dl_bytes::{Frame, Id, Moment, OutOfMemory, UserMsg};
+use dl_bytes::{Id, Moment, OutOfMemory, UserMsg};
 use dl_events::{Event, Journal};
 use dl_outside::Folder;
 use dl_registry::RegistryFault;
@@ -96,7 +96,6 @@ impl Core {
             channel,
             moment,
             msgs,
-            &mut self.frame,
             journal,
         );
         store_batch(&mut self.trace, folder);
@@ -212,14 +211,12 @@ impl Core {
         ensures admits { AdmitsFrames moment (message.now ∷ []) self.old self.new (F.told folder.old) (F.told folder.new) }
         ensures rest { self.new ≡ record self.old { hub = self.new.hub; trace = self.new.trace } }
     {
-        let mut frame = Frame::new();
-        frame.extend_from_slice(message);
         admit(
             &mut self.hub,
             &mut self.trace,
             self.ecu,
             moment,
-            &frame,
+            message,
             folder,
         );
     }

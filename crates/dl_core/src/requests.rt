@@ -5,7 +5,7 @@ ghost use Rattle.dl_bytes.specs.Limits.{request_limit};
 ghost use Rattle.dl_bytes.specs.declared.outcome.Done.{Done};
 ghost use Rattle.dl_control.specs.Reply.{control_reply};
 ghost use Rattle.dl_events.specs.Journal.{one_more};
-ghost use Rattle.dl_model.specs.Reply.{apid_of, asked, ctid_of, info_reply};
+ghost use Rattle.dl_model.specs.Reply.{apid_of, asked, ctid_of, info_reply, version_reply};
 ghost use Rattle.dl_model.specs.Traffic as traffic;
 ghost use Rattle.dl_hub.specs.Follows as hub;
 ghost use Rattle.dl_registry.specs.Kept.{owed_change};
@@ -25,6 +25,7 @@ use dl_control::{
 use dl_events::{Event, Journal};
 use dl_headers::{REPLY_HEADER_LEN, write_reply_headers};
 use dl_message::read_message;
+use dl_model::Software;
 use dl_outside::{Folder, FolderFault};
 use dl_registry::InfoFault;
 use dl_services::{Want, serve, wish_of};
@@ -36,10 +37,8 @@ pub const STORED_NAME: &str = "dlt_stored.cfg";
 /// How many bytes a reply without a body has.
 const BARE_REPLY: u64 = 23;
 
-/// How many bytes the replies to GetDefaultLogLevel and to GetSoftwareVersion have.
+/// How many bytes the reply to GetDefaultLogLevel has.
 const DEFAULT_REPLY: u64 = BARE_REPLY + 1;
-
-const VERSION_REPLY: u64 = BARE_REPLY + 13;
 
 /// A request for which all memory was taken.
 #[derive(Drop)]
@@ -239,7 +238,7 @@ impl Core {
                 },
             ) => self.info_need(*options, *apid, *ctid),
             Ok(Request::GetDefault) => Ok(DEFAULT_REPLY),
-            Ok(Request::Version) => Ok(VERSION_REPLY),
+            Ok(Request::Version) => Ok(version_need(self.software)),
             Ok(
                 Request::SetLogLevel { .. }
                 | Request::SetAllLogLevel { .. }
@@ -362,11 +361,22 @@ impl Core {
             &mut self.registry,
             request,
             target,
+            self.software,
             self.injection,
             self.level,
             want,
             done,
         )
+    }
+}
+
+/// How many bytes the reply of this program to GetSoftwareVersion has.
+fn version_need(software: Software) -> u64
+    ensures { result ≡ 23 + length (version_reply software).body }
+{
+    match software {
+        Software::Run => BARE_REPLY + 13,
+        Software::Daemon => BARE_REPLY + 16,
     }
 }
 

@@ -1,61 +1,81 @@
 -- A daemon that was opened, ran and closed, as steps; and what its links of programs show in the end.
-use Rattle.std.proofs.Common.{◌≡◌, ◌⊎◌, ℕ, zero, suc, Bool, true, false, inl, inr, map, Option, Some, None, Result, Ok, Err, refl, ap}
+use Rattle.std.proofs.Common.{◌≡◌, ◌⊎◌, ℕ, zero, suc, Bool, true, false, inl, inr, List, [], length, map, Option, Some, None, Result, Ok, Err, refl, ap, ◌∙◌, arith}
+use Rattle.std.specs.Prelude.{IfOk}
 use Rattle.dl_bytes.specs.declared.conf.Conf.{Conf}
 use Rattle.dl_bytes.specs.declared.moment.Moment.{Moment}
 use Rattle.dl_core.specs.Follows.{BeginsAnew}
 use Rattle.dl_core.specs.State.{Core}
 use Rattle.dl_events.specs.Told.{Told as JournalTold}
+use Rattle.dl_model.specs.TraceFiles.{StoredFile}
+use Rattle.dl_outside.specs.Folder.{Files}
 use Rattle.dl_outside.specs.Links.{Links}
 use Rattle.dl_outside.specs.Told.{FolderTold, LinkTold, NetTold}
 use Rattle.dl_server.specs.State as server
 use Rattle.dl_server.specs.State.{seen}
 use Rattle.dl_socket.specs.Channels.{Channels}
-use Rattle.dl_trace.specs.State.{Trace}
+use Rattle.dl_startup.specs.Setup.{IsBegun}
+use Rattle.dl_trace.specs.Made.{IsMade}
+use Rattle.dl_trace.specs.State.{IsAfter, Trace}
 use Rattle.dl_trace.specs.declared.trace.TraceFault.{TraceFault}
-use Rattle.dl_turns.specs.Gone.{TellOver}
+use Rattle.dl_turns.proofs.LaterStages.{WhatLinksTake}
 use Rattle.dl_machine.specs.Steps.{Goes, IsToldBy, Renewed as RenewedKind}
 use Rattle.dl_machine.proofs.Composed.{goes_both, goes_one}
 use Rattle.dl_machine.proofs.ServerSteps.{Leading, closing_goes, lead_both, lead_same, round_leads, state_in, state_of}
 use Rattle.dl_serve.specs.declared.beginning.Begun.{Begun}
 use Rattle.dl_serve.specs.declared.closed.Closed.{Closed}
 use Rattle.dl_serve.specs.Admitted.{AllAdmitted, TellGiven}
+use Rattle.dl_serve.specs.Comes.{run_in}
+use Rattle.dl_serve.specs.Dropped.{HasDropped}
 use Rattle.dl_serve.specs.Shown.{AllShowEnds, TellLeft}
+use Rattle.dl_serve.specs.Went.{AllWent}
 use Rattle.dl_serve.proofs.AdmittedSteps.{left_admitted}
-use Rattle.dl_serve.proofs.ServingSteps.{first_ready}
+use Rattle.dl_serve.proofs.CameTo.{what_stood}
+use Rattle.dl_serve.proofs.DroppedLinks.{first_kept, left_dropped}
+use Rattle.dl_serve.proofs.ServingSteps.{first_ready, seen_tells}
 use Rattle.dl_serve.proofs.ShownEnds.{left_shown}
+use Rattle.dl_serve.proofs.WentServers.{left_went}
 use Rattle.dl_daemon.specs.declared.limits.Limits.{Limits}
 use Rattle.dl_daemon.specs.declared.renewing.Tries.{Tries}
 use Rattle.dl_daemon.specs.declared.rounds.Stop.{Stop}
+use Rattle.dl_daemon.specs.Limits.{limits}
+use Rattle.dl_daemon.specs.Open.{setting}
 use Rattle.dl_daemon.specs.Outside.{Outside}
 use Rattle.dl_daemon.specs.Program.{HasOpened}
 use Rattle.dl_daemon.specs.Renewing.{Renewed, RenewsIf, Takes, untried}
 use Rattle.dl_daemon.specs.Rounds.{AreRounds, IsRenewedRound, asked_again, noted, with_trace}
 
 -- the trace goes on as it was, or was begun anew
-abbrev BeginsIn : Core → Core → Type 0
-BeginsIn old new = (new ≡ old) ⊎ ((conf : Conf) × (trace : Trace) × (new ≡ record old { trace = Some trace }) × BeginsAnew conf trace old new)
+abbrev pub BeginsIn : Core → Core → Type 0
+BeginsIn old new =
+    (new ≡ old)
+    ⊎ ((conf : Conf) × (trace : Trace) × (new ≡ record old { trace = Some trace }) × BeginsAnew conf trace old new × IsMade conf trace × (stood : List StoredFile) × IsAfter stood [] trace)
 
-takes_begin : (conf : Conf) (made : Result (Option Trace) TraceFault) (begun : Bool) (old new : Core) → Takes conf made begun old new → BeginsIn old new
-takes_begin conf (Ok (Some trace)) begun old new takes = inr (conf, trace, takes.1, takes.2)
-takes_begin conf (Ok None) begun old new takes = inl takes.1
-takes_begin conf (Err fault) begun old new takes = inl takes.1
+takes_begin : (conf : Conf) (files : Option Files) (made : Result (Option Trace) TraceFault) (begun : Bool) (old new : Core) → IfOk made (IsBegun conf files) → Takes conf made begun old new → BeginsIn old new
+takes_begin conf files (Ok (Some trace)) begun old new over takes = inr (conf, trace, takes.1, takes.2, over.1, over.2.0, over.2.1)
+takes_begin conf files (Ok None) begun old new over takes = inl takes.1
+takes_begin conf files (Err fault) begun old new over takes = inl takes.1
 
 renews_begin : (due : Bool) (conf : Conf) (moment : Moment) (begun : Bool) (tries tries_now : Tries) (old new : Core) (folder folder_now : FolderTold)
     → RenewsIf due conf moment begun tries tries_now old new folder folder_now → BeginsIn old new
-renews_begin true conf moment begun tries tries_now old new folder folder_now renews = takes_begin conf renews.0.made begun old new renews.0.takes
+renews_begin true conf moment begun tries tries_now old new folder folder_now renews = takes_begin conf folder.files renews.0.made begun old new renews.0.over renews.0.takes
 renews_begin false conf moment begun tries tries_now old new folder folder_now renews = inl renews.2
 
 module _ {L : Type 0} (told : L → LinkTold) where
-  one_leads : (conf : Conf) (kept kept_now : Renewed) (net net_now users users_now : NetTold L) (old new : server.State)
-      → IsRenewedRound told conf kept kept_now net net_now users users_now old new → Leading told old new
-  one_leads conf kept kept_now net net_now users users_now old new r =
-      let mid : server.State = asked_again (with_trace old r.core r.folder) in
-      lead_both told old mid new
-      (λ ready. (
-        goes_one (IsToldBy told) RenewedKind (state_of old) (state_of mid) (renews_begin _ conf r.moment r.begun kept.tries kept_now.tries old.core r.core old.folder r.folder r.renews, refl),
-        record { ends = ready.ends; listeners = ready.listeners; low = ready.low },
-      ))
-      (round_leads told net net_now users users_now mid new r.round)
+  module _ (conf : Conf) (kept kept_now : Renewed) (net net_now users users_now : NetTold L) (old new : server.State) (r : IsRenewedRound told conf kept kept_now net net_now users users_now old new) where
+    abbrev pub renewed : server.State
+    renewed = asked_again (with_trace old r.core r.folder)
+
+    pub begins_in : BeginsIn old.core r.core
+    begins_in = renews_begin _ conf r.moment r.begun kept.tries kept_now.tries old.core r.core old.folder r.folder r.renews
+
+    pub renewed_leads : Leading told old renewed
+    renewed_leads = λ ready. (
+      goes_one (IsToldBy told) RenewedKind (state_of old) (state_of renewed) (begins_in, refl),
+      record { ends = ready.ends; listeners = ready.listeners; low = ready.low },
+    )
+
+    one_leads : Leading told old new
+    one_leads = lead_both told old renewed new renewed_leads (round_leads told net net_now users users_now renewed new r.round (seen_tells told noted (with_trace old r.core r.folder) r.seen_so))
 
   rounds_lead : (conf : Conf) (many : ℕ) (kept kept_now : Renewed) (net net_now users users_now : NetTold L) (old new : server.State)
       → AreRounds told conf many kept kept_now net net_now users users_now old new → Leading told old new
@@ -74,7 +94,7 @@ module _ {L : Type 0} (told : L → LinkTold) where
         let last : server.State = has.run.last in
         let rounds = rounds_lead begun.conf has.run.served.many (record { tries = untried; anew = None }) has.run.served.kept has.net new.net has.users new.users first last has.run.served.rounds
         (first_ready first most.clients most.channels (ap (λ (c : Channels). c.inboxes) made.channels_are) made.listeners_are made.no_end) in
-        goes_both (IsToldBy told) (state_of first) (state_of last) (state_in true has.run.closes.0) rounds.0 (closing_goes told (TellOver told) has.run.moment last has.run.closes.0 rounds.1.low has.run.closes.2)
+        goes_both (IsToldBy told) (state_of first) (state_of last) (state_in true has.run.closes.0) rounds.0 (closing_goes told has.run.moment last has.run.closes.0 rounds.1.low has.run.closes.2)
 
     pub ended_so : AllShowEnds (TellLeft told) (map told closed.users.links) closed.ends
     ended_so = left_shown told first has.run.closes.0 closed keeping_goes (ap (λ (ls : Links L). map told ls.links) has.is_opened.made.no_program) has.run.closes.3
@@ -84,3 +104,19 @@ module _ {L : Type 0} (told : L → LinkTold) where
         let made = has.is_opened.made in
         left_admitted told tells first has.run.closes.0 closed keeping_goes (ap (λ (j : JournalTold). Some j.events) made.journal_is) (ap (λ (ls : Links L). map told ls.links) made.no_program)
         (ap (λ (c : Channels). c.opened) made.channels_are) (ap (λ (c : Channels). c.inboxes) made.channels_are) has.run.closes.3
+
+    pub went : WhatLinksTake → (begin : FolderTold) → IsBegun begun.conf begin.files begun.trace → AllWent told (setting most begun) closed
+    went takes begin begins =
+        let opened = has.is_opened in
+        let made = opened.made in
+        let before = what_stood begun.conf begin.files begun.trace begins in
+        left_went told takes (setting most begun) before.stood first has.run.closes.0 closed keeping_goes (ap (λ (j : JournalTold). Some j.events) made.journal_is) (ap (λ (ls : Links L). map told ls.links) made.no_client)
+        (opened.is_server.linked.many ∙ ap (λ (ls : Links L). length ls.links) made.no_client) (opened.begins (run_in (setting most begun) before.stood) refl refl before.after) has.run.closes.2.clients.none_open
+        has.run.closes.3
+
+  -- within the limits of a daemon
+  pub dropped_so : (begun : Begun) (old new : Outside L) (why : Stop) (closed : Closed L) → HasOpened told limits begun why old new closed → HasDropped closed
+  unfolding limits
+  dropped_so begun old new why closed has =
+      left_dropped told (first limits begun old new why closed has) has.run.closes.0 closed (keeping_goes limits begun old new why closed has)
+      (first_kept told noted old.folder _ _ _ limits.clients limits.channels has.opened.server has.is_opened.made refl refl refl (omega arith) (omega arith) (omega arith)) has.run.closes.3

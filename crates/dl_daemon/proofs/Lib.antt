@@ -6,8 +6,8 @@ pub mod AskedAgain
 pub mod MoreRounds
 pub mod KeptJournals
 pub mod DaemonSteps
-pub mod WentClients
 pub mod TookLevels
+pub mod KeptServices
 pub mod HeardToTheEnd
 pub mod Steps
 pub mod LeftServers

@@ -18,6 +18,7 @@ use Rattle.dl_serve.specs.declared.beginning.Begun.{Begun}
 use Rattle.dl_serve.specs.declared.closed.Closed.{Closed}
 use Rattle.dl_serve.specs.Admitted.{AllAdmitted, TellGiven}
 use Rattle.dl_serve.specs.Begin.{IsStart}
+use Rattle.dl_serve.specs.Dropped.{HasDropped}
 use Rattle.dl_serve.specs.Levels.{AllTookLevels}
 use Rattle.dl_serve.specs.Open.{IsHeard, Listen}
 use Rattle.dl_serve.specs.Shown.{AllShowEnds, TellLeft}
@@ -35,8 +36,9 @@ use Rattle.dl_daemon.specs.Limits.{limits}
 use Rattle.dl_daemon.specs.Open.{IsOpenedFor, setting}
 use Rattle.dl_daemon.specs.Outside.{Outside, outside}
 use Rattle.dl_daemon.specs.Program.{Ended, EndsBegun, EndsEarly, EndsWith, HasOpened, HasRun, LeavesEarly}
-use Rattle.dl_daemon.specs.Renewing.{untried}
+use Rattle.dl_daemon.specs.Renewing.{Renewed, untried}
 use Rattle.dl_daemon.specs.Rounds.{HasGoneRound, noted}
+use Rattle.dl_daemon.specs.Service.{Between, HasGoneOn}
 use Rattle.dl_daemon.specs.Status.{status_of}
 use Rattle.dl_daemon.proofs.HeardToTheEnd.{rounds_listen}
 
@@ -188,10 +190,11 @@ module _ {L : Type 0} (link_told : L → LinkTold) where
   left_early said old new start status.JournalFull early = absurd early
   left_early said old new start (status.StorageRefused line kind) early = absurd early
 
-  -- what was opened within these limits, and what it came to
+  -- what was served within these limits, and what it came to
   abbrev KeptWith : Begun → Outside L → FolderTold → Outside L → Stop → Closed L → Limits → Type 0
   KeptWith begun old between new why closed most =
-      (has : HasOpened link_told most begun why (record old { folder = between }) new closed) × IsKeptTo link_told (setting most begun) begun has.run.served.kept.anew old.folder new.folder closed
+      (last : Between L) × HasGoneOn link_told most begun why between old.net new.net old.users new.users closed last
+      × IsKeptTo link_told (setting most begun) begun last.renewed.anew old.folder new.folder closed
 
   -- they begin what they ask for, and it runs
   pub began : (said : List (List ℕ)) (asked : Daemon) (begun : Begun) (old : Outside L) (between : FolderTold) (new : Outside L) (s : Status) (left : Option (Left L)) (most : Limits) → most ≡ limits
@@ -203,23 +206,30 @@ module _ {L : Type 0} (link_told : L → LinkTold) where
       → ((why : Stop) (closed : Closed L) → HasOpened link_told most begun why (record old { folder = between }) new closed → AllWent link_told (setting most begun) closed)
       → ((why : Stop) (closed : Closed L) → HasOpened link_told most begun why (record old { folder = between }) new closed
       → AllTookLevels (TellTaken link_told) (setting most begun) closed.events.events (map link_told closed.users.links) closed.ends)
+      → ((why : Stop) (closed : Closed L) → (has : HasOpened link_told most begun why (record old { folder = between }) new closed) → (last : Between L) × (last.renewed ≡ has.run.served.kept)
+      × HasGoneOn link_told most begun why between old.net new.net old.users new.users closed last)
+      → ((why : Stop) (closed : Closed L) → HasOpened link_told limits begun why (record old { folder = between }) new closed → HasDropped closed)
       → daemon_of said ≡ Some asked → IsStart (serving asked) old.folder between begun → EndsBegun link_told most begun (record old { folder = between }) new s left → Ended link_told said old new s left
-  began said asked begun old between new s None most is_most comes admits shows went took is start ends =
+  began said asked begun old between new s None most is_most comes admits shows went took serves dropped is start ends =
       left_early said old new (record { asked = asked; is_asked = is; begun = begun; between = between; start = start }) s ends
-  began said asked begun old between new s (Some left) most is_most comes admits shows went took is start ends =
+  began said asked begun old between new s (Some left) most is_most comes admits shows went took serves dropped is start ends =
       let opens = ends.4 in
-      let kept = subst (KeptWith begun old between new ends.0 ends.2) is_most (opens, comes ends.0 ends.2 opens) in (
+      let served = serves ends.0 ends.2 opens in
+      let come = subst (λ (r : Renewed). IsKeptTo link_told (setting most begun) begun r.anew old.folder new.folder ends.2) (sym served.1) (comes ends.0 ends.2 opens) in
+      let kept = subst (KeptWith begun old between new ends.0 ends.2) is_most (served.0, served.2, come) in (
         ends.0,
         ends.1,
         record {
           it = record { asked = asked; is_asked = is; begun = begun; between = between; start = start };
           closed = ends.2;
           is_left = ends.3;
-          opens = kept.0;
-          comes = kept.1;
+          last = kept.0;
+          serves = kept.1;
+          comes = kept.2;
           admits = admits ends.0 ends.2 opens;
           shows = shows ends.0 ends.2 opens;
           went = subst (λ (m : Limits). AllWent link_told (setting m begun) ends.2) is_most (went ends.0 ends.2 opens);
           took = subst (λ (m : Limits). AllTookLevels (TellTaken link_told) (setting m begun) ends.2.events.events (map link_told ends.2.users.links) ends.2.ends) is_most (took ends.0 ends.2 opens);
+          dropped = dropped ends.0 ends.2 (subst (λ (m : Limits). HasOpened link_told m begun ends.0 (record old { folder = between }) new ends.2) is_most opens);
         },
       )

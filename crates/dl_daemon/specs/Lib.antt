@@ -5,6 +5,7 @@ pub mod Begin
 pub mod Renewing
 pub mod Open
 pub mod Rounds
+pub mod Service
 pub mod Left
 pub mod Comes
 pub mod Program

@@ -8,6 +8,7 @@ use Rattle.dl_outside.specs.Told.{LinkTold, NetTold, SinkTold}
 use Rattle.dl_outside.specs.Written.{Wrote, WroteNothing}
 use Rattle.dl_serve.specs.Admitted.{AllAdmitted, TellGiven}
 use Rattle.dl_serve.specs.Closed.{HasClosedTo}
+use Rattle.dl_serve.specs.Dropped.{HasDropped}
 use Rattle.dl_serve.specs.Levels.{AllTookLevels}
 use Rattle.dl_serve.specs.Open.{HasNotListened, IsHeard, Listens}
 use Rattle.dl_serve.specs.Shown.{AllShowEnds, TellLeft}
@@ -35,9 +36,48 @@ use Rattle.dl_daemon.specs.Open.{IsOpenedFor, setting}
 use Rattle.dl_daemon.specs.Outside.{Outside, outside}
 use Rattle.dl_daemon.specs.Renewing.{untried}
 use Rattle.dl_daemon.specs.Rounds.{HasGoneRound, noted}
+use Rattle.dl_daemon.specs.Service.{Between, HasGoneOn}
 use Rattle.dl_daemon.specs.Status.{line_of, status_of}
 
 -- ---- what the daemon did
+
+-- The daemon was begun, went on, round after round, until there was a cause to end it, and closed; this is left. Were its events kept, `closed` would be what is
+-- left:
+-- what its rounds come to is what that journal says, in a setting of so many clients, and its trace files are those of its events, or of those since its
+-- trace was begun anew; of each program's messages there are the events, in their order, each once, where links tell what they gave; the links of programs
+-- show why these ended, and so do those of clients, with the Closes among the events.
+-- Where links tell what they took, each program's took the front of the messages of the levels that were set for the program, and all of them where its
+-- channel is open at the end and the link never had to wait. Links were dropped for a cause.
+pub record HasClosed {L : Type 0} (link_told : L → LinkTold) (said : List (List ℕ)) (why : Stop) (old new : Outside L) (left : Left L) : Type 0 where
+  pub it : Started said old.folder
+  pub closed : Closed L
+  pub is_left : IsOf closed left
+  pub last : Between L
+  pub serves : HasGoneOn link_told limits it.begun why it.between old.net new.net old.users new.users closed last
+  pub comes : IsKeptTo link_told (setting limits it.begun) it.begun last.renewed.anew old.folder new.folder closed
+  pub admits : TellGiven link_told → AllAdmitted closed.events.events (map link_told closed.users.links) closed.ends
+  pub shows : AllShowEnds (TellLeft link_told) (map link_told closed.users.links) closed.ends
+  pub went : AllWent link_told (setting limits it.begun) closed
+  pub took : AllTookLevels (TellTaken link_told) (setting limits it.begun) closed.events.events (map link_told closed.users.links) closed.ends
+  pub dropped : HasDropped closed
+
+-- ---- how it ends
+
+-- Why there was no closing: one line a status. Nothing began, and the nets were left alone; or one of them could not listen, and listens as before;
+-- or memory ran out.
+abbrev pub EndsEarly : {L : Type 0} → List (List ℕ) → Outside L → Outside L → Status → Type 0
+EndsEarly words old new NetFault =
+    (it : Started words old.folder) × IsUnchanged old.folder new.folder
+    × ((HasNotListened old.net new.net × (new.users ≡ old.users)) ⊎ (IsHeard it.begun.port old.net new.net × HasNotListened old.users new.users))
+EndsEarly words old new OutOfMemory = Unit {0}
+EndsEarly words old new status = Refuses words old.folder new.folder status × (new.net ≡ old.net) × (new.users ≡ old.users)
+
+-- The daemon ended with this status: there was no closing; or there was, and the status is that of why its rounds ended.
+abbrev pub Ended : {L : Type 0} → (L → LinkTold) → List (List ℕ) → Outside L → Outside L → Status → Option (Left L) → Type 0
+Ended link_told said old new status None = EndsEarly said old new status
+Ended link_told said old new status (Some left) = (why : Stop) × (status ≡ status_of why) × HasClosed link_told said why old new left
+
+-- ---- for inner functions
 
 -- Rounds of a server, over a trace of this configuration, until there was a cause to end them; then it closed, and this is left of it.
 pub record HasRun {L : Type 0} (link_told : L → LinkTold) (conf : Conf) (tries : Tries) (server : Server Told L) (why : Stop) (old new : Outside L) (closed : Closed L) : Type 0 where
@@ -57,41 +97,6 @@ pub record HasOpened {L : Type 0} (link_told : L → LinkTold) (most : Limits) (
   pub run : HasRun link_told begun.conf untried opened.server why (outside old.folder net users) new closed
   pub net_listens : Listens begun.port old.net new.net
   pub users_listen : Listens begun.users old.users new.users
-
--- The daemon was begun, went round until there was a cause to end it, and closed; this is left. Were its events kept, `closed` would be what is left:
--- what its rounds come to is what that journal says, in a setting of so many clients, and its trace files are those of its events, or of those since its
--- trace was begun anew; of each program's messages there are the events, in their order, each once, where links tell what they gave; the links of programs
--- show why these ended, and so do those of clients, with the Closes among the events.
--- Where links tell what they took, each program's took the front of the messages of the levels that were set for the program, and all of them where its
--- channel is open at the end and the link never had to wait.
-pub record HasClosed {L : Type 0} (link_told : L → LinkTold) (said : List (List ℕ)) (why : Stop) (old new : Outside L) (left : Left L) : Type 0 where
-  pub it : Started said old.folder
-  pub closed : Closed L
-  pub is_left : IsOf closed left
-  pub opens : HasOpened link_told limits it.begun why (record old { folder = it.between }) new closed
-  pub comes : IsKeptTo link_told (setting limits it.begun) it.begun opens.run.served.kept.anew old.folder new.folder closed
-  pub admits : TellGiven link_told → AllAdmitted closed.events.events (map link_told closed.users.links) closed.ends
-  pub shows : AllShowEnds (TellLeft link_told) (map link_told closed.users.links) closed.ends
-  pub went : AllWent link_told (setting limits it.begun) closed
-  pub took : AllTookLevels (TellTaken link_told) (setting limits it.begun) closed.events.events (map link_told closed.users.links) closed.ends
-
--- ---- how it ends
-
--- Why there was no closing: one line a status. Nothing began, and the nets were left alone; or one of them could not listen, and listens as before;
--- or memory ran out.
-abbrev pub EndsEarly : {L : Type 0} → List (List ℕ) → Outside L → Outside L → Status → Type 0
-EndsEarly words old new NetFault =
-    (it : Started words old.folder) × IsUnchanged old.folder new.folder
-    × ((HasNotListened old.net new.net × (new.users ≡ old.users)) ⊎ (IsHeard it.begun.port old.net new.net × HasNotListened old.users new.users))
-EndsEarly words old new OutOfMemory = Unit {0}
-EndsEarly words old new status = Refuses words old.folder new.folder status × (new.net ≡ old.net) × (new.users ≡ old.users)
-
--- The daemon ended with this status: there was no closing; or there was, and the status is that of why its rounds ended.
-abbrev pub Ended : {L : Type 0} → (L → LinkTold) → List (List ℕ) → Outside L → Outside L → Status → Option (Left L) → Type 0
-Ended link_told said old new status None = EndsEarly said old new status
-Ended link_told said old new status (Some left) = (why : Stop) × (status ≡ status_of why) × HasClosed link_told said why old new left
-
--- ---- for inner functions
 
 -- what was opened ran, or memory was wanting for its closing
 abbrev pub EndsWith : {L : Type 0} → (L → LinkTold) → Conf → Tries → Server Told L → Outside L → Outside L → Status → Option (Left L) → Type 0

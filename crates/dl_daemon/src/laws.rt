@@ -1,9 +1,10 @@
 //! Laws of the daemon: what it comes to, and what a status says of it.
 
-ghost use Rattle.std.specs.Prelude.{List, Option, map, ℕ};
+ghost use Rattle.std.specs.Prelude.{◌≡◌, List, Option, map, ℕ};
 ghost use Rattle.dl_loop.specs.Daemon.{TellTaken};
 ghost use Rattle.dl_outside.specs.Told.{FolderTold, SinkTold};
 ghost use Rattle.dl_serve.specs.Admitted.{AllAdmitted, TellGiven};
+ghost use Rattle.dl_serve.specs.Dropped.{HasDropped};
 ghost use Rattle.dl_serve.specs.Levels.{AllTookLevels};
 ghost use Rattle.dl_serve.specs.Shown.{AllShowEnds, TellLeft};
 ghost use Rattle.dl_serve.specs.Went.{AllWent};
@@ -16,9 +17,11 @@ ghost use Rattle.dl_daemon.specs.declared.left.Left.{Left};
 ghost use Rattle.dl_daemon.specs.declared.limits.Limits.{Limits};
 ghost use Rattle.dl_daemon.specs.declared.rounds.Stop.{Stop};
 ghost use Rattle.dl_daemon.specs.Comes.{IsKeptTo};
+ghost use Rattle.dl_daemon.specs.Limits.{limits};
 ghost use Rattle.dl_daemon.specs.Open.{setting};
 ghost use Rattle.dl_daemon.specs.Outside.{Outside};
 ghost use Rattle.dl_daemon.specs.Program.{Ended, HasOpened, IsKeeping, Says};
+ghost use Rattle.dl_daemon.specs.Service.{Between, HasGoneOn};
 
 use dl_outside::Link;
 
@@ -54,8 +57,7 @@ pub fn how_clients_went<L: Link>()
     ensures { (most : Limits) (begun : Begun) (old new : Outside L) (why : Stop) (closed : Closed L) (first : FolderTold)
         → IsBegun begun.conf first.files begun.trace → HasOpened L.told most begun why old new closed → AllWent L.told (setting most begun) closed }
 {
-    dl_rounds::laws::clients_are_as_noted::<L>();
-    dl_rounds::laws::gone_clients_show_why::<L>();
+    dl_core::laws::what_links_take();
 }
 
 /// Where links tell what they took, that of each program outside took the front of the messages that tell the levels of its applications' contexts, one for
@@ -67,6 +69,25 @@ pub fn what_programs_took<L: Link>()
         → AllTookLevels (TellTaken L.told) (setting most begun) closed.events.events (map L.told closed.users.links) closed.ends }
 {
     dl_rounds::laws::a_round_is_its_events::<L>();
+}
+
+/// Links were dropped only where as many clients had come as may be open at once, or as many channels, or memory was wanting.
+pub fn why_links_were_dropped<L: Link>()
+    ensures { (begun : Begun) (old new : Outside L) (why : Stop) (closed : Closed L) → HasOpened L.told limits begun why old new closed → HasDropped closed }
+{}
+
+/// Round after round, who was there was served: each acceptor was asked once; the link of each client that is open behind a round was read in it, and was
+/// sent all of its stream, or was busy; and so was the link of each program whose channel is open. Before a round an ended trace was tried to be begun anew
+/// where that was due.
+pub fn how_each_round_serves<L: Link>()
+    ensures { (most : Limits) (begun : Begun) (old new : Outside L) (why : Stop) (closed : Closed L) (first : FolderTold)
+        → IsBegun begun.conf first.files begun.trace → (has : HasOpened L.told most begun why old new closed) → (last : Between L)
+        × (last.renewed ≡ has.run.served.kept) × HasGoneOn L.told most begun why old.folder old.net new.net old.users new.users closed last }
+{
+    dl_rounds::laws::a_round_is_its_events::<L>();
+    dl_rounds::laws::why_clients_stay();
+    dl_rounds::laws::links_of_gone_clients_are_shut::<L>();
+    dl_turns::laws::a_pump_is_its_events();
 }
 
 /// What a status says of the daemon is what is promised of the whole: the words decide first, and where all is of the form and nothing fails, the watch

@@ -10,6 +10,7 @@ use crate::renewing::Renewal;
 use dl_bytes::OutOfMemory;
 use dl_core::Core;
 use dl_events::Unkept;
+use dl_model::Software;
 use dl_outside::Link;
 use dl_serve::Begun;
 use dl_server::Server;
@@ -33,7 +34,15 @@ where
         ..
     } = begun;
     a_made_server_is_one::<Unkept, L>();
-    let core = Core::make_for(alloc, &conf, stored, trace, 0, limits.clients)?;
+    let core = Core::make_for(
+        alloc,
+        Software::Daemon,
+        &conf,
+        stored,
+        trace,
+        0,
+        limits.clients,
+    )?;
     let channels = Channels::make_for(alloc, limits.open_channels, limits.channels)?;
     let journal = Unkept::make();
     let server = Server::make(

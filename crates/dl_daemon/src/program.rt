@@ -10,8 +10,9 @@ ghost use Rattle.dl_daemon.specs.Status.{status_of};
 use crate::beginning::{ask, begin};
 use crate::closing::close;
 use crate::laws::{
-    an_end_is_a_keeping, how_clients_went, how_programs_ended, what_programs_sent_is_admitted,
-    what_programs_took, what_was_kept_is_its_journal,
+    an_end_is_a_keeping, how_clients_went, how_each_round_serves, how_programs_ended,
+    what_programs_sent_is_admitted, what_programs_took, what_was_kept_is_its_journal,
+    why_links_were_dropped,
 };
 use crate::limits::Limits;
 use crate::opened::Opened;
@@ -138,6 +139,8 @@ where
     how_programs_ended::<N::L>();
     how_clients_went::<N::L>();
     what_programs_took::<N::L>();
+    how_each_round_serves::<N::L>();
+    why_links_were_dropped::<N::L>();
     let asked = match ask(alloc, words) {
         Ok(asked) => asked,
         Err(status) => return left_early(status),

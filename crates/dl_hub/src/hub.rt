@@ -3,7 +3,7 @@
 ghost use Rattle.std.specs.Prelude.{◌≡◌, ◌≤◌, ◌<◌, ◌↔◌, ◌^◌, ◌+◌, ℕ, true, false, [], Err, IfOk, OnErr, OnOk, IfSome};
 ghost use Rattle.std.specs.Prelude.{IsTrue, IsSome, IsSomeAnd, count_by, find, length, nat_le, take, map, option_map, vec_capacity};
 ghost use Rattle.std.specs.List.{All, list_all};
-ghost use Rattle.dl_bytes.specs.Limits.{admitted_limit, client_limit, open_client_limit, request_limit};
+ghost use Rattle.dl_bytes.specs.Limits.{admitted_limit, client_limit, frame_limit, open_client_limit, request_limit};
 ghost use Rattle.dl_model.specs.Traffic.{Connected, Admitted, Reply, Closed};
 ghost use Rattle.dl_hub.specs.State.{client_of, outbox_of, fresh, changed, without, with_frame, with_reply, shut, is_open, is_any_open, replies_of};
 ghost use Rattle.dl_hub.specs.State.{Comes, HasPlace, HasRoom, EachHasRoom, IsFull, IsNextOpen, IsSameHub, IsSpent, MayAsk};
@@ -21,7 +21,7 @@ use crate::client::Client;
 use crate::ring::Ring;
 use crate::store::Store;
 use arrayvec::ArrayVec;
-use dl_bytes::{Backlog, CLIENT_LIMIT, Frame, Id, OPEN_CLIENT_LIMIT, OutOfMemory, REQUEST_LIMIT};
+use dl_bytes::{Backlog, CLIENT_LIMIT, Id, OPEN_CLIENT_LIMIT, OutOfMemory, REQUEST_LIMIT};
 use dl_outside::{Link, Sends};
 use std::alloc::Global;
 use std::marker::Model;
@@ -258,8 +258,9 @@ impl Hub {
     }
 
     /// Admits a frame: each open client is sent it, and where none is open it waits in the backlog, or is refused there.
-    pub fn admit(&mut self, frame: &Frame)
+    pub fn admit(&mut self, frame: &[u8])
         requires room { EachHasRoom (length frame.now) self.old }
+        requires size { length frame.now ≤ frame_limit }
         requires few { self.old.admitted < admitted_limit }
         ensures adds { Adds (Admitted frame.now) self.old self.new }
         ensures rooms { (more : ℕ) → EachHasRoom (length frame.now + more) self.old → EachHasRoom more self.new }
@@ -276,9 +277,10 @@ impl Hub {
     }
 
     /// Admits a frame where a client is open: it is put into the stream of each.
-    fn send_each(&mut self, frame: &Frame)
+    fn send_each(&mut self, frame: &[u8])
         requires open { is_any_open self.old ≡ true }
         requires room { EachHasRoom (length frame.now) self.old }
+        requires size { length frame.now ≤ frame_limit }
         requires few { self.old.admitted < admitted_limit }
         ensures adds { Adds (Admitted frame.now) self.old self.new }
         ensures rooms { (more : ℕ) → EachHasRoom (length frame.now + more) self.old → EachHasRoom more self.new }
@@ -287,13 +289,14 @@ impl Hub {
         ensures replies { replies_of self.new ≡ replies_of self.old }
         ensures same { IsSameHub self.old self.new }
     {
-        put_each(&mut self.clients, self.places.as_slice(), frame.bytes());
+        put_each(&mut self.clients, self.places.as_slice(), frame);
         self.admitted += 1;
     }
 
     /// Admits a frame where no client is open: it waits in the backlog, or is refused there.
-    fn keep(&mut self, frame: &Frame)
+    fn keep(&mut self, frame: &[u8])
         requires closed { is_any_open self.old ≡ false }
+        requires size { length frame.now ≤ frame_limit }
         requires few { self.old.admitted < admitted_limit }
         ensures adds { Adds (Admitted frame.now) self.old self.new }
         ensures rooms { (more : ℕ) → EachHasRoom (length frame.now + more) self.old → EachHasRoom more self.new }
@@ -302,7 +305,7 @@ impl Hub {
         ensures replies { replies_of self.new ≡ replies_of self.old }
         ensures same { IsSameHub self.old self.new }
     {
-        self.store.admit(frame.bytes());
+        self.store.admit(frame);
         self.admitted += 1;
     }
 

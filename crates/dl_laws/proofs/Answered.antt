@@ -13,8 +13,10 @@ use Rattle.dl_control.specs.declared.request.RequestFault.{RequestFault}
 use Rattle.dl_control.specs.declared.request.RequestFault.TheVariants.{Short, Excess}
 use Rattle.dl_model.specs.declared.registry.Slot.{Slot}
 use Rattle.dl_model.specs.Registry.{Registry, named_contexts}
-use Rattle.dl_model.specs.Reply.{apid_of, ctid_of, asked, bare, info_body, info_reply, reply_to, reply_frame_to}
+use Rattle.dl_model.specs.Reply.{apid_of, ctid_of, asked, bare, info_body, info_reply, reply_to, reply_frame_to, version_reply}
 use Rattle.dl_model.specs.Setting.{Setting}
+use Rattle.dl_model.specs.declared.software.Software.{Software}
+use Rattle.dl_model.specs.declared.software.Software.TheVariants as program
 use Rattle.dl_laws.specs.Frames.{TellsLen}
 use Rattle.dl_laws.proofs.Spellings.{reply_tells}
 
@@ -34,12 +36,16 @@ info_room registry options apid ctid =
     let body = info_body options registry apid ctid in
     info_by options body (not (eqb options 6 || eqb options 7)) (eqb (length (named_contexts registry apid ctid)) 0) (ltb 65535 (23 + length body)) refl
 
+version_room : (software : Software) → HasRoom (version_reply software)
+version_room program.Run = omega arith
+version_room program.Daemon = omega arith
+
 any_room : (setting : Setting) (slots : ℕ → Slot) (registry : Registry) (apid ctid : List ℕ) (request : Result Request RequestFault) (answer : Done) → HasRoom (reply_to setting slots registry apid ctid request answer)
 any_room setting slots registry apid ctid (Err (Short service)) answer = omega arith
 any_room setting slots registry apid ctid (Err (Excess service)) answer = omega arith
 any_room setting slots registry apid ctid (Ok (GetLogInfo options app context)) answer = info_room registry options app context
 any_room setting slots registry apid ctid (Ok GetDefault) answer = omega arith
-any_room setting slots registry apid ctid (Ok Version) answer = omega arith
+any_room setting slots registry apid ctid (Ok Version) answer = version_room setting.software
 any_room setting slots registry apid ctid (Ok _) answer = omega arith
 
 payload_long : (service status : ℕ) (body : List ℕ) → length (reply_payload service status body) ≡ 5 + length body

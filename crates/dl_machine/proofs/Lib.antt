@@ -8,3 +8,6 @@ pub mod ClientSteps
 pub mod ProgramSteps
 pub mod ServerSteps
 pub mod LoopSteps
+pub mod RenewedRuns
+pub mod WentClients
+pub mod WentSteps

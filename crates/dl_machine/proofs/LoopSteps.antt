@@ -1,5 +1,6 @@
 -- Accepts, rounds, greetings and the stop of the daemon with applications of its own, as steps. No program outside is there.
 use Rattle.std.proofs.Common.{◌≡◌, ◌≤◌, ◌+◌, ◌/◌, ℕ, zero, suc, Bool, true, false, inl, inr, List, [], ◌∷◌, ◌++◌, drop, length, map, replicate, Option, Some, None, refl, sym, ap, subst, ◌∙◌, arith, append-nil, length-append}
+use Rattle.std.specs.Prelude.{IsSome, slice_get}
 use Rattle.std.proofs.lemmas.List.{length-replicate, map-append}
 use Rattle.dl_account.specs.State.{ClosingState}
 use Rattle.dl_account.proofs.Resting.{taken_rest}
@@ -7,7 +8,6 @@ use Rattle.dl_bytes.specs.declared.conf.AppSpec.{AppSpec}
 use Rattle.dl_bytes.specs.declared.moment.Moment.{Moment}
 use Rattle.dl_bytes.specs.declared.user.UserMsg.{UserMsg}
 use Rattle.dl_cells.specs.declared.level_history.Change.{Change}
-use Rattle.dl_channel.specs.State.{Outbox}
 use Rattle.dl_channel_turns.specs.Levels.{put_for, told}
 use Rattle.dl_desk.specs.Told.{PostTold}
 use Rattle.dl_loop.specs.RoundSteps.{AcceptsIfMay, IsRound}
@@ -18,6 +18,7 @@ use Rattle.dl_loop.specs.Takes.{TakesLossesIfMay, TakesOn, TakesTurns, most_of}
 use Rattle.dl_loop.specs.Greeting as greeting
 use Rattle.dl_loop.specs.declared.round.Round.{Round}
 use Rattle.dl_loop.proofs.DeskRest.{same_reported, same_taken}
+use Rattle.dl_loop.proofs.ShownDaemons.{tell_overs}
 use Rattle.dl_model.specs.Registry.{Registry}
 use Rattle.dl_model.specs.declared.registry.LevelChange.{LevelChange}
 use Rattle.dl_outside.specs.Links.{Links}
@@ -37,7 +38,7 @@ use Rattle.dl_rounds.specs.declared.listener.Listener.{Listener}
 use Rattle.dl_settling.specs.Settling as settling
 use Rattle.dl_settling.specs.State as settling_state
 use Rattle.dl_settling.specs.State.{Stopping}
-use Rattle.dl_socket.specs.Channels.{none_opened}
+use Rattle.dl_socket.specs.Channels.{Channels, none_opened}
 use Rattle.dl_socket.specs.Turns.{told_each}
 use Rattle.dl_taking.specs.Draining.{DrainsFirst, TakesOn as TakesBatches, closing_took}
 use Rattle.dl_taking.specs.Side as taking
@@ -48,10 +49,10 @@ use Rattle.dl_taking.specs.declared.taking.Got.{Got}
 use Rattle.dl_turns.specs.Events.{HaveSetLevels}
 use Rattle.dl_turns.specs.Gone.{TellOver}
 use Rattle.dl_turns.specs.State.{Side, side}
-use Rattle.dl_machine.specs.State.{Client, State, new_client}
+use Rattle.dl_machine.specs.State.{AreIdle, Client, State, new_client, no_turn}
 use Rattle.dl_machine.specs.Steps.{Came, Goes, Greeted, IsToldBy, LetGo, OfRings, PartedAll, TookCalls, TookClaim, TookLosses, Wanted}
 use Rattle.dl_machine.proofs.ClientSteps as clients
-use Rattle.dl_machine.proofs.ClientSteps.{Follows, Spot, boxes, client_with, clients_with, closed_leads, heard_leads, levels_lead, lift, pumped_leads, spot_of, visits_lead}
+use Rattle.dl_machine.proofs.ClientSteps.{Follows, Spot, TellOvers, boxes, client_with, clients_with, closed_leads, heard_leads, idle_with, levels_lead, lift, pumped_leads, spot_of, visits_lead}
 use Rattle.dl_machine.proofs.Composed.{goes_both, goes_one, goes_same}
 use Rattle.dl_machine.proofs.Joined.{Beyond, joined_left, joined_more, joined_padded, joined_right}
 use Rattle.dl_machine.proofs.NamedSlots.{names_none}
@@ -70,7 +71,7 @@ told_each_none : (r : Registry) (changes : List Change) → told_each r changes 
 told_each_none r [] = refl
 told_each_none r (c ∷ changes) = ap (told_each r changes) (told_none r (record { slot = c.slot; level = c.level })) ∙ told_each_none r changes
 
-module _ (IsTold : LinkTold → Type 0) (base : State) (none : base.channels.outboxes ≡ []) where
+module _ (IsTold : LinkTold → Type 0) (base : State) (none : base.channels ≡ none_opened 0 0) where
   -- a turn's side and the clients
   abbrev plain : Spot → State
   plain spot = record base { core = spot.side.core; events = spot.side.events; folder = spot.side.folder; clients = spot.clients }
@@ -78,7 +79,8 @@ module _ (IsTold : LinkTold → Type 0) (base : State) (none : base.channels.out
   lead_goes : (registry : Registry) (sets : List Change) (old new : Spot) → Follows IsTold base registry sets old.side → clients.Leading IsTold base registry sets old new → Goes IsTold (plain old) (plain new)
   lead_goes registry sets old new follows lead =
       let put : (desk : PostTold) → boxes IsTold base registry sets desk ≡ base.channels.outboxes =
-      (λ desk. ap (λ (o : List (ℕ × Outbox)). told_each registry (drop (length sets) desk.sets) o) none ∙ told_each_none registry (drop (length sets) desk.sets) ∙ sym none) in
+      (λ desk. ap (λ (c : Channels). told_each registry (drop (length sets) desk.sets) c.outboxes) none ∙ told_each_none registry (drop (length sets) desk.sets)
+      ∙ sym (ap (λ (c : Channels). c.outboxes) none)) in
       let lifted : (spot : Spot) → lift IsTold base registry sets spot ≡ plain spot = (λ spot i. record (plain spot) { channels = record base.channels { outboxes = put spot.side.desk i } }) in
       goes_both IsTold (plain old) (lift IsTold base registry sets old) (plain new) (goes_same IsTold _ _ (lifted old))
       (goes_both IsTold _ (lift IsTold base registry sets new) (plain new) (lead follows).0 (goes_same IsTold _ _ (sym (lifted new))))
@@ -91,27 +93,30 @@ module _ (IsTold : LinkTold → Type 0) (base : State) (none : base.channels.out
       lead_goes old.core.registry.registry old.desk.sets (record { side = old; clients = cs }) (record { side = new; clients = cs }) (first_follows old)
       (levels_lead IsTold base old.core.registry.registry old.desk.sets levels.0 old new cs levels.1)
 
-  hears_go : (moved : Bool) (old new : Clients) → visits.HearsAll moved old new → Goes IsTold (plain (spot_of old)) (plain (spot_of new))
-  hears_go moved old new heard =
+  hears_go : (moved : Bool) (old new : Clients) → ((place : ℕ) (link : LinkTold) → slice_get old.links place ≡ Some link → TellOvers IsTold → IsSome link.over) → visits.HearsAll moved old new
+      → Goes IsTold (plain (spot_of old)) (plain (spot_of new))
+  hears_go moved old new tells heard =
       let registry : Registry = old.side.core.registry.registry in
       let sets : List Change = old.side.desk.sets in
       lead_goes registry sets (spot_of old) (spot_of new) (first_follows old.side)
-      (visits_lead IsTold base registry sets visits.Heard (λ number low all first there here c d visit. heard_leads IsTold base registry sets number low all first there here c d visit) 0 heard.0 moved old new heard.1)
+      (visits_lead IsTold base registry sets (λ link. TellOvers IsTold → IsSome link.over) visits.Heard
+      (λ number low all first there here c d tell some visit. heard_leads IsTold base registry sets number low all first there here c d tell some visit) 0 heard.0 moved old new (λ place link above at. tells place link at) heard.1)
 
   pumps_go : (moved : Bool) (old new : Clients) → rounds.VisitsAll visits.Pumped moved old new → Goes IsTold (plain (spot_of old)) (plain (spot_of new))
   pumps_go moved old new pumped =
       let registry : Registry = old.side.core.registry.registry in
       let sets : List Change = old.side.desk.sets in
       lead_goes registry sets (spot_of old) (spot_of new) (first_follows old.side)
-      (visits_lead IsTold base registry sets visits.Pumped (λ number low all first there here c d visit. pumped_leads IsTold base registry sets number low all first there here c d visit) 0 pumped.0 moved old new pumped.1)
+      (visits_lead IsTold base registry sets (λ link. Unit {0}) visits.Pumped
+      (λ number low all first there here c d fits some visit. pumped_leads IsTold base registry sets number low all first there here c d visit) 0 pumped.0 moved old new (λ place link above at. tt) pumped.1)
 
-  closes_go : base.stops ≡ true → (Tells : Type 0) (old new : Clients) → visits.ClosesAll Tells old new → Goes IsTold (plain (spot_of old)) (plain (spot_of new))
-  closes_go stops Tells old new closed =
+  closes_go : base.stops ≡ true → (Tells : Type 0) → (TellOvers IsTold → Tells) → (old new : Clients) → visits.ClosesAll Tells old new → Goes IsTold (plain (spot_of old)) (plain (spot_of new))
+  closes_go stops Tells tells old new closed =
       let registry : Registry = old.side.core.registry.registry in
       let sets : List Change = old.side.desk.sets in
       lead_goes registry sets (spot_of old) (spot_of new) (first_follows old.side)
-      (visits_lead IsTold base registry sets (visits.Closed Tells)
-      (λ number low all first there here c d visit. closed_leads IsTold base registry sets number low all first there stops Tells here c d visit) 0 closed.1.0 closed.0 old new closed.1.1)
+      (visits_lead IsTold base registry sets (λ link. Unit {0}) (visits.Closed Tells)
+      (λ number low all first there here c d fits some visit. closed_leads IsTold base registry sets number low all first there stops Tells tells here c d some visit) 0 closed.1.0 closed.0 old new (λ place link above at. tt) closed.1.1)
 
   greets_go : (moment : Moment) (msgs : List UserMsg) (old new : Side) (cs : List Client) → GreetsEach moment msgs old new
       → Goes IsTold (plain (record { side = old; clients = cs })) (plain (record { side = new; clients = cs }))
@@ -121,7 +126,7 @@ module _ (IsTold : LinkTold → Type 0) (base : State) (none : base.channels.out
       let one = greets.1 in
       let noted : State = plain (record { side = one.between; clients = cs }) in
       goes_both IsTold _ (plain (record { side = next; clients = cs })) _
-      (goes_both IsTold _ noted _ (goes_one IsTold (OfRings (Greeted moment msg)) (plain (record { side = old; clients = cs })) noted ((one.notes, one.registers, refl), refl))
+      (goes_both IsTold _ noted _ (goes_one IsTold (OfRings (Greeted moment msg)) (plain (record { side = old; clients = cs })) noted ((one.notes, one.registers, refl), refl, ap (λ (c : Channels). c.in_all) none))
       (levels_go one.between next cs one.levels))
       (greets_go moment msgs next new cs greets.2)
 
@@ -132,7 +137,7 @@ module _ (IsTold : LinkTold → Type 0) where
   abbrev with_taking : State → taking.Side → State
   with_taking base s = record base { core = s.part.core; events = s.part.events; folder = s.part.folder; took = s.took }
 
-  module _ (base : State) (none : base.channels.outboxes ≡ []) where
+  module _ (base : State) (none : base.channels ≡ none_opened 0 0) (idle : AreIdle base.clients) where
     both : (old between new : taking.Side) → Goes IsTold (with_taking base old) (with_taking base between) → Goes IsTold (with_taking base between) (with_taking base new)
         → Goes IsTold (with_taking base old) (with_taking base new)
     both old between new first second = goes_both IsTold (with_taking base old) (with_taking base between) (with_taking base new) first second
@@ -147,18 +152,18 @@ module _ (IsTold : LinkTold → Type 0) where
         let then : Side = notes.between in
         let claimed : State = record base { core = then.core; events = then.events; folder = then.folder; took = new.took } in
         goes_both IsTold _ claimed _
-        (goes_one IsTold (OfRings (TookClaim app moment takes.claim)) (with_taking base old) claimed ((notes.notes, notes.claims, notes.core, notes.folder, takes.took), refl))
+        (goes_one IsTold (OfRings (TookClaim app moment takes.claim)) (with_taking base old) claimed ((notes.notes, notes.claims, notes.core, notes.folder, takes.took), refl, ap (λ (c : Channels). c.in_all) none))
         (levels_go IsTold claimed none then (turned new) base.clients notes.levels)
 
     some_goes : (app most : ℕ) (got : Got) (old new : taking.Side) → TakesSome app most got old new → Goes IsTold (with_taking base old) (with_taking base new)
     some_goes app most got old new takes =
         both old takes.between new
-        (goes_one IsTold (OfRings (TookCalls app takes.moment takes.items)) (with_taking base old) (with_taking base takes.between) ((takes.logs, takes.took), refl))
+        (goes_one IsTold (OfRings (TookCalls app takes.moment takes.items)) (with_taking base old) (with_taking base takes.between) ((takes.logs, takes.took, idle), refl, ap (λ (c : Channels). c.in_all) none))
         (claim_goes got.claimed app takes.moment takes.between new takes.claim)
 
     reports_go : (specs : List AppSpec) (app count : ℕ) (old new : taking.Side) → Reports specs app count old new → Goes IsTold (with_taking base old) (with_taking base new)
     reports_go specs app count old new reports =
-        goes_one IsTold (OfRings (TookLosses app reports.moment reports.apid count)) (with_taking base old) (with_taking base new) ((reports.tells, reports.took), refl)
+        goes_one IsTold (OfRings (TookLosses app reports.moment reports.apid count)) (with_taking base old) (with_taking base new) ((reports.tells, reports.took, idle), refl, ap (λ (c : Channels). c.in_all) none)
 
     batches_go : (app count : ℕ) (old new : taking.Side) → TakesBatches app count old new → Goes IsTold (with_taking base old) (with_taking base new)
     batches_go app zero old new stands = same old new stands
@@ -193,6 +198,10 @@ module _ {L : Type 0} (link_told : L → LinkTold) where
 
   abbrev Told : LinkTold → Type 0
   Told link = IsToldBy link_told link
+
+  -- what links tell, told by each of them
+  overs : TellOvers Told → TellOver link_told
+  overs tells = λ link. tells (link_told link) (link, refl)
 
   desk_stands : (old new : DaemonState L) → SameDesk old.desk new.desk → took_by new.desk.handles ≡ took_by old.desk.handles
   desk_stands old new is = λ i. record { taken = λ app. same_taken old.desk new.desk is app i; reported = same_reported old.desk new.desk is i }
@@ -246,7 +255,8 @@ module _ {L : Type 0} (link_told : L → LinkTold) where
   hear_clients : (moved : Bool) (old new : DaemonState L) (folder folder_now : FolderTold) → Hears link_told moved folder folder_now old new → Goes Told (daemon_in false old folder) (daemon_in false new folder_now)
   hear_clients moved old new folder folder_now hears =
       let base : State = daemon_in false old folder in
-      goes_both Told base (plain Told base refl (spot_of (clients_of link_told new folder_now))) _ (hears_go Told base refl moved (clients_of link_told old folder) (clients_of link_told new folder_now) hears.visits)
+      goes_both Told base (plain Told base refl (spot_of (clients_of link_told new folder_now))) _ (hears_go Told base refl moved (clients_of link_told old folder) (clients_of link_told new folder_now)
+      (λ place link at tells. tell_overs link_told old.links.links (overs tells) place link at) hears.visits)
       (goes_same Told _ _ (ap (λ (x : DaemonState L). daemon_in false x folder_now) hears.rest ∙ (λ i. record (plain Told base refl (spot_of (clients_of link_told new folder_now))) { took = desk_stands old new hears.desk i })))
 
   pump_clients : (moved : Bool) (old new : DaemonState L) (folder : FolderTold) → Pumps link_told moved old new → Goes Told (daemon_in false old folder) (daemon_in false new folder)
@@ -278,6 +288,7 @@ module _ {L : Type 0} (link_told : L → LinkTold) where
         joined_right client_with fresh_listener (λ (c : Client). c.cutter) (λ (l : Listener). l.cutter) (λ x y. refl) links links_now listeners long,
         joined_right client_with fresh_listener (λ (c : Client). c.due) (λ (l : Listener). None) (λ x y. refl) links links_now listeners long,
         refl,
+        joined_right client_with fresh_listener (λ (c : Client). c.turn) (λ (l : Listener). no_turn) (λ x y. refl) links links_now listeners long,
       ))
 
   part_clients : (old new : DaemonState L) (folder : FolderTold) → Parts link_told old new → Goes Told (daemon_in false old folder) (daemon_in false new folder)
@@ -295,7 +306,7 @@ module _ {L : Type 0} (link_told : L → LinkTold) where
       let one = takes.2 in
       let base : State = scene_state old in
       goes_both Told base (scene_state next) _
-      (goes_both Told base (with_taking Told base (taking_of next)) _ (some_goes Told base refl app _ got (taking_of old) (taking_of next) one.takes)
+      (goes_both Told base (with_taking Told base (taking_of next)) _ (some_goes Told base refl (idle_with (map link_told old.daemon.links.links) old.daemon.seated.listeners) app _ got (taking_of old) (taking_of next) one.takes)
       (goes_same Told _ _ (ap (λ (x : DaemonState L). daemon_in false x next.folder) one.rest)))
       (takes_on app (done + gave got) (found_none (most_of done old.daemon) got) gots next new takes.3)
 
@@ -304,7 +315,7 @@ module _ {L : Type 0} (link_told : L → LinkTold) where
   losses_go app old new (inl takes) =
       let one = takes.2 in
       let base : State = scene_state old in
-      goes_both Told base (with_taking Told base (taking_of new)) _ (reports_go Told base refl old.daemon.desk.apps app takes.1 (taking_of old) (taking_of new) one.reports)
+      goes_both Told base (with_taking Told base (taking_of new)) _ (reports_go Told base refl (idle_with (map link_told old.daemon.links.links) old.daemon.seated.listeners) old.daemon.desk.apps app takes.1 (taking_of old) (taking_of new) one.reports)
       (goes_same Told _ _ (ap (λ (x : DaemonState L). daemon_in false x new.folder) one.rest))
 
   turns_go : (first many : ℕ) (old new : Scene L) → TakesTurns first many old new → Goes Told (scene_state old) (scene_state new)
@@ -363,7 +374,7 @@ module _ {L : Type 0} (link_told : L → LinkTold) where
   stop_drains old new folder folder_now dropped wanted drains =
       let base : State = stopping_state old folder dropped wanted in
       let drained : State = with_taking Told base (settling_state.taking_of new folder_now) in
-      goes_both Told base drained _ (drains_go Told base refl old.closing.apps (length old.closing.apps) (settling_state.taking_of old folder) (settling_state.taking_of new folder_now) drains.drains)
+      goes_both Told base drained _ (drains_go Told base refl (idle_with (map link_told old.links.links) old.seated.listeners) old.closing.apps (length old.closing.apps) (settling_state.taking_of old folder) (settling_state.taking_of new folder_now) drains.drains)
       (goes_same Told _ _ (λ i. record drained { clients = clients_with (map link_told (drains.links i).links) (drains.seated i).listeners }))
 
   pub stop_closes : (old new : Stopping L) (folder folder_now : FolderTold) (dropped : ℕ) (wanted : Bool) → settling.Closes link_told old new folder folder_now
@@ -371,5 +382,5 @@ module _ {L : Type 0} (link_told : L → LinkTold) where
   stop_closes old new folder folder_now dropped wanted closes =
       let base : State = stopping_state old folder dropped wanted in
       let closed : State = plain Told base refl (spot_of (settling_state.clients_of link_told new folder_now)) in
-      goes_both Told base closed _ (closes_go Told base refl refl (TellOver link_told) (settling_state.clients_of link_told old folder) (settling_state.clients_of link_told new folder_now) closes.closes)
+      goes_both Told base closed _ (closes_go Told base refl refl (TellOver link_told) overs (settling_state.clients_of link_told old folder) (settling_state.clients_of link_told new folder_now) closes.closes)
       (goes_same Told _ _ (λ i. record closed { took = closing_stands old.closing new.closing closes.same i }))

@@ -1,25 +1,19 @@
 -- A client's request changes no application's channel and no context's position.
-use Rattle.std.proofs.Common.{◌≡◌, ◌≢◌, ℕ, ◌/◌, ◌%◌, Bool, true, false, cond, List, [], ◌∷◌, length, map, Option, Some, None, Result, Ok, Err, refl, ◌∙◌, unwrap_or, IfSome}
-use Rattle.std.specs.Prelude.{nat_le, ◌==◌, if◌then◌else◌}
+use Rattle.std.proofs.Common.{◌≡◌, ◌≢◌, ℕ, ◌/◌, ◌%◌, Bool, true, false, cond, List, [], ◌∷◌, map, Option, Some, Result, refl, ◌∙◌}
+use Rattle.std.specs.Prelude.{◌==◌}
 use Rattle.std.specs.List.{AllByRecursion, find}
 use Rattle.std.specs.Map.{values_of}
 use Rattle.std.specs.Option.{option_and_then, option_map}
-use Rattle.std.specs.Result.{result_ok}
-use Rattle.dl_bytes.specs.Id.{zero_id}
 use Rattle.dl_bytes.specs.Limits.{context_limit}
-use Rattle.dl_bytes.specs.Level.{own_level_of}
 use Rattle.dl_bytes.specs.declared.outcome.Done.{Done}
-use Rattle.dl_bytes.specs.declared.outcome.Done.TheVariants as done
 use Rattle.dl_control.specs.declared.request.Request.{Request}
-use Rattle.dl_control.specs.declared.request.Request.TheVariants.{SetLogLevel, GetLogInfo, GetDefault, Store, Reset, SetDefault, Version, SetAllLogLevel, Inject, Other}
 use Rattle.dl_control.specs.declared.request.RequestFault.{RequestFault}
 use Rattle.dl_model.specs.declared.context.Context.{Context}
-use Rattle.dl_model.specs.declared.registry.SetFault.{SetFault}
-use Rattle.dl_model.specs.declared.registry.SetFault.TheVariants as set
 use Rattle.dl_model.specs.declared.registry.Slot.{Slot}
-use Rattle.dl_model.specs.Registry.{App, Registry, Relevel, has_place, keep_own, matching, no_own, nothing_stored, own_set, default_set, releveled, releveled_app, releveled_context, set_matching, unless_worn, wears}
-use Rattle.dl_model.specs.Reply.{default_requested, now_stored, own_requested, reset_requested, served, where_done}
+use Rattle.dl_model.specs.Registry.{App, Registry, Relevel, has_place, releveled, releveled_app, releveled_context}
+use Rattle.dl_model.specs.Reply.{served}
 use Rattle.dl_model.specs.Setting.{Setting}
+use Rattle.dl_model.proofs.Changes.{served_makes}
 use Rattle.dl_registry.specs.Kept.{channel_at, position_at}
 
 -- no application is of this channel
@@ -95,47 +89,7 @@ names_releveled level relevel r = record {
 
 -- ---- requests
 
-ok_or_nothing : (r : Registry) (b : Bool) (e : SetFault) (new : Registry) → NamesSame r new → IfSome (result_ok (cond b (Err e) (Ok new))) (NamesSame r)
-ok_or_nothing r true e new is = tt
-ok_or_nothing r false e new is = is
-
-err_or : (r : Registry) (b : Bool) (e : SetFault) (found : Result Registry SetFault) → IfSome (result_ok found) (NamesSame r) → IfSome (result_ok (cond b (Err e) found)) (NamesSame r)
-err_or r true e found is = tt
-err_or r false e found is = is
-
-own_names : (slots : ℕ → Slot) (r : Registry) (apid ctid : List ℕ) (o : Option (Option ℕ)) → IfSome (option_and_then (λ own. result_ok (own_set slots r apid ctid own)) o) (NamesSame r)
-own_names slots r apid ctid None = tt
-own_names slots r apid ctid (Some own) =
-    err_or r (length (matching r apid ctid) == 0) set.Nobody (unless_worn slots r r.level (set_matching apid ctid own))
-    (ok_or_nothing r (wears slots r r.level (set_matching apid ctid own)) set.Worn (releveled r.level (set_matching apid ctid own) r) (names_releveled r.level (set_matching apid ctid own) r))
-
-default_names : (slots : ℕ → Slot) (r : Registry) (level : ℕ) (b : Bool) → IfSome (if b then result_ok (default_set slots r level) else None) (NamesSame r)
-default_names slots r level true = ok_or_nothing r (wears slots r level keep_own) set.Worn (releveled level keep_own r) (names_releveled level keep_own r)
-default_names slots r level false = tt
-
-reset_names : (s : Setting) (slots : ℕ → Slot) (r : Registry) → IfSome (reset_requested s slots r) (NamesSame r)
-reset_names s slots r =
-    ok_or_nothing r (wears slots r s.level no_own) set.Worn (nothing_stored (releveled s.level no_own r))
-    (let inner = names_releveled s.level no_own r in record { channels = inner.channels; positions = inner.positions; apart = inner.apart })
-
-some_or : (o : Option Registry) (r : Registry) → IfSome o (NamesSame r) → NamesSame r (unwrap_or o r)
-some_or (Some x) r found = found
-some_or None r found = names_none r
-
-done_or : (answer : Done) (new old : Registry) → NamesSame old new → NamesSame old (where_done answer new old)
-done_or done.Yes new old is = is
-done_or done.Failed new old is = names_none old
-done_or done.NoMemory new old is = names_none old
-
 pub names_served : (s : Setting) (slots : ℕ → Slot) (r : Registry) (request : Result Request RequestFault) (answer : Done) → NamesSame r (served s slots r request answer)
-names_served s slots r (Ok (SetLogLevel apid ctid level)) answer = some_or (own_requested slots r apid ctid level) r (own_names slots r apid ctid (own_level_of level))
-names_served s slots r (Ok (SetAllLogLevel level)) answer = some_or (own_requested slots r zero_id zero_id level) r (own_names slots r zero_id zero_id (own_level_of level))
-names_served s slots r (Ok (SetDefault level)) answer = some_or (default_requested slots r level) r (default_names slots r level (nat_le level 6))
-names_served s slots r (Ok Store) answer = done_or answer (now_stored r) r (record { channels = λ number. refl; positions = λ slot. refl; apart = λ channel all. all })
-names_served s slots r (Ok Reset) answer = done_or answer (unwrap_or (reset_requested s slots r) r) r (some_or (reset_requested s slots r) r (reset_names s slots r))
-names_served s slots r (Ok (GetLogInfo options apid ctid)) answer = names_none r
-names_served s slots r (Ok GetDefault) answer = names_none r
-names_served s slots r (Ok Version) answer = names_none r
-names_served s slots r (Ok (Inject service body)) answer = names_none r
-names_served s slots r (Ok (Other service)) answer = names_none r
-names_served s slots r (Err fault) answer = names_none r
+names_served s slots r =
+    served_makes (NamesSame r) r (names_none r) (λ level relevel. names_releveled level relevel r)
+    (λ new stored is. record { channels = is.channels; positions = is.positions; apart = is.apart }) s slots

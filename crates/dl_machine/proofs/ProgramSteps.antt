@@ -7,11 +7,13 @@ use Rattle.dl_admission.specs.Admission.{Admits, Forwards, ForwardsAll, message_
 use Rattle.dl_admission.specs.Part.{Part, part}
 use Rattle.dl_bytes.specs.declared.moment.Moment.{Moment}
 use Rattle.dl_bytes.specs.declared.user.UserMsg.{UserMsg}
+use Rattle.dl_bytes.specs.declared.user.UserMsg.TheVariants as user
 use Rattle.dl_channel.specs.declared.outcome.ChannelEnd.{ChannelEnd}
 use Rattle.dl_channel_turns.specs.Levels.{TellsLevels}
 use Rattle.dl_channel_turns.specs.Messages.{Alone, Group, Notes, Serves, ServesGroup, Together, messages_in_group, messages_of}
 use Rattle.dl_channel_turns.specs.State.{Side}
 use Rattle.dl_channel_turns.specs.Turns.{Heeds, ServesEach}
+use Rattle.dl_core.specs.Admission.{IsLog, has_frames}
 use Rattle.dl_lemmas.proofs.Lists.{set_again}
 use Rattle.dl_model.specs.Frames.{user_frames}
 use Rattle.dl_model.specs.declared.registry.LevelChange.{LevelChange}
@@ -25,7 +27,7 @@ use Rattle.dl_socket.specs.Channels.{Channels}
 use Rattle.dl_socket.specs.Closing.{UnregistersEach}
 use Rattle.dl_socket.specs.Turns.{HasTurned, Sight}
 use Rattle.dl_turns.specs.Turns as client
-use Rattle.dl_machine.specs.State.{Changes, IsOne, Program, State}
+use Rattle.dl_machine.specs.State.{AreIdle, Changes, IsOne, Program, State}
 use Rattle.dl_machine.specs.Steps.{Ended, Forwarded, Goes, Levelled, Noted, OfProgram, Said, Says, ShutOff, TookLevels, Unregistered}
 use Rattle.dl_machine.proofs.Composed.{Leads, goes_both, goes_one, goes_same, leads_both, leads_same}
 use Rattle.dl_machine.proofs.Joined.{Beyond, beyond_set, changes_on, joined, joined_first, joined_get, joined_set}
@@ -34,6 +36,17 @@ use Rattle.dl_machine.proofs.Joined.{Beyond, beyond_set, changes_on, joined, joi
 forwards_one : (moment : Moment) (channel : ℕ) (msg : UserMsg) (old new : Part) → Forwards moment channel msg old new → ForwardsAll moment channel (msg ∷ []) old new
 forwards_one moment channel msg old new forwards =
     subst (λ (fs : List (List ℕ)). Admits (message_entry old.core.ecu moment channel msg ∷ []) (λ run. Unit {0}) (length fs) old new) (sym (append-nil (user_frames old.core.ecu msg))) forwards
+
+-- it has frames
+abbrev HasFrames : UserMsg → Type 0
+HasFrames msg = has_frames msg ≡ true
+
+logs_have : (msgs : List UserMsg) → AllByRecursion IsLog msgs → AllByRecursion HasFrames msgs
+logs_have [] all = tt
+logs_have (msg ∷ msgs) all = (by msg all.0, logs_have msgs all.1) where
+  by : (m : UserMsg) → IsLog m → HasFrames m
+  by (user.Log message) is = refl
+  by _ is = absurd is
 
 -- the program of a link and an end, between two of its turns
 abbrev pub program_with : LinkTold → Option ChannelEnd → Program
@@ -60,7 +73,7 @@ with_scene base ends s =
 abbrev pub AreLow : List ℕ → Type 0
 AreLow numbers = AllByRecursion (λ number. 1 ≤ number) numbers
 
-module _ (IsTold : LinkTold → Type 0) (base : State) where
+module _ (IsTold : LinkTold → Type 0) (base : State) (idle : AreIdle base.clients) where
   both : (old between new : State) → Goes IsTold old between → Goes IsTold between new → Goes IsTold old new
   both = goes_both IsTold
 
@@ -87,20 +100,20 @@ module _ (IsTold : LinkTold → Type 0) (base : State) where
         both _ (on tells.0 channels program) _ (goes_one IsTold (Levelled next) (on old channels program) (on tells.0 channels program) (tells.1, refl))
         (levels_go told tells.0 new channels program tells.2)
 
-    forwards_go : (msgs rest : List UserMsg) (old new : Side) (channels : Channels) (program : Program)
+    forwards_go : (msgs rest : List UserMsg) (old new : Side) (channels : Channels) (program : Program) → AllByRecursion HasFrames msgs
         → ForwardsAll moment number msgs (part old.core old.events old.folder) (part new.core new.events new.folder) → new.outboxes ≡ old.outboxes
         → Goes IsTold (on old channels (record program { said = msgs ++ rest })) (on new channels (record program { said = rest }))
-    forwards_go msgs rest old new channels program forwards outboxes =
+    forwards_go msgs rest old new channels program have forwards outboxes =
         let was : Program = record program { said = msgs ++ rest } in
         let now : Program = record program { said = rest } in
         goes_one IsTold (OfProgram number (Forwarded moment msgs)) (on old channels was) (on new channels now)
-        (low, ((was, rest, refl, changes was now), forwards, λ i. record channels { outboxes = outboxes i }), refl)
+        (low, ((was, rest, refl, changes was now), forwards, (λ i. record channels { outboxes = outboxes i }), have, idle), refl)
 
-    serves_go : (has : Bool) (msg : UserMsg) (rest : List UserMsg) (old new : Side) (channels : Channels) (program : Program) → Serves has number moment msg old new
+    serves_go : (has : Bool) (msg : UserMsg) (rest : List UserMsg) (old new : Side) (channels : Channels) (program : Program) → has_frames msg ≡ has → Serves has number moment msg old new
         → Goes IsTold (on old channels (record program { said = msg ∷ rest })) (on new channels (record program { said = rest }))
-    serves_go true msg rest old new channels program serves =
-        forwards_go (msg ∷ []) rest old new channels program (forwards_one moment number msg (part old.core old.events old.folder) (part new.core new.events new.folder) serves.0) serves.1
-    serves_go false msg rest old new channels program serves =
+    serves_go true msg rest old new channels program has serves =
+        forwards_go (msg ∷ []) rest old new channels program (has, tt) (forwards_one moment number msg (part old.core old.events old.folder) (part new.core new.events new.folder) serves.0) serves.1
+    serves_go false msg rest old new channels program has serves =
         let was : Program = record program { said = msg ∷ rest } in
         let now : Program = record program { said = rest } in
         let notes : Notes number moment msg old serves.0 = serves.1 in
@@ -111,8 +124,8 @@ module _ (IsTold : LinkTold → Type 0) (base : State) where
 
     group_goes : (group : Group) (rest : List UserMsg) (old new : Side) (channels : Channels) (program : Program) → ServesGroup number moment group old new
         → Goes IsTold (on old channels (record program { said = messages_in_group group ++ rest })) (on new channels (record program { said = rest }))
-    group_goes (Together msgs) rest old new channels program serves = forwards_go msgs rest old new channels program serves.1 serves.2
-    group_goes (Alone msg) rest old new channels program serves = serves_go _ msg rest old new channels program serves
+    group_goes (Together msgs) rest old new channels program serves = forwards_go msgs rest old new channels program (logs_have msgs serves.0) serves.1 serves.2
+    group_goes (Alone msg) rest old new channels program serves = serves_go (has_frames msg) msg rest old new channels program refl serves
 
     groups_go : (groups : List Group) (old new : Side) (channels : Channels) (program : Program) → ServesEach number moment groups old new
         → Goes IsTold (on old channels (record program { said = messages_of groups })) (on new channels (record program { said = [] }))

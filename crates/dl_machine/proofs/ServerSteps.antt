@@ -1,10 +1,11 @@
 -- Accepts, rounds and the closing of a server, as steps.
-use Rattle.std.proofs.Common.{◌≡◌, ◌≤◌, ◌+◌, ℕ, Bool, true, false, inl, inr, List, [], ◌∷◌, ◌++◌, length, map, replicate, None, refl, sym, ap, subst, ◌∙◌, arith, append-nil, length-append}
-use Rattle.std.specs.Prelude.{◌||◌}
+use Rattle.std.proofs.Common.{◌≡◌, ◌≤◌, ◌+◌, ℕ, Bool, true, false, inl, inr, List, [], ◌∷◌, ◌++◌, length, map, replicate, Some, None, refl, sym, ap, subst, ◌∙◌, arith, append-nil, length-append}
+use Rattle.std.specs.Prelude.{◌||◌, IsSome, slice_get}
 use Rattle.std.proofs.lemmas.List.{length-replicate, map-append}
 use Rattle.dl_bytes.specs.declared.moment.Moment.{Moment}
 use Rattle.dl_cells.specs.declared.level_history.Change.{Change}
 use Rattle.dl_desk.specs.Told.{PostTold}
+use Rattle.dl_loop.proofs.ShownDaemons.{tell_overs}
 use Rattle.dl_model.specs.Registry.{Registry}
 use Rattle.dl_outside.specs.Links.{Links}
 use Rattle.dl_outside.specs.Told.{LinkTold, NetTold}
@@ -31,11 +32,12 @@ use Rattle.dl_socket.specs.Listening.{HaveServed}
 use Rattle.dl_socket.specs.declared.fault.ChannelFault.{ChannelFault}
 use Rattle.dl_socket.specs.declared.fault.ChannelFault.TheVariants as fault
 use Rattle.dl_taking.specs.Took.{Took}
+use Rattle.dl_turns.specs.Gone.{TellOver}
 use Rattle.dl_turns.specs.State.{side}
-use Rattle.dl_machine.specs.State.{Client, State, new_client, new_program}
+use Rattle.dl_machine.specs.State.{Client, State, new_client, new_program, no_turn}
 use Rattle.dl_machine.specs.Steps.{Came, Entered, Goes, IsToldBy, LetGo, MayLetGo, PartedAll, Stopping, Wanted}
 use Rattle.dl_machine.proofs.ClientSteps as clients
-use Rattle.dl_machine.proofs.ClientSteps.{boxes, boxes_now, client_with, clients_with, closed_leads, heard_leads, lift, pumped_leads, spot_of, visits_beyond, visits_lead, visits_long}
+use Rattle.dl_machine.proofs.ClientSteps.{TellOvers, boxes, boxes_now, client_with, clients_with, closed_leads, heard_leads, idle_with, lift, pumped_leads, spot_of, visits_beyond, visits_lead, visits_long}
 use Rattle.dl_machine.proofs.Composed.{Leads, goes_both, goes_one, goes_same, leads_both, leads_same}
 use Rattle.dl_machine.proofs.Joined.{Beyond, beyond_more, joined_left, joined_more, joined_padded, joined_right}
 use Rattle.dl_machine.proofs.LowNumbers.{HasLow, low_after, low_keys}
@@ -239,18 +241,19 @@ module _ {L : Type 0} (told : L → LinkTold) where
 
   -- ---- clients
 
-  served_go : (stops : Bool) (Any : Clients → Clients → Type 0)
-      → ((base : State) (registry : Registry) (sets : List Change) → base.stops ≡ stops → (was now : Clients) → Any was now → clients.Leading (IsToldBy told) base registry sets (spot_of was) (spot_of now))
-      → (old new : server.State) → HaveServed Any old.core.registry (clients_of old) (clients_of new) old.channels new.channels
+  served_go : (stops : Bool) (Any : Clients → Clients → Type 0) (Links : List LinkTold → Type 0)
+      → ((base : State) (registry : Registry) (sets : List Change) → base.stops ≡ stops → (was now : Clients) → Links was.links → Any was now
+      → clients.Leading (IsToldBy told) base registry sets (spot_of was) (spot_of now))
+      → (old new : server.State) → Links old.clients → HaveServed Any old.core.registry (clients_of old) (clients_of new) old.channels new.channels
       → state_in stops new ≡ record (state_in stops old) { core = new.core; events = new.events; folder = new.folder; clients = clients_with new.clients new.listeners; channels = new.channels }
       → Goes_on (state_in stops old) (state_in stops new)
-  served_go stops Any leads old new serves rest =
+  served_go stops Any Links leads old new fit serves rest =
       let base : State = state_in stops old in
       let registry : Registry = old.core.registry.registry in
       let sets : List Change = serves.desk.sets in
       let put = boxes_now (IsToldBy told) base registry sets in
       let lifted : Clients → State = λ c. lift (IsToldBy told) base registry sets (spot_of c) in
-      let lead = leads base registry sets refl (clients_of old serves.desk) (clients_of new serves.desk_now) serves.visits (record { more = []; sets_so = sym (append-nil sets); names = names_none registry }) in
+      let lead = leads base registry sets refl (clients_of old serves.desk) (clients_of new serves.desk_now) fit serves.visits (record { more = []; sets_so = sym (append-nil sets); names = names_none registry }) in
       let first : boxes (IsToldBy told) base registry sets serves.desk ≡ old.channels.outboxes = put serves.desk [] (sym (append-nil sets)) in
       let last : new.channels.outboxes ≡ boxes (IsToldBy told) base registry sets serves.desk_now = serves.told_so ∙ sym (put serves.desk_now serves.changes serves.sets) in
       both _ (lifted (clients_of old serves.desk)) _ (same _ _ (λ i. record base { channels = record old.channels { outboxes = first i } }))
@@ -263,14 +266,25 @@ module _ {L : Type 0} (told : L → LinkTold) where
         channels = (serves.is ∙ (λ j. record old.channels { outboxes = last j })) i;
       }))))
 
-  hear_clients : (moved : Bool) (old new : server.State) → HearsClientsIfMay moved old new → Leading old new
-  hear_clients moved old new (inl nobody) = lead_same old new nobody.2
-  hear_clients moved old new (inr (inl want)) = want_leads old new want.1
-  hear_clients moved old new (inr (inr hears)) = λ ready.
+  -- all links tell whether they are over, where links of this kind do
+  abbrev pub TellsOvers : List LinkTold → Type 0
+  TellsOvers links = (place : ℕ) (link : LinkTold) → slice_get links place ≡ Some link → TellOvers (IsToldBy told) → IsSome link.over
+
+  all_tell : TellOvers (IsToldBy told) → TellOver told
+  all_tell tells = λ link. tells (told link) (link, refl)
+
+  pub map_tells : (links : List L) → TellsOvers (map told links)
+  map_tells links = λ place link at tells. tell_overs told links (all_tell tells) place link at
+
+  hear_clients : (moved : Bool) (old new : server.State) → TellsOvers old.clients → HearsClientsIfMay moved old new → Leading old new
+  hear_clients moved old new tells (inl nobody) = lead_same old new nobody.2
+  hear_clients moved old new tells (inr (inl want)) = want_leads old new want.1
+  hear_clients moved old new tells (inr (inr hears)) = λ ready.
       let visited = hears.serves.visits in
       let goes : Goes_on (state_of old) (state_of new) =
-      served_go false (HearsAll moved) (λ base registry sets is was now heard. visits_lead (IsToldBy told) base registry sets visits.Heard
-      (λ number low all first there here c d visit. heard_leads (IsToldBy told) base registry sets number low all first there here c d visit) 0 heard.0 moved was now heard.1) old new hears.serves
+      served_go false (HearsAll moved) TellsOvers (λ base registry sets is was now tells heard. visits_lead (IsToldBy told) base registry sets (λ link. TellOvers (IsToldBy told) → IsSome link.over) visits.Heard
+      (λ number low all first there here c d tell some visit. heard_leads (IsToldBy told) base registry sets number low all first there here c d tell some visit) 0 heard.0 moved was now
+      (λ place link above at. tells place link at) heard.1) old new tells hears.serves
       (ap state_of hears.rest) in (
         goes,
         record {
@@ -291,8 +305,8 @@ module _ {L : Type 0} (told : L → LinkTold) where
       let was : Clients = record { links = old.clients; listeners = listeners; side = side old.core untold old.events old.folder } in
       let now : Clients = record { links = new.clients; listeners = listeners; side = side new.core untold new.events old.folder } in
       let pumped = pumps.pumps untold old.folder listeners enough in
-      let lead = visits_lead (IsToldBy told) base registry [] visits.Pumped
-      (λ number low all first there here c d visit. pumped_leads (IsToldBy told) base registry [] number low all first there here c d visit) 0 pumped.0 moved was now pumped.1
+      let lead = visits_lead (IsToldBy told) base registry [] (λ link. Unit {0}) visits.Pumped
+      (λ number low all first there here c d fits some visit. pumped_leads (IsToldBy told) base registry [] number low all first there here c d visit) 0 pumped.0 moved was now (λ place link above at. tt) pumped.1
       (record { more = []; sets_so = refl; names = names_none registry }) in
       let padded : (links : List LinkTold) → clients_with links listeners ≡ clients_with links old.listeners = (λ links. joined_padded client_with fresh_listener links old.listeners (length old.clients)) in
       let long : length new.clients ≡ length old.clients = visits_long visits.Pumped 0 pumped.0 moved was now pumped.1 in
@@ -316,13 +330,15 @@ module _ {L : Type 0} (told : L → LinkTold) where
         joined_right client_with fresh_listener (λ (c : Client). c.cutter) (λ (l : Listener). l.cutter) (λ x y. refl) old.clients new.clients old.listeners long,
         joined_right client_with fresh_listener (λ (c : Client). c.due) (λ (l : Listener). None) (λ x y. refl) old.clients new.clients old.listeners long,
         refl,
+        joined_right client_with fresh_listener (λ (c : Client). c.turn) (λ (l : Listener). no_turn) (λ x y. refl) old.clients new.clients old.listeners long,
       ))
       (same _ _ (ap state_of parts.rest)))
 
-  close_clients : (Tells : Type 0) (old new : server.State) → ClosesClients Tells old new → Goes_on (state_in true old) (state_in true new)
-  close_clients Tells old new closes =
-      served_go true (ClosesAll Tells) (λ base registry sets stops was now closed. visits_lead (IsToldBy told) base registry sets (visits.Closed Tells)
-      (λ number low all first there here c d visit. closed_leads (IsToldBy told) base registry sets number low all first there stops Tells here c d visit) 0 closed.1.0 closed.0 was now closed.1.1) old new closes.serves
+  close_clients : (old new : server.State) → ClosesClients (TellOver told) old new → Goes_on (state_in true old) (state_in true new)
+  close_clients old new closes =
+      served_go true (ClosesAll (TellOver told)) (λ links. Unit {0}) (λ base registry sets stops was now fit closed. visits_lead (IsToldBy told) base registry sets (λ link. Unit {0}) (visits.Closed (TellOver told))
+      (λ number low all first there here c d fits some visit. closed_leads (IsToldBy told) base registry sets number low all first there stops (TellOver told) all_tell here c d some visit) 0 closed.1.0 closed.0 was now
+      (λ place link above at. tt) closed.1.1) old new tt closes.serves
       (ap (state_in true) closes.rest)
 
   -- ---- programs
@@ -341,24 +357,34 @@ module _ {L : Type 0} (told : L → LinkTold) where
 
   hear_programs : (moment : Moment) (moved : Bool) (old new : server.State) → HearsPrograms moment moved old new → Leading old new
   hear_programs moment moved old new hears = λ ready.
-      let lead = programs.heard_leads (IsToldBy told) (state_of old) moment refl (open_in old.channels) (low_keys old.channels.inboxes ready.low) moved (scene_of old) (scene_of new) hears.hears ready.ends in
+      let lead = programs.heard_leads (IsToldBy told) (state_of old) (idle_with old.clients old.listeners) moment refl (open_in old.channels) (low_keys old.channels.inboxes ready.low) moved (scene_of old) (scene_of new) hears.hears ready.ends in
       beside_clients old new (ap (λ (s : server.State). s.clients) hears.rest) (ap (λ (s : server.State). s.listeners) hears.rest)
       (both _ (with_scene (state_of old) new.ends (scene_of new)) _ lead.0 (same _ _ (ap state_of hears.rest))) lead.1 ready
 
   pump_programs : (moment : Moment) (old new : server.State) → PumpsPrograms moment old new → Leading old new
   pump_programs moment old new pumps = λ ready.
-      let lead = programs.sent_leads (IsToldBy told) (state_of old) moment (open_in old.channels) (low_keys old.channels.inboxes ready.low) false (scene_of old) (scene_of new) pumps.pumps ready.ends in
+      let lead = programs.sent_leads (IsToldBy told) (state_of old) (idle_with old.clients old.listeners) moment (open_in old.channels) (low_keys old.channels.inboxes ready.low) false (scene_of old) (scene_of new) pumps.pumps ready.ends in
       beside_clients old new (ap (λ (s : server.State). s.clients) pumps.rest) (ap (λ (s : server.State). s.listeners) pumps.rest)
       (both _ (with_scene (state_of old) new.ends (scene_of new)) _ lead.0 (same _ _ (ap state_of pumps.rest))) lead.1 ready
 
-  close_programs : (moment : Moment) (old new : server.State) → HasLow (state_of old) → ClosesPrograms moment old new → Goes_on (state_in true old) (state_in true new)
+  pub close_programs : (moment : Moment) (old new : server.State) → HasLow (state_of old) → ClosesPrograms moment old new → Goes_on (state_in true old) (state_in true new)
   close_programs moment old new low closes =
       both _ (with_scene (state_in true old) old.ends (closing_scene new)) _
-      (programs.stopped_go (IsToldBy told) (state_in true old) moment refl old.ends (open_in old.channels) (low_keys old.channels.inboxes low) false (closing_scene old) (closing_scene new) closes.stops.0) (same _ _ (ap (state_in true) closes.rest))
+      (programs.stopped_go (IsToldBy told) (state_in true old) (idle_with old.clients old.listeners) moment refl old.ends (open_in old.channels) (low_keys old.channels.inboxes low) false (closing_scene old) (closing_scene new) closes.stops.0) (same _ _ (ap (state_in true) closes.rest))
 
   -- ---- rounds and the closing
 
-  module _ (net net_now users users_now : NetTold L) (old new : server.State) (round : IsRound told net net_now users users_now old new) where
+  accepted_tell : (moved : Bool) (net net_now : NetTold L) (old new : server.State) → AcceptsClientIfMay told moved net net_now old new → TellsOvers old.clients → TellsOvers new.clients
+  accepted_tell moved net net_now old new (inl none) tells = subst TellsOvers (sym (ap (λ (s : server.State). s.clients) none.3)) tells
+  accepted_tell moved net net_now old new (inr (inl want)) tells = subst TellsOvers (sym (ap (λ (s : server.State). s.clients) want.3)) tells
+  accepted_tell moved net net_now old new (inr (inr accepts)) tells = let a = accepts.1.2 in subst TellsOvers (sym a.are) (map_tells a.links_now.links)
+
+  entered_clients : (moved : Bool) (net net_now : NetTold L) (old new : server.State) → AcceptsProgramIfMay told moved net net_now old new → new.clients ≡ old.clients
+  entered_clients moved net net_now old new (inl none) = ap (λ (s : server.State). s.clients) none.3
+  entered_clients moved net net_now old new (inr accepts) = ap (λ (s : server.State). s.clients) accepts.3.rest
+
+  -- links of clients are told at its begin
+  module _ (net net_now users users_now : NetTold L) (old new : server.State) (round : IsRound told net net_now users users_now old new) (tells : TellsOvers old.clients) where
     -- once a client was accepted
     pub came_leads : Leading old round.accepts.accepted
     came_leads = accept_leads net net_now old round.accepts.accepted round.accepts.came round.accepts.accepts
@@ -368,7 +394,9 @@ module _ {L : Type 0} (told : L → LinkTold) where
     served_leads =
         lead_both old round.accepts.accepted round.hears.served came_leads
         (lead_both round.accepts.accepted round.accepted round.hears.served (enter_leads users users_now round.accepts.accepted round.accepted round.accepts.entered round.accepts.enters)
-        (hear_clients round.hears.asked round.accepted round.hears.served round.hears.clients))
+        (hear_clients round.hears.asked round.accepted round.hears.served
+        (subst TellsOvers (sym (entered_clients round.accepts.entered users users_now round.accepts.accepted round.accepted round.accepts.enters))
+        (accepted_tell round.accepts.came net net_now old round.accepts.accepted round.accepts.accepts tells)) round.hears.clients))
 
     -- before channels are pumped
     pub sent_leads : Leading old round.pumps.sent
@@ -384,7 +412,7 @@ module _ {L : Type 0} (told : L → LinkTold) where
         (lead_both round.pumps.sent round.pumps.pumped new (pump_programs round.pumps.moment round.pumps.sent round.pumps.pumped round.pumps.programs)
         (part_clients round.pumps.pumped new round.pumps.parts))
 
-  pub closing_goes : (Tells : Type 0) (moment : Moment) (old new : server.State) → HasLow (state_of old) → IsClosed Tells moment old new → Goes (IsToldBy told) (state_of old) (state_in true new)
-  closing_goes Tells moment old new low closes =
+  pub closing_goes : (moment : Moment) (old new : server.State) → HasLow (state_of old) → IsClosed (TellOver told) moment old new → Goes (IsToldBy told) (state_of old) (state_in true new)
+  closing_goes moment old new low closes =
       both _ (state_in true old) _ (goes_one (IsToldBy told) Stopping (state_of old) (state_in true old) refl)
-      (both _ (state_in true closes.between) _ (close_programs moment old closes.between low closes.programs) (close_clients Tells closes.between new closes.clients))
+      (both _ (state_in true closes.between) _ (close_programs moment old closes.between low closes.programs) (close_clients closes.between new closes.clients))

@@ -24,7 +24,7 @@ abbrev pub sizes : Hub → Sizes
 sizes hub = record { limit = hub.limit; came = length hub.clients }
 
 -- one client has changed
-changed_sizes : (number : ℕ) (change : HubClient → HubClient) (hub : Hub) → sizes (changed number change hub) ≡ sizes hub
+pub changed_sizes : (number : ℕ) (change : HubClient → HubClient) (hub : Hub) → sizes (changed number change hub) ≡ sizes hub
 changed_sizes number change hub = by (client_of hub number) where
   by : (o : Option HubClient) → sizes (record hub { clients = option_map_or (λ client. slice_set hub.clients (number - 1) (change client)) o hub.clients }) ≡ sizes hub
   by None = refl
@@ -48,7 +48,7 @@ pub clients_stand : (number : ℕ) (kind : ClientKind) (old new : State) → IsC
 clients_stand number (Gave due link cut) old new step = (ap (λ (p : Part). sizes p.core.hub) step.9, changed_length number _ _ old.clients new.clients step.2)
 clients_stand number (Asked frame) old new step =
     let serves = step.2.serves in
-    (ap sizes serves.reply ∙ changed_sizes step.2.ready.client (with_reply (reply_now old.core step.2.ready.frame serves.answer)) old.core.hub, ap (λ (cs : List Client). length cs) step.3)
+    (ap sizes serves.reply ∙ changed_sizes step.2.ready.client (with_reply (reply_now old.core step.2.ready.frame serves.answer)) old.core.hub, changed_length number _ _ old.clients new.clients step.6)
 clients_stand number (Sent due link) old new step =
     (ap sizes step.3.left ∙ changed_sizes number (without step.3.count) old.core.hub, changed_length number _ _ old.clients new.clients step.2)
 clients_stand number (Closed cause) old new step =

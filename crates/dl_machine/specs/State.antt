@@ -11,11 +11,17 @@ use Rattle.dl_outside.specs.Told.{FolderTold, LinkTold}
 use Rattle.dl_socket.specs.Channels.{Channels}
 use Rattle.dl_taking.specs.Took.{Took}
 
--- A client that came: what its link tells, what its cutter holds, and why it is to be closed, until it is.
+-- What is left of a client's turn: its requests that are still to be served; and how many of its closing turns so far were not quiet.
+pub record Turn : Type 0 where
+  pub asks : List (List ℕ)
+  pub tried : ℕ
+
+-- A client that came: what its link tells, what its cutter holds, why it is to be closed, until it is, and what is left of its turn.
 pub record Client : Type 0 where
   pub link : LinkTold
   pub cutter : Cutting
   pub due : Option Why
+  pub turn : Turn
 
 -- A program that came: what its link tells, why its channel ends, and its messages that are still to be taken in.
 pub record Program : Type 0 where
@@ -37,9 +43,13 @@ pub record State : Type 0 where
   pub wanted : Bool
   pub stops : Bool
 
--- a client that sent nothing yet, and one between two of its turns
+-- between two turns
+abbrev pub no_turn : Turn
+no_turn = record { asks = []; tried = 0 }
+
+-- a client that sent nothing yet
 abbrev pub new_client : LinkTold → Client
-new_client link = record { link = link; cutter = unfed message_limit; due = None }
+new_client link = record { link = link; cutter = unfed message_limit; due = None; turn = no_turn }
 
 -- a program that said nothing yet
 abbrev pub new_program : LinkTold → Program
@@ -55,3 +65,12 @@ IsOne number all one = slice_get all (number - 1) ≡ Some one
 pub record Changes {A : Type 0} (number : ℕ) (was now : A) (old new : List A) : Type 0 where
   pub there : IsOne number old was
   pub is : new ≡ slice_set old (number - 1) now
+
+-- ---- clients between two turns
+
+-- nothing that it asked is still to be served, and it is not to be closed
+abbrev pub IsIdle : Client → Type 0
+IsIdle client = (client.due ≡ None) × (client.turn.asks ≡ [])
+
+abbrev pub AreIdle : List Client → Type 0
+AreIdle clients = (place : ℕ) (client : Client) → slice_get clients place ≡ Some client → IsIdle client

@@ -1,5 +1,6 @@
 -- The kinds of step that a daemon makes, each with what it changes and its cause, and lists of steps.
-use Rattle.std.specs.Prelude.{◌≡◌, ◌≤◌, ◌⊎◌, ◌+◌, ◌-◌, ◌^◌, ℕ, nat_eq, true, false, min, List, [], ◌∷◌, ◌++◌, length, map, take, Option, Some, None, IfSome, IsSome}
+use Rattle.std.specs.Prelude.{◌≡◌, ◌<◌, ◌≤◌, ◌⊎◌, ◌+◌, ◌-◌, ◌^◌, ℕ, nat_eq, true, false, min, List, [], ◌∷◌, ◌++◌, length, map, take, Option, Some, None, IfSome, IsSome}
+use Rattle.std.specs.List.{AllByRecursion}
 use Rattle.std.specs.Map.{set_value}
 use Rattle.dl_admission.specs.Admission.{ForwardsAll, Logs, Tells}
 use Rattle.dl_admission.specs.Part.{Part, part}
@@ -17,6 +18,7 @@ use Rattle.dl_channel_turns.specs.Pumping.{PumpsOne}
 use Rattle.dl_channel_turns.specs.State as program
 use Rattle.dl_channel_turns.specs.State.{without}
 use Rattle.dl_channel_turns.specs.Turns.{StopsAt}
+use Rattle.dl_core.specs.Admission.{has_frames}
 use Rattle.dl_core.specs.Follows.{BeginsAnew}
 use Rattle.dl_core.specs.Noting.{NotesClaim, NotesMessage}
 use Rattle.dl_core.specs.Registering.{Registers}
@@ -25,10 +27,13 @@ use Rattle.dl_desk.specs.Told.{PostTold}
 use Rattle.dl_events.specs.declared.event.Why.{Why}
 use Rattle.dl_events.specs.declared.event.Why.TheVariants as why
 use Rattle.dl_hub.specs.Pumping.{IsOnlySent, Pumps}
-use Rattle.dl_hub.specs.State.{HasPlace}
+use Rattle.dl_hub.specs.State.{HasPlace, outbox_of}
 use Rattle.dl_message.specs.Cutting.{Cutting}
+use Rattle.dl_message.specs.Requests.{requests}
+use Rattle.dl_model.specs.TraceFiles.{StoredFile}
 use Rattle.dl_model.specs.declared.registry.LevelChange.{LevelChange}
 use Rattle.dl_outside.specs.Link.{IsFresh}
+use Rattle.dl_outside.specs.Outside.{HasRisen}
 use Rattle.dl_outside.specs.Told.{LinkTold}
 use Rattle.dl_outside.specs.declared.link.Gave.{Gave as Answer}
 use Rattle.dl_outside.specs.declared.link.Gave.TheVariants as answer
@@ -42,15 +47,15 @@ use Rattle.dl_socket.specs.Channels.{Opens, Refuses, inbox_of, without_inbox}
 use Rattle.dl_socket.specs.declared.fault.ChannelFault.TheVariants.{Full, Spent}
 use Rattle.dl_taking.specs.Takes.{owned, owned_claim}
 use Rattle.dl_taking.specs.Took.{with_items, with_losses}
-use Rattle.dl_trace.specs.State.{Trace}
+use Rattle.dl_trace.specs.Made.{IsMade}
+use Rattle.dl_trace.specs.State.{IsAfter, Trace}
 use Rattle.dl_turns.specs.Events.{Asks, Closes}
-use Rattle.dl_turns.specs.Sent.{HasCut}
+use Rattle.dl_turns.specs.Sent.{HasCut, is_bad}
 use Rattle.dl_turns.specs.State.{Side, side}
-use Rattle.dl_turns.specs.Stopping.{IsStop}
-use Rattle.dl_turns.specs.Turns.{Hears, SendsRightly, heard}
+use Rattle.dl_turns.specs.Turns.{HasGiven, Hears, Refuses as RefusesRequest, SendsRightly, heard}
 use Rattle.dl_user.specs.Channel as cutter
 use Rattle.dl_user.specs.Cut.{Begins}
-use Rattle.dl_machine.specs.State.{Changes, Client, IsOne, Program, State, new_client, new_program}
+use Rattle.dl_machine.specs.State.{AreIdle, Changes, Client, IsIdle, IsOne, Program, State, Turn, new_client, new_program, no_turn}
 
 -- ---- what the parts of a daemon see of it
 
@@ -70,7 +75,7 @@ part_of s = part s.core s.events s.folder
 
 -- what is done with a client
 pub data ClientKind : Type 0 where
-  -- its link was asked for what it sent; why the client is to be closed, where it is; and what link and cutter are now
+  -- its link was asked for what it sent; why the client is to be closed, once what it asked is served; and what link and cutter are now
   Gave : Option Why → LinkTold → Cutting → ClientKind
   -- a request was served
   Asked : List ℕ → ClientKind
@@ -138,20 +143,43 @@ pub data Kind : Type 0 where
 abbrev pub MayLetGo : State → Type 0
 MayLetGo s = (HasPlace s.core.hub → ⊥) ⊎ Refuses Spent s.channels ⊎ Refuses Full s.channels ⊎ (s.wanted ≡ true)
 
--- a client is to be closed for what it asked
-abbrev pub IsAsked : Why → Type 0
-IsAsked why.TooMany = Unit {0}
-IsAsked why.NoMemory = Unit {0}
-IsAsked (why.Slow room need) = Unit {0}
-IsAsked why.Malformed = Unit {0}
-IsAsked other = ⊥
+-- a client is to be closed for what these bytes ask: for a request that is refused, or for a bad header
+abbrev pub IsAsked : List ℕ → Why → Type 0
+IsAsked bytes why.TooMany = Unit {0}
+IsAsked bytes why.NoMemory = Unit {0}
+IsAsked bytes (why.Slow room need) = Unit {0}
+IsAsked bytes why.Malformed = is_bad bytes ≡ true
+IsAsked bytes other = ⊥
 
--- why a client is to be closed, by its link's answer
-abbrev pub IsDue : Answer → Option Why → Type 0
-IsDue (answer.Bytes count) due = IfSome due IsAsked
-IsDue answer.NotYet due = due ≡ None
-IsDue answer.End due = due ≡ Some why.Left
-IsDue answer.Failed due = due ≡ Some why.Broken
+-- The requests to serve, and why a client is to be closed, by its link's answer, where these bytes of the client were not cut before.
+abbrev pub IsDue : Answer → List ℕ → List ℕ → Option Why → List (List ℕ) → Type 0
+IsDue (answer.Bytes count) into unread due asks = IfSome due (IsAsked (unread ++ take count into)) × (asks ≡ requests (unread ++ take count into))
+IsDue answer.NotYet into unread due asks = (due ≡ None) × (asks ≡ [])
+IsDue answer.End into unread due asks = (due ≡ Some why.Left) × (asks ≡ [])
+IsDue answer.Failed into unread due asks = (due ≡ Some why.Broken) × (asks ≡ [])
+
+-- a turn that was not quiet for this may be counted
+abbrev pub Counts : Type 0 → ℕ → ℕ → Type 0
+Counts Moved was now = (now ≡ was) ⊎ (Moved × (now ≡ was + 1))
+
+-- for this it is closed once all that it asked was served
+abbrev pub IsServed : Why → Client → Type 0
+IsServed cause client = (client.due ≡ Some cause) × (client.turn.asks ≡ [])
+
+-- Why a client is closed: for what its link showed or for a bad header, once all that it asked was served; at the daemon's stop, where its link had nothing to
+-- give once or was tried a thousand times, and took nothing where something waits; or for its next request, which is refused.
+abbrev pub MayClose : ℕ → Why → Client → State → Type 0
+MayClose number why.Left was old = IsServed why.Left was
+MayClose number why.Broken was old = IsServed why.Broken was
+MayClose number why.Malformed was old = IsServed why.Malformed was
+MayClose number why.Stopped was old = (old.stops ≡ true) × IsIdle was × ((0 < was.link.idles) ⊎ (1000 ≤ was.turn.tried))
+MayClose number (why.Stuck left) was old = (old.stops ≡ true) × IsIdle was × (0 < was.link.waits) × (1000 ≤ was.turn.tried)
+MayClose number cause was old = (frame : List ℕ) × (others : List (List ℕ)) × (was.turn.asks ≡ frame ∷ others) × RefusesRequest number frame cause old.core
+
+-- of a client that left the link is over, where all links that are told like this tell whether they are
+abbrev pub ShowsOver : (LinkTold → Type 0) → ClientKind → Type 0
+ShowsOver IsTold (Gave (Some why.Left) link cut) = ((other : LinkTold) → IsTold other → IsSome other.over) → link.over ≡ Some true
+ShowsOver IsTold other = Unit {0}
 
 -- The messages to take in, why a channel ends and what is held of what its program sent, by the link's answer: the messages stand at the front of what was
 -- held and what the link gave, and behind the last one it goes on or ends.
@@ -173,24 +201,28 @@ MayPart number s = (program : Program) × IsOne number s.programs program × (pr
 abbrev pub BeginsOrStays : State → State → Type 0
 BeginsOrStays old new =
     (new.core ≡ old.core)
-    ⊎ ((conf : Conf) × (trace : Trace) × (new.core ≡ record old.core { trace = Some trace }) × BeginsAnew conf trace old.core new.core)
+    ⊎ ((conf : Conf) × (trace : Trace) × (new.core ≡ record old.core { trace = Some trace }) × BeginsAnew conf trace old.core new.core
+    × IsMade conf trace × (stood : List StoredFile) × IsAfter stood [] trace)
 
 -- ---- what is done with one client; beside it no more than core, events and folder changes
 
 abbrev pub IsClientStep : ℕ → ClientKind → State → State → Type 0
 IsClientStep number (Gave due link cut) old new =
-    (was : Client) × (was.due ≡ None) × Changes number was (record { link = link; cutter = cut; due = due }) old.clients new.clients
-    × (gave : Answer) × (into : List ℕ) × (length into ≡ 4096) × Hears was.link link gave into × IsDue gave due
+    (was : Client) × (turn : Turn) × Changes number was (record { link = link; cutter = cut; due = due; turn = turn }) old.clients new.clients
+    × (gave : Answer) × (into : List ℕ) × (length into ≡ 4096) × Hears was.link link gave into × IsDue gave into was.cutter.unread due turn.asks
     × ((stream : List ℕ) → due ≡ None → HasCut stream was.cutter → HasCut (stream ++ heard gave into) cut)
-    × (part_of new ≡ part_of old)
+    × (part_of new ≡ part_of old) × IsIdle was × Counts (HasGiven was.link.given link.given) was.turn.tried turn.tried × IsSome (outbox_of old.core.hub number)
 IsClientStep number (Asked frame) old new =
-    (desk : PostTold) × (desk_now : PostTold) × Asks number frame (side_of old desk) (side_of new desk_now) × (new.clients ≡ old.clients)
+    (desk : PostTold) × (desk_now : PostTold) × Asks number frame (side_of old desk) (side_of new desk_now)
+    × (was : Client) × (others : List (List ℕ)) × (was.turn.asks ≡ frame ∷ others)
+    × Changes number was (record was { turn = record was.turn { asks = others } }) old.clients new.clients
 IsClientStep number (Sent due link) old new =
-    (was : Client) × (was.due ≡ None) × Changes number was (record was { link = link; due = due }) old.clients new.clients
+    (was : Client) × (turn : Turn) × Changes number was (record was { link = link; due = due; turn = turn }) old.clients new.clients
     × Pumps number old.core.hub new.core.hub was.link link × SendsRightly number due new.core was.link link × IsOnlySent was.link link
     × (part_of new ≡ record (part_of old) { core = record old.core { hub = new.core.hub } })
+    × IsIdle was × (turn.asks ≡ []) × Counts (HasRisen was.link.waits link.waits) was.turn.tried turn.tried
 IsClientStep number (Closed cause) old new =
-    (was : Client) × ((was.due ≡ Some cause) ⊎ ((old.stops ≡ true) × IsStop cause)) × Changes number was (record was { due = None }) old.clients new.clients
+    (was : Client) × MayClose number cause was old × Changes number was (record was { due = None; turn = no_turn }) old.clients new.clients
     × (desk : PostTold) × Closes number cause (side_of old desk) (side_of new desk)
 IsClientStep number (Parted link) old new =
     (was : Client) × Changes number was (record was { link = link }) old.clients new.clients × IsShut was.link link × (part_of new ≡ part_of old)
@@ -205,6 +237,7 @@ IsProgramStep number (Said ends link inbox msgs) old new =
     × (new.channels ≡ record old.channels { inboxes = set_value (nat_eq number) old.channels.inboxes inbox }) × (part_of new ≡ part_of old) × (old.stops ≡ false)
 IsProgramStep number (Forwarded moment msgs) old new =
     TakesIn number msgs old new × ForwardsAll moment number msgs (part_of old) (part_of new) × (new.channels ≡ old.channels)
+    × AllByRecursion (λ msg. has_frames msg ≡ true) msgs × AreIdle old.clients
 IsProgramStep number (Noted moment msg) old new =
     TakesIn number (msg ∷ []) old new × Notes number moment msg (program_side old) (program_side new) × (new.channels ≡ old.channels)
 IsProgramStep number (Unregistered moment apid) old new =
@@ -222,16 +255,17 @@ IsProgramStep number Ended old new =
     × (new.channels ≡ record old.channels { outboxes = without number old.channels.outboxes; inboxes = without_inbox number old.channels.inboxes })
     × (new.programs ≡ old.programs) × (part_of new ≡ part_of old) × MayPart number old
 
--- ---- what is taken of this process, or noted of it
+-- ---- what is taken of this process, or noted of it: where it has applications of its own, no channel opens
 
 abbrev pub IsRingStep : RingKind → State → State → Type 0
 IsRingStep (TookCalls app moment items) old new =
     Logs moment (map (owned app) items) (part_of old) (part_of new) × (new.took ≡ with_items app (map Log items) old.took)
+    × AreIdle old.clients
 IsRingStep (TookClaim app moment claim) old new =
     NotesClaim moment (owned_claim app claim) old.core new.core old.events new.events × Claims (owned_claim app claim) old.core.registry new.core.registry
     × (new.core ≡ record old.core { registry = new.core.registry }) × (new.folder ≡ old.folder) × (new.took ≡ with_items app (Register claim ∷ []) old.took)
 IsRingStep (TookLosses app moment apid count) old new =
-    Tells moment app apid count (part_of old) (part_of new) × (new.took ≡ with_losses app count old.took)
+    Tells moment app apid count (part_of old) (part_of new) × (new.took ≡ with_losses app count old.took) × AreIdle old.clients
 IsRingStep (Greeted moment msg) old new =
     NotesMessage moment own_channel msg old.core new.core old.folder new.folder old.events new.events × Registers own_channel msg old.core new.core.registry
     × (new.took ≡ old.took)
@@ -252,15 +286,16 @@ IsStep IsTold (Levelled change) old new =
     × (new ≡ record old { core = new.core; events = new.events; folder = new.folder; channels = record old.channels { outboxes = new.channels.outboxes } })
 IsStep IsTold (OfClient number kind) old new =
     (1 ≤ number) × IsClientStep number kind old new × (new ≡ record old { core = new.core; events = new.events; folder = new.folder; clients = new.clients })
+    × ShowsOver IsTold kind
 IsStep IsTold (OfProgram number kind) old new =
     (1 ≤ number) × IsProgramStep number kind old new
     × (new ≡ record old { core = new.core; events = new.events; folder = new.folder; channels = new.channels; programs = new.programs })
 IsStep IsTold (OfRings kind) old new =
-    IsRingStep kind old new × (new ≡ record old { core = new.core; events = new.events; folder = new.folder; took = new.took })
+    IsRingStep kind old new × (new ≡ record old { core = new.core; events = new.events; folder = new.folder; took = new.took }) × (old.channels.in_all ≡ 0)
 IsStep IsTold PartedAll old new =
     ShutsGone old.core.hub (map (λ c. c.link) old.clients) (map (λ c. c.link) new.clients)
     × (map (λ c. c.cutter) new.clients ≡ map (λ c. c.cutter) old.clients) × (map (λ c. c.due) new.clients ≡ map (λ c. c.due) old.clients)
-    × (new ≡ record old { clients = new.clients })
+    × (new ≡ record old { clients = new.clients }) × (map (λ c. c.turn) new.clients ≡ map (λ c. c.turn) old.clients)
 IsStep IsTold Renewed old new = BeginsOrStays old new × (new ≡ record old { core = new.core; folder = new.folder })
 IsStep IsTold Stopping old new = new ≡ record old { stops = true }
 

@@ -8,6 +8,7 @@ ghost use Rattle.dl_outside.specs.Link as link;
 ghost use Rattle.dl_outside.specs.Net as net;
 ghost use Rattle.dl_outside.specs.Outside.{one_more, HasReadCause, HasRisen, HasWriteCause, Reads, Stays, Takes};
 ghost use Rattle.dl_memory.specs.Counted.{Counts, with_faults};
+ghost use Rattle.dl_pieces.specs.Pieces.{ReadsAt};
 ghost use Rattle.dl_outside.specs.declared.link.Gave.TheVariants as gave;
 ghost use Rattle.dl_outside.specs.declared.link.Sends.TheVariants as sends;
 ghost use Rattle.dl_outside.specs.declared.sink.Took.TheVariants as took;
@@ -18,6 +19,7 @@ use dl_outside::{
     Accepted, ClientScript, Dial, DialFault, Folder, FolderFault, Gave, Got, Link, NameList, Net,
     NetFault, Sends, Sink, Source, Took,
 };
+use dl_pieces::ReadAt;
 
 /// Another object, of which chosen calls fail. Its calls are numbered from 1.
 #[derive(Debug, Drop)]
@@ -281,6 +283,34 @@ impl<F: Folder> Folder for Failing<F> {
 
     fn appends(&self) -> u64 {
         self.appends
+    }
+}
+
+impl<F: ReadAt> ReadAt for Failing<F> {
+    fn read_at(
+        &mut self,
+        name: &str,
+        place: u64,
+        into: &mut [u8],
+    ) -> Result<Option<usize>, FolderFault>
+        requires { 0 < length into.old }
+        ensures found { ReadsAt (F.told self.old.inner).files name.now place into.new result }
+        ensures stays { Stays (F.told self.old.inner).files (F.told self.new.inner).files }
+        ensures cause { folder.HasCause self.old.faults self.new.faults result }
+        ensures unchanged { self.new.changes ≡ self.old.changes }
+        ensures unappended { self.new.appends ≡ self.old.appends }
+        ensures counts { Counts self.old self.new (result ≡ Err FolderFault.Failed) }
+        ensures others { ¬ Contains self.old.chosen.items self.new.calls
+            → folder.HasCause (F.told self.old.inner).faults (F.told self.new.inner).faults result }
+    {
+        if self.begin() {
+            return Err(FolderFault::Failed);
+        }
+        let count = self.inner.read_at(name, place, into);
+        if let Err(FolderFault::Failed) = count {
+            self.count();
+        }
+        count
     }
 }
 

@@ -8,11 +8,13 @@ ghost use Rattle.std.specs.Vec.{vec_capacity};
 ghost use Rattle.dl_outside.specs.Folder.{Appends, HasCause, IsOldOrNew, Puts};
 ghost use Rattle.dl_outside.specs.Outside.{one_more};
 ghost use Rattle.dl_memory.specs.Shelf.{HasRoom, files_of, held_by, with_entry};
+ghost use Rattle.dl_pieces.specs.Pieces.{AreReadAt};
 
 use crate::shelf::{Entry, Place, cut, find, paste};
 use arrayvec::ArrayString;
 use dl_bytes::{Bytes, OutOfMemory};
 use dl_outside::{Folder, FolderFault, Name, NameList};
+use dl_pieces::ReadAt;
 use std::alloc::Global;
 use std::marker::Model;
 
@@ -124,6 +126,37 @@ impl MemoryFolder {
         };
         set(&mut self.entries, place, entry);
         Ok(())
+    }
+}
+
+/// Copies bytes, from this place on, to the front of `into`. Answers how many.
+fn copy_at(bytes: &[u8], place: u64, into: &mut [u8]) -> usize
+    requires { 0 < length into.old }
+    ensures few { result ≤ length into.new }
+    ensures part { AreReadAt bytes.now place result into.new }
+{
+    if place >= bytes.len() as u64 {
+        return 0;
+    }
+    let rest = &bytes[place as usize..];
+    let count = rest.len().min(into.len());
+    into[..count].copy_from_slice(&rest[..count]);
+    count
+}
+
+impl ReadAt for MemoryFolder {
+    fn read_at(
+        &mut self,
+        name: &str,
+        place: u64,
+        into: &mut [u8],
+    ) -> Result<Option<usize>, FolderFault> {
+        let found = find(&self.entries, name);
+        let Some(size) = found.size else {
+            return Ok(None);
+        };
+        let held = &self.bytes[found.start..found.start + size];
+        Ok(Some(copy_at(held, place, into)))
     }
 }
 

@@ -1,8 +1,11 @@
 pub mod Numbered
 pub mod Placed
 pub mod OneMore
+pub mod Changes
+pub mod LastGiven
 pub mod Order
 pub mod Presence
+pub mod Staying
 pub mod AppPresence
 pub mod OwnLevels
 pub mod ContextPresence

@@ -1,40 +1,33 @@
 -- Which applications are there: those of this process come first, and stay.
 use Rattle.std.proofs.Common.{◌≡◌, ℕ, ◌+◌, ◌<◌, ◌≤◌, Bool, true, false, cond, eqb, List, [], ◌∷◌, ◌++◌, length, map, Option, Some, None, Result, Ok, Err, refl, sym, ap, subst, ◌∙◌, arith, not, inl, inr, true≢false}
-use Rattle.std.specs.Prelude.{suc, ◌==◌, ◌||◌, nat_eq, nat_le, if◌then◌else◌, unwrap_or, is_some, IfOk, IfSome, IsSome}
+use Rattle.std.specs.Prelude.{suc, negsuc, ◌==◌, ◌||◌, nat_eq, nat_le, if◌then◌else◌, unwrap_or, is_some, IfOk, IsSome}
 use Rattle.std.specs.List.{find, list_any}
 use Rattle.std.specs.Map.{lookup, set_value}
 use Rattle.std.specs.Option.{option_and_then, option_map}
-use Rattle.std.specs.Result.{result_ok, result_unwrap_or}
+use Rattle.std.specs.Result.{result_unwrap_or}
 use Rattle.std.specs.Str.{bytes_eq}
-use Rattle.std.proofs.lemmas.Bool.{cases_lt, eqb-true, eq-eqb, ne_eqb}
+use Rattle.std.proofs.lemmas.Bool.{cases_lt, eq-eqb, ne_eqb}
 use Rattle.std.proofs.lemmas.List.{length-map, map-append}
 use Rattle.std.proofs.Math.Bool.{or-true}
 use Rattle.dl_lemmas.proofs.Bools.{neither}
-use Rattle.dl_lemmas.proofs.Options.{ifok_if, ifsome_if, some_ok}
 use Rattle.dl_bytes.specs.Claim.{Claimed}
 use Rattle.dl_bytes.specs.Id.{zero_id}
-use Rattle.dl_bytes.specs.Level.{own_level_of}
-use Rattle.dl_bytes.specs.Limits.{last_version}
 use Rattle.dl_bytes.specs.declared.outcome.Done.{Done}
-use Rattle.dl_bytes.specs.declared.outcome.Done.TheVariants as done
 use Rattle.dl_bytes.specs.declared.user.UserMsg.{UserMsg}
 use Rattle.dl_bytes.specs.declared.user.UserMsg.TheVariants.{RegisterApp, UnregisterApp, RegisterContext, UnregisterContext, Log, LogLevel, Injection, Overflow}
 use Rattle.dl_control.specs.declared.request.Request.{Request}
-use Rattle.dl_control.specs.declared.request.Request.TheVariants.{SetLogLevel, GetLogInfo, GetDefault, Store, Reset, SetDefault, Version, SetAllLogLevel, Inject, Other}
 use Rattle.dl_control.specs.declared.request.RequestFault.{RequestFault}
 use Rattle.dl_events.specs.declared.event.Event.{Event}
 use Rattle.dl_events.specs.declared.event.Event.TheVariants as event
-use Rattle.dl_model.specs.declared.context.Context.{Context}
 use Rattle.dl_model.specs.declared.registry.RegistryFault.{RegistryFault}
 use Rattle.dl_model.specs.declared.registry.RegistryFault.TheVariants as fault
-use Rattle.dl_model.specs.declared.registry.SetFault.TheVariants as set
 use Rattle.dl_model.specs.declared.registry.Slot.{Slot}
 use Rattle.dl_model.specs.Journal.{step}
-use Rattle.dl_model.specs.Registry.{App, Registry, Relevel, apid_numbered, app_of, app_registered, app_unregistered, applied, claimed, context_claimed, context_of, context_registered, context_unregistered, default_set, for_app, is_free, keep_own, least_free, matching, no_own, numbers, of_channel, own_set, places, releveled_app, reset, set_matching, slot_of, unless_worn, wears, with_app, with_claim, with_new_app, without}
-use Rattle.dl_model.specs.Reply.{asked, default_requested, own_requested, reset_requested, served}
+use Rattle.dl_model.specs.Registry.{App, Registry, Relevel, apid_numbered, app_of, app_registered, applied, claimed, context_of, context_registered, for_app, least_free, numbers, of_channel, releveled_app, with_app, with_new_app, without}
+use Rattle.dl_model.specs.Reply.{asked, served}
 use Rattle.dl_model.specs.Setting.{Setting}
 use Rattle.dl_model.proofs.Numbered.{least_free-is_free, least_free-le-length}
-use Rattle.dl_model.proofs.Order.{app_of_found}
+use Rattle.dl_model.proofs.Changes.{app_registers, app_unregisters, claim_makes, context_registers, context_unregisters, found_on, new_app, served_makes}
 use Rattle.dl_model.proofs.Presence.{bytes_same, bytes_differ}
 
 -- a message of an application
@@ -93,81 +86,20 @@ module _ (r : Registry) where
   same_app : (apid : List ℕ) (old new : App) → lookup (bytes_eq apid) r.apps ≡ Some old → new.channel ≡ old.channel → new.number ≡ old.number → Same (with_app r apid new)
   same_app apid old new found channel number = set_there (bytes_eq apid) r.apps old new found channel number
 
-  same_or : (o : Option Registry) → IfSome o Same → Same (unwrap_or o r)
-  same_or None is = refl
-  same_or (Some new) is = is
-
-  -- levels that are set
-  set_same : (slots : ℕ → Slot) (level : ℕ) (relevel : Relevel) → IfOk (unless_worn slots r level relevel) Same
-  set_same slots level relevel = ifok_if Same (wears slots r level relevel) set.Worn _ (relevel_there relevel r.apps)
-
-  own_same : (slots : ℕ → Slot) (apid ctid : List ℕ) (o : Option (Option ℕ)) → IfSome (option_and_then (λ level. result_ok (own_set slots r apid ctid level)) o) Same
-  own_same slots apid ctid None = tt
-  own_same slots apid ctid (Some level) =
-      some_ok Same (own_set slots r apid ctid level) (ifok_if Same (length (matching r apid ctid) == 0) set.Nobody _ (set_same slots r.level (set_matching apid ctid level)))
-
   pub request_same : (s : Setting) (slots : ℕ → Slot) (request : Result Request RequestFault) (answer : Done) → Same (served s slots r request answer)
-  request_same s slots (Ok (SetLogLevel apid ctid level)) answer = same_or (own_requested slots r apid ctid level) (own_same slots apid ctid (own_level_of level))
-  request_same s slots (Ok (SetAllLogLevel level)) answer = same_or (own_requested slots r zero_id zero_id level) (own_same slots zero_id zero_id (own_level_of level))
-  request_same s slots (Ok (SetDefault level)) answer = same_or (default_requested slots r level) (by (nat_le level 6)) where
-    by : (b : Bool) → IfSome (if b then result_ok (default_set slots r level) else None) Same
-    by true = some_ok Same (default_set slots r level) (set_same slots level keep_own)
-    by false = tt
-  request_same s slots (Ok Store) done.Yes = refl
-  request_same s slots (Ok Store) done.Failed = refl
-  request_same s slots (Ok Store) done.NoMemory = refl
-  request_same s slots (Ok Reset) done.Yes =
-      same_or (reset_requested s slots r) (some_ok Same (reset slots r s.level) (ifok_if Same (wears slots r s.level no_own) set.Worn _ (relevel_there no_own r.apps)))
-  request_same s slots (Ok Reset) done.Failed = refl
-  request_same s slots (Ok Reset) done.NoMemory = refl
-  request_same s slots (Ok (GetLogInfo options apid ctid)) answer = refl
-  request_same s slots (Ok GetDefault) answer = refl
-  request_same s slots (Ok Version) answer = refl
-  request_same s slots (Ok (Inject service body)) answer = refl
-  request_same s slots (Ok (Other service)) answer = refl
-  request_same s slots (Err fault) answer = refl
+  request_same = served_makes Same r refl (λ level relevel. relevel_there relevel r.apps) (λ new stored is. is)
 
-  -- a claim
   pub claim_same : (slots : ℕ → Slot) (claim : Claimed) → Same (unwrap_or (claimed slots r claim) r)
-  claim_same slots claim = same_or (claimed slots r claim) (by (apid_numbered r claim.app)) where
-    kind : (apid : List ℕ) (app : App) (o : Option Context) → lookup (bytes_eq apid) r.apps ≡ Some app → Same (with_app r apid (with_claim r.stored apid claim app o))
-    kind apid app None found = same_app apid app (with_claim r.stored apid claim app None) found refl refl
-    kind apid app (Some context) found = same_app apid app (with_claim r.stored apid claim app (Some context)) found refl refl
+  claim_same slots claim =
+      claim_makes slots r claim (λ o msgs. Same (unwrap_or o r)) refl
+      (λ apid app context may there. same_app apid app _ may.found refl refl) (λ apid app may there. same_app apid app _ may.found refl refl)
 
-    in_app : (apid : List ℕ) (o : Option App) → app_of r 0 apid ≡ o → IfSome (option_and_then (context_claimed slots r apid claim) o) Same
-    in_app apid None found = tt
-    in_app apid (Some app) found =
-        ifsome_if Same (not (is_free claim.place app.contexts)) _
-        (ifsome_if Same ((slots (slot_of app.number claim.place)).version == last_version) _ (kind apid app (context_of app claim.ctid) (app_of_found r 0 apid app found)))
-
-    by : (o : Option (List ℕ)) → IfSome (option_and_then (λ apid. option_and_then (context_claimed slots r apid claim) (app_of r 0 apid)) o) Same
-    by None = tt
-    by (Some apid) = in_app apid (app_of r 0 apid) refl
-
-  -- a message on a context
-  for_app-same : (channel : ℕ) (apid : List ℕ) (o : Option App) (next : App → Result Registry RegistryFault) → app_of r channel apid ≡ o →
-      ((app : App) → lookup (bytes_eq apid) r.apps ≡ Some app → IfOk (next app) Same) → IfOk (for_app o next) Same
-  for_app-same channel apid None next found each = tt
-  for_app-same channel apid (Some app) next found each = each app (app_of_found r channel apid app found)
-
-  context_registered-same : (slots : ℕ → Slot) (apid ctid : List ℕ) (position : ℕ) (level : Option ℕ) (text : List ℕ) (app : App) (o : Option Context) → lookup (bytes_eq apid) r.apps ≡ Some app →
-      IfOk (context_registered slots r apid ctid position level text app o) Same
-  context_registered-same slots apid ctid position level text app (Some context) found = same_app apid app _ found refl refl
-  context_registered-same slots apid ctid position level text app None found =
-      ifok_if Same (nat_le 64 (length (places app.contexts))) fault.ContextsFull _
-      (ifok_if Same ((slots (slot_of app.number (least_free (places app.contexts)))).version == last_version) fault.Worn _ (same_app apid app _ found refl refl))
-
-  context_unregistered-same : (apid ctid : List ℕ) (app : App) (o : Option Context) → lookup (bytes_eq apid) r.apps ≡ Some app → IfOk (context_unregistered r apid ctid app o) Same
-  context_unregistered-same apid ctid app None found = tt
-  context_unregistered-same apid ctid app (Some context) found = same_app apid app _ found refl refl
-
-  -- what a context's message makes of the application that was found
   pub in_context : (slots : ℕ → Slot) (channel : ℕ) (apid ctid : List ℕ) (position : ℕ) (level : Option ℕ) (text : List ℕ) →
       IfOk (if bytes_eq apid zero_id || bytes_eq ctid zero_id then Err fault.ZeroId
       else for_app (app_of r channel apid) (λ app. context_registered slots r apid ctid position level text app (context_of app ctid))) Same
   in_context slots channel apid ctid position level text =
-      ifok_if Same (bytes_eq apid zero_id || bytes_eq ctid zero_id) fault.ZeroId _
-      (for_app-same channel apid (app_of r channel apid) _ refl (λ app found. context_registered-same slots apid ctid position level text app (context_of app ctid) found))
+      context_registers slots r channel Same apid ctid position level (negsuc 0) 0 text
+      (λ app context found of there. same_app apid app _ found refl refl) (λ app found of there room. same_app apid app _ found refl refl)
 
 -- ---- what keeps the first ones
 
@@ -204,47 +136,27 @@ first_without number (id ∷ apids) apid app (e ∷ es) first found other = by (
 
 -- an application that was found on a channel is of it
 pub channel_found : (channel : ℕ) (o : Option App) (app : App) → option_and_then (of_channel channel) o ≡ Some app → app.channel ≡ channel
-channel_found channel None app is = absurd cc
-channel_found channel (Some other) app is = by (other.channel == channel) refl is where
-  by : (b : Bool) → (other.channel == channel) ≡ b → (if b then Some other else None) ≡ Some app → app.channel ≡ channel
-  by true same here =
-      let is : other ≡ app = cc here in
-      sym (ap (λ (a : App). a.channel) is) ∙ eqb-true other.channel channel same
-  by false same here = absurd cc
+channel_found channel o app is = (found_on channel o app is).1
 
 module _ (r : Registry) (apids : List (List ℕ)) (first : AreFirst 0 apids (there r)) where
   abbrev Stay : Registry → Type 0
   Stay new = AreFirst 0 apids (there new)
 
-  as_before : (result : Result Registry RegistryFault) → IfOk result (λ new. there new ≡ there r) → IfOk result Stay
-  as_before (Ok new) same = subst (AreFirst 0 apids) (sym same) first
-  as_before (Err fault) same = tt
-
-  registered : (channel : ℕ) (apid : List ℕ) (pid : ℕ) (text : List ℕ) (o : Option App) → lookup (bytes_eq apid) r.apps ≡ o → IfOk (app_registered r channel apid pid text o) Stay
-  registered channel apid pid text (Some app) found = by (app.channel == channel) where
-    by : (b : Bool) → IfOk (if b then Ok (with_app r apid (record app { pid = pid; text = text })) else Err fault.Taken) Stay
-    by true = subst (AreFirst 0 apids) (sym (same_app r apid app (record app { pid = pid; text = text }) found refl refl)) first
-    by false = tt
-  registered channel apid pid text None found = ifok_if Stay (nat_le 16 (length r.apps)) fault.AppsFull _ here where
-    new : App
-    new = record { channel = channel; number = least_free (numbers r.apps); pid = pid; text = text; contexts = [] }
-
-    here : AreFirst 0 apids (there (with_new_app r apid new))
-    here = subst (AreFirst 0 apids) (sym (map-append who r.apps ((apid, new) ∷ []))) (first_more 0 apids (there r) (who (apid, new) ∷ []) first)
-
-  unregistered : (channel : ℕ) (apid : List ℕ) (o : Option App) → (channel ≡ 0 → ⊥) → app_of r channel apid ≡ o → IfOk (app_unregistered r apid o) Stay
-  unregistered channel apid None other found = tt
-  unregistered channel apid (Some app) other found =
-      first_without 0 apids apid app r.apps first (app_of_found r channel apid app found)
-      (λ here. other (sym (channel_found channel (lookup (bytes_eq apid) r.apps) app found) ∙ here))
+  changed : (apid : List ℕ) (app new : App) → lookup (bytes_eq apid) r.apps ≡ Some app → new.channel ≡ app.channel → new.number ≡ app.number → Stay (with_app r apid new)
+  changed apid app new found channel number = subst (AreFirst 0 apids) (sym (same_app r apid app new found channel number)) first
 
   -- whatever a message of another channel says
   pub told_stay : (slots : ℕ → Slot) (channel : ℕ) (msg : UserMsg) → (channel ≡ 0 → ⊥) → IfOk (applied slots r channel msg) Stay
-  told_stay slots channel (RegisterApp apid pid text) other = ifok_if Stay (bytes_eq apid zero_id) fault.ZeroId _ (registered channel apid pid text (lookup (bytes_eq apid) r.apps) refl)
-  told_stay slots channel (UnregisterApp apid pid) other = unregistered channel apid (app_of r channel apid) other refl
-  told_stay slots channel (RegisterContext apid ctid position level trace pid text) other = as_before _ (in_context r slots channel apid ctid position level text)
+  told_stay slots channel (RegisterApp apid pid text) other =
+      app_registers slots r channel Stay apid pid text (λ app found of. changed apid app _ found refl refl)
+      (λ none room. subst (AreFirst 0 apids) (sym (map-append who r.apps ((apid, new_app r channel pid text) ∷ []))) (first_more 0 apids (there r) (who (apid, new_app r channel pid text) ∷ []) first))
+  told_stay slots channel (UnregisterApp apid pid) other =
+      app_unregisters slots r channel Stay apid pid (λ app found of. first_without 0 apids apid app r.apps first found (λ here. other (sym of ∙ here)))
+  told_stay slots channel (RegisterContext apid ctid position level trace pid text) other =
+      context_registers slots r channel Stay apid ctid position level trace pid text
+      (λ app context found of there. changed apid app _ found refl refl) (λ app found of there room. changed apid app _ found refl refl)
   told_stay slots channel (UnregisterContext apid ctid pid) other =
-      as_before _ (for_app-same r channel apid (app_of r channel apid) _ refl (λ app found. context_unregistered-same r apid ctid app (context_of app ctid) found))
+      context_unregisters slots r channel Stay apid ctid pid (λ app context found of there. changed apid app _ found refl refl)
   told_stay slots channel (Log bytes) other = first
   told_stay slots channel (LogLevel level trace position) other = first
   told_stay slots channel (Injection position service body) other = first
@@ -290,7 +202,7 @@ pub app_comes : (r : Registry) (apids : List (List ℕ)) (slots : ℕ → Slot) 
     bytes_eq apid zero_id ≡ false → list_any (λ id. bytes_eq id apid) apids ≡ false → nat_le 16 (length apids) ≡ false →
     there (result_unwrap_or (applied slots r 0 (RegisterApp apid pid text)) r) ≡ there r ++ own apid (length apids) ∷ []
 app_comes r apids slots apid pid text first alone named none few =
-    let new : App = record { channel = 0; number = least_free (numbers r.apps); pid = pid; text = text; contexts = [] } in
+    let new : App = new_app r 0 pid text in
     let room : nat_le 16 (length r.apps) ≡ false = ap (nat_le 16) alone ∙ few in
     let is : applied slots r 0 (RegisterApp apid pid text) ≡ Ok (with_new_app r apid new) =
     ap (λ (b : Bool). cond b (Err fault.ZeroId) (app_registered r 0 apid pid text (lookup (bytes_eq apid) r.apps))) named
@@ -344,11 +256,7 @@ numbered_there r apids first n below =
 -- ---- events
 
 pub event_same : (s : Setting) (slots : ℕ → Slot) (r : Registry) (e : Event) → is_message e ≡ false → there (step s slots r e) ≡ there r
-event_same s slots r (event.Log app writer call moment) none = refl
-event_same s slots r (event.Lost app count moment) none = refl
 event_same s slots r (event.User channel msg moment) none = absurd (true≢false none)
 event_same s slots r (event.Claim claim moment) none = claim_same r slots claim
-event_same s slots r (event.Level slot level) none = refl
-event_same s slots r (event.Connect client) none = refl
 event_same s slots r (event.Request client frame answer) none = request_same r s slots (asked frame) answer
-event_same s slots r (event.Close client why) none = refl
+event_same s slots r _ none = refl

@@ -10,6 +10,7 @@ use Rattle.dl_events.specs.declared.event.Event.{Event}
 use Rattle.dl_events.specs.declared.event.Event.TheVariants.{User, Claim, Level, Connect, Request}
 use Rattle.dl_model.specs.Frames.{FrameSource}
 use Rattle.dl_model.specs.Setting.{Setting}
+use Rattle.dl_model.specs.declared.software.Software.TheVariants.{Run}
 
 -- ---- bytes, written as two hexadecimal digits each, parted by one blank
 
@@ -36,6 +37,7 @@ defaults = record {
   stored = record { level = None; own = [] };
   first = 0;
   clients = client_limit;
+  software = Run;
 }
 
 -- each slot has one version left before the last one

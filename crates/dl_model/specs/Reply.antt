@@ -22,6 +22,8 @@ use Rattle.dl_model.specs.declared.context.Context.{Context}
 use Rattle.dl_model.specs.declared.registry.Slot.{Slot}
 use Rattle.dl_model.specs.Registry.{App, Registry, app_of, context_of, own_set, default_set, reset, owns_now, named_contexts, named_in}
 use Rattle.dl_model.specs.Setting.{Setting}
+use Rattle.dl_model.specs.declared.software.Software.{Software}
+use Rattle.dl_model.specs.declared.software.Software.TheVariants as software
 
 -- ---- what a control message asks
 
@@ -180,8 +182,13 @@ info_reply registry options apid ctid =
     else record { service = 0x03; status = options; body = info_body options registry apid ctid }
 
 -- the name of the software's version
-abbrev pub version_name : List ℕ
-version_name = codes "dlt_run 1"
+abbrev pub version_name : Software → List ℕ
+version_name software.Run = codes "dlt_run 1"
+version_name software.Daemon = codes "dlt_daemon 1"
+
+-- the reply to GetSoftwareVersion: the name behind its length
+abbrev pub version_reply : Software → Reply
+version_reply program = record { service = 0x13; status = 0; body = little_bytes 4 (length (version_name program)) ++ version_name program }
 
 -- The reply to a request for these ids: service, status and body. Before it the registry and the slots were these.
 abbrev pub reply_to : Setting → (ℕ → Slot) → Registry → List ℕ → List ℕ → Result Request RequestFault → Done → Reply
@@ -199,8 +206,7 @@ reply_to setting slots registry apid ctid (Ok (SetAllLogLevel level)) answer =
     bare 0xf08 (status_of (own_requested slots registry zero_id zero_id level))
 reply_to setting slots registry apid ctid (Ok (SetDefault level)) answer =
     bare 0x11 (status_of (default_requested slots registry level))
-reply_to setting slots registry apid ctid (Ok Version) answer =
-    record { service = 0x13; status = 0; body = little_bytes 4 (length version_name) ++ version_name }
+reply_to setting slots registry apid ctid (Ok Version) answer = version_reply setting.software
 reply_to setting slots registry apid ctid (Ok (Inject service body)) answer =
     bare service (inject_status (injected setting registry apid ctid) answer)
 reply_to setting slots registry apid ctid (Ok (Other service)) answer = bare service 1

@@ -9,7 +9,9 @@ pub mod journal_examples;
 mod registry;
 pub mod registry_examples;
 pub mod registry_laws;
+mod software;
 
 pub use context::{Context, Places};
 pub use description::Description;
 pub use registry::{LevelChange, RegistryFault, SetFault, Slot};
+pub use software::Software;

@@ -1,20 +1,22 @@
 //! Files by their names from the current folder.
 
-ghost use Rattle.std.specs.Prelude.{◌≡◌, ◌<◌, ◌^◌, IfOk, IfSome, None};
+ghost use Rattle.std.specs.Prelude.{◌≡◌, ◌<◌, ◌≤◌, ◌^◌, IfOk, IfSome, None, length};
 ghost use Rattle.std.specs.Fs.{IsFile, file_type};
 ghost use Rattle.dl_outside.specs.Outside.{HasRisen};
 
 use crate::answers::{found, is_memory};
 use crate::manner::{Manner, read_of, replaces, writable};
+use crate::once::read_once;
 use crate::paths::{is_trace_file, parent, parted};
 use crate::taken::Taken;
 use crate::troubles::Troubles;
 use crate::whole::write_whole;
 use dl_bytes::Bytes;
 use dl_outside::{Folder, FolderFault, Name, NameList};
+use dl_pieces::ReadAt;
 use std::alloc::Global;
 use std::fs::{DirBuilder, File, Files, Metadata, OpenFile, OpenOptions};
-use std::io::{Eprint, Error, ErrorKind};
+use std::io::{Eprint, Error, ErrorKind, Seek, SeekFrom};
 use std::os::unix::fs::{DirBuilderExt, MetadataExt, OpenOptionsExt};
 use std::time::{Clock, Duration};
 use std::{fs, io};
@@ -31,13 +33,15 @@ const DIRECTORY_MODE: u32 = 0o750;
 /// are known by their names, and pictures where the program draws some: any other name that is written is refused as a fault. So is an empty one. What is
 /// no plain file, looked at without following, is a fault too, and is not opened: a link, a directory, a pipe. The directories of a name may be links;
 /// those of a file that is made are made where they are missing. What is made is for its owner, and for its group to read. A file that is put is written
-/// beside its name, with `.new` behind it, synced, and renamed: a cut leaves the old one or the new one. The file that was added to last stays open. `names` looks into one directory, that which stands before the prefix's last slash, and gives the plain files in it; where it isn't there,
+/// beside its name, with `.new` behind it, synced, and renamed: a cut leaves the old one or the new one. The file that was added to last stays open, and so
+/// does one that is read in pieces, until its end. `names` looks into one directory, that which stands before the prefix's last slash, and gives the plain files in it; where it isn't there,
 /// there are none. A file whose name is no text is passed over. For each fault there is a sentence that names the file and says why.
 #[derive(Drop)]
 pub struct Directory<R: Files> {
     rt: R,
     manner: Manner,
     last: Option<Last<R::File>>,
+    part_read: Option<PartRead<R::File>>,
     taken: Taken,
     troubles: Troubles,
     // a name that was read last and isn't there
@@ -54,6 +58,15 @@ struct Last<F> {
     file: F,
     // when it was looked at, in seconds of the monotonic clock
     looked: u64,
+}
+
+/// A file that is open to be read on.
+#[derive(Drop)]
+struct PartRead<F> {
+    name: String,
+    file: F,
+    // where the bytes stand that are read next
+    place: u64,
 }
 
 /// The seconds of the monotonic clock; 0 where it can't be read.
@@ -88,6 +101,33 @@ fn read_file<R: Files + AllocGlobal>(
         Some(file) => Ok(Some(read_of(rt.alloc(), manner, file)?)),
         None => Ok(None),
     }
+}
+
+/// A file that is open to be read from this place on, or nothing where there is none: the one that is kept open, where it was read up to there.
+fn open_at<R: Files + AllocGlobal>(
+    rt: &R,
+    kept: Option<PartRead<R::File>>,
+    name: &str,
+    place: u64,
+) -> io::Result<Option<PartRead<R::File>>> {
+    if let Some(part) = kept {
+        if part.name.as_str() == name && part.place == place {
+            return Ok(Some(part));
+        }
+    }
+    if look(rt, name)?.is_none() {
+        return Ok(None);
+    }
+    let text = String::from_str(rt.alloc(), name)?;
+    let Some(mut file) = found(File::open(rt, name))? else {
+        return Ok(None);
+    };
+    file.seek(SeekFrom::Start(place))?;
+    Ok(Some(PartRead {
+        name: text,
+        file,
+        place,
+    }))
 }
 
 /// Whether something that is no file has a trace file's name.
@@ -322,6 +362,7 @@ impl<R: Files + AllocGlobal> Directory<R> {
             rt,
             manner,
             last: None,
+            part_read: None,
             taken,
             troubles,
             absent: None,
@@ -396,6 +437,44 @@ impl<R: Files + AllocGlobal + Clock> Directory<R> {
         write_whole(&mut last.file, piece)?;
         self.last = Some(last);
         Ok(())
+    }
+}
+
+impl<R: Files + AllocGlobal> Directory<R> {
+    /// Reads bytes of a file from this place on, and keeps it open where there were some. Answers how many; nothing where there is no such file.
+    fn read_part(&mut self, name: &str, place: u64, into: &mut [u8]) -> io::Result<Option<usize>>
+        ensures bound { IfOk result (λ read. IfSome read (λ count. count ≤ length into.new)) }
+        ensures faults { self.new.faults ≡ self.old.faults }
+        ensures changes { self.new.changes ≡ self.old.changes }
+        ensures appends { self.new.appends ≡ self.old.appends }
+    {
+        let kept = self.part_read.take();
+        let Some(mut part) = open_at(&self.rt, kept, name, place)? else {
+            return Ok(None);
+        };
+        let count = read_once(&mut part.file, into)?;
+        if count > 0 {
+            part.place = place.wrapping_add(count as u64);
+            self.part_read = Some(part);
+        }
+        Ok(Some(count))
+    }
+}
+
+impl<R: Files + AllocGlobal + Clone + Drop + Eprint + Clock> ReadAt for Directory<R> {
+    fn read_at(
+        &mut self,
+        name: &str,
+        place: u64,
+        into: &mut [u8],
+    ) -> Result<Option<usize>, FolderFault> {
+        match self.read_part(name, place, into) {
+            Ok(count) => {
+                self.note_read(name, count.is_some());
+                Ok(count)
+            }
+            Err(error) => Err(self.refused(name, error)),
+        }
     }
 }
 

@@ -2,6 +2,7 @@
 //! content but where std tells it.
 #![tactic(auto)]
 
+mod alive;
 mod answers;
 mod attendance;
 mod bind;

@@ -4,6 +4,7 @@ ghost use Rattle.std.specs.Prelude.{◌≡◌, ◌<◌, None, length};
 ghost use Rattle.dl_outside.specs.Link.{Receives, Sent};
 ghost use Rattle.dl_outside.specs.Outside.{HasRisen};
 
+use crate::alive::keep_alive;
 use crate::answers::{came, is_memory};
 use crate::attendance::Attendance;
 use crate::client::attend;
@@ -17,6 +18,7 @@ use dl_bytes::OutOfMemory;
 use dl_outside::{Accepted, ClientScript, Dial, DialFault, Gave, Link, Net, NetFault, Sends};
 use std::io::{Error, ErrorKind};
 use std::net::{IpAddr, Ipv4Addr, Ipv6Addr, Shutdown, TcpListener, TcpStream};
+use std::os::fd::AsRawFd;
 use std::thread::Threads;
 use std::time::Clock;
 use std::{io, thread};
@@ -329,6 +331,7 @@ fn waiting(listener: Option<&TcpListener>) -> io::Result<Option<TcpStream>> {
     stream.set_nonblocking(true)?;
     // Without it frames come later, and no more.
     let _ = stream.set_nodelay(true);
+    keep_alive(stream.as_raw_fd());
     Ok(Some(stream))
 }
 

@@ -11,6 +11,7 @@ use Rattle.dl_model.specs.Frames.{stored_frames}
 use Rattle.dl_script_model.specs.Marks.{Mark, journal}
 use Rattle.dl_script_model.specs.Replay.{files_of, printed, report_of, source_of, trace_of}
 use Rattle.dl_model.specs.Setting.{Setting}
+use Rattle.dl_model.specs.declared.software.Software.TheVariants.{Run}
 use Rattle.dl_script_model.specs.Steps as steps
 use Rattle.dl_model.specs.TraceFiles.{StoredFile, trace_files, trace_name}
 use Rattle.dl_outside.specs.Folder.{Files}
@@ -71,6 +72,7 @@ set_by values stored = record {
   stored = stored;
   first = 0;
   clients = client_limit;
+  software = Run;
 }
 
 at_some : {A : Type 0} (o : Option A) (x : A) (P : A → Type 0) → o ≡ Some x → IfSome o P → P x

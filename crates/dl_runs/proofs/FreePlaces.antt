@@ -1,5 +1,5 @@
 -- A place that no application has, and its slot, which has no level: until a claim of the place is taken.
-use Rattle.std.proofs.Common.{◌≡◌, ℕ, ◌+◌, ◌/◌, ◌%◌, ◌<◌, Bool, true, false, cond, eqb, List, [], ◌∷◌, ◌++◌, map, Option, Some, None, refl, sym, ap, subst, ◌∙◌, append_assoc, arith, unwrap_or, IfSome, inl, inr}
+use Rattle.std.proofs.Common.{◌≡◌, ℕ, ◌+◌, ◌/◌, ◌%◌, ◌<◌, Bool, true, false, cond, eqb, List, [], ◌∷◌, ◌++◌, map, Option, Some, None, refl, sym, ap, subst, ◌∙◌, append_assoc, arith, unwrap_or, inl, inr}
 use Rattle.std.specs.Prelude.{nat_eq, ◌||◌}
 use Rattle.std.specs.List.{AllByRecursion, find, list_any, cons_option}
 use Rattle.std.specs.Map.{lookup, set_value, values_of}
@@ -10,7 +10,6 @@ use Rattle.std.proofs.lemmas.List.{append-nil}
 use Rattle.std.proofs.lemmas.List.Folds.{list_any-append}
 use Rattle.dl_lemmas.proofs.Bools.{neither}
 use Rattle.dl_bytes.specs.Claim.{Claimed}
-use Rattle.dl_bytes.specs.declared.conf.StoredLevel.{StoredLevel}
 use Rattle.dl_events.specs.declared.event.Event.{Event}
 use Rattle.dl_events.specs.declared.event.Event.TheVariants as event
 use Rattle.dl_model.specs.declared.context.Context.{Context}
@@ -19,16 +18,16 @@ use Rattle.dl_model.specs.declared.registry.Slot.{Slot}
 use Rattle.dl_model.specs.Accounts.{claims}
 use Rattle.dl_model.specs.History.{level_for}
 use Rattle.dl_model.specs.Journal.{owed, registry_of, slots_of}
-use Rattle.dl_model.specs.Registry.{App, Registry, Relevel, all_slots, change_at, claimed, context_at, context_of, effective, first_change, has_place, level_at, places, places_of, releveled_app, slot_of, with_claim}
+use Rattle.dl_model.specs.Registry.{App, Registry, Relevel, all_slots, change_at, claimed, context_at, effective, first_change, has_place, level_at, places, places_of, releveled_app, slot_of, with_app, with_context, with_new_context}
 use Rattle.dl_model.specs.Reply.{asked}
 use Rattle.dl_model.specs.Setting.{Setting}
 use Rattle.dl_model.proofs.OneMore.{registry-one, slot-other}
-use Rattle.dl_model.proofs.Order.{app_of_found}
+use Rattle.dl_model.proofs.Changes.{Claims, claim_makes, served_makes}
 use Rattle.dl_model.proofs.Placed.{Among, places-push, places-further, releveled_places}
 use Rattle.dl_laws.proofs.Lists.{find-passes}
 use Rattle.dl_laws.proofs.SlotChanges.{change_is}
 use Rattle.dl_runs.specs.WaitingClaims.{IsFreeIn, IsUntaken, LeavesFree, MessagesLeaveFree}
-use Rattle.dl_laws.proofs.UniqueIds.{claim_makes, numbered, served_keeps, unique-registry_of}
+use Rattle.dl_laws.proofs.UniqueIds.{numbered, unique-registry_of}
 
 -- ---- the place of a claim more
 
@@ -41,18 +40,6 @@ not_among place more old new among apart none =
     let parts = neither (list_any (nat_eq place) among.before) (list_any (nat_eq place) among.behind) (sym (ap (list_any (nat_eq place)) among.was ∙ list_any-append (nat_eq place) among.before among.behind) ∙ none) in
     ap (list_any (nat_eq place)) among.is ∙ list_any-append (nat_eq place) among.before (more ∷ among.behind)
     ∙ or_none (list_any (nat_eq place) among.before) (nat_eq place more || list_any (nat_eq place) among.behind) parts.0 (or_none (nat_eq place more) (list_any (nat_eq place) among.behind) apart parts.1)
-
-claim_elsewhere : (stored : List StoredLevel) (apid : List ℕ) (claim : Claimed) (app : App) (place : ℕ) (o : Option Context) → context_of app claim.ctid ≡ o → nat_eq place claim.place ≡ false → list_any (nat_eq place) (places app.contexts) ≡ false
-    → list_any (nat_eq place) (places (with_claim stored apid claim app o).contexts) ≡ false
-claim_elsewhere stored apid claim app place (Some context) there apart none =
-    not_among place claim.place (places app.contexts) _ (places-further (bytes_eq claim.ctid) app.contexts context claim.place there) apart none
-claim_elsewhere stored apid claim app place None there apart none =
-    ap (list_any (nat_eq place)) (places-push app.contexts claim.ctid _ refl) ∙ list_any-append (nat_eq place) (places app.contexts) (claim.place ∷ [])
-    ∙ or_none (list_any (nat_eq place) (places app.contexts)) (nat_eq place claim.place || false) none (or_none (nat_eq place claim.place) false apart refl)
-
-same_number : (stored : List StoredLevel) (apid : List ℕ) (claim : Claimed) (app : App) (o : Option Context) → (with_claim stored apid claim app o).number ≡ app.number
-same_number stored apid claim app (Some context) = refl
-same_number stored apid claim app None = refl
 
 -- ---- the applications of a number do not have a place
 
@@ -156,26 +143,28 @@ module _ (setting : Setting) (app place : ℕ) (below : place < 64) where
   abbrev Free : Registry → Type 0
   Free r = IsFreeIn r app place
 
-  some_or : (o : Option Registry) (r : Registry) → IfSome o Free → Free r → Free (unwrap_or o r)
-  some_or (Some new) r here was = here
-  some_or None r here was = was
-
   -- a claim of another place, or of another application
   claim_leaves : (before : List Event) (claim : Claimed) → (claim.app ≡ app → claim.place ≡ place → ⊥) → Free (registry_of setting before)
       → Free (unwrap_or (claimed (slots_of setting before) (registry_of setting before) claim) (registry_of setting before))
   claim_leaves before claim other free =
-      let r = registry_of setting before in
-      some_or (claimed (slots_of setting before) r claim) r
-      (claim_makes Free (slots_of setting before) r claim (λ apid found number there.
-      let unique = numbered r.apps claim.app apid (unique-registry_of setting before) number in
-      let looked : lookup (bytes_eq apid) r.apps ≡ Some found = app_of_found r 0 apid found there in
-      let same : found ≡ unique.app = cc (sym looked ∙ unique.there) in
-      let number_is : found.number ≡ claim.app = ap (λ (a : App). a.number) same ∙ unique.is in
-      lack-set_value app place (bytes_eq apid) r.apps (with_claim r.stored apid claim found (context_of found claim.ctid)) free
-      (λ here.
-      let own : found.number ≡ app = sym (same_number r.stored apid claim found (context_of found claim.ctid)) ∙ here in
-      claim_elsewhere r.stored apid claim found place (context_of found claim.ctid) refl (ne_eqb place claim.place (λ same_place. other (sym number_is ∙ own) (sym same_place)))
-      (lack-lookup app place (bytes_eq apid) r.apps found free looked own)))) free
+      claim_makes (slots_of setting before) r claim (λ o msgs. Free (unwrap_or o r)) free
+      (λ apid found context may there. elsewhere apid found (with_context found claim.ctid _) may refl (not_among place claim.place (places found.contexts) _ (places-further (bytes_eq claim.ctid) found.contexts context claim.place there)))
+      (λ apid found may there. elsewhere apid found (with_new_context found claim.ctid _) may refl (λ apart none.
+      ap (list_any (nat_eq place)) (places-push found.contexts claim.ctid _ refl) ∙ list_any-append (nat_eq place) (places found.contexts) (claim.place ∷ [])
+      ∙ or_none (list_any (nat_eq place) (places found.contexts)) (nat_eq place claim.place || false) none (or_none (nat_eq place claim.place) false apart refl)))
+    where
+      r : Registry
+      r = registry_of setting before
+
+      elsewhere : (apid : List ℕ) (found new : App) → Claims r claim apid found → new.number ≡ found.number
+          → (nat_eq place claim.place ≡ false → list_any (nat_eq place) (places found.contexts) ≡ false → list_any (nat_eq place) (places new.contexts) ≡ false) → Free (with_app r apid new)
+      elsewhere apid found new may same lacks =
+          let unique = numbered r.apps claim.app apid (unique-registry_of setting before) may.numbered in
+          let is : found ≡ unique.app = cc (sym may.found ∙ unique.there) in
+          let number_is : found.number ≡ claim.app = ap (λ (a : App). a.number) is ∙ unique.is in
+          lack-set_value app place (bytes_eq apid) r.apps new free (λ here.
+          let own : found.number ≡ app = sym same ∙ here in
+          lacks (ne_eqb place claim.place (λ same_place. other (sym number_is ∙ own) (sym same_place))) (lack-lookup app place (bytes_eq apid) r.apps found free may.found own))
 
   abbrev Other : Event → Type 0
   Other (event.Claim claim moment) = claim.app ≡ app → claim.place ≡ place → ⊥
@@ -186,7 +175,7 @@ module _ (setting : Setting) (app place : ℕ) (below : place < 64) where
   free_step before (event.Claim claim moment) other leaves free = subst Free (sym (registry-one setting before (event.Claim claim moment))) (claim_leaves before claim other free)
   free_step before (event.Request client frame answer) other leaves free =
       subst Free (sym (registry-one setting before (event.Request client frame answer)))
-      (served_keeps (AllLack app place) (lack-releveled app place) setting (slots_of setting before) (registry_of setting before) (asked frame) answer free)
+      (served_makes Free (registry_of setting before) free (λ level relevel. lack-releveled app place relevel (registry_of setting before).apps free) (λ new stored is. is) setting (slots_of setting before) (asked frame) answer)
   free_step before (event.Log n writer call moment) other leaves free = subst Free (sym (registry-one setting before (event.Log n writer call moment))) free
   free_step before (event.Lost n count moment) other leaves free = subst Free (sym (registry-one setting before (event.Lost n count moment))) free
   free_step before (event.Level slot level) other leaves free = subst Free (sym (registry-one setting before (event.Level slot level))) free

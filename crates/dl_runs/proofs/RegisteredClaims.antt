@@ -21,10 +21,10 @@ use Rattle.dl_model.specs.declared.registry.Slot.{Slot}
 use Rattle.dl_model.specs.Accounts.{claim_of, claims}
 use Rattle.dl_model.specs.Journal.{registry_of, slots_of}
 use Rattle.dl_script_model.specs.Marks.{Mark, journal}
-use Rattle.dl_model.specs.Registry.{App, Registry, apid_numbered, app_of, claimed, context_claimed, context_of, has_place, is_free, of_channel, places, slot_of, stored_level, with_app, with_claim}
+use Rattle.dl_model.specs.Registry.{App, Registry, apid_numbered, app_of, claimed, context_claimed, context_of, has_place, is_free, places, slot_of, stored_level, with_app, with_claim}
 use Rattle.dl_script_model.specs.Runs.{AreFounded}
 use Rattle.dl_model.specs.Setting.{Setting}
-use Rattle.dl_model.proofs.AppPresence.{found_own}
+use Rattle.dl_model.proofs.Changes.{app_of_own, found_on}
 use Rattle.dl_model.proofs.OneMore.{registry-one}
 use Rattle.dl_model.proofs.Presence.{bytes_same, lookup-push, lookup-set_same}
 use Rattle.dl_laws.specs.PresentClaims.{IsThere}
@@ -127,9 +127,6 @@ same_kind : (stored : List StoredLevel) (apid : List ℕ) (claim : Claimed) (app
 same_kind stored apid claim app (Some context) = (refl, refl)
 same_kind stored apid claim app None = (refl, refl)
 
-on_channel : (app : App) (channel : ℕ) → app.channel ≡ channel → of_channel channel app ≡ Some app
-on_channel app channel same = ap (λ (b : Bool). cond b (Some app) None) (eq-eqb app.channel channel same)
-
 registered : (r : Registry) (apid : List ℕ) (claim : Claimed) (app : App) → apid_numbered r claim.app ≡ Some apid → lookup (bytes_eq apid) r.apps ≡ Some app → app.channel ≡ 0
     → IsRegistered (with_app r apid (with_claim r.stored apid claim app (context_of app claim.ctid))) claim
 registered r apid claim app number there channel =
@@ -141,7 +138,7 @@ registered r apid claim app number there channel =
       app = new;
       context = now.context;
       numbered = number_kept claim.app apid r.apps app new there kind.0 ∙ number;
-      there = ap (option_and_then (of_channel 0)) (lookup-set_same apid r.apps app new there) ∙ on_channel new 0 (kind.1 ∙ channel);
+      there = app_of_own (with_app r apid new) 0 apid new (lookup-set_same apid r.apps app new there) (kind.1 ∙ channel);
       named = now.named;
       placed = now.placed;
     }
@@ -154,7 +151,7 @@ taken_there : (setting : Setting) (before : List Event) (claim : Claimed) → cl
 taken_there setting before claim below first unused apid number app there =
     let r = registry_of setting before in
     let slots = slots_of setting before in
-    let own = found_own r 0 apid 0 apid (lookup (bytes_eq apid) r.apps) app there in
+    let own = found_on 0 (lookup (bytes_eq apid) r.apps) app there in
     let mine = numbered r.apps claim.app apid (unique-registry_of setting before) number in
     let same : app ≡ mine.app = cc (sym own.0 ∙ mine.there) in
     let number_is : app.number ≡ claim.app = ap (λ (a : App). a.number) same ∙ mine.is in

@@ -1,9 +1,9 @@
 -- What a message of an application leaves of a place that nobody has.
-use Rattle.std.proofs.Common.{◌≡◌, ℕ, suc, ◌+◌, ◌<◌, ◌≤◌, Bool, true, false, cond, get_or, List, [], ◌∷◌, length, map, not, Option, Some, None, Result, Ok, Err, refl, sym, ap, subst, ◌∙◌, arith, true≢false}
-use Rattle.std.specs.Prelude.{◌==◌, ◌||◌, nat_eq, nat_le, if◌then◌else◌, slice_get, IfOk}
+use Rattle.std.proofs.Common.{◌≡◌, ℕ, suc, ◌+◌, ◌<◌, ◌≤◌, Bool, true, false, cond, get_or, List, [], ◌∷◌, length, map, not, Some, refl, sym, ap, subst, ◌∙◌, arith, true≢false}
+use Rattle.std.specs.Prelude.{◌||◌, nat_eq, slice_get, IfOk}
 use Rattle.std.specs.List.{AllByRecursion, IsDistinct, filter, list_any}
 use Rattle.std.specs.Map.{lookup}
-use Rattle.std.specs.Option.{option_map, option_or}
+use Rattle.std.specs.Option.{option_map}
 use Rattle.std.specs.Str.{bytes_eq}
 use Rattle.std.proofs.lemmas.Bool.{eq-eqb, ne_eqb}
 use Rattle.std.proofs.lemmas.List.Folds.{list_any-append}
@@ -11,20 +11,15 @@ use Rattle.std.proofs.lemmas.List.Quantifiers.{position-Some}
 use Rattle.std.proofs.lemmas.Option.{slice_get-get_or, slice_get-map}
 use Rattle.std.proofs.lemmas.Map.Keys.{IsDistinct-head, IsDistinct-tail}
 use Rattle.dl_lemmas.proofs.Bools.{neither}
-use Rattle.dl_lemmas.proofs.Options.{ifok_if}
 use Rattle.dl_lemmas.proofs.Lists.{all_both}
-use Rattle.dl_bytes.specs.Id.{zero_id}
-use Rattle.dl_bytes.specs.Limits.{last_version}
 use Rattle.dl_bytes.specs.declared.user.UserMsg.{UserMsg}
 use Rattle.dl_bytes.specs.declared.user.UserMsg.TheVariants.{RegisterApp, UnregisterApp, RegisterContext, UnregisterContext, Log, LogLevel, Injection, Overflow}
 use Rattle.dl_script_model.specs.declared.line.AppLine.{AppLine}
 use Rattle.dl_model.specs.declared.context.Context.{Context}
-use Rattle.dl_model.specs.declared.registry.RegistryFault.{RegistryFault}
-use Rattle.dl_model.specs.declared.registry.RegistryFault.TheVariants as fault
 use Rattle.dl_model.specs.declared.registry.Slot.{Slot}
 use Rattle.dl_script_model.specs.Marks.{Mark, apps, number_of}
-use Rattle.dl_model.specs.Registry.{App, Registry, app_of, app_registered, app_unregistered, applied, context_of, context_registered, context_unregistered, for_app, least_free, numbers, places, places_of, slot_of, stored_level, with_app, with_context, with_new_context, without}
-use Rattle.dl_model.proofs.Order.{app_of_found}
+use Rattle.dl_model.specs.Registry.{App, Registry, app_of, applied, least_free, numbers, places, places_of, with_app}
+use Rattle.dl_model.proofs.Changes.{app_of_own, app_registers, app_unregisters, context_registers, context_unregisters, new_app}
 use Rattle.dl_model.proofs.Placed.{places-push, places-same}
 use Rattle.dl_model.proofs.Presence.{same_bytes}
 use Rattle.dl_model.proofs.StandingApps.{AreFirst, Who, who}
@@ -60,53 +55,25 @@ module _ (app place : ℕ) where
     lacked : (apid : List ℕ) (a : App) → lookup (bytes_eq apid) r.apps ≡ Some a → a.number ≡ app → list_any (nat_eq place) (places a.contexts) ≡ false
     lacked apid a found = lack-lookup app place (bytes_eq apid) r.apps a free found
 
-    registered : (channel : ℕ) (apid : List ℕ) (pid : ℕ) (text : List ℕ) (o : Option App) → lookup (bytes_eq apid) r.apps ≡ o → IfOk (app_registered r channel apid pid text o) Free
-    registered channel apid pid text (Some a) found = by (a.channel == channel) where
-      by : (b : Bool) → IfOk (if b then Ok (with_app r apid (record a { pid = pid; text = text })) else Err fault.Taken) Free
-      by true = changed apid (record a { pid = pid; text = text }) (lacked apid a found)
-      by false = tt
-    registered channel apid pid text None found =
-        ifok_if Free (nat_le 16 (length r.apps)) fault.AppsFull _
-        (all_both (λ (e : List ℕ × App). e.1.number ≡ app → list_any (nat_eq place) (places e.1.contexts) ≡ false) r.apps
-        ((apid, record { channel = channel; number = least_free (numbers r.apps); pid = pid; text = text; contexts = [] }) ∷ []) free ((λ _. refl), tt))
-
-    unregistered : (apid : List ℕ) (o : Option App) → IfOk (app_unregistered r apid o) Free
-    unregistered apid None = tt
-    unregistered apid (Some a) = all_filter (λ (e : List ℕ × App). e.1.number ≡ app → list_any (nat_eq place) (places e.1.contexts) ≡ false) (λ (e : List ℕ × App). not (bytes_eq apid e.0)) r.apps free
-
-    in_app : (channel : ℕ) (apid : List ℕ) (o : Option App) (next : App → Result Registry RegistryFault) → app_of r channel apid ≡ o → ((a : App) → app_of r channel apid ≡ Some a → IfOk (next a) Free) → IfOk (for_app o next) Free
-    in_app channel apid None next found each = tt
-    in_app channel apid (Some a) next found each = each a found
-
-    in_context : (slots : ℕ → Slot) (apid ctid : List ℕ) (position : ℕ) (level : Option ℕ) (text : List ℕ) (a : App) (o : Option Context) → lookup (bytes_eq apid) r.apps ≡ Some a → context_of a ctid ≡ o
-        → (a.number ≡ app → least_free (places a.contexts) ≡ place → ⊥) → IfOk (context_registered slots r apid ctid position level text a o) Free
-    in_context slots apid ctid position level text a (Some context) found named spares =
-        let new : Context = record context { position = position; text = text } in
-        changed apid (with_context a ctid new) (λ here. ap (list_any (nat_eq place)) (places-same (bytes_eq ctid) a.contexts context new named refl) ∙ lacked apid a found here)
-    in_context slots apid ctid position level text a None found named spares =
-        let least = least_free (places a.contexts) in
-        let new : Context = record { place = least; further = []; own = option_or (stored_level r.stored apid ctid) level; position = position; text = text } in
-        ifok_if Free (nat_le 64 (length (places a.contexts))) fault.ContextsFull _
-        (ifok_if Free ((slots (slot_of a.number least)).version == last_version) fault.Worn _
-        (changed apid (with_new_context a ctid new) (λ here.
-        let other : nat_eq place least ≡ false = ne_eqb place least (λ same. spares here (sym same)) in
-        ap (list_any (nat_eq place)) (places-push a.contexts ctid new refl) ∙ list_any-append (nat_eq place) (places a.contexts) (least ∷ [])
-        ∙ ap (λ (b : Bool). b || (nat_eq place least || false)) (lacked apid a found here) ∙ ap (λ (b : Bool). b || false) other)))
-
-    out_of_context : (apid ctid : List ℕ) (a : App) (o : Option Context) → lookup (bytes_eq apid) r.apps ≡ Some a → IfOk (context_unregistered r apid ctid a o) Free
-    out_of_context apid ctid a None found = tt
-    out_of_context apid ctid a (Some context) found =
-        changed apid (record a { contexts = without ctid a.contexts }) (λ here. none_kept (λ (c : List ℕ × Context). not (bytes_eq ctid c.0)) a.contexts (lacked apid a found here))
-
     pub told_free : (slots : ℕ → Slot) (channel : ℕ) (msg : UserMsg) → Spares r channel msg → IfOk (applied slots r channel msg) Free
-    told_free slots channel (RegisterApp apid pid text) spares = ifok_if Free (bytes_eq apid zero_id) fault.ZeroId _ (registered channel apid pid text (lookup (bytes_eq apid) r.apps) refl)
-    told_free slots channel (UnregisterApp apid pid) spares = unregistered apid (app_of r channel apid)
+    told_free slots channel (RegisterApp apid pid text) spares =
+        app_registers slots r channel Free apid pid text (λ a found of. changed apid (record a { pid = pid; text = text }) (lacked apid a found))
+        (λ none room. all_both (λ (e : List ℕ × App). e.1.number ≡ app → list_any (nat_eq place) (places e.1.contexts) ≡ false) r.apps ((apid, new_app r channel pid text) ∷ []) free ((λ _. refl), tt))
+    told_free slots channel (UnregisterApp apid pid) spares =
+        app_unregisters slots r channel Free apid pid
+        (λ a found of. all_filter (λ (e : List ℕ × App). e.1.number ≡ app → list_any (nat_eq place) (places e.1.contexts) ≡ false) (λ (e : List ℕ × App). not (bytes_eq apid e.0)) r.apps free)
     told_free slots channel (RegisterContext apid ctid position level trace pid text) spares =
-        ifok_if Free (bytes_eq apid zero_id || bytes_eq ctid zero_id) fault.ZeroId _
-        (in_app channel apid (app_of r channel apid) _ refl (λ a found.
-        in_context slots apid ctid position level text a (context_of a ctid) (app_of_found r channel apid a found) refl (spares a found)))
+        context_registers slots r channel Free apid ctid position level trace pid text
+        (λ a context found of there. changed apid _ (λ here.
+        ap (list_any (nat_eq place)) (places-same (bytes_eq ctid) a.contexts context (record context { position = position; text = text }) there refl) ∙ lacked apid a found here))
+        (λ a found of there room. changed apid _ (λ here.
+        let least = least_free (places a.contexts) in
+        let other : nat_eq place least ≡ false = ne_eqb place least (λ same. spares a (app_of_own r channel apid a found of) here (sym same)) in
+        ap (list_any (nat_eq place)) (places-push a.contexts ctid _ refl) ∙ list_any-append (nat_eq place) (places a.contexts) (least ∷ [])
+        ∙ ap (λ (b : Bool). b || (nat_eq place least || false)) (lacked apid a found here) ∙ ap (λ (b : Bool). b || false) other))
     told_free slots channel (UnregisterContext apid ctid pid) spares =
-        in_app channel apid (app_of r channel apid) _ refl (λ a found. out_of_context apid ctid a (context_of a ctid) (app_of_found r channel apid a found))
+        context_unregisters slots r channel Free apid ctid pid
+        (λ a context found of there. changed apid _ (λ here. none_kept (λ (c : List ℕ × Context). not (bytes_eq ctid c.0)) a.contexts (lacked apid a found here)))
     told_free slots channel (Log bytes) spares = free
     told_free slots channel (LogLevel level trace position) spares = free
     told_free slots channel (Injection position service body) spares = free

@@ -1,8 +1,7 @@
 -- What became of all that programs outside sent, step by step.
-use Rattle.std.proofs.Common.{◌≡◌, ◌≢◌, ◌<◌, ◌≤◌, ◌+◌, ◌-◌, ◌⊎◌, ℕ, Bool, true, false, cond, not, filter, inl, inr, List, [], ◌∷◌, ◌++◌, length, map, take, Option, Some, None, is_some, refl, sym, ap, subst, ◌∙◌, arith, append-nil, append_assoc, length-append}
-use Rattle.std.specs.Prelude.{IfSome, IsSome, nat_eq, slice_get}
+use Rattle.std.proofs.Common.{◌≡◌, ◌≢◌, ◌<◌, ◌≤◌, ◌+◌, ◌-◌, ◌⊎◌, ℕ, Bool, true, false, inl, inr, List, [], ◌∷◌, ◌++◌, length, map, take, Option, Some, None, is_some, refl, sym, ap, subst, ◌∙◌, arith, append-nil, append_assoc, length-append}
+use Rattle.std.specs.Prelude.{IfSome, IsSome, slice_get}
 use Rattle.std.specs.List.{AllByRecursion}
-use Rattle.std.specs.Map.{lookup}
 use Rattle.std.proofs.lemmas.Bool.Decides.{eqb_tells}
 use Rattle.dl_bytes.specs.Cutting.{AreCut}
 use Rattle.dl_bytes.proofs.Cutting.{cut_more, cut_on}
@@ -47,7 +46,7 @@ use Rattle.dl_serve.specs.Admitted.{AllAdmitted, IsFarewell, StopsFor, TellGiven
 use Rattle.dl_serve.specs.Closed.{IsLeft}
 use Rattle.dl_serve.specs.Program.{HasOpened}
 use Rattle.dl_serve.specs.Told.{Told}
-use Rattle.dl_serve.proofs.OtherEntries.{added_apart, added_here, gone_apart, taken_at, value_apart, value_here}
+use Rattle.dl_serve.proofs.OtherEntries.{added_apart, added_here, gone_apart, gone_here, taken_at, value_apart, value_here}
 use Rattle.dl_serve.proofs.ServingSteps.{first, serving_goes}
 
 -- ---- what is known of one program
@@ -272,16 +271,6 @@ changed number low old new more was now c says opened others step k = (
 inboxes_same : (old new : Channels) → new ≡ old → (number : ℕ) → inbox_of new.inboxes number ≡ inbox_of old.inboxes number
 inboxes_same old new same number = ap (λ (c : Channels). inbox_of c.inboxes number) same
 
-gone_own : (number : ℕ) (es : List (ℕ × cutter.Channel)) → lookup (nat_eq number) (filter (λ (e : ℕ × cutter.Channel). not (nat_eq number e.0)) es) ≡ None
-gone_own number [] = refl
-gone_own number (e ∷ es) = by (nat_eq number e.0) refl (gone_own number es) where
-  gone : List (ℕ × cutter.Channel)
-  gone = filter (λ (x : ℕ × cutter.Channel). not (nat_eq number x.0)) es
-
-  by : (b : Bool) → nat_eq number e.0 ≡ b → lookup (nat_eq number) gone ≡ None → lookup (nat_eq number) (filter (λ (x : ℕ × cutter.Channel). not (nat_eq number x.0)) (e ∷ es)) ≡ None
-  by true is rest = ap (λ (t : Bool). lookup (nat_eq number) (cond (not t) (e ∷ gone) gone)) is ∙ rest
-  by false is rest = ap (λ (t : Bool). lookup (nat_eq number) (cond (not t) (e ∷ gone) gone)) is ∙ ap (λ (t : Bool). cond t (Some e.1) (lookup (nat_eq number) gone)) is ∙ rest
-
 program_keeps : (number : ℕ) (low : 1 ≤ number) (kind : ProgramKind) (old new : State) → IsProgramStep number kind old new → Keeps old → IsSome new.events × Knows (told_of new.events) new.channels new.programs old.stops
 program_keeps number low (Said ends link inbox msgs) old new step k =
     let inboxes : (other : ℕ) → other ≢ number → inbox_of new.channels.inboxes other ≡ inbox_of old.channels.inboxes other =
@@ -329,7 +318,7 @@ program_keeps number low Ended old new step k =
 
     now : (n : ℕ) → (inbox_of new.channels.inboxes n ≡ None) ⊎ (inbox_of new.channels.inboxes n ≡ inbox_of old.channels.inboxes n)
     now n = elim (eqb_tells n number) [
-      | inl same ↦ inl (ap (λ (m : ℕ). inbox_of new.channels.inboxes m) same.1 ∙ ap (λ (c : Channels). inbox_of c.inboxes number) step.1 ∙ gone_own number old.channels.inboxes)
+      | inl same ↦ inl (ap (λ (m : ℕ). inbox_of new.channels.inboxes m) same.1 ∙ ap (λ (c : Channels). inbox_of c.inboxes number) step.1 ∙ gone_here number old.channels.inboxes)
       | inr other ↦ inr (ap (λ (c : Channels). inbox_of c.inboxes n) step.1 ∙ gone_apart number n old.channels.inboxes other.1)
     ]
 
@@ -439,11 +428,11 @@ module _ (IsTold : LinkTold → Type 0) (tells : (link : LinkTold) → IsTold li
       let known = quiet old old (record { kept = λ some. some; says = λ some number low. sym (append-nil (told_of old.events number)) }) old.channels refl refl true (stopping_heard old.stops) k in
       subst Keeps (sym step) known
 
--- in the end
-pub all_admitted : (kept : List Event) (links : List LinkTold) (ends : List (Option ChannelEnd)) (channels : Channels) (stop : Bool) (many : ℕ) → Knows (told_of (Some kept)) channels (programs_with links ends) stop
-    → AllAdmitted kept links (take many ends)
-all_admitted kept links ends channels stop many knows = λ place link end there slot.
-    let h = knows.each place (program_with link end) (joined_get program_with None links ends place link end there (taken_at ends many place end slot)) in (
+-- whenever nothing waits to be noted
+pub all_admitted : (kept : List Event) (links : List LinkTold) (ends : List (Option ChannelEnd)) (channels : Channels) (stop : Bool) → Knows (told_of (Some kept)) channels (programs_with links ends) stop
+    → AllAdmitted kept links ends
+all_admitted kept links ends channels stop knows = λ place link end there slot.
+    let h = knows.each place (program_with link end) (joined_get program_with None links ends place link end there slot) in (
       h.stream,
       h.given,
       record {
@@ -459,27 +448,34 @@ all_admitted kept links ends channels stop many knows = λ place link end there 
 
 -- ---- the whole
 
+-- before any program came
+pub none_admitted : (s : server.State) → s.events ≡ Some [] → s.programs ≡ [] → s.channels.opened ≡ 0 → s.channels.inboxes ≡ [] → Keeps (state_of s)
+none_admitted s none_kept no_program none_opened no_inbox =
+    let none : programs_with s.programs s.ends ≡ [] = ap (λ (ls : List LinkTold). programs_with ls s.ends) no_program in (
+      ap is_some none_kept,
+      record {
+        many = none_opened ∙ ap (λ (ps : List Program). length ps) (sym none);
+        each = λ place p there. absurd (let bad : slice_get [] place ≡ Some p = subst (λ (ps : List Program). slice_get ps place ≡ Some p) none there in cc bad);
+        unsaid = λ number above. ap (λ (o : Option (List Event)). told_of o number) none_kept;
+        unheld = λ number above. ap (λ (is : List (ℕ × cutter.Channel)). inbox_of is number) no_inbox;
+      },
+    )
+
 module _ {L : Type 0} (link_told : L → LinkTold) (tells : TellGiven link_told) where
+  pub goes_keep : (old new : State) → Goes (IsToldBy link_told) old new → Keeps old → Keeps new
+  goes_keep old new goes k =
+      let given : (link : LinkTold) → IsToldBy link_told link → IsSome link.given = (λ link is. ap (λ (l : LinkTold). is_some l.given) is.1 ∙ tells is.0) in
+      steps_keep (IsToldBy link_told) Keeps (step_keeps (IsToldBy link_told) given) goes.kinds old new goes.steps k
+
   -- a server to which no program had come came to this by steps, and this was left of it
   pub left_admitted : (old new : server.State) (closed : Closed L) → Goes (IsToldBy link_told) (state_of old) (state_in true new) → old.events ≡ Some [] → old.programs ≡ [] → old.channels.opened ≡ 0
       → old.channels.inboxes ≡ [] → IsLeft link_told new closed → AllAdmitted closed.events.events (map link_told closed.users.links) closed.ends
   left_admitted old new closed goes none_kept no_program none_opened no_inbox left =
-      let none : programs_with old.programs old.ends ≡ [] = ap (λ (ls : List LinkTold). programs_with ls old.ends) no_program in
-      let begins : Keeps (state_of old) = (
-        ap is_some none_kept,
-        record {
-          many = none_opened ∙ ap (λ (ps : List Program). length ps) (sym none);
-          each = λ place p there. absurd (let bad : slice_get [] place ≡ Some p = subst (λ (ps : List Program). slice_get ps place ≡ Some p) none there in cc bad);
-          unsaid = λ number above. ap (λ (o : Option (List Event)). told_of o number) none_kept;
-          unheld = λ number above. ap (λ (is : List (ℕ × cutter.Channel)). inbox_of is number) no_inbox;
-        },
-      ) in
-      let given : (link : LinkTold) → IsToldBy link_told link → IsSome link.given = (λ link is. ap (λ (l : LinkTold). is_some l.given) is.1 ∙ tells is.0) in
-      let last : Keeps (state_in true new) = steps_keep (IsToldBy link_told) Keeps (step_keeps (IsToldBy link_told) given) goes.kinds (state_of old) (state_in true new) goes.steps begins in
+      let last : Keeps (state_in true new) = goes_keep (state_of old) (state_in true new) goes (none_admitted old none_kept no_program none_opened no_inbox) in
       let known = subst (λ (es : Option (List Event)). Knows (told_of es) new.channels (programs_with new.programs new.ends) true) left.events last.1 in
       subst (λ (es : List (Option ChannelEnd)). AllAdmitted closed.events.events (map link_told closed.users.links) es) (sym left.ends)
       (subst (λ (ls : List LinkTold). AllAdmitted closed.events.events ls (take (length new.programs) new.ends)) (sym left.users)
-      (all_admitted closed.events.events new.programs new.ends new.channels true (length new.programs) known))
+      (λ place link end there slot. all_admitted closed.events.events new.programs new.ends new.channels true known place link end there (taken_at new.ends (length new.programs) place end slot)))
 
   pub sent : (begun : Begun) (old new : Told L) (full : Bool) (closed : Closed L) → HasOpened link_told begun full old new closed
       → AllAdmitted closed.events.events (map link_told closed.users.links) closed.ends

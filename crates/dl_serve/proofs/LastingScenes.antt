@@ -1,7 +1,6 @@
 -- What rounds leave of the counts of links and channels.
-use Rattle.std.proofs.Common.{◌≡◌, ◌≤◌, ◌+◌, ◌-◌, ℕ, Bool, true, false, inl, inr, List, [], ◌∷◌, ◌++◌, length, map, Option, Some, None, refl, sym, ap, subst, ◌∙◌, arith, length-append}
+use Rattle.std.proofs.Common.{◌≡◌, ◌≤◌, ◌-◌, ℕ, Bool, true, false, inl, inr, List, [], ◌∷◌, length, Option, Some, None, refl, sym, ap, subst, ◌∙◌, arith}
 use Rattle.std.specs.Prelude.{not, nat_eq, slice_set}
-use Rattle.std.proofs.lemmas.List.{length-map}
 use Rattle.std.proofs.lemmas.List.Sums.{count_by-le-length, length-filter}
 use Rattle.dl_bytes.specs.declared.moment.Moment.{Moment}
 use Rattle.dl_channel.specs.declared.outcome.ChannelEnd.{ChannelEnd}
@@ -10,24 +9,13 @@ use Rattle.dl_outside.specs.Told.{LinkTold}
 use Rattle.dl_rounds.specs.Clients.{Clients, VisitsAll}
 use Rattle.dl_rounds.specs.Visits.{Closed as ClosesOne, ClosesAll, Heard as HeardOne, HearsAll, Pumped}
 use Rattle.dl_rounds.proofs.ByPlace.{set_length}
-use Rattle.dl_server.specs.State.{State}
 use Rattle.dl_serving.specs.Rounds.{Heard, Scene, Sent, Stopped, VisitsEach, Visited, seen_by}
 use Rattle.dl_serving.specs.Visits.{Ends, EndsFor, Hears, Pumps}
 use Rattle.dl_serving.proofs.Behind.{others_than}
 use Rattle.dl_serving.proofs.LeftOpen.{Leaves, ended_leaves, heard_leaves, pumped_leaves}
 use Rattle.dl_socket.specs.Channels.{Channels, open_in}
 use Rattle.dl_socket.specs.Turns.{Sight}
-use Rattle.dl_serve.specs.Rounds.{IsSeen, kept}
 use Rattle.dl_serve.proofs.OtherEntries.{set_long}
-
-module _ {L : Type 0} (told : L → LinkTold) where
-  pub one_more : (links : List L) (link : L) → length (map told (links ++ link ∷ [])) ≡ length (map told links) + 1
-  one_more links link = omega (arith, length-map (links ++ link ∷ []) told, length-append links (link ∷ []), length-map links told)
-
-  pub linked_in : (s : State) → IsSeen told kept s → length s.core.hub.clients ≡ length s.clients
-  linked_in s is_seen =
-      let server = is_seen.server in
-      subst (λ (x : State). length x.core.hub.clients ≡ length x.clients) (sym is_seen.is) (is_seen.is_server.linked.many ∙ sym (length-map server.clients.links told))
 
 -- ---- visits to clients
 

@@ -1,5 +1,5 @@
 -- Rounds, one after the other.
-use Rattle.std.proofs.Common.{◌≡◌, ◌+◌, ◌<◌, ℕ, suc, true, false, refl, subst, ◌∙◌, arith}
+use Rattle.std.proofs.Common.{◌≡◌, ◌+◌, ◌<◌, ℕ, suc, true, refl, subst, ◌∙◌, arith}
 use Rattle.dl_events.specs.Journal.{Journaled}
 use Rattle.dl_outside.specs.Told.{LinkTold, NetTold}
 use Rattle.dl_server.specs.Round.{IsRound}
@@ -20,10 +20,6 @@ module _ {L : Type 0} (told : L → LinkTold) where
   one_more many net net_then net_now users users_then users_now old between new rounds room round seen =
       let next : suc many ≡ many + 1 = omega arith in
       subst (λ (n : ℕ). AreRounds told n net net_now users users_now old new) next (net_then, users_then, between, rounds, room, round, seen)
-
-  pub served_all : (asked many : ℕ) (net net_now users users_now : NetTold L) (old new : State) → many ≡ asked → AreRounds told many net net_now users users_now old new
-      → HasMadeRounds told asked false net net_now users users_now old new
-  served_all asked many net net_now users users_now old new all rounds = record { many = many; rounds = rounds; all = λ _. all; fewer = λ full. absurd (cc full) }
 
   pub served_some : (asked many : ℕ) (net net_now users users_now : NetTold L) (old new : State) → many < asked → IsFull new.events → AreRounds told many net net_now users users_now old new
       → HasMadeRounds told asked true net net_now users users_now old new

@@ -8,6 +8,8 @@ use Rattle.dl_core.specs.Follows.{Begins}
 use Rattle.dl_core.specs.Settings as settings
 use Rattle.dl_core.specs.State.{Core}
 use Rattle.dl_events.specs.Journal.{Journaled}
+use Rattle.dl_model.specs.declared.software.Software.{Software}
+use Rattle.dl_model.specs.declared.software.Software.TheVariants.{Run}
 use Rattle.dl_outside.specs.Folder.{Files}
 use Rattle.dl_outside.specs.Told.{LinkTold}
 use Rattle.dl_server.specs.Server as server
@@ -43,8 +45,8 @@ pub made_trace : (conf : Conf) (files : Option Files) (kept : Option Trace) → 
 made_trace conf files None begun = tt
 made_trace conf files (Some kept) begun = begun.1
 
-module _ {L : Type 0} (told : L → LinkTold) (is_one : (conf : Conf) (stored : Stored) (first : ℕ) (trace : Option Trace) (journal : Journaled) (clients programs at_once in_all : ℕ) (s : Server Journaled L)
-    → server.IsMade (settings.begun_for conf stored first trace clients) journal (none_opened at_once in_all) clients programs s → in_all ≤ programs → server.IsServer told s) where
+module _ {L : Type 0} (told : L → LinkTold) (is_one : (software : Software) (conf : Conf) (stored : Stored) (first : ℕ) (trace : Option Trace) (journal : Journaled) (clients programs at_once in_all : ℕ) (s : Server Journaled L)
+    → server.IsMade (settings.begun_for software conf stored first trace clients) journal (none_opened at_once in_all) clients programs s → in_all ≤ programs → server.IsServer told s) where
   -- a server of what was begun is opened for it
   pub opened_so : (begun : Begun) (opened : Opened L) (core : Core) (journal : Journaled) (channels : Channels) → core ≡ settings.begun begun.conf begun.stored 0 begun.trace → Begins (setting begun) begun.trace core
       → journal ≡ record { events = []; spare = 0 } → channels ≡ none_opened open_channel_limit channel_limit → server.IsMade core journal channels client_limit channel_limit opened.server
@@ -58,6 +60,6 @@ module _ {L : Type 0} (told : L → LinkTold) (is_one : (conf : Conf) (stored : 
         users = users;
         rounds = rounds;
         made = made_of;
-        is_server = is_one begun.conf begun.stored 0 begun.trace first client_limit channel_limit open_channel_limit channel_limit opened.server made_of (omega arith);
+        is_server = is_one Run begun.conf begun.stored 0 begun.trace first client_limit channel_limit open_channel_limit channel_limit opened.server made_of (omega arith);
         begins = subst (Begins (setting begun) begun.trace) (sym made.core_is) begins;
       }

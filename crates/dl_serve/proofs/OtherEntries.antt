@@ -86,6 +86,16 @@ module _ {A : Type 0} where
         ap (λ (t : Bool). lookup (nat_eq other) (cond (not t) (e ∷ gone) gone)) here.0 ∙ rest ∙ sym (ap (λ (t : Bool). cond t (Some e.1) (lookup (nat_eq other) es)) differs)
     by (inr there) rest = ap (λ (t : Bool). lookup (nat_eq other) (cond (not t) (e ∷ gone) gone)) there.0 ∙ ap (λ (o : Option A). cond (nat_eq other e.0) (Some e.1) o) rest
 
+  pub gone_here : (channel : ℕ) (es : List (ℕ × A)) → lookup (nat_eq channel) (filter (λ (e : ℕ × A). not (nat_eq channel e.0)) es) ≡ None
+  gone_here channel [] = refl
+  gone_here channel (e ∷ es) = by (nat_eq channel e.0) refl (gone_here channel es) where
+    gone : List (ℕ × A)
+    gone = filter (λ (x : ℕ × A). not (nat_eq channel x.0)) es
+
+    by : (b : Bool) → nat_eq channel e.0 ≡ b → lookup (nat_eq channel) gone ≡ None → lookup (nat_eq channel) (filter (λ (x : ℕ × A). not (nat_eq channel x.0)) (e ∷ es)) ≡ None
+    by true is rest = ap (λ (t : Bool). lookup (nat_eq channel) (cond (not t) (e ∷ gone) gone)) is ∙ rest
+    by false is rest = ap (λ (t : Bool). lookup (nat_eq channel) (cond (not t) (e ∷ gone) gone)) is ∙ ap (λ (t : Bool). cond t (Some e.1) (lookup (nat_eq channel) gone)) is ∙ rest
+
   pub added_apart : (channel other : ℕ) (es : List (ℕ × A)) (w : A) → other ≢ channel → lookup (nat_eq other) (es ++ (channel, w) ∷ []) ≡ lookup (nat_eq other) es
   added_apart channel other [] w apart = ap (λ (t : Bool). cond t (Some w) None) (other_key other channel apart)
   added_apart channel other (e ∷ es) w apart = ap (λ (o : Option A). cond (nat_eq other e.0) (Some e.1) o) (added_apart channel other es w apart)

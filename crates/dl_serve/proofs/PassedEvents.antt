@@ -180,7 +180,7 @@ module _ (channel : ℕ) (moment : Moment) where
 
   -- ---- visits
 
-  hears_pass : (end end_now : Option ChannelEnd) (before after : Sight) (old new : Channels) → Hears channel moment end end_now before after old new → Passes (part_in before) (part_in after)
+  pub hears_pass : (end end_now : Option ChannelEnd) (before after : Sight) (old new : Channels) → Hears channel moment end end_now before after old new → Passes (part_in before) (part_in after)
   hears_pass None end_now before after old new hears = elim hears [
     | inl turned ↦
         passes_both (part_in before) (part_in turned.0) (part_in after) (turn_passes channel moment end_now _ _ turned.2.turn) (ends_for_pass end_now turned.0 after turned.1 new turned.3)
@@ -188,7 +188,7 @@ module _ (channel : ℕ) (moment : Moment) where
   ]
   hears_pass (Some cause) end_now before after old new hears = ends_pass hears.1 before after old new hears.2
 
-  pumps_pass : (end end_now : Option ChannelEnd) (before after : Sight) (old new : Channels) → Pumps channel moment end end_now before after old new → Passes (part_in before) (part_in after)
+  pub pumps_pass : (end end_now : Option ChannelEnd) (before after : Sight) (old new : Channels) → Pumps channel moment end end_now before after old new → Passes (part_in before) (part_in after)
   pumps_pass None end_now before after old new pumps =
       passes_both (part_in before) (part_in pumps.0) (part_in after) (passes_same (part_in before) (part_in pumps.0) (ap part_in pumps.3)) (ends_for_pass end_now pumps.0 after pumps.1 new pumps.4)
   pumps_pass (Some cause) end_now before after old new pumps = passes_same (part_in before) (part_in after) (ap part_in pumps.1)

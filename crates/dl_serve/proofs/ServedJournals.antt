@@ -36,16 +36,17 @@ then_out Tell Held old between new first second = λ run events holds.
     let two = second run (events ++ one.0) one.1 in
     (one.0 ++ two.0, subst (λ (es : List Event). Holds Tell Held ⊥ run es new) (append_assoc events one.0 two.0) two.1)
 
+module _ {L : Type 0} (link_told : L → LinkTold) (Held : Type 0)
+    (round : (net net_now users users_now : NetTold L) (old new : State) → IsRound link_told net net_now users users_now old new → GoesOn (TellTaken link_told) Held old new) where
+  pub rounds_on : (many : ℕ) (net net_now users users_now : NetTold L) (old new : State) → AreRounds link_told many net net_now users users_now old new → GoesOn (TellTaken link_told) Held old new
+  rounds_on zero net net_now users users_now old new h = goes_same (TellTaken link_told) Held old new h.2
+  rounds_on (suc many) net net_now users users_now old new h =
+      goes_both (TellTaken link_told) Held old h.2 new (rounds_on many net h.0 users h.1 old h.2 h.3) (round h.0 net_now h.1 users_now h.2 new h.5)
+
 module _ {L : Type 0} (link_told : L → LinkTold)
     (round : (held : Bool) (net net_now users users_now : NetTold L) (old new : State) → IsRound link_told net net_now users users_now old new → GoesOn (TellTaken link_told) (held ≡ true) old new)
     (close : (held : Bool) (moment : Moment) (old new : State) → IsClosed (TellOver link_told) moment old new → GoesOut (TellTaken link_told) (held ≡ true) old new)
     (outbox : (run : Run) (events : List Event) (taken : ℕ → List ℕ) (core : Core) (client : ℕ) → IsAfter run events taken core → IsSome (outbox_of core.hub client) ↔ IsOpen client events) where
-  rounds_on : (held : Bool) (many : ℕ) (net net_now users users_now : NetTold L) (old new : State) → AreRounds link_told many net net_now users users_now old new
-      → GoesOn (TellTaken link_told) (held ≡ true) old new
-  rounds_on held zero net net_now users users_now old new h = goes_same (TellTaken link_told) (held ≡ true) old new h.2
-  rounds_on held (suc many) net net_now users users_now old new h =
-      goes_both (TellTaken link_told) (held ≡ true) old h.2 new (rounds_on held many net h.0 users h.1 old h.2 h.3) (round held h.0 net_now h.1 users_now h.2 new h.5)
-
   module _ (begun : Begun) (old new : Told L) (full : Bool) (closed : Closed L) (first : FolderTold) (begins : IsBegun begun.conf first.files begun.trace) (quiet : IsQuiet first old.folder)
       (has : HasOpened link_told begun full old new closed) where
     abbrev start : State
@@ -65,7 +66,7 @@ module _ {L : Type 0} (link_told : L → LinkTold)
     goes : (held : Bool) → GoesOut (TellTaken link_told) (held ≡ true) start has.run.closes.0
     goes held =
         then_out (TellTaken link_told) (held ≡ true) start has.run.last has.run.closes.0
-        (rounds_on held has.run.served.many has.net new.net has.users new.users start has.run.last has.run.served.rounds) (close held has.run.moment has.run.last has.run.closes.0 has.run.closes.2)
+        (rounds_on link_told (held ≡ true) (round held) has.run.served.many has.net new.net has.users new.users start has.run.last has.run.served.rounds) (close held has.run.moment has.run.last has.run.closes.0 has.run.closes.2)
 
     pub served_to : IsComeTo link_told (setting begun) begun first new.folder closed
     served_to =

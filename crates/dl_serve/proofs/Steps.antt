@@ -1,6 +1,6 @@
 -- What serving comes to, step by step.
 use Rattle.std.proofs.Common.{◌≡◌, ℕ, Bool, true, false, List, map, Option, Some, None, refl, sym, ap, subst, ◌∙◌}
-use Rattle.std.specs.Prelude.{◌||◌, Err, IsSomeAnd}
+use Rattle.std.specs.Prelude.{◌||◌, Err}
 use Rattle.dl_bytes.specs.declared.moment.Moment.{Moment}
 use Rattle.dl_ending.specs.Ending.{Finishes, unheard as closed_unheard}
 use Rattle.dl_events.specs.Journal.{Journaled}
@@ -24,8 +24,9 @@ use Rattle.dl_serve.specs.Closed.{HasClosedTo, failures_of, has_wanted, is_short
 use Rattle.dl_serve.specs.Comes.{IsComeTo}
 use Rattle.dl_serve.specs.Ends.{EndsEarly, Started}
 use Rattle.dl_serve.specs.Open.{IsHeard, IsOpenedFor, Listen, setting}
-use Rattle.dl_serve.specs.Program.{Ended, EndsBegun, EndsWith, HasOpened, LeavesEarly, counts}
+use Rattle.dl_serve.specs.Program.{Ended, EndsBegun, EndsWith, HasOpened, IsServed, LeavesEarly, counts}
 use Rattle.dl_serve.specs.Rounds.{HasMadeRounds, kept}
+use Rattle.dl_serve.specs.Service.{Standing, frames_in}
 use Rattle.dl_serve.specs.Dropped.{HasDropped}
 use Rattle.dl_serve.specs.Handed.{HasHandedOut, NetsStand}
 use Rattle.dl_serve.specs.Levels.{AllTookLevels}
@@ -172,24 +173,28 @@ module _ {L : Type 0} (link_told : L → LinkTold) where
       → ((full : Bool) (left : Closed L) → HasOpened link_told begun full (record old { folder = between }) new left
       → AllTookLevels (TellTaken link_told) (setting begun) left.events.events (map link_told left.users.links) left.ends)
       → ((full : Bool) (left : Closed L) → HasOpened link_told begun full (record old { folder = between }) new left → HasDropped left)
-      → ((full : Bool) (left : Closed L) (has : HasOpened link_told begun full (record old { folder = between }) new left) → full ≡ false → left.memory ≡ false → NetsStand (record old { folder = between }) new
-      → IsSomeAnd has.run.last.events (λ events. HasHandedOut link_told begun.rounds events old.net new.net old.users new.users left))
+      → ((full : Bool) (left : Closed L) (last : Standing L) (has : HasOpened link_told begun full (record old { folder = between }) new left) → frames_in (setting begun) last.events ≡ has.run.last.core.hub.admitted
+      → IsServed link_told begun full old.net new.net old.users new.users left last → full ≡ false → left.memory ≡ false → NetsStand (record old { folder = between }) new
+      → HasHandedOut link_told begun.rounds last.events old.net new.net old.users new.users left)
+      → ((full : Bool) (left : Closed L) (has : HasOpened link_told begun full (record old { folder = between }) new left)
+      → (last : Standing L) × (has.run.last.events ≡ Some last.events) × (frames_in (setting begun) last.events ≡ has.run.last.core.hub.admitted) × IsServed link_told begun full old.net new.net old.users new.users left last)
       → serve_of said ≡ Some asked → IsStart asked old.folder between begun → EndsBegun link_told begun (record old { folder = between }) new s closed → Ended link_told said old new s closed
-  began said asked begun old between new s None comes admits shows went took dropped hands is start ends =
+  began said asked begun old between new s None comes admits shows went took dropped hands serves is start ends =
       (left_early said old new (record { asked = asked; is_asked = is; begun = begun; between = between; start = start }) s ends.0, ends.1)
-  began said asked begun old between new s (Some closed) comes admits shows went took dropped hands is start ends = (
+  began said asked begun old between new s (Some closed) comes admits shows went took dropped hands serves is start ends = (let served = serves ends.0 closed ends.1 in (
     ends.0,
     record {
       it = record { asked = asked; is_asked = is; begun = begun; between = between; start = start };
-      opens = ends.1;
+      last = served.0;
+      serves = served.3;
       comes = comes ends.0 closed ends.1;
       admits = admits ends.0 closed ends.1;
       shows = shows ends.0 closed ends.1;
       went = went ends.0 closed ends.1;
       took = took ends.0 closed ends.1;
       dropped = dropped ends.0 closed ends.1;
-      hands = λ well stand. hands ends.0 closed ends.1 well.room (unwanted closed well.memory) (record { net = stand.net; users = stand.users });
+      hands = λ well stand. hands ends.0 closed served.0 ends.1 served.2 served.3 well.room (unwanted closed well.memory) (record { net = stand.net; users = stand.users });
     },
     ends_from closed ends.0 (counts old) (counts (record old { folder = between })) (counts new) old.out new.out s
         (counts_same old.folder between old.net old.net old.users old.users start.quiet.well refl refl) ends.2,
-  )
+  ))

@@ -1,89 +1,65 @@
 -- What the links of programs outside took, of a server that was opened, ran and closed.
-use Rattle.std.proofs.Common.{◌≡◌, Bool, ℕ, List, [], ◌++◌, length, map, take, Option, Some, None, refl, sym, ap, subst, replicate}
-use Rattle.std.specs.Prelude.{IsSome, slice_get}
-use Rattle.dl_bytes.specs.declared.moment.Moment.{Moment}
-use Rattle.dl_channel.specs.declared.outcome.ChannelEnd.{ChannelEnd}
-use Rattle.dl_core.specs.Follows.{IsAfter, Run}
+use Rattle.std.proofs.Common.{◌≡◌, ℕ, zero, suc, Bool, List, [], map, Some, None, refl, sym, ap, subst, replicate}
+use Rattle.std.specs.Prelude.{slice_get}
+use Rattle.dl_bytes.specs.Limits.{client_limit}
+use Rattle.dl_core.specs.Follows.{Run}
 use Rattle.dl_events.specs.Journal.{Journaled}
-use Rattle.dl_events.specs.declared.event.Event.{Event}
 use Rattle.dl_loop.specs.Daemon.{TellTaken}
+use Rattle.dl_machine.proofs.ProgramSteps.{programs_with}
+use Rattle.dl_machine.proofs.ServerSteps.{state_of}
+use Rattle.dl_model.specs.Setting.{Setting}
 use Rattle.dl_outside.specs.Links.{Links}
-use Rattle.dl_outside.specs.Told.{FolderTold, LinkTold}
-use Rattle.dl_registry.specs.Kept.{owed_change}
-use Rattle.dl_rounds.specs.Clients.{Clients, VisitsAll}
+use Rattle.dl_outside.specs.Told.{FolderTold, LinkTold, NetTold}
+use Rattle.dl_rounds.specs.Clients.{Clients}
 use Rattle.dl_rounds.specs.Passing.{AreLater}
-use Rattle.dl_rounds.specs.Visits.{ClosesAll, HearsAll, Pumped}
-use Rattle.dl_server.specs.Closing.{IsClosed}
-use Rattle.dl_server.specs.State.{State, seen}
-use Rattle.dl_socket.specs.Channels.{Channels, channel_limit}
+use Rattle.dl_rounds.specs.Ready.{fresh_listener}
+use Rattle.dl_rounds.specs.Visits.{ClosesAll}
+use Rattle.dl_server.specs.State.{State}
+use Rattle.dl_socket.specs.Channels.{Channels, channel_limit, none_opened, open_channel_limit}
 use Rattle.dl_startup.specs.Setup.{IsBegun}
 use Rattle.dl_turns.specs.Gone.{TellOver}
 use Rattle.dl_serve.specs.declared.beginning.Begun.{Begun}
 use Rattle.dl_serve.specs.declared.closed.Closed.{Closed}
-use Rattle.dl_serve.specs.Closed.{IsLeft}
 use Rattle.dl_serve.specs.Comes.{run_in}
 use Rattle.dl_serve.specs.Levels.{AllTookLevels}
 use Rattle.dl_serve.specs.Open.{setting}
 use Rattle.dl_serve.specs.Program.{HasOpened}
-use Rattle.dl_serve.specs.Rounds.{kept}
+use Rattle.dl_serve.specs.Rounds.{AreRounds, kept}
 use Rattle.dl_serve.specs.Told.{Told}
 use Rattle.dl_serve.proofs.CameTo.{what_stood}
-use Rattle.dl_serve.proofs.OpenChannels.{none_open}
-use Rattle.dl_serve.proofs.TookServers.{GoesOn, Known, closing_takes, nothing_taken}
-use Rattle.dl_serve.proofs.WholeClosings.{AllWhole, closing_whole}
-use Rattle.dl_serve.proofs.WholeServers.{Stands, all_levels, rounds_go}
+use Rattle.dl_serve.proofs.NotedSteps.{Follows}
+use Rattle.dl_serve.proofs.ServingSteps.{first as first_state, first_ready, seen_tells}
+use Rattle.dl_serve.proofs.TookSteps.{first_keeps}
+use Rattle.dl_serve.proofs.WholeServers.{IsSettled, Stands, left_took, round_stands}
 
--- ---- at the begin
-
-module _ (Tells : Type 0) (run : Run) where
+module _ {L : Type 0} (told : L → LinkTold) (set : Setting) (room : ℕ) where
   -- before anybody came
-  pub first_stands : (start : State) (many : ℕ) → start.events ≡ Some [] → start.programs ≡ [] → start.ends ≡ replicate many None → start.channels.opened ≡ 0 → start.channels.inboxes ≡ [] → start.channels.outboxes ≡ []
-      → IsAfter run [] (λ number. []) start.core → owed_change start.core.registry ≡ None → Stands Tells run [] start
-  first_stands start many events nobody no_ends opened no_inboxes no_outboxes after settled = record {
-    known = (events, nothing_taken Tells run start.core start.programs start.ends start.channels many nobody no_ends opened no_inboxes no_outboxes after);
-    whole = λ place link there slot. absurd (let bad : slice_get [] place ≡ Some link = subst (λ (ls : List LinkTold). slice_get ls place ≡ Some link) nobody there in cc bad);
+  pub first_stands : (s : State) (at_once clients programs : ℕ) → s.events ≡ Some [] → s.programs ≡ [] → s.channels ≡ none_opened at_once room → s.listeners ≡ replicate clients fresh_listener
+      → s.ends ≡ replicate programs None → Follows set [] s.core → IsSettled s → Stands told set room s
+  first_stands s at_once clients programs events nobody channels listeners ends follows settled = record {
+    keeps = first_keeps (TellTaken told) set at_once room (state_of s) events (ap (λ (ls : List LinkTold). programs_with ls s.ends) nobody) channels follows;
+    ready = first_ready s clients programs (ap (λ (c : Channels). c.inboxes) channels) listeners ends;
     settled = settled;
-    opened = none_open start.programs start.ends start.channels nobody opened no_inboxes;
+    whole = λ past kept place link there slot. absurd (let bad : slice_get [] place ≡ Some link = subst (λ (ls : List LinkTold). slice_get ls place ≡ Some link) nobody there in cc bad);
   }
 
--- ---- at the end
+  rounds_stand : (many : ℕ) (net net_now users users_now : NetTold L) (old new : State) → AreRounds told many net net_now users users_now old new → Stands told set room old → Stands told set room new
+  rounds_stand zero net net_now users users_now old new rounds stands = subst (Stands told set room) (sym rounds.2) stands
+  rounds_stand (suc many) net net_now users users_now old new rounds stands =
+      round_stands told set room rounds.0 net_now rounds.1 users_now rounds.2 new rounds.5 (seen_tells told kept rounds.2 rounds.6) (rounds_stand many net rounds.0 users rounds.1 old rounds.2 rounds.3 stands)
 
-module _ {L : Type 0} (link_told : L → LinkTold) (closed_so : (old new : Clients) → ClosesAll (TellOver link_told) old new → AreLater old new) (run : Run) where
-  pub closed_took : (moment : Moment) (last final : State) (gone : List Event) (closed : Closed L) → IsClosed (TellOver link_told) moment last final → IsLeft link_told final closed → Stands (TellTaken link_told) run gone last
-      → AllTookLevels (TellTaken link_told) run.setting closed.events.events (map link_told closed.users.links) closed.ends
-  closed_took moment last final gone closed closes left stands =
-      let Tells : Type 0 = TellTaken link_told in
-      let all : GoesOn Tells run gone final = closing_takes Tells run closed_so moment last final gone closes stands.known in
-      let whole = closing_whole Tells run closed_so moment last final gone stands.known.1.took closes stands.known.0 stands.known.1.after stands.settled stands.opened.low stands.opened.each stands.whole in
-      let same : gone ++ all.0 ≡ closed.events.events = cc (all.1.0, left.events) in
-      let known : Known Tells run closed.events.events final = subst (λ (es : List Event). Known Tells run es final) {x = gone ++ all.0} same all.1 in
-      let same_whole : gone ++ whole.0 ≡ closed.events.events = cc (whole.1, left.events) in
-      let took_all : AllWhole Tells run closed.events.events final.programs final.ends =
-      subst (λ (es : List Event). AllWhole Tells run es final.programs final.ends) {x = gone ++ whole.0} same_whole whole.2 in
-      subst (λ (es : List (Option ChannelEnd)). AllTookLevels Tells run.setting closed.events.events (map link_told closed.users.links) es) (sym left.ends)
-      (subst (λ (ls : List LinkTold). AllTookLevels Tells run.setting closed.events.events ls (take (length final.programs) final.ends)) (sym left.users)
-      (all_levels Tells run closed.events.events final known took_all))
-
--- ---- the whole
-
-module _ {L : Type 0} (link_told : L → LinkTold) (heard : (moved : Bool) (old new : Clients) → HearsAll moved old new → AreLater old new)
-    (pumped : (moved : Bool) (old new : Clients) → VisitsAll Pumped moved old new → AreLater old new) (closed_so : (old new : Clients) → ClosesAll (TellOver link_told) old new → AreLater old new)
-    (begun : Begun) (old new : Told L) (full : Bool) (closed : Closed L) (first : FolderTold) (begins : IsBegun begun.conf first.files begun.trace) (has : HasOpened link_told begun full old new closed) where
-  pub took_so : AllTookLevels (TellTaken link_told) (setting begun) closed.events.events (map link_told closed.users.links) closed.ends
+module _ {L : Type 0} (told : L → LinkTold) (closed_so : (old new : Clients) → ClosesAll (TellOver told) old new → AreLater old new) (begun : Begun) (old new : Told L) (full : Bool) (closed : Closed L) (first : FolderTold)
+    (begins : IsBegun begun.conf first.files begun.trace) (has : HasOpened told begun full old new closed) where
+  pub took_so : AllTookLevels (TellTaken told) (setting begun) closed.events.events (map told closed.users.links) closed.ends
   took_so =
-      let Tells : Type 0 = TellTaken link_told in
       let opened = has.is_opened in
       let made = opened.made in
       let before = what_stood begun.conf first.files begun.trace begins in
       let run : Run = run_in (setting begun) before.stood in
-      let start : State = seen link_told kept old.folder has.opened.server in
-      let last : State = has.run.last in
-      let served = has.run.served in
-      let programs = ap (λ (ls : Links L). map link_told ls.links) made.no_program in
-      let channels = made.channels_are in
-      let at_first : Stands Tells run [] start =
-      first_stands Tells run start channel_limit (ap (λ (j : Journaled). Some j.events) made.journal_is) programs made.no_end (ap (λ (c : Channels). c.opened) channels) (ap (λ (c : Channels). c.inboxes) channels)
-      (ap (λ (c : Channels). c.outboxes) channels) (opened.begins run refl refl before.after) opened.is_server.linked.settled in
-      let tells : (link : L) → Tells → IsSome (link_told link).taken = (λ link tell. tell link) in
-      let rounds = rounds_go Tells run link_told tells heard pumped served.many has.net new.net has.users new.users start last [] served.rounds at_first in
-      closed_took link_told closed_so run has.run.moment last has.run.closes.0 rounds.0 closed has.run.closes.2 has.run.closes.3 rounds.1
+      let after = opened.begins run refl refl before.after in
+      let start : State = first_state told begun old new full closed has in
+      let at_first : Stands told (setting begun) channel_limit start =
+      first_stands told (setting begun) channel_limit start open_channel_limit client_limit channel_limit (ap (λ (j : Journaled). Some j.events) made.journal_is) (ap (λ (ls : Links L). map told ls.links) made.no_program)
+      made.channels_are made.listeners_are made.no_end (record { registry = after.registry; level = after.set_to.level }) opened.is_server.linked.settled in
+      left_took told (setting begun) channel_limit closed_so has.run.moment has.run.last has.run.closes.0 has.run.closes.2
+      (rounds_stand told (setting begun) channel_limit has.run.served.many has.net new.net has.users new.users start has.run.last has.run.served.rounds at_first) closed has.run.closes.3

@@ -13,4 +13,5 @@ pub mod Went
 pub mod Levels
 pub mod Dropped
 pub mod Handed
+pub mod Service
 pub mod Program

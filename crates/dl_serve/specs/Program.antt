@@ -1,8 +1,9 @@
 -- What the program promises.
-use Rattle.std.specs.Prelude.{◌≡◌, ◌≢◌, ◌⊎◌, ℕ, Bool, List, [], map, Option, Some, None, IsSome, IsSomeAnd}
+use Rattle.std.specs.Prelude.{◌≡◌, ◌≢◌, ◌⊎◌, ◌<◌, ◌≤◌, ℕ, Bool, true, false, List, [], length, map, Option, Some, None, IsSome, IsSomeAnd}
 use Rattle.dl_bytes.specs.declared.moment.Moment.{Moment}
 use Rattle.dl_events.specs.Journal.{Journaled}
 use Rattle.dl_loop.specs.Daemon.{TellTaken}
+use Rattle.dl_model.specs.Setting.{Setting}
 use Rattle.dl_outside.specs.Links.{Links}
 use Rattle.dl_outside.specs.Outside.{HasRisen}
 use Rattle.dl_outside.specs.Told.{LinkTold, NetTold, SinkTold}
@@ -28,13 +29,67 @@ use Rattle.dl_serve.specs.Faults.{counted}
 use Rattle.dl_serve.specs.Handed.{HasHandedOut, NetsStand}
 use Rattle.dl_serve.specs.Levels.{AllTookLevels}
 use Rattle.dl_serve.specs.Open.{HasNotListened, IsHeard, IsOpenedFor, Listens, setting}
-use Rattle.dl_serve.specs.Rounds.{HasMadeRounds, kept}
+use Rattle.dl_serve.specs.Rounds.{HasMadeRounds, event_limit, kept}
+use Rattle.dl_serve.specs.Service.{IsClosing, Rounds, ServesRound, Standing, nobody}
 use Rattle.dl_serve.specs.Shown.{AllShowEnds, TellLeft}
 use Rattle.dl_serve.specs.Status.{line_of}
 use Rattle.dl_serve.specs.Told.{Told, told}
 use Rattle.dl_serve.specs.Went.{AllWent}
 
 -- ---- what was served
+
+-- what folder and nets count
+abbrev pub counts : {L : Type 0} → Told L → Faults
+counts told = counted told.folder told.net told.users
+
+-- one round, which does not begin with a full journal
+abbrev pub ServesOnce : {L : Type 0} → (L → LinkTold) → Setting → ℕ → ℕ → Standing L → Standing L → Type 0
+ServesOnce told setting faults user_faults old new = (length old.events < event_limit) × ServesRound told setting faults user_faults old new
+
+-- Serving, by what both nets tell before and after it. First both listened, each on its port. Then so many rounds were made, each of which served who was
+-- there: as many as were asked for, or the journal was full at the begin of the next one. Behind the last of them was the closing. Both nets listen on
+-- their ports at the end, too.
+pub record IsServed {L : Type 0} (told : L → LinkTold) (begun : Begun) (full : Bool) (net net_now users users_now : NetTold L) (closed : Closed L) (last : Standing L) : Type 0 where
+  pub first_net : NetTold L
+  pub first_users : NetTold L
+  pub net_heard : IsHeard begun.port net first_net
+  pub users_heard : IsHeard begun.users users first_users
+  pub many : ℕ
+  pub rounds : Rounds (ServesOnce told (setting begun) first_net.faults first_users.faults) many (nobody first_net first_users) last
+  pub all : full ≡ false → many ≡ begun.rounds
+  pub fewer : full ≡ true → (many < begun.rounds) × (event_limit ≤ length last.events)
+  pub net_last : last.net ≡ net_now
+  pub users_last : last.users ≡ users_now
+  pub closing : IsClosing told (setting begun) last closed
+  pub net_listens : Listens begun.port net net_now
+  pub users_listen : Listens begun.users users users_now
+
+-- Serving began, and what was begun was served, round after round. What that comes to is what its journal says; of each program's messages there are the events,
+-- in their order, each once, where links tell what they gave; the links of programs show why these ended, and so do those of clients, with the Closes among the
+-- events. Where links tell what they took, each program's took the front of the messages of the levels that were set for the program, and all of them where its
+-- channel is open at the end and the link never had to wait. Links were dropped
+-- for a cause. Where all went well, and the count of faults of neither net rose, the nets handed out as many links as there were rounds, or all that
+-- waited, and what these gave is told.
+pub record HasClosed {L : Type 0} (link_told : L → LinkTold) (said : List (List ℕ)) (full : Bool) (old new : Told L) (closed : Closed L) : Type 0 where
+  pub it : Started said old.folder
+  pub last : Standing L
+  pub serves : IsServed link_told it.begun full old.net new.net old.users new.users closed last
+  pub comes : IsComeTo link_told (setting it.begun) it.begun old.folder new.folder closed
+  pub admits : TellGiven link_told → AllAdmitted closed.events.events (map link_told closed.users.links) closed.ends
+  pub shows : AllShowEnds (TellLeft link_told) (map link_told closed.users.links) closed.ends
+  pub went : AllWent link_told (setting it.begun) closed
+  pub took : AllTookLevels (TellTaken link_told) (setting it.begun) closed.events.events (map link_told closed.users.links) closed.ends
+  pub dropped : HasDropped closed
+  pub hands : HasGoneWell closed full (counts old) (counts new) → NetsStand old new
+      → HasHandedOut link_told it.begun.rounds last.events old.net new.net old.users new.users closed
+
+-- Serving ended with this status: the closing was not made, and nothing was written; or it was, and serving ended so.
+abbrev pub Ended : {L : Type 0} → (L → LinkTold) → List (List ℕ) → Told L → Told L → Status → Option (Closed L) → Type 0
+Ended link_told said old new status None = EndsEarly said old new status × WroteNothing old.out new.out
+Ended link_told said old new status (Some closed) =
+    (full : Bool) × HasClosed link_told said full old new closed × Ends closed full (counts old) (counts new) old.out new.out status
+
+-- ---- for inner functions
 
 -- Rounds of a server, as many as were asked for or as the journal had room for; then it closed, and this is left of it.
 pub record HasRun {L : Type 0} (link_told : L → LinkTold) (server : Server Journaled L) (asked : ℕ) (full : Bool) (old new : Told L)
@@ -55,36 +110,6 @@ pub record HasOpened {L : Type 0} (link_told : L → LinkTold) (begun : Begun) (
   pub run : HasRun link_told opened.server begun.rounds full (told old.folder net users old.out) new closed
   pub net_listens : Listens begun.port old.net new.net
   pub users_listen : Listens begun.users old.users new.users
-
--- what folder and nets count
-abbrev pub counts : {L : Type 0} → Told L → Faults
-counts told = counted told.folder told.net told.users
-
--- Serving began, and what was begun was served. What that comes to is what its journal says; of each program's messages there are the events, in their
--- order, each once, where links tell what they gave; the links of programs show why these ended, and so do those of clients, with the Closes among the events.
--- Where links tell what they took, each program's took the front of the messages of the levels that were set for the program, and all of them where its
--- channel is open at the end and the link never had to wait. Links were dropped
--- for a cause. Where all went well, and the count of faults of neither net rose, the nets handed out as many links as there were rounds, or all that
--- waited, and what these gave is told.
-pub record HasClosed {L : Type 0} (link_told : L → LinkTold) (said : List (List ℕ)) (full : Bool) (old new : Told L) (closed : Closed L) : Type 0 where
-  pub it : Started said old.folder
-  pub opens : HasOpened link_told it.begun full (record old { folder = it.between }) new closed
-  pub comes : IsComeTo link_told (setting it.begun) it.begun old.folder new.folder closed
-  pub admits : TellGiven link_told → AllAdmitted closed.events.events (map link_told closed.users.links) closed.ends
-  pub shows : AllShowEnds (TellLeft link_told) (map link_told closed.users.links) closed.ends
-  pub went : AllWent link_told (setting it.begun) closed
-  pub took : AllTookLevels (TellTaken link_told) (setting it.begun) closed.events.events (map link_told closed.users.links) closed.ends
-  pub dropped : HasDropped closed
-  pub hands : HasGoneWell closed full (counts old) (counts new) → NetsStand old new
-      → IsSomeAnd opens.run.last.events (λ events. HasHandedOut link_told it.begun.rounds events old.net new.net old.users new.users closed)
-
--- Serving ended with this status: the closing was not made, and nothing was written; or it was, and serving ended so.
-abbrev pub Ended : {L : Type 0} → (L → LinkTold) → List (List ℕ) → Told L → Told L → Status → Option (Closed L) → Type 0
-Ended link_told said old new status None = EndsEarly said old new status × WroteNothing old.out new.out
-Ended link_told said old new status (Some closed) =
-    (full : Bool) × HasClosed link_told said full old new closed × Ends closed full (counts old) (counts new) old.out new.out status
-
--- ---- for inner functions
 
 -- what was opened ran, or memory was wanting for its closing
 abbrev pub EndsWith : {L : Type 0} → (L → LinkTold) → Server Journaled L → ℕ → Told L → Told L → Status → Option (Closed L) → Type 0

@@ -1,6 +1,6 @@
 //! Laws of serving: what it comes to, and what a status says of it.
 
-ghost use Rattle.std.specs.Prelude.{◌≡◌, Bool, IsSomeAnd, List, Option, false, map, ℕ};
+ghost use Rattle.std.specs.Prelude.{◌≡◌, Bool, List, Option, Some, false, map, ℕ};
 ghost use Rattle.dl_loop.specs.Daemon.{TellTaken};
 ghost use Rattle.dl_outside.specs.Told.{FolderTold, SinkTold};
 ghost use Rattle.dl_startup.specs.Setup.{IsBegun};
@@ -14,7 +14,8 @@ ghost use Rattle.dl_serve.specs.Dropped.{HasDropped};
 ghost use Rattle.dl_serve.specs.Handed.{HasHandedOut, NetsStand};
 ghost use Rattle.dl_serve.specs.Levels.{AllTookLevels};
 ghost use Rattle.dl_serve.specs.Open.{setting};
-ghost use Rattle.dl_serve.specs.Program.{Ended, HasOpened, IsServing, Says};
+ghost use Rattle.dl_serve.specs.Program.{Ended, HasOpened, IsServed, IsServing, Says};
+ghost use Rattle.dl_serve.specs.Service.{Standing, frames_in};
 ghost use Rattle.dl_serve.specs.Shown.{AllShowEnds, TellLeft};
 ghost use Rattle.dl_serve.specs.Told.{Told};
 ghost use Rattle.dl_serve.specs.Went.{AllWent};
@@ -52,8 +53,7 @@ pub fn how_clients_went<L: Link>()
     ensures { (begun : Begun) (old new : Told L) (full : Bool) (closed : Closed L) (first : FolderTold) → IsBegun begun.conf first.files begun.trace
         → HasOpened L.told begun full old new closed → AllWent L.told (setting begun) closed }
 {
-    dl_rounds::laws::clients_are_as_noted::<L>();
-    dl_rounds::laws::gone_clients_show_why::<L>();
+    dl_core::laws::what_links_take();
 }
 
 /// Where links tell what they took, that of each program outside took the front of the messages that tell the levels of its applications' contexts, one for
@@ -77,13 +77,24 @@ pub fn why_links_were_dropped<L: Link>()
 /// that waited, one in each round, or all of them, and each of these came or was dropped. Where none was dropped, each that was not ended before the closing
 /// gave at least as many bytes as there were rounds from its own on, or had nothing to give once.
 pub fn who_was_handed_out<L: Link>()
+    ensures { (begun : Begun) (old new : Told L) (full : Bool) (closed : Closed L) (last : Standing L) → (has : HasOpened L.told begun full old new closed)
+        → frames_in (setting begun) last.events ≡ has.run.last.core.hub.admitted → IsServed L.told begun full old.net new.net old.users new.users closed last
+        → full ≡ false → closed.memory ≡ false → NetsStand old new → HasHandedOut L.told begun.rounds last.events old.net new.net old.users new.users closed }
+{
+    dl_rounds::laws::a_round_is_its_events::<L>();
+}
+
+/// Round after round, who was there was served: each acceptor was asked once; the link of each client that is open behind a round was read in it, and was
+/// sent all of its stream, or was busy; and so was the link of each program whose channel is open.
+pub fn how_each_round_serves<L: Link>()
     ensures { (begun : Begun) (old new : Told L) (full : Bool) (closed : Closed L) (first : FolderTold) → IsBegun begun.conf first.files begun.trace
-        → (has : HasOpened L.told begun full old new closed) → full ≡ false → closed.memory ≡ false → NetsStand old new
-        → IsSomeAnd has.run.last.events (λ events. HasHandedOut L.told begun.rounds events old.net new.net old.users new.users closed) }
+        → (has : HasOpened L.told begun full old new closed) → (last : Standing L) × (has.run.last.events ≡ Some last.events)
+        × (frames_in (setting begun) last.events ≡ has.run.last.core.hub.admitted) × IsServed L.told begun full old.net new.net old.users new.users closed last }
 {
     dl_rounds::laws::a_round_is_its_events::<L>();
     dl_rounds::laws::why_clients_stay();
-    dl_core::client_turns::who_has_an_outbox();
+    dl_rounds::laws::links_of_gone_clients_are_shut::<L>();
+    dl_turns::laws::a_pump_is_its_events();
 }
 
 /// What a status says of serving is what is promised of the whole: the words decide first, and where all is of the form and nothing fails, the report was

@@ -13,8 +13,9 @@ use crate::closing::close;
 use crate::faults::count;
 use crate::finishing::{failures_of, finish};
 use crate::laws::{
-    an_end_is_a_serving, how_clients_went, how_programs_ended, what_programs_sent_is_admitted,
-    what_programs_took, what_was_served_is_its_journal, who_was_handed_out, why_links_were_dropped,
+    an_end_is_a_serving, how_clients_went, how_each_round_serves, how_programs_ended,
+    what_programs_sent_is_admitted, what_programs_took, what_was_served_is_its_journal,
+    who_was_handed_out, why_links_were_dropped,
 };
 use crate::opened::Opened;
 use crate::opening::{listen, open};
@@ -131,6 +132,7 @@ where
     what_programs_took::<N::L>();
     why_links_were_dropped::<N::L>();
     who_was_handed_out::<N::L>();
+    how_each_round_serves::<N::L>();
     match begin(alloc, words, folder) {
         Ok(begun) => serve_begun(rt, alloc, begun, folder, net, users, clock, out),
         Err(status) => left_early(status),

@@ -17,6 +17,7 @@ use Rattle.dl_rounds.specs.Ready.{fresh_listener}
 use Rattle.dl_rounds.specs.Seats.{Seated}
 use Rattle.dl_rounds.specs.declared.listener.Listener.{Listener}
 use Rattle.dl_serving.specs.Accepting.{AreLinked}
+use Rattle.dl_model.specs.declared.software.Software.{Software}
 use Rattle.dl_socket.specs.Channels.{Channels, none_opened}
 use Rattle.dl_socket.specs.Listening.{HaveListeners}
 use Rattle.dl_trace.specs.State.{Trace}
@@ -28,9 +29,9 @@ use Rattle.dl_lemmas.proofs.Options.{not_some}
 fresh_at : (seated : Seated) (clients place : ℕ) (listener : Listener) → seated.listeners ≡ replicate clients fresh_listener → slice_get seated.listeners place ≡ Some listener → listener ≡ fresh_listener
 fresh_at seated clients place listener are is = each_fresh clients place listener (sym (ap (λ (ls : List Listener). slice_get ls place) are) ∙ is)
 
-listeners_so : (conf : Conf) (stored : Stored) (first : ℕ) (trace : Option Trace) (clients : ℕ) (seated : Seated) → seated.listeners ≡ replicate clients fresh_listener
-    → HaveListeners seated (begun_for conf stored first trace clients)
-listeners_so conf stored first trace clients seated are = λ desk desk_so. record {
+listeners_so : (software : Software) (conf : Conf) (stored : Stored) (first : ℕ) (trace : Option Trace) (clients : ℕ) (seated : Seated) → seated.listeners ≡ replicate clients fresh_listener
+    → HaveListeners seated (begun_for software conf stored first trace clients)
+listeners_so software conf stored first trace clients seated are = λ desk desk_so. record {
   enough = omega (arith, ap (λ (ls : List Listener). length ls) are, length-replicate clients fresh_listener);
   limits = λ place listener there. ap (λ (l : Listener). l.cutter.limit) (fresh_at seated clients place listener are there);
   counts = λ place listener there low. absurd (omega (arith, low));
@@ -40,14 +41,14 @@ listeners_so conf stored first trace clients seated are = λ desk desk_so. recor
 }
 
 module _ {J L : Type 0} (told : L → LinkTold) where
-  pub made_server : (conf : Conf) (stored : Stored) (first : ℕ) (trace : Option Trace) (journal : J) (clients programs at_once in_all : ℕ) (s : Server J L)
-      → IsMade (begun_for conf stored first trace clients) journal (none_opened at_once in_all) clients programs s → in_all ≤ programs → IsServer told s
-  made_server conf stored first trace journal clients programs at_once in_all s made fits =
-      let core = begun_for conf stored first trace clients in
+  pub made_server : (software : Software) (conf : Conf) (stored : Stored) (first : ℕ) (trace : Option Trace) (journal : J) (clients programs at_once in_all : ℕ) (s : Server J L)
+      → IsMade (begun_for software conf stored first trace clients) journal (none_opened at_once in_all) clients programs s → in_all ≤ programs → IsServer told s
+  made_server software conf stored first trace journal clients programs at_once in_all s made fits =
+      let core = begun_for software conf stored first trace clients in
       record {
         linked = subst (λ (c : Core). HaveLinks s.clients c) (sym made.core_is) (subst (λ (ls : Links L). HaveLinks ls core) (sym made.no_client)
             (record { many = refl; few = omega arith; place = omega arith; settled = made_owes_none conf.level stored first }));
-        heard = subst (λ (c : Core). HaveListeners s.seats c) (sym made.core_is) (listeners_so conf stored first trace clients s.seats made.listeners_are);
+        heard = subst (λ (c : Core). HaveListeners s.seats c) (sym made.core_is) (listeners_so software conf stored first trace clients s.seats made.listeners_are);
         programs = subst (λ (cs : Channels). AreLinked s.programs cs) (sym made.channels_are) (subst (λ (ls : Links L). AreLinked ls (none_opened at_once in_all)) (sym made.no_program)
             (record { many = refl; place = fits }));
         given = subst (λ (cs : Channels). cs.opened ≤ cs.in_all) (sym made.channels_are) (omega arith);

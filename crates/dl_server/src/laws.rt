@@ -6,6 +6,7 @@ ghost use Rattle.dl_bytes.specs.declared.conf.Stored.{Stored};
 ghost use Rattle.dl_bytes.specs.declared.moment.Moment.{Moment};
 ghost use Rattle.dl_core.specs.Settings.{begun_for};
 ghost use Rattle.dl_loop.specs.Daemon.{TellTaken};
+ghost use Rattle.dl_model.specs.declared.software.Software.{Software};
 ghost use Rattle.dl_outside.specs.Told.{NetTold};
 ghost use Rattle.dl_server.specs.Closing.{IsClosed};
 ghost use Rattle.dl_server.specs.Holds.{GoesOn, GoesOut};
@@ -22,8 +23,8 @@ use dl_outside::Link;
 
 /// A server that was just made, of a core before its first event and of channels of which none was opened, is one.
 pub fn a_made_server_is_one<J: Journal, L: Link>()
-    ensures { (conf : Conf) (stored : Stored) (first : ℕ) (trace : Option Trace) (journal : J) (clients programs at_once in_all : ℕ) (s : Server J L)
-        → IsMade (begun_for conf stored first trace clients) journal (none_opened at_once in_all) clients programs s → in_all ≤ programs → IsServer L.told s }
+    ensures { (software : Software) (conf : Conf) (stored : Stored) (first : ℕ) (trace : Option Trace) (journal : J) (clients programs at_once in_all : ℕ) (s : Server J L)
+        → IsMade (begun_for software conf stored first trace clients) journal (none_opened at_once in_all) clients programs s → in_all ≤ programs → IsServer L.told s }
 {}
 
 /// A round is its events: core, folder and what the links took are those of the longer journal, which stays well-formed. It is so where the folder held

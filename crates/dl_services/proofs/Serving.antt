@@ -11,6 +11,8 @@ use Rattle.dl_model.specs.declared.context.Context.{Context}
 use Rattle.dl_model.specs.Registry.{App, reset}
 use Rattle.dl_model.specs.Reply.{bare, inject_status, injected}
 use Rattle.dl_model.specs.Setting.{Setting}
+use Rattle.dl_model.specs.declared.software.Software.{Software}
+use Rattle.dl_model.specs.declared.software.Software.TheVariants.{Run}
 use Rattle.dl_registry.specs.Kept.{Kept, slots}
 use Rattle.dl_services.specs.Service.{Replies}
 use Rattle.dl_services.specs.Wish.{stores, removes, sends, Wants}
@@ -29,6 +31,7 @@ some_setting injection level = record {
   stored = record { level = None; own = [] };
   first = 0;
   clients = 0;
+  software = Run;
 }
 
 pub wants_store : (injection : Bool) (level : ℕ) (kept : Kept) (target : List ℕ × List ℕ) (request : Result Request RequestFault) (want : Want)
@@ -46,11 +49,11 @@ wants_reset injection level kept target request want is wants =
     asked (some_setting injection level) (record { mode_is = refl; level_is = refl })
 
 -- the reply to an injection, by what it wanted
-pub replies_inject : (injection : Bool) (level : ℕ) (kept : Kept) (target : List ℕ × List ℕ) (request : Result Request RequestFault) (answer : Done) (reply : Reply) (want : Want) (service : ℕ) (body : Arguments)
+pub replies_inject : (software : Software) (injection : Bool) (level : ℕ) (kept : Kept) (target : List ℕ × List ℕ) (request : Result Request RequestFault) (answer : Done) (reply : Reply) (want : Want) (service : ℕ) (body : Arguments)
     → request ≡ Ok (Inject service body) → Wants injection level kept target request want
     → ((body : Arguments) (context : Option (App × Context)) → want ≡ sends service body context → reply ≡ bare service (inject_status context answer))
-    → Replies injection level kept target request answer reply
-replies_inject injection level kept target request answer reply want service body asks wants replied =
+    → Replies software injection level kept target request answer reply
+replies_inject software injection level kept target request answer reply want service body asks wants replied =
     let asked : Wants injection level kept target (Ok (Inject service body)) want = subst (λ r. Wants injection level kept target r want) asks wants in
-    subst (λ r. Replies injection level kept target r answer reply) (sym asks)
-    (λ setting set. replied body (injected setting kept.registry target.0 target.1) (asked setting set))
+    subst (λ r. Replies software injection level kept target r answer reply) (sym asks)
+    (λ setting set named. replied body (injected setting kept.registry target.0 target.1) (asked setting set))

@@ -2,11 +2,10 @@
 
 ghost use Rattle.std.specs.Prelude.{◌≡◌, ◌<◌, ◌∷◌, [], ◌++◌, Option, IfOk, OnErr, length, unwrap_or};
 ghost use Rattle.std.specs.Result.{result_ok};
-ghost use Rattle.byteorder.specs.Endian.{little_bytes};
 ghost use Rattle.dl_bytes.specs.Payload.{Arguments};
 ghost use Rattle.dl_model.specs.declared.context.Context.{Context};
 ghost use Rattle.dl_model.specs.Registry.{App, reset};
-ghost use Rattle.dl_model.specs.Reply.{bare, own_requested, default_requested, status_of, done_status, reset_status, inject_status, info_reply, now_stored, where_done, version_name};
+ghost use Rattle.dl_model.specs.Reply.{bare, own_requested, default_requested, status_of, done_status, reset_status, inject_status, info_reply, now_stored, where_done, version_name, version_reply};
 ghost use Rattle.dl_registry.specs.Kept.{slots, with_registry};
 ghost use Rattle.dl_services.specs.Service.{Replies, Leaves, HasBody};
 ghost use Rattle.dl_services.specs.Wish.{stores, removes, sends, Wants};
@@ -15,7 +14,7 @@ use crate::status::{DONE, FAILED, NO_CONTEXT, NOT_SUPPORTED, TOO_LONG, folder_st
 use crate::wish::Want;
 use dl_bytes::{Bytes, Done, Id, Level, OutOfMemory, OwnLevel};
 use dl_control::{Reply, Request, RequestFault};
-use dl_model::SetFault;
+use dl_model::{SetFault, Software};
 use dl_registry::{InfoFault, Registry};
 use std::alloc::Global;
 
@@ -41,11 +40,18 @@ mod id {
 /// The id that means all.
 const ALL: [u8; 4] = [0; 4];
 
-/// The name of this software's version.
-const VERSION_NAME: [u8; 9] = *b"dlt_run 1";
+/// The name of a program's version.
+fn version_name(software: Software) -> &'static [u8]
+    ensures { result.now ≡ version_name software }
+{
+    match software {
+        Software::Run => b"dlt_run 1",
+        Software::Daemon => b"dlt_daemon 1",
+    }
+}
 
 /// Serves a request: the registry becomes what the request makes of it, and the reply tells how it went. `target` is APID
-/// and CTID of the request's message, `injection` whether clients may send data to applications, `level` the level of
+/// and CTID of the request's message, `software` the program that is asked, `injection` whether clients may send data to applications, `level` the level of
 /// `ContextLogLevel`, `wish` what `wish_of` gave for the same of these, and `done` what came of it; where nothing was
 /// wished it is not looked at. Memory is taken for the body of a reply alone.
 pub fn serve(
@@ -53,15 +59,16 @@ pub fn serve(
     registry: &mut Registry,
     request: &Result<Request, RequestFault>,
     target: (Id, Id),
+    software: Software,
     injection: bool,
     level: Level,
     wish: Want,
     done: Done,
 ) -> Result<Reply, OutOfMemory>
     requires { Wants injection level registry.old target request.now wish }
-    ensures reply { IfOk result (Replies injection level registry.old target request.now done) }
+    ensures reply { IfOk result (Replies software injection level registry.old target request.now done) }
     ensures registry { Leaves injection level registry.old request.now done registry.new }
-    ensures memory { OnErr result (HasBody injection level registry.old target request.now done) }
+    ensures memory { OnErr result (HasBody software injection level registry.old target request.now done) }
     ensures unchanged { OnErr result (registry.new ≡ registry.old) }
 {
     match request {
@@ -84,7 +91,7 @@ pub fn serve(
         Ok(Request::Store) => Ok(store(alloc, registry, wish, done)),
         Ok(Request::Reset) => Ok(reset(alloc, registry, level, wish, done)),
         Ok(Request::SetDefault { level }) => Ok(set_default(alloc, registry, *level)),
-        Ok(Request::Version) => version(alloc),
+        Ok(Request::Version) => version(alloc, software),
         Ok(Request::Inject { service, .. }) => Ok(inject(alloc, *service, wish, done)),
         Ok(Request::Other { service }) => Ok(bare(alloc, *service, NOT_SUPPORTED)),
         Err(RequestFault::Short { service } | RequestFault::Excess { service }) => {
@@ -201,12 +208,13 @@ fn default_level(alloc: Global, registry: &Registry) -> Result<Reply, OutOfMemor
 }
 
 /// GetSoftwareVersion: the name behind its length.
-fn version(alloc: Global) -> Result<Reply, OutOfMemory>
-    ensures { IfOk result (λ reply. reply ≡ record { service = 0x13; status = 0; body = little_bytes 4 (length version_name) ++ version_name }) }
+fn version(alloc: Global, software: Software) -> Result<Reply, OutOfMemory>
+    ensures { IfOk result (λ reply. reply ≡ version_reply software) }
 {
-    let mut body = Vec::with_capacity(alloc, 4 + VERSION_NAME.len())?;
-    body.extend_from_slice(&(VERSION_NAME.len() as u32).to_le_bytes())?;
-    body.extend_from_slice(&VERSION_NAME)?;
+    let name = version_name(software);
+    let mut body = Vec::with_capacity(alloc, 4 + name.len())?;
+    body.extend_from_slice(&(name.len() as u32).to_le_bytes())?;
+    body.extend_from_slice(name)?;
     Ok(Reply {
         service: id::VERSION,
         status: DONE,

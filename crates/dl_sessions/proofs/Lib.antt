@@ -3,6 +3,7 @@ pub mod Applying
 pub mod Accounts
 pub mod ToldFields
 pub mod Readings
+pub mod Following
 pub mod Lines
 pub mod MissingCalls
 pub mod Sinces

@@ -1,5 +1,5 @@
 -- What each message leaves of the accounts that were read.
-use Rattle.std.proofs.Common.{◌≡◌, ℕ, ◌+◌, List, [], ◌∷◌, ◌++◌, length, Option, Some, None, refl, sym, ap, subst, ◌∙◌, append_assoc, length-append}
+use Rattle.std.proofs.Common.{◌≡◌, ℕ, ◌+◌, List, [], ◌∷◌, ◌++◌, length, Option, Some, None, refl, sym, ap, subst, ◌∙◌, length-append}
 use Rattle.std.specs.HashMap as hash
 use Rattle.std.specs.List.{filter_map}
 use Rattle.std.specs.Option.{option_map_or}
@@ -7,6 +7,7 @@ use Rattle.std.proofs.lemmas.List.{append-nil}
 use Rattle.std.proofs.lemmas.List.Elements.{filter_map-append}
 use Rattle.dl_laws.proofs.Lists.{along-one}
 use Rattle.dl_sessions.specs.Calls.{calls_in}
+use Rattle.dl_sessions.specs.declared.ledger.Ledger.{Ledger}
 use Rattle.dl_sessions.specs.declared.session.Calls.{Calls}
 use Rattle.dl_sessions.specs.declared.session.Context.{Context}
 use Rattle.dl_sessions.specs.declared.session.Entry.{Entry}
@@ -14,7 +15,7 @@ use Rattle.dl_sessions.specs.declared.session.Since.{Since}
 use Rattle.dl_sessions.specs.declared.session.Told.{Told}
 use Rattle.dl_sessions.specs.declared.session.Told.TheVariants as told
 use Rattle.dl_sessions.specs.Gaps.{context_of, counted, entries, entry_of}
-use Rattle.dl_sessions.specs.Ledger.{KeepsSince, Notes, about, account_here, account_line, account_text, accounts_text, since_of, with_message}
+use Rattle.dl_sessions.specs.Ledger.{IsLedgerOf, KeepsSince, Notes, about, account_here, account_line, account_text, since_of, with_message}
 use Rattle.dl_sessions.proofs.OneMore.{goes_on}
 
 pub entries-log : (before : List Told) (e : Entry) → entries (before ++ told.Log e ∷ []) ≡ entries before ++ e ∷ []
@@ -38,20 +39,15 @@ pub line_is : (before : List Told) (e : Entry) (calls : Calls) (place : ℕ) (si
 line_is before e calls place since own some at since_is own_is =
     (λ i. account_text (at i) e calls (since_is i) (own_is i).missing) ∙ sym (ap (λ (o : Option Calls). option_map_or (account_here before e) o []) some)
 
--- the messages so far
-pub record Noted {S : Type 0} (start text : List ℕ) (kept : hash.HashMap Context Since S) (place : ℕ) (stream : List Told) : Type 0 where
-  pub text_is : text ≡ start ++ accounts_text stream
-  pub keeps : KeepsSince kept (entries stream)
-  pub place_is : place ≡ counted (length stream)
+-- ---- a ledger
 
-pub next_place : (place place_now : ℕ) (stream : List Told) → place ≡ counted (length stream) → place_now ≡ counted (place + 1) → place_now ≡ counted (length stream + 1)
-next_place place place_now stream was is = is ∙ ap (λ (n : ℕ). counted (n + 1)) was ∙ sym (goes_on (length stream) 1)
-
-pub one_more : {S : Type 0} (start text text_now : List ℕ) (kept kept_now : hash.HashMap Context Since S) (place place_now : ℕ) (stream : List Told) (t : Told) → Noted start text kept place stream
-    → place_now ≡ counted (length stream + 1) → Notes stream t kept_now text text_now → Noted start text_now kept_now place_now (stream ++ t ∷ [])
-one_more start text text_now kept kept_now place place_now stream t so_far at noted = record {
-  text_is = noted.0 ∙ ap (λ (l : List ℕ). l ++ account_line stream t) so_far.text_is ∙ append_assoc start (accounts_text stream) (account_line stream t)
-      ∙ ap (λ (l : List ℕ). start ++ l) (sym (along-one account_line stream t));
-  keeps = noted.1;
-  place_is = at ∙ sym (ap counted (length-append stream (t ∷ [])));
-}
+pub ledger_noted : (stream : List Told) (t : Told) (old new : Ledger) → IsLedgerOf stream old → new.messages ≡ counted (old.messages + 1) → ((before : List Told) → KeepsSince old.kept (entries before)
+    → new.messages ≡ counted (length before + 1) → Notes before t new.kept old.text.items new.text.items) → IsLedgerOf (stream ++ t ∷ []) new
+ledger_noted stream t old new is one_more notes =
+    let at : new.messages ≡ counted (length stream + 1) = one_more ∙ ap (λ (n : ℕ). counted (n + 1)) is.messages_are ∙ sym (goes_on (length stream) 1) in
+    let noted = notes stream is.keeps at in
+    record {
+      text_is = noted.0 ∙ ap (λ (l : List ℕ). l ++ account_line stream t) is.text_is ∙ sym (along-one account_line stream t);
+      keeps = noted.1;
+      messages_are = at ∙ sym (ap counted (length-append stream (t ∷ [])));
+    }

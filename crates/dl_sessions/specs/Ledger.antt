@@ -7,6 +7,7 @@ use Rattle.std.specs.Option.{option_map_or}
 use Rattle.dl_model.specs.Along.{along}
 use Rattle.dl_text.specs.IdText.{id_text}
 use Rattle.dl_sessions.specs.Calls.{calls_in}
+use Rattle.dl_sessions.specs.declared.ledger.Ledger.{Ledger}
 use Rattle.dl_sessions.specs.declared.session.Calls.{Calls}
 use Rattle.dl_sessions.specs.declared.session.Context.{Context}
 use Rattle.dl_sessions.specs.declared.session.Entry.{Entry}
@@ -122,3 +123,9 @@ KeepsSince kept es = (context : Context) → unwrap_or (hash.get same_context ke
 -- a message was noted: its line stands behind the text, and what is kept goes on with it
 abbrev pub Notes : {S : Type 0} → List Told → Told → hash.HashMap Context Since S → (text text_now : List ℕ) → Type 0
 Notes before t kept text text_now = (text_now ≡ text ++ account_line before t) × KeepsSince kept (entries (before ++ t ∷ []))
+
+-- The accounts of a stream.
+pub record IsLedgerOf (stream : List Told) (ledger : Ledger) : Type 0 where
+  pub text_is : ledger.text.items ≡ accounts_text stream
+  pub keeps : KeepsSince ledger.kept (entries stream)
+  pub messages_are : ledger.messages ≡ counted (length stream)

@@ -4,7 +4,7 @@ pub mod Ledger
 pub mod Applications
 pub mod Account
 pub mod Stream
-pub mod Reads
+pub mod Follows
 pub mod Text
 pub mod Printing
 pub mod Laws

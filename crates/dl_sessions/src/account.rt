@@ -428,14 +428,3 @@ impl Account {
         self.push_applications(text)
     }
 }
-
-/// The account of a stream.
-pub fn account_of(alloc: Global, stream: &[Told]) -> Result<Account, OutOfMemory>
-    ensures { IfOk result (IsAfter stream.now) }
-{
-    let mut account = Account::new(alloc);
-    for told in stream {
-        account.add(told)?;
-    }
-    Ok(account)
-}

@@ -4,7 +4,7 @@ ghost use Rattle.std.specs.Prelude.{◌≡◌, ◌+◌, ◌++◌, ◌∷◌, [],
 ghost use Rattle.std.specs.HashMap as hash;
 ghost use Rattle.dl_sessions.specs.Calls.{calls_in};
 ghost use Rattle.dl_sessions.specs.Gaps.{context_of, counted, entries, same_context};
-ghost use Rattle.dl_sessions.specs.Ledger.{HasPut, KeepsSince, Notes, about, about_text, account_text, accounts_text, calls_text, filtered_text, heading_text, no_since, place_text, queued_text, verdict_text, with_account, with_message};
+ghost use Rattle.dl_sessions.specs.Ledger.{HasPut, IsLedgerOf, KeepsSince, Notes, about, about_text, account_text, accounts_text, calls_text, filtered_text, heading_text, no_since, place_text, queued_text, verdict_text, with_account, with_message};
 ghost use Rattle.dl_sessions.specs.declared.session.Entry.{Entry};
 ghost use Rattle.dl_sessions.specs.declared.session.Told.{Told};
 ghost use Rattle.dl_sessions.specs.declared.session.Told.TheVariants as told;
@@ -277,15 +277,42 @@ fn note(
     }
 }
 
-/// Adds the lines of a stream's accounts. It takes memory for each context.
-pub fn push_accounts(alloc: Global, text: &mut Vec<u8>, stream: &[Told]) -> Result<(), OutOfMemory>
-    ensures { OnOk result (text.new.items ≡ text.old.items ++ accounts_text stream.now) }
-{
-    let mut kept = HashMap::new(alloc);
-    let mut place: u64 = 0;
-    for told in stream {
-        place = place.saturating_add(1);
-        note(&mut kept, text, place, told)?;
+/// The accounts that programs give of their own calls, with a line for each. It takes memory for each context and for each line.
+#[derive(Drop)]
+pub struct Ledger {
+    /// What came of each context since its last account.
+    kept: HashMap<Context, Since>,
+    /// The lines.
+    text: Vec<u8>,
+    /// How many messages came.
+    messages: u64,
+}
+
+impl Ledger {
+    /// The accounts of a stream that has no message yet.
+    pub fn new(alloc: Global) -> Ledger
+        ensures { IsLedgerOf [] result }
+    {
+        Ledger {
+            kept: HashMap::new(alloc),
+            text: Vec::new(alloc),
+            messages: 0,
+        }
     }
-    Ok(())
+
+    /// Notes the next message of the stream.
+    pub fn add(&mut self, told: &Told) -> Result<(), OutOfMemory>
+        ensures { (stream : List Told) → IsLedgerOf stream self.old → OnOk result (IsLedgerOf (stream ++ told.now ∷ []) self.new) }
+    {
+        self.messages = self.messages.saturating_add(1);
+        note(&mut self.kept, &mut self.text, self.messages, told)?;
+        Ok(())
+    }
+
+    /// Adds the lines of the accounts, in their order.
+    pub fn print(&self, text: &mut Vec<u8>) -> Result<(), OutOfMemory>
+        ensures { (stream : List Told) → IsLedgerOf stream self.now → OnOk result (text.new.items ≡ text.old.items ++ accounts_text stream) }
+    {
+        text.extend_from_slice(&self.text)
+    }
 }

@@ -4,6 +4,7 @@
 mod account;
 mod applications;
 mod calls;
+mod follower;
 pub mod laws;
 mod ledger;
 mod session;
@@ -11,12 +12,12 @@ mod stream;
 mod text;
 mod told;
 
-pub use account::{Account, account_of};
-pub use ledger::push_accounts;
+pub use account::Account;
+pub use follower::Follower;
 pub use session::{
     Calls, Context, Entry, Hole, Latest, Losses, Lost, Position, Session, Since, Source, Tally,
     Told, Totals, Turn,
 };
-pub use stream::{End, Place, end_of, tell_all};
+pub use stream::{End, Place, end_of};
 pub use text::{missing, missing_here, push_missing, push_number, push_time};
 pub use told::told_of;

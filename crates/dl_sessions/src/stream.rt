@@ -1,13 +1,12 @@
 //! A stream of messages as a file holds it, cut into messages.
 
-ghost use Rattle.std.specs.Prelude.{◌≡◌, drop, nat_eq, IfOk, Some};
+ghost use Rattle.std.specs.Prelude.{◌≡◌, drop, nat_eq, Some};
 ghost use Rattle.std.specs.List.{starts_with};
-ghost use Rattle.dl_sessions.specs.Reads.{Reads};
 ghost use Rattle.dl_sessions.specs.Stream.{before_len, end_of, first_place, rest_behind, storage_pattern, stored_ecu, told_at};
 
 use crate::session::Told;
 use crate::told::told_of;
-use dl_bytes::{Id, OutOfMemory};
+use dl_bytes::Id;
 use dl_headers::{HeaderFault, read_front};
 
 /// What begins a storage header: `DLT` and 1. Behind it stand the time of day, and the ECU.
@@ -81,7 +80,7 @@ fn stored_ecu(bytes: &[u8]) -> Id
 }
 
 /// Where the message stands that begins these bytes, if it is whole.
-fn first_place(bytes: &[u8]) -> Option<Place>
+pub fn first_place(bytes: &[u8]) -> Option<Place>
     ensures { result ≡ first_place bytes.now }
 {
     let before = before_len(bytes);
@@ -115,7 +114,7 @@ pub fn end_of(rest: &[u8]) -> End
 }
 
 /// What the message tells that stands at the front of these bytes.
-fn told_first(bytes: &[u8], place: &Place) -> Told
+pub fn told_first(bytes: &[u8], place: &Place) -> Told
     requires { first_place bytes.now ≡ Some place.now }
     ensures { result ≡ told_at place.now bytes.now }
 {
@@ -124,20 +123,8 @@ fn told_first(bytes: &[u8], place: &Place) -> Told
 }
 
 /// What stands behind the message at the front of these bytes.
-fn behind_first<'a>(bytes: &'a [u8], place: &Place) -> &'a [u8]
+pub fn behind_first<'a>(bytes: &'a [u8], place: &Place) -> &'a [u8]
     ensures { result.now ≡ rest_behind place.now bytes.now }
 {
     behind(behind(bytes, place.before), place.len as usize)
-}
-
-/// Adds what the messages of a file tell, one behind the other. Answers the rest behind them.
-pub fn tell_all<'a>(stream: &mut Vec<Told>, bytes: &'a [u8]) -> Result<&'a [u8], OutOfMemory>
-    ensures { IfOk result (λ rest. Reads bytes.now rest.now stream.old.items stream.new.items) }
-{
-    let mut rest = bytes;
-    while let Some(place) = first_place(rest) {
-        stream.push(told_first(rest, &place))?;
-        rest = behind_first(rest, &place);
-    }
-    Ok(rest)
 }

@@ -46,9 +46,10 @@ impl Pen {
         ensures limit { (16 ≤ result) × (result ≤ 2000) }
     {
         write_log_frame(&mut self.frame, ecu, call.item);
+        let frame = self.frame.bytes();
         self.batch.clear();
-        self.batch.push(ecu, call.moment, &self.frame);
-        HEADER_LEN + self.frame.bytes().len() as u64
+        self.batch.push(ecu, call.moment, frame);
+        HEADER_LEN + frame.len() as u64
     }
 }
 

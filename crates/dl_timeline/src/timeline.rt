@@ -247,8 +247,7 @@ fn add_reports(
 impl Timeline {
     /// The timeline of a stream and its account.
     fn of(alloc: Global, stream: &[Told], account: &Account) -> Result<Timeline, OutOfMemory>
-        requires { IsAfter stream.now account.now }
-        ensures { IfOk result (IsTimeline stream.now) }
+        ensures { IsAfter stream.now account.now → IfOk result (IsTimeline stream.now) }
     {
         let axis = axis_of(stream);
         let mut spots = HashMap::new(alloc);
@@ -371,8 +370,7 @@ pub fn timeline_of(
     stream: &[Told],
     account: &Account,
 ) -> Result<Picture, OutOfMemory>
-    requires { IsAfter stream.now account.now }
-    ensures { IfOk result (λ shown. chart_of shown ≡ timeline stream.now) }
+    ensures { IsAfter stream.now account.now → IfOk result (λ shown. chart_of shown ≡ timeline stream.now) }
 {
     let timeline = Timeline::of(alloc, stream, account)?;
     let mut title = Vec::new(alloc);

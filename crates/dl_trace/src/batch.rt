@@ -1,11 +1,12 @@
 //! Frames that are stored together.
 
 ghost use Rattle.std.specs.Prelude.{◌≡◌, ◌≤◌, ◌<◌, ◌++◌, ◌∷◌, [], IfOk, length};
+ghost use Rattle.dl_bytes.specs.Limits.{frame_limit};
 ghost use Rattle.dl_model.specs.Frames.{stored};
 ghost use Rattle.dl_trace.specs.Batch.{AreSizes, parted};
 
 use arrayvec::ArrayVec;
-use dl_bytes::{BATCH_LIMIT, FRAME_LIMIT, Frame, Id, Moment, OutOfMemory};
+use dl_bytes::{BATCH_LIMIT, FRAME_LIMIT, Id, Moment, OutOfMemory};
 use dl_headers::storage_header;
 use std::alloc::Global;
 use std::marker::Model;
@@ -43,13 +44,13 @@ impl StoredBatch {
     }
 
     /// Adds a frame behind a storage header, which says when it came and which control unit stored it.
-    pub fn push(&mut self, ecu: Id, moment: Moment, frame: &Frame)
+    pub fn push(&mut self, ecu: Id, moment: Moment, frame: &[u8])
         requires some { 0 < length frame.now }
+        requires size { length frame.now ≤ frame_limit }
         requires few { length self.old < 64 }
         ensures { self.new ≡ self.old ++ stored ecu moment frame.now ∷ [] }
     {
         let header = storage_header(ecu, moment);
-        let frame = frame.bytes();
         self.bytes.extend_from_slice(&header).unwrap();
         self.bytes.extend_from_slice(frame).unwrap();
         self.sizes.push((header.len() + frame.len()) as u16);

@@ -1,13 +1,14 @@
 //! Frames on their way into the trace files.
 
 ghost use Rattle.std.specs.Prelude.{◌≡◌, ◌≤◌, ◌<◌, ◌++◌, ◌∷◌, [], IfOk, IfSome, option_map, length, List, ℕ};
+ghost use Rattle.dl_bytes.specs.Limits.{frame_limit};
 ghost use Rattle.dl_model.specs.Frames.{stored};
 ghost use Rattle.dl_trace.specs.Written.{StoresIn, ChangesTraceAlone};
 ghost use Rattle.dl_trace.specs.Writer.{HasBatch, trace_in};
 
 use crate::batch::StoredBatch;
 use crate::trace::Trace;
-use dl_bytes::{Frame, Id, Moment, OutOfMemory, TraceState};
+use dl_bytes::{Id, Moment, OutOfMemory, TraceState};
 use dl_outside::Folder;
 use std::alloc::Global;
 
@@ -43,10 +44,11 @@ pub fn store<F: Folder>(
     writer: &mut Option<TraceWriter>,
     ecu: Id,
     moment: Moment,
-    frame: &Frame,
+    frame: &[u8],
     folder: &mut F,
 )
     requires some { 0 < length frame.now }
+    requires size { length frame.now ≤ frame_limit }
     ensures stored { StoresIn (stored ecu moment frame.now ∷ []) (trace_in writer.old) (trace_in writer.new) (F.told folder.old) (F.told folder.new) }
     ensures others { ChangesTraceAlone (trace_in writer.old) (F.told folder.old) (F.told folder.new) }
 {
@@ -66,8 +68,9 @@ pub fn begin_batch(writer: &mut Option<TraceWriter>)
 }
 
 /// Adds a frame to the batch, where a trace is kept.
-pub fn add_to_batch(writer: &mut Option<TraceWriter>, ecu: Id, moment: Moment, frame: &Frame)
+pub fn add_to_batch(writer: &mut Option<TraceWriter>, ecu: Id, moment: Moment, frame: &[u8])
     requires some { 0 < length frame.now }
+    requires size { length frame.now ≤ frame_limit }
     requires few { IfSome writer.old (λ w. length w.batch < 64) }
     ensures trace { trace_in writer.new ≡ trace_in writer.old }
     ensures batch { option_map (λ w. w.batch) writer.new ≡ option_map (λ w. w.batch ++ stored ecu moment frame.now ∷ []) writer.old }

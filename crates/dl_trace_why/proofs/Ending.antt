@@ -53,27 +53,27 @@ drawn_by name text stream old new (Err end.OutOfMemory) is puts = puts
 
 -- ---- what is written
 
-pub written : (drawn : Option (List ℕ)) (reading : Reading) (text : List ℕ) (old new : FolderTold) (out out_now : SinkTold) (status : Status) → text ≡ text_of reading.stream.items reading.ends.items
-    → Draws drawn reading.stream.items old new → Prints text out out_now status → Writes drawn reading (sides old out) (sides new out_now) status
-written drawn reading text old new out out_now end.Ok is draws prints = (subst (WroteAll out out_now) is prints, draws)
-written drawn reading text old new out out_now (end.BadMessage file place) is draws prints = absurd prints
-written drawn reading text old new out out_now (end.NoFile file) is draws prints = absurd prints
-written drawn reading text old new out out_now end.NoTrace is draws prints = absurd prints
-written drawn reading text old new out out_now end.WriteFault is draws prints = (subst (WroteFront out out_now) is prints, draws)
-written drawn reading text old new out out_now end.ReadFault is draws prints = absurd prints
-written drawn reading text old new out out_now end.PictureFault is draws prints = absurd prints
-written drawn reading text old new out out_now end.OutOfMemory is draws prints = absurd prints
+pub written : (drawn : Option (List ℕ)) (stream : List Told) (ends text : List ℕ) (old new : FolderTold) (out out_now : SinkTold) (status : Status) → text ≡ text_of stream ends
+    → Draws drawn stream old new → Prints text out out_now status → Writes drawn stream ends (sides old out) (sides new out_now) status
+written drawn stream ends text old new out out_now end.Ok is draws prints = (subst (WroteAll out out_now) is prints, draws)
+written drawn stream ends text old new out out_now (end.BadMessage file place) is draws prints = absurd prints
+written drawn stream ends text old new out out_now (end.NoFile file) is draws prints = absurd prints
+written drawn stream ends text old new out out_now end.NoTrace is draws prints = absurd prints
+written drawn stream ends text old new out out_now end.WriteFault is draws prints = (subst (WroteFront out out_now) is prints, draws)
+written drawn stream ends text old new out out_now end.ReadFault is draws prints = absurd prints
+written drawn stream ends text old new out out_now end.PictureFault is draws prints = absurd prints
+written drawn stream ends text old new out out_now end.OutOfMemory is draws prints = absurd prints
 
-pub not_drawn : (drawn : Option (List ℕ)) (reading : Reading) (old new : FolderTold) (out : SinkTold) (status : Status) → TriesToDraw drawn reading.stream.items old new (Err status)
-    → Writes drawn reading (sides old out) (sides new out) status
-not_drawn drawn reading old new out end.Ok tries = absurd tries
-not_drawn drawn reading old new out (end.BadMessage file place) tries = absurd tries
-not_drawn drawn reading old new out (end.NoFile file) tries = absurd tries
-not_drawn drawn reading old new out end.NoTrace tries = absurd tries
-not_drawn drawn reading old new out end.WriteFault tries = absurd tries
-not_drawn drawn reading old new out end.ReadFault tries = absurd tries
-not_drawn drawn reading old new out end.PictureFault tries = (tries.0, refl, tries.1)
-not_drawn drawn reading old new out end.OutOfMemory tries = (refl, tries)
+pub not_drawn : (drawn : Option (List ℕ)) (stream : List Told) (ends : List ℕ) (old new : FolderTold) (out : SinkTold) (status : Status) → TriesToDraw drawn stream old new (Err status)
+    → Writes drawn stream ends (sides old out) (sides new out) status
+not_drawn drawn stream ends old new out end.Ok tries = absurd tries
+not_drawn drawn stream ends old new out (end.BadMessage file place) tries = absurd tries
+not_drawn drawn stream ends old new out (end.NoFile file) tries = absurd tries
+not_drawn drawn stream ends old new out end.NoTrace tries = absurd tries
+not_drawn drawn stream ends old new out end.WriteFault tries = absurd tries
+not_drawn drawn stream ends old new out end.ReadFault tries = absurd tries
+not_drawn drawn stream ends old new out end.PictureFault tries = (tries.0, refl, tries.1)
+not_drawn drawn stream ends old new out end.OutOfMemory tries = (refl, tries)
 
 -- ---- the whole
 
@@ -94,15 +94,15 @@ keeps_on : (drawn : Option (List ℕ)) (old mid new : FolderTold) → IsLeft old
 keeps_on None old mid new left keeps = left_on old mid new left keeps
 keeps_on (Some name) old mid new left keeps = stays_on old.files mid.files new.files left.files keeps
 
-pub ends_written : (names : Files → List (List ℕ)) (drawn : Option (List ℕ)) (reading : Reading) (old mid new : FolderTold) (out out_now : SinkTold) (status : Status) → Reads names old mid (Ok reading) → IsLeft old mid
-    → Writes drawn reading (sides mid out) (sides new out_now) status → Ends names drawn (sides old out) (sides new out_now) status
+pub ends_written : (names : Files → List (List ℕ)) (drawn : Option (List ℕ)) (reading : Reading) (old mid new : FolderTold) (out out_now : SinkTold) (status : Status) → (reads : Reads names old mid (Ok reading)) → IsLeft old mid
+    → Writes drawn reads.1.0 reading.ends.items (sides mid out) (sides new out_now) status → Ends names drawn (sides old out) (sides new out_now) status
 ends_written names drawn reading old mid new out out_now end.Ok reads left writes =
-    (reading.stream.items, reading.ends.items, reads.1, (writes.0, draws_on drawn reading.stream.items old mid new left writes.1))
+    (reads.1.0, reading.ends.items, reads.1.2, (writes.0, draws_on drawn reads.1.0 old mid new left writes.1))
 ends_written names drawn reading old mid new out out_now (end.BadMessage file place) reads left writes = absurd writes
 ends_written names drawn reading old mid new out out_now (end.NoFile file) reads left writes = absurd writes
 ends_written names drawn reading old mid new out out_now end.NoTrace reads left writes = absurd writes
 ends_written names drawn reading old mid new out out_now end.WriteFault reads left writes =
-    (reading.stream.items, reading.ends.items, reads.1, (writes.0, draws_on drawn reading.stream.items old mid new left writes.1))
+    (reads.1.0, reading.ends.items, reads.1.2, (writes.0, draws_on drawn reads.1.0 old mid new left writes.1))
 ends_written names drawn reading old mid new out out_now end.ReadFault reads left writes = absurd writes
 ends_written names drawn reading old mid new out out_now end.PictureFault reads left writes =
     (subst (λ (n : ℕ). HasRisen n new.faults) reads.0 writes.0, writes.1, spares_on drawn old mid new left writes.2)

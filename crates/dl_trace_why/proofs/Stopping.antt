@@ -5,6 +5,8 @@ use Rattle.std.specs.FinMap as map
 use Rattle.dl_outside.specs.Folder.{Files}
 use Rattle.dl_outside.specs.Outside.{HasRisen, Stays}
 use Rattle.dl_outside.specs.Told.{FolderTold}
+use Rattle.dl_sessions.specs.Follows.{IsAt}
+use Rattle.dl_sessions.specs.declared.session.Told.{Told}
 use Rattle.dl_trace_files.specs.Left.{IsLeft}
 use Rattle.dl_trace_files.proofs.Looking.{left_on, left_same}
 use Rattle.dl_trace_why.specs.Reading.{AreBadAt, AreRead, IsBadAt, IsMissing, IsThere, Tell}
@@ -32,13 +34,13 @@ stops is_alone old mid new all names behind name reading end.OutOfMemory so_far 
 
 -- ---- whether there is one
 
-some_told : (told : Option Files) (names : List (List ℕ)) (reading : Reading) → (length names == 0) ≡ false → IfSome told (λ files. Tell (length names == 1) files names reading.stream.items reading.ends.items)
-    → IfSome told (λ files. AreRead files names reading.stream.items reading.ends.items)
-some_told None names reading some tell = tt
-some_told (Some files) names reading some tell = some_read files names reading.stream.items reading.ends.items some tell
+some_told : (told : Option Files) (names : List (List ℕ)) (stream : List Told) (ends : List ℕ) → (length names == 0) ≡ false → IfSome told (λ files. Tell (length names == 1) files names stream ends)
+    → IfSome told (λ files. AreRead files names stream ends)
+some_told None names stream ends some tell = tt
+some_told (Some files) names stream ends some tell = some_read files names stream ends some tell
 
 some_by : (names : List (List ℕ)) (old new : FolderTold) (result : Result Reading Status) → (length names == 0) ≡ false → ReadsNames (length names == 1) names old new result → Reads (λ files. names) old new result
-some_by names old new (Ok reading) some reads = (reads.0, some_told old.files names reading some reads.1)
+some_by names old new (Ok reading) some reads = (reads.0, (reads.1.0, reads.1.1, some_told old.files names reads.1.0 reading.ends.items some reads.1.2))
 some_by names old new (Err status) some reads = reads
 
 pub some_reads : (is_alone : Bool) (names : List (List ℕ)) (old new : FolderTold) (result : Result Reading Status) → (length names == 0) ≡ false → is_alone ≡ (length names == 1) → ReadsNames is_alone names old new result
@@ -56,7 +58,7 @@ pub reads_on : (old mid new : FolderTold) (names : List (List ℕ)) (of : Files 
     → Reads (λ files. names) mid new result → Reads of old new result
 reads_on old mid new names of (Ok reading) is left well reads = (
   reads.0 ∙ well,
-  under old.files mid.files names of (λ files all. AreRead files all reading.stream.items reading.ends.items) is left.files reads.1,
+  (reads.1.0, reads.1.1, under old.files mid.files names of (λ files all. AreRead files all reads.1.0 reading.ends.items) is left.files reads.1.2),
 )
 reads_on old mid new names of (Err end.Ok) is left well reads = absurd reads
 reads_on old mid new names of (Err (end.BadMessage file place)) is left well reads = under old.files mid.files names of (λ files all. IsBadAt files all file place) is left.files reads
@@ -81,11 +83,11 @@ nothing_left : {X : Type 0} (l : List X) → length l ≡ 0 → l ≡ []
 nothing_left [] none = refl
 nothing_left (x ∷ xs) none = absurd (omega arith)
 
-pub sets_out : (is_alone : Bool) (told : FolderTold) (all : List (List ℕ)) (count : ℕ) (reading : Reading) → count ≡ length all → reading.stream.items ≡ [] → reading.ends.items ≡ [] → IsReading is_alone told told all [] all count reading
+pub sets_out : (is_alone : Bool) (told : FolderTold) (all : List (List ℕ)) (count : ℕ) (reading : Reading) → count ≡ length all → IsAt [] reading.follower → reading.ends.items ≡ [] → IsReading is_alone told told all [] all count reading
 sets_out is_alone told all count reading counted s e = record { names_are = refl; count_is = counted; told = none_yet is_alone told.files reading s e; left_as = left_same told; well = refl }
 
-pub goes_on : (is_alone : Bool) (old mid new : FolderTold) (all yielded left left_now : List (List ℕ)) (name : List ℕ) (count count_now : ℕ) (reading reading_now : Reading) → IsReading is_alone old mid all yielded left count reading
-    → left ≡ name ∷ left_now → count_now ≡ length left_now → AddsFile is_alone name mid new reading reading_now (Ok tt) → IsLeft mid new → IsReading is_alone old new all (yielded ++ name ∷ []) left_now count_now reading_now
+pub goes_on : (is_alone : Bool) (old mid new : FolderTold) (all yielded left left_now : List (List ℕ)) (name : List ℕ) (count count_now : ℕ) (reading reading_now : Reading) → (was : IsReading is_alone old mid all yielded left count reading)
+    → left ≡ name ∷ left_now → count_now ≡ length left_now → AddsFile is_alone name was.told.0 mid new reading reading_now (Ok tt) → IsLeft mid new → IsReading is_alone old new all (yielded ++ name ∷ []) left_now count_now reading_now
 goes_on is_alone old mid new all yielded left left_now name count count_now reading reading_now was next counted adds left_as = record {
   names_are = append_assoc yielded (name ∷ []) left_now ∙ ap (λ (l : List (List ℕ)). yielded ++ l) (sym next) ∙ was.names_are;
   count_is = counted;

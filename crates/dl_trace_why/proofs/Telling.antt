@@ -1,39 +1,107 @@
 -- Files that are read one behind the other.
-use Rattle.std.proofs.Common.{◌≡◌, Bool, false, List, [], ◌∷◌, ◌++◌, Option, Some, None, ℕ, refl, sym, ap, subst, ◌∙◌, append_assoc, append-nil}
-use Rattle.std.specs.Prelude.{◌==◌, ◌-◌, IfSome, length}
+use Rattle.std.proofs.Common.{◌≡◌, Bool, false, List, [], ◌∷◌, ◌++◌, Option, Some, None, ℕ, refl, sym, ap, subst, ◌∙◌, append_assoc, append-nil, length-append, inl, inr, arith}
+use Rattle.std.specs.Prelude.{◌==◌, ◌-◌, ◌⊎◌, IfSome, length}
+use Rattle.std.specs.FinMap as map
 use Rattle.dl_outside.specs.Folder.{Files}
-use Rattle.dl_sessions.specs.Reads as sessions
-use Rattle.dl_sessions.specs.Stream.{end_of}
+use Rattle.dl_sessions.specs.Follows.{EndsBad, HasClosed, HasCounted, IsAt}
+use Rattle.dl_sessions.specs.Stream.{Tells, end_of, first_place}
 use Rattle.dl_sessions.specs.declared.session.Told.{Told}
 use Rattle.dl_sessions.specs.declared.stream.End.{End}
 use Rattle.dl_sessions.specs.declared.stream.End.TheVariants.{Whole, Within, Bad}
-use Rattle.dl_trace_why.specs.Reading.{AreBadAt, AreRead, EndSays, FileTells, IsFirst, IsThere, Tell, called, within_words}
-use Rattle.dl_trace_why.specs.Reads.{HasAdded}
+use Rattle.dl_trace_why.specs.Reading.{AreBadAt, AreRead, BytesTell, EndSays, FileTells, IsFirst, IsThere, Tell, called, within_words}
+use Rattle.dl_trace_why.specs.Reads.{AreEnough, Counts, HasAdded, HasAddedFile, HasRead}
 use Rattle.dl_trace_why.specs.declared.reading.Reading.{Reading}
 
 -- ---- one file
 
-pub added_whole : (label bytes rest : List ℕ) (old new : Reading) → sessions.Reads bytes rest old.stream.items new.stream.items → end_of rest ≡ Whole → new.ends.items ≡ old.ends.items → HasAdded label bytes old new
-added_whole label bytes rest old new reads whole same = record {
-  stream = reads.stream;
+pub ended_whole : (label bytes : List ℕ) (before : List Told) (old new : Reading) → HasClosed before bytes old.follower.held.items new.follower → end_of old.follower.held.items ≡ Whole
+    → new.ends.items ≡ old.ends.items → HasAdded label before bytes old.follower.held.items old new
+ended_whole label bytes before old new closed whole same = record {
+  stream = closed.stream;
   said = [];
-  tells = record { rest = rest; tells = reads.tells; ends = subst (λ (e : End). EndSays label (length rest) e []) (sym whole) refl };
-  stream_is = reads.told;
+  tells = record {
+    rest = old.follower.held.items;
+    tells = closed.tells;
+    ends = subst (λ (e : End). EndSays label (length old.follower.held.items) e []) (sym whole) refl;
+  };
+  rest_is = refl;
+  at = closed.at;
   ends_are = same ∙ sym (append-nil old.ends.items);
 }
 
-pub added_within : (label bytes rest : List ℕ) (old new : Reading) → sessions.Reads bytes rest old.stream.items new.stream.items → end_of rest ≡ Within
-    → new.ends.items ≡ old.ends.items ++ within_words label (length rest) → HasAdded label bytes old new
-added_within label bytes rest old new reads within more = record {
-  stream = reads.stream;
-  said = within_words label (length rest);
-  tells = record { rest = rest; tells = reads.tells; ends = subst (λ (e : End). EndSays label (length rest) e (within_words label (length rest))) (sym within) refl };
-  stream_is = reads.told;
-  ends_are = more;
-}
+pub ended_within : (label bytes : List ℕ) (before : List Told) (old new : Reading) → HasClosed before bytes old.follower.held.items new.follower → end_of old.follower.held.items ≡ Within
+    → new.ends.items ≡ old.ends.items ++ within_words label (length old.follower.held.items) → HasAdded label before bytes old.follower.held.items old new
+ended_within label bytes before old new closed within more =
+    let words = within_words label (length old.follower.held.items) in
+    record {
+      stream = closed.stream;
+      said = words;
+      tells = record {
+        rest = old.follower.held.items;
+        tells = closed.tells;
+        ends = subst (λ (e : End). EndSays label (length old.follower.held.items) e words) (sym within) refl;
+      };
+      rest_is = refl;
+      at = closed.at;
+      ends_are = more;
+    }
 
-pub are_bad : (bytes rest : List ℕ) (old new : List Told) (place : ℕ) → sessions.Reads bytes rest old new → end_of rest ≡ Bad → place ≡ length bytes - length rest → AreBadAt bytes place
-are_bad bytes rest old new place reads bad is = record { stream = reads.stream; rest = rest; tells = reads.tells; bad = bad; place_is = is }
+-- what is bad is not said to end well
+not_bad : (label rest said : List ℕ) (left : ℕ) → end_of rest ≡ Bad → EndSays label left (end_of rest) said → ⊥
+not_bad label rest said left bad says = subst (λ (e : End). EndSays label left e said) bad says
+
+all_there : (bytes rest file : List ℕ) → AreEnough bytes rest file → (end_of rest ≡ Bad → ⊥) → file ≡ bytes
+all_there bytes rest file enough good = enough.1 ∙ by_end enough.2 where
+  by_end : (enough.0 ≡ []) ⊎ EndsBad rest → bytes ++ enough.0 ≡ bytes
+  by_end (inl none) = ap (λ (l : List ℕ). bytes ++ l) none ∙ append-nil bytes
+  by_end (inr bad) = absurd (good (ap end_of (sym (append-nil rest)) ∙ (bad []).1))
+
+there : (told : Option Files) (name bytes rest : List ℕ) → (end_of rest ≡ Bad → ⊥) → IfSome told (λ files. IsThere files name (AreEnough bytes rest)) → IfSome told (λ files. map.get files name ≡ Some bytes)
+there None name bytes rest good is = tt
+there (Some files) name bytes rest good is = is.1 ∙ ap Some (all_there bytes rest is.0 is.2 good)
+
+pub added_file : (is_alone : Bool) (name : List ℕ) (before : List Told) (told : Option Files) (count : ℕ) (old mid new : Reading) → (read : HasRead before name told count mid.follower) → mid.ends.items ≡ old.ends.items
+    → HasAdded (called is_alone name) before read.bytes mid.follower.held.items mid new → HasAddedFile is_alone name before told old new
+added_file is_alone name before told count old mid new read same added =
+    let label = called is_alone name in
+    let rest = mid.follower.held.items in
+    let says = subst (λ (l : List ℕ). EndSays label (length l) (end_of l) added.said) added.rest_is added.tells.ends in
+    record {
+      bytes = read.bytes;
+      stream = added.stream;
+      said = added.said;
+      tells = added.tells;
+      at = added.at;
+      ends_are = added.ends_are ∙ ap (λ (l : List ℕ). l ++ added.said) same;
+      file_is = there told name read.bytes rest (λ bad. not_bad label rest added.said (length rest) bad says) read.file_is;
+    }
+
+bad_behind : (rest behind : List ℕ) → first_place rest ≡ None → end_of rest ≡ Bad → (behind ≡ []) ⊎ EndsBad rest → (first_place (rest ++ behind) ≡ None) × (end_of (rest ++ behind) ≡ Bad)
+bad_behind rest behind none bad (inl empty) =
+    let same : rest ++ behind ≡ rest = ap (λ (l : List ℕ). rest ++ l) empty ∙ append-nil rest in
+    (ap first_place same ∙ none, ap end_of same ∙ bad)
+bad_behind rest behind none bad (inr stays) = stays behind
+
+pub bad_file : (before : List Told) (name : List ℕ) (told : Option Files) (count place : ℕ) (reading : Reading) → HasRead before name told count reading.follower → end_of reading.follower.held.items ≡ Bad
+    → place ≡ count - length reading.follower.held.items → IfSome told (λ files. IsThere files name (λ bytes. AreBadAt bytes place))
+bad_file before name None count place reading read bad is = tt
+bad_file before name (Some files) count place reading read bad is =
+    let rest = reading.follower.held.items in
+    let file = read.file_is.0 in
+    let behind = read.file_is.2.0 in
+    let split : file ≡ read.bytes ++ behind = read.file_is.2.1 in
+    let follows : HasCounted before read.bytes rest reading.follower.counts = read.follows in
+    let still = bad_behind rest behind follows.none bad read.file_is.2.2 in (
+      file,
+      read.file_is.1,
+      record {
+        stream = follows.stream ++ [];
+        rest = rest ++ behind;
+        tells = subst (λ (l : List ℕ). Tells l (follows.stream ++ []) (rest ++ behind)) (sym split) (follows.read behind [] (rest ++ behind) (refl, still.0));
+        bad = still.1;
+        place_is = omega (arith, is, read.count_is, ap length split, length-append read.bytes behind, length-append rest behind);
+      },
+    )
 
 -- ---- files
 
@@ -55,21 +123,22 @@ tell_more is_alone files (n ∷ names) name stream first ends said tell one = (
 
 -- the files so far
 abbrev pub AreSoFar : Bool → Option Files → List (List ℕ) → Reading → Type 0
-AreSoFar is_alone told names reading = IfSome told (λ files. Tell is_alone files names reading.stream.items reading.ends.items)
+AreSoFar is_alone told names reading = Counts told reading (λ files. Tell is_alone files names)
 
-pub none_yet : (is_alone : Bool) (told : Option Files) (reading : Reading) → reading.stream.items ≡ [] → reading.ends.items ≡ [] → AreSoFar is_alone told [] reading
-none_yet is_alone None reading s e = tt
-none_yet is_alone (Some files) reading s e = (s, e)
+pub none_yet : (is_alone : Bool) (told : Option Files) (reading : Reading) → IsAt [] reading.follower → reading.ends.items ≡ [] → AreSoFar is_alone told [] reading
+none_yet is_alone None reading at e = ([], at, tt)
+none_yet is_alone (Some files) reading at e = ([], at, (refl, e))
 
-pub one_more : (is_alone : Bool) (told mid : Option Files) (names : List (List ℕ)) (name : List ℕ) (reading reading_now : Reading) → AreSoFar is_alone told names reading → IfSome told (λ files. mid ≡ Some files)
-    → IfSome mid (λ files. IsThere files name (λ bytes. HasAdded (called is_alone name) bytes reading reading_now)) → AreSoFar is_alone told (names ++ name ∷ []) reading_now
-one_more is_alone None mid names name reading reading_now so_far stays added = tt
+pub one_more : (is_alone : Bool) (told mid : Option Files) (names : List (List ℕ)) (name : List ℕ) (reading reading_now : Reading) → (so_far : AreSoFar is_alone told names reading) → IfSome told (λ files. mid ≡ Some files)
+    → HasAddedFile is_alone name so_far.0 mid reading reading_now → AreSoFar is_alone told (names ++ name ∷ []) reading_now
+one_more is_alone None mid names name reading reading_now so_far stays added = (so_far.0 ++ added.stream, added.at, tt)
 one_more is_alone (Some files) mid names name reading reading_now so_far stays added =
-    let there = subst (λ (m : Option Files). IfSome m (λ files. IsThere files name (λ bytes. HasAdded (called is_alone name) bytes reading reading_now))) stays added in
-    let new = there.2 in
-    subst (λ (l : List ℕ). Tell is_alone files (names ++ name ∷ []) reading_now.stream.items l) (sym new.ends_are)
-    (subst (λ (s : List Told). Tell is_alone files (names ++ name ∷ []) s (reading.ends.items ++ new.said)) (sym new.stream_is)
-    (tell_more is_alone files names name reading.stream.items new.stream reading.ends.items new.said so_far (there.0, there.1, new.tells)))
+    let there_now = subst (λ (m : Option Files). IfSome m (λ files. map.get files name ≡ Some added.bytes)) stays added.file_is in (
+      so_far.0 ++ added.stream,
+      added.at,
+      subst (λ (l : List ℕ). Tell is_alone files (names ++ name ∷ []) (so_far.0 ++ added.stream) l) (sym added.ends_are)
+          (tell_more is_alone files names name so_far.0 added.stream reading.ends.items added.said so_far.2 (added.bytes, there_now, added.tells)),
+    )
 
 -- some files
 pub some_read : (files : Files) (names : List (List ℕ)) (stream : List Told) (ends : List ℕ) → (length names == 0) ≡ false → Tell (length names == 1) files names stream ends → AreRead files names stream ends
@@ -85,8 +154,8 @@ first_is is_alone (Some files) mid all names behind name reading P so_far is sta
   behind = behind;
   names_are = is;
   is_alone = is_alone;
-  stream = reading.stream.items;
+  stream = so_far.0;
   ends = reading.ends.items;
-  tell = so_far;
+  tell = so_far.2;
   so = subst (λ (m : Option Files). IfSome m P) stays so;
 }

@@ -7,7 +7,6 @@ use Rattle.dl_outside.specs.Told.{FolderTold, SinkTold}
 use Rattle.dl_outside.specs.Written.{WroteAll, WroteFront, WroteNothing}
 use Rattle.dl_sessions.specs.declared.session.Told.{Told}
 use Rattle.dl_trace_why.specs.Account.{Draws, Keeps, Sides, Spares, text_of}
-use Rattle.dl_trace_why.specs.declared.reading.Reading.{Reading}
 use Rattle.dl_trace_why.specs.declared.status.Status.{Status}
 use Rattle.dl_trace_why.specs.declared.status.Status.TheVariants as end
 
@@ -32,9 +31,9 @@ Prints text old new end.WriteFault = WroteFront old new text
 Prints text old new _ = ⊥
 
 -- the account of what was read was written, and drawn where a picture is wanted; or why not
-abbrev pub Writes : Option (List ℕ) → Reading → Sides → Sides → Status → Type 0
-Writes drawn reading old new end.Ok = WroteAll old.out new.out (text_of reading.stream.items reading.ends.items) × Draws drawn reading.stream.items old.folder new.folder
-Writes drawn reading old new end.WriteFault = WroteFront old.out new.out (text_of reading.stream.items reading.ends.items) × Draws drawn reading.stream.items old.folder new.folder
-Writes drawn reading old new end.PictureFault = HasRisen old.folder.faults new.folder.faults × WroteNothing old.out new.out × Spares drawn old.folder new.folder
-Writes drawn reading old new end.OutOfMemory = WroteNothing old.out new.out × Keeps drawn old.folder new.folder
-Writes drawn reading old new _ = ⊥
+abbrev pub Writes : Option (List ℕ) → List Told → List ℕ → Sides → Sides → Status → Type 0
+Writes drawn stream ends old new end.Ok = WroteAll old.out new.out (text_of stream ends) × Draws drawn stream old.folder new.folder
+Writes drawn stream ends old new end.WriteFault = WroteFront old.out new.out (text_of stream ends) × Draws drawn stream old.folder new.folder
+Writes drawn stream ends old new end.PictureFault = HasRisen old.folder.faults new.folder.faults × WroteNothing old.out new.out × Spares drawn old.folder new.folder
+Writes drawn stream ends old new end.OutOfMemory = WroteNothing old.out new.out × Keeps drawn old.folder new.folder
+Writes drawn stream ends old new _ = ⊥

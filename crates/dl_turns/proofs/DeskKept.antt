@@ -1,26 +1,21 @@
 -- The desk has each application of the registry, also after a request.
-use Rattle.std.proofs.Common.{◌≡◌, ℕ, ◌<◌, Bool, true, false, cond, length, List, [], ◌∷◌, Option, Some, None, Result, Ok, Err, refl, sym, subst}
-use Rattle.std.specs.Prelude.{◌==◌, nat_le, unwrap_or, IfSome, if◌then◌else◌}
+use Rattle.std.proofs.Common.{◌≡◌, ℕ, ◌<◌, Bool, true, false, cond, List, [], ◌∷◌, Option, Some, None, Result, Ok, refl, sym, subst}
+use Rattle.std.specs.Prelude.{IfSome, if◌then◌else◌}
 use Rattle.std.specs.List.{AllByRecursion}
 use Rattle.std.specs.Map.{lookup}
 use Rattle.std.specs.Option.{option_and_then, option_map}
-use Rattle.std.specs.Result.{result_ok}
 use Rattle.std.specs.Str.{bytes_eq}
-use Rattle.dl_bytes.specs.Id.{zero_id}
-use Rattle.dl_bytes.specs.Level.{own_level_of}
 use Rattle.dl_bytes.specs.Payload.{Arguments}
 use Rattle.dl_bytes.specs.declared.outcome.Done.{Done}
-use Rattle.dl_bytes.specs.declared.outcome.Done.TheVariants as done
 use Rattle.dl_control.specs.declared.request.Request.{Request}
-use Rattle.dl_control.specs.declared.request.Request.TheVariants.{SetLogLevel, GetLogInfo, GetDefault, Store, Reset, SetDefault, Version, SetAllLogLevel, Inject, Other}
+use Rattle.dl_control.specs.declared.request.Request.TheVariants.{Store, Reset, Inject}
 use Rattle.dl_control.specs.declared.request.RequestFault.{RequestFault}
-use Rattle.dl_model.specs.Registry.{App, Registry, app_of, context_of, default_set, keep_own, matching, no_own, nothing_stored, numbers, own_set, releveled, set_matching, unless_worn, wears}
-use Rattle.dl_model.specs.Reply.{apid_of, asked, ctid_of, default_requested, now_stored, own_requested, reset_requested, served, where_done}
+use Rattle.dl_model.specs.Registry.{App, Registry, app_of, context_of, numbers}
+use Rattle.dl_model.specs.Reply.{apid_of, asked, ctid_of, reset_requested, served}
 use Rattle.dl_model.specs.Setting.{Setting}
 use Rattle.dl_model.specs.declared.context.Context.{Context}
-use Rattle.dl_model.specs.declared.registry.SetFault.{SetFault}
-use Rattle.dl_model.specs.declared.registry.SetFault.TheVariants as set
 use Rattle.dl_model.specs.declared.registry.Slot.{Slot}
+use Rattle.dl_model.proofs.Changes.{served_makes}
 use Rattle.dl_model.proofs.Order.{app_of_found, releveled_numbers}
 use Rattle.dl_desk.specs.Told.{PostTold}
 use Rattle.dl_registry.specs.Kept.{slots}
@@ -36,48 +31,8 @@ use Rattle.dl_turns.specs.Events.{IsDeskOf}
 abbrev KeepsNumbers : Registry → Registry → Type 0
 KeepsNumbers old new = numbers new.apps ≡ numbers old.apps
 
-ok_or_nothing : (b : Bool) (e : SetFault) (old new : Registry) → KeepsNumbers old new → IfSome (result_ok (cond b (Err e) (Ok new))) (KeepsNumbers old)
-ok_or_nothing true e old new is = tt
-ok_or_nothing false e old new is = is
-
-err_or : (b : Bool) (e : SetFault) (old : Registry) (r : Result Registry SetFault) → IfSome (result_ok r) (KeepsNumbers old) → IfSome (result_ok (cond b (Err e) r)) (KeepsNumbers old)
-err_or true e old r is = tt
-err_or false e old r is = is
-
-own_requested-keeps : (slots : ℕ → Slot) (r : Registry) (apid ctid : List ℕ) (o : Option (Option ℕ)) → IfSome (option_and_then (λ own. result_ok (own_set slots r apid ctid own)) o) (KeepsNumbers r)
-own_requested-keeps slots r apid ctid None = tt
-own_requested-keeps slots r apid ctid (Some own) =
-    err_or (length (matching r apid ctid) == 0) set.Nobody r (unless_worn slots r r.level (set_matching apid ctid own))
-    (ok_or_nothing (wears slots r r.level (set_matching apid ctid own)) set.Worn r (releveled r.level (set_matching apid ctid own) r) (releveled_numbers (set_matching apid ctid own) r.apps))
-
-default_requested-keeps : (slots : ℕ → Slot) (r : Registry) (level : ℕ) (b : Bool) → IfSome (if b then result_ok (default_set slots r level) else None) (KeepsNumbers r)
-default_requested-keeps slots r level true = ok_or_nothing (wears slots r level keep_own) set.Worn r (releveled level keep_own r) (releveled_numbers keep_own r.apps)
-default_requested-keeps slots r level false = tt
-
-reset_requested-keeps : (s : Setting) (slots : ℕ → Slot) (r : Registry) → IfSome (reset_requested s slots r) (KeepsNumbers r)
-reset_requested-keeps s slots r = ok_or_nothing (wears slots r s.level no_own) set.Worn r (nothing_stored (releveled s.level no_own r)) (releveled_numbers no_own r.apps)
-
-some_or : (o : Option Registry) (old : Registry) → IfSome o (KeepsNumbers old) → KeepsNumbers old (unwrap_or o old)
-some_or (Some new) old found = found
-some_or None old found = refl
-
-where_done-keeps : (answer : Done) (new old : Registry) → KeepsNumbers old new → KeepsNumbers old (where_done answer new old)
-where_done-keeps done.Yes new old is = is
-where_done-keeps done.Failed new old is = refl
-where_done-keeps done.NoMemory new old is = refl
-
 served-keeps : (s : Setting) (slots : ℕ → Slot) (r : Registry) (request : Result Request RequestFault) (answer : Done) → KeepsNumbers r (served s slots r request answer)
-served-keeps s slots r (Ok (SetLogLevel apid ctid level)) answer = some_or (own_requested slots r apid ctid level) r (own_requested-keeps slots r apid ctid (own_level_of level))
-served-keeps s slots r (Ok (SetAllLogLevel level)) answer = some_or (own_requested slots r zero_id zero_id level) r (own_requested-keeps slots r zero_id zero_id (own_level_of level))
-served-keeps s slots r (Ok (SetDefault level)) answer = some_or (default_requested slots r level) r (default_requested-keeps slots r level (nat_le level 6))
-served-keeps s slots r (Ok Store) answer = where_done-keeps answer (now_stored r) r refl
-served-keeps s slots r (Ok Reset) answer = where_done-keeps answer (unwrap_or (reset_requested s slots r) r) r (some_or (reset_requested s slots r) r (reset_requested-keeps s slots r))
-served-keeps s slots r (Ok (GetLogInfo options apid ctid)) answer = refl
-served-keeps s slots r (Ok GetDefault) answer = refl
-served-keeps s slots r (Ok Version) answer = refl
-served-keeps s slots r (Ok (Inject service body)) answer = refl
-served-keeps s slots r (Ok (Other service)) answer = refl
-served-keeps s slots r (Err fault) answer = refl
+served-keeps s slots r = served_makes (KeepsNumbers r) r refl (λ level relevel. releveled_numbers relevel r.apps) (λ new stored is. is) s slots
 
 pub desk_served : (core : Core) (frame : List ℕ) (answer : Done) (told : PostTold) → IsDeskOf core.registry told → IsDeskOf (served_now core frame answer) told
 desk_served core frame answer told desk = record {

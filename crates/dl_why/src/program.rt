@@ -23,6 +23,7 @@ use dl_bytes::{Bytes, Conf};
 use dl_fates::{Rotation, newest_number};
 use dl_memory::MemorySource;
 use dl_outside::{Folder, FolderFault, Sink, Source, write_text};
+use dl_pieces::ReadAt;
 use dl_script::ScriptKind;
 use dl_startup::{CONF_NAME, Setup, Status, set_up, trace_over};
 use dl_trace::{Trace, TraceFault};
@@ -268,7 +269,7 @@ fn run_file<F: Folder, O: Sink, E: Sink>(
 }
 
 /// Writes the account of traces, and says how that ended.
-fn run_traces<F: Folder, O: Sink, E: Sink>(
+fn run_traces<F: ReadAt, O: Sink, E: Sink>(
     alloc: Global,
     names: &[&str],
     picture: Option<&str>,
@@ -284,7 +285,7 @@ fn run_traces<F: Folder, O: Sink, E: Sink>(
 }
 
 /// Writes the account of a stream, and says how that ended.
-fn run_stream<F: Folder, O: Sink, E: Sink>(
+fn run_stream<F: ReadAt, O: Sink, E: Sink>(
     alloc: Global,
     name: &str,
     picture: Option<&str>,
@@ -331,7 +332,7 @@ fn answer_fault<O: Sink, E: Sink>(fault: WhyFault, out: &mut O, err: &mut E) -> 
 }
 
 /// Does what the words ask for, and says how that ended.
-fn run_asked<F: Folder, I: Source, O: Sink, E: Sink>(
+fn run_asked<F: ReadAt, I: Source, O: Sink, E: Sink>(
     alloc: Global,
     asked: WhyWords<'_>,
     input: &mut I,
@@ -362,7 +363,7 @@ fn run_asked<F: Folder, I: Source, O: Sink, E: Sink>(
 /// `stream` what is missing of what was recorded, with `--help` what the program is for. The words are those of the command line, the program's name
 /// first. No file of the folder is changed but that of a picture. The answer is the exit status. Each but the good one is said on `err` in
 /// one line, and a fault of `err` changes nothing.
-pub fn tell_why<F: Folder, I: Source, O: Sink, E: Sink>(
+pub fn tell_why<F: ReadAt, I: Source, O: Sink, E: Sink>(
     alloc: Global,
     words: &[String],
     input: &mut I,

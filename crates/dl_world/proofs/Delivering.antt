@@ -47,7 +47,7 @@ pub core_took : (run : Run) (events : List Event) (taken : ℕ → List ℕ) (no
     → outbox_of now.hub number ≡ Some w → count ≤ length w.bytes
     → core.IsAfter run events (took_more taken number (take count w.bytes)) (record now { hub = changed number (without count) now.hub })
 core_took run events taken now number count w is at fits = record {
-  set_to = record { ecu = is.set_to.ecu; unit = is.set_to.unit; buffer = is.set_to.buffer; level = is.set_to.level; injection = is.set_to.injection; clients = is.set_to.clients };
+  set_to = record { ecu = is.set_to.ecu; unit = is.set_to.unit; buffer = is.set_to.buffer; level = is.set_to.level; injection = is.set_to.injection; clients = is.set_to.clients; software = is.set_to.software };
   registry = is.registry;
   hub = hub_took (traffic (source_of run) events) taken now.hub number count w is.hub at fits;
   begun = is.begun;

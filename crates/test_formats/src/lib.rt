@@ -1,17 +1,23 @@
-//! Bytes and texts of each format by its tables, and what other programs wrote: messages, requests and replies, user messages, and
-//! both configurations, and the registry.
+//! Bytes and texts of each format by its tables, and what other programs wrote: arguments, messages, requests, user messages and stored configurations; and a
+//! registry whose slots are worn. It is compiled for its tests alone.
 #![tactic(auto)]
 
 #[cfg(test)]
-mod confs;
+mod captures;
 #[cfg(test)]
 mod controls;
 #[cfg(test)]
 mod messages;
 #[cfg(test)]
+mod payloads;
+#[cfg(test)]
 mod registry;
 #[cfg(test)]
+mod shown;
+#[cfg(test)]
 mod stored;
+#[cfg(test)]
+mod streams;
 #[cfg(test)]
 mod user_faults;
 #[cfg(test)]

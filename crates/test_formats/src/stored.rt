@@ -1,7 +1,7 @@
-//! Stored configurations: what they say, and what is written. Lines at fault are rows of `tests/rows`.
+//! Stored configurations: what they say. Lines at fault, and what is written, are rows of `tests/rows`.
 
-use dl_bytes::{Bytes, Id, Level, Sequence, Stored, StoredLevel};
-use dl_conf::{read_stored, write_stored};
+use dl_bytes::{Stored, StoredLevel};
+use dl_conf::read_stored;
 use std::alloc::Global;
 
 /// The ids of a context, and its level.
@@ -67,96 +67,4 @@ fn other(alloc: Global, rows: &[Row]) -> Option<usize> {
 #[test]
 fn stored_texts(rt: HostRuntime) {
     assert!(rt; other(rt.alloc(), &STORED).is_none());
-}
-
-/// Adds a line for the context of this number.
-fn push_entry(text: &mut Vec<u8>, number: u16) -> bool {
-    let digits = [
-        digit(number / 1000),
-        digit(number / 100),
-        digit(number / 10),
-        digit(number),
-    ];
-    text.extend_from_slice(b"A:").is_ok()
-        && text.extend_from_slice(&digits).is_ok()
-        && text.extend_from_slice(b":3\n").is_ok()
-}
-
-/// A digit of a number.
-fn digit(number: u16) -> u8 {
-    b'0' + (number % 10) as u8
-}
-
-/// A text of 1024 lines for different contexts.
-fn entries(alloc: Global) -> Option<Vec<u8>> {
-    let mut text = Vec::new(alloc);
-    for number in 0..1024u16 {
-        if !push_entry(&mut text, number) {
-            return None;
-        }
-    }
-    Some(text)
-}
-
-/// How many own levels the text says.
-fn count(alloc: Global, text: &[u8]) -> Option<usize> {
-    match read_stored(alloc, text) {
-        Ok(stored) => Some(stored.own.all().len()),
-        Err(_) => None,
-    }
-}
-
-/// How many own levels are read of that text.
-fn most(alloc: Global) -> Option<usize> {
-    count(alloc, &entries(alloc)?)
-}
-
-/// One line more is a row of `tests/rows`.
-#[test]
-fn most_entries(rt: HostRuntime) {
-    assert!(rt; most(rt.alloc()) == Some(1024));
-}
-
-/// An own level at verbose.
-fn verbose(apid: [u8; 4], ctid: [u8; 4]) -> Option<StoredLevel> {
-    Some(StoredLevel {
-        apid: Id::from_bytes(apid),
-        ctid: Id::from_bytes(ctid),
-        level: Level::of(6)?,
-    })
-}
-
-/// Two own levels.
-fn two(alloc: Global) -> Option<Sequence<StoredLevel>> {
-    let levels = [
-        verbose(*b"LOG1", *b"FULL")?,
-        verbose(*b"a:%\0", *b"\x80 \0!")?,
-    ];
-    Some(Sequence::over(Vec::from_array(alloc, levels).ok()?))
-}
-
-/// What is written of them and the default level 4.
-fn written(alloc: Global) -> Option<Bytes> {
-    let level = Level::of(4)?;
-    let stored = Stored {
-        level: None,
-        own: two(alloc)?,
-    };
-    write_stored(alloc, level, &stored).ok()
-}
-
-/// The text of them.
-const WRITTEN: &[u8] = b"::4\nLOG1:FULL:6\na%3A%25:%80%20%00!:6\n";
-
-/// Whether they are written so.
-fn is_written(alloc: Global) -> bool {
-    match written(alloc) {
-        Some(text) => text.all() == WRITTEN,
-        None => false,
-    }
-}
-
-#[test]
-fn what_is_written(rt: HostRuntime) {
-    assert!(rt; is_written(rt.alloc()));
 }

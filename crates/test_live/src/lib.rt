@@ -1,19 +1,10 @@
-//! Scenarios that threads play, and single rounds of the live daemon, over objects in memory. It is compiled for its tests alone.
+//! What of the daemon no program shows, over objects in memory: scenarios that threads play, with what stands in their accounts; and a core that admits. It
+//! is compiled for its tests alone.
 #![tactic(auto)]
 
 #[cfg(test)]
-mod beside;
-#[cfg(test)]
-mod claims;
-#[cfg(test)]
-mod endless;
-#[cfg(test)]
-mod ends;
-#[cfg(test)]
-mod links;
+mod admission;
 #[cfg(test)]
 mod playing;
 #[cfg(test)]
-mod rounds;
-#[cfg(test)]
-mod stage;
+mod scenarios;

@@ -1,14 +1,13 @@
 //! A run over a folder, a net and sinks in memory, and what is looked at of it.
 
-use crate::stage::{folder, words};
 use dl_account::Account;
 use dl_bytes::{Moment, OutOfMemory};
-use dl_events::{Event, Why};
+use dl_events::{Answer, ClaimList, Event, Record, Why};
 use dl_live::{Ended, run};
 use dl_memory::{
-    Manner, MemoryNet, MemorySink, Passing, Sign, SignGate, StandingClock, Turn, Wanted, WatchedNet,
+    MemoryFolder, MemoryNet, MemorySink, Passing, Sign, SignGate, StandingClock, Wanted, WatchedNet,
 };
-use dl_outside::{Folder, Gate, Link, Net};
+use dl_outside::{Folder, Gate};
 use std::alloc::Global;
 use std::collections::VecDeque;
 use std::sync::Wait;
@@ -29,266 +28,195 @@ pub const MUCH: usize = 1_000_000;
 /// How many turns a gate holds a worker at most.
 pub const PATIENCE: u64 = 20_000_000;
 
-/// A run, and what is expected of it.
-#[derive(Clone, Copy)]
-pub struct Case<'a> {
-    /// The configuration.
-    pub conf: &'a str,
-    /// The scenario.
-    pub scenario: &'a str,
-    /// Which call of the first writer waits until a client was sent the wanted bytes; 0 where none does.
-    pub held: u64,
-    /// These bytes.
-    pub wanted: Wanted,
-    /// What it prints.
-    pub report: &'a str,
-}
+/// A net whose clients are watched.
+pub type Clients = WatchedNet<MemoryNet>;
 
-/// The bytes of a case that waits for none.
-pub const NO_BYTES: Wanted = [0; 16];
-
-/// The beginning of a reply of 23 bytes.
-pub const REPLY: Wanted = [
-    0x25, 0x00, 0x00, 0x17, 0x45, 0x43, 0x55, 0x31, 0x26, 0x01, 0x44, 0x41, 0x31, 0x00, 0x44, 0x43,
-];
-
-/// A net whose links have room for so many bytes each.
-pub fn net(alloc: Global, room: usize) -> MemoryNet {
-    MemoryNet::make(alloc, room, VecDeque::new(alloc))
-}
-
-/// A net whose first two links have these manners.
-pub fn net_of(alloc: Global, first: Manner, second: Manner) -> Result<MemoryNet, OutOfMemory> {
-    let mut manners = VecDeque::new(alloc);
-    manners.push_back(first)?;
-    manners.push_back(second)?;
-    Ok(MemoryNet::make(alloc, MUCH, manners))
-}
-
-/// Turns that are all alike.
-pub fn turns(alloc: Global, turn: Turn, count: usize) -> Result<Vec<Turn>, OutOfMemory> {
-    let mut turns = Vec::with_capacity(alloc, count)?;
-    for _ in 0..count {
-        turns.push(turn)?;
-    }
-    Ok(turns)
-}
-
-/// What a run left.
+/// The words, the folder and the sinks of a run.
 #[derive(Drop)]
-pub struct Left<L> {
-    ended: Ended<L>,
+pub struct Stage {
+    words: Vec<String>,
+    folder: MemoryFolder,
     out: MemorySink,
     err: MemorySink,
 }
 
-/// Plays the scenario of this folder over this net, with this gate.
-pub fn left_by<R: Threads + Wait + Sync, F: Folder + Send, N: Net + Send, G: Gate + Sync>(
-    rt: &R,
-    alloc: Global,
-    folder: &mut F,
-    net: &mut N,
-    gate: &G,
-) -> Result<Left<N::L>, OutOfMemory>
-where
-    N::L: Drop + Send,
-{
-    let words = words(alloc)?;
-    let mut out = MemorySink::make(alloc, 1000);
-    let mut err = MemorySink::make(alloc, 1000);
-    let ended = run(
-        rt, alloc, &words, folder, net, &START, gate, &mut out, &mut err,
-    );
-    Ok(Left { ended, out, err })
+/// The words of a command line that plays the scenario `s`.
+fn words(alloc: Global) -> Result<Vec<String>, OutOfMemory> {
+    let mut words = Vec::with_capacity(alloc, 2)?;
+    words.push(String::from_str(alloc, "dlt_run")?)?;
+    words.push(String::from_str(alloc, "s")?)?;
+    Ok(words)
 }
 
-/// A client that was closed as too slow, with its room and its need; zeros where there is none.
-#[derive(Clone, Copy)]
-pub struct Slow {
-    client: u32,
-    room: u64,
-    need: u64,
-}
+impl Stage {
+    /// The stage of a run with this configuration and this scenario.
+    pub fn make(alloc: Global, conf: &str, scenario: &str) -> Result<Stage, OutOfMemory> {
+        let mut folder = MemoryFolder::make(alloc, 8, MUCH)?;
+        let _ = folder.put("dlt.conf", conf.as_bytes());
+        let _ = folder.put("s", scenario.as_bytes());
+        Ok(Stage {
+            words: words(alloc)?,
+            folder,
+            out: MemorySink::make(alloc, 1000),
+            err: MemorySink::make(alloc, 1000),
+        })
+    }
 
-impl Slow {
-    /// No client.
-    const NOBODY: Slow = Slow {
-        client: 0,
-        room: 0,
-        need: 0,
-    };
-
-    /// Whether it is this client, with this room and this need.
-    pub fn is(self, client: u32, room: u64, need: u64) -> bool {
-        self.client == client && self.room == room && self.need == need
+    /// Whether just this was printed, and nothing said.
+    pub fn has(&self, report: &str) -> bool {
+        self.out.bytes() == report.as_bytes() && self.err.bytes().is_empty()
     }
 }
 
-/// The client that this event closes as too slow, with its room and its need.
-fn slow_by(event: &Event) -> Option<Slow> {
-    match event {
-        Event::Close {
-            client,
-            why: Why::Slow { room, need },
-        } => Some(Slow {
-            client: *client,
-            room: *room,
-            need: *need,
-        }),
-        _ => None,
-    }
+/// The net and the gate of a run.
+#[derive(Drop)]
+pub struct Doors {
+    pub net: Clients,
+    pub gate: SignGate,
 }
 
-/// The last client that these events close as too slow.
-fn last_slow(events: &[Event]) -> Slow {
-    let mut last = Slow::NOBODY;
-    for event in events {
-        if let Some(slow) = slow_by(event) {
-            last = slow;
-        }
+impl Doors {
+    /// A net whose links have room for so many bytes each, and a gate at which the first writer's call of this number waits until a client was sent the
+    /// wanted bytes; none does where the number is 0.
+    pub fn make(
+        alloc: Global,
+        room: usize,
+        call: u64,
+        wanted: Wanted,
+    ) -> Result<Doors, OutOfMemory> {
+        let sign = Sign::make(alloc)?;
+        let held = Passing { writer: 1, call };
+        let gate = SignGate::make(held, sign.share()?, PATIENCE);
+        let net = MemoryNet::make(alloc, room, VecDeque::new(alloc));
+        let net = WatchedNet::make(net, wanted, sign);
+        Ok(Doors { net, gate })
     }
-    last
-}
-
-/// How many injections the writers of the first application were given.
-fn first_injected(account: &Account) -> u64 {
-    if account.apps().is_empty() {
-        0
-    } else {
-        account.injected(0)
-    }
-}
-
-impl<L> Left<L> {
-    /// The exit status.
-    pub fn status(&self) -> u8 {
-        self.ended.status
-    }
-
-    /// What was printed.
-    pub fn printed(&self) -> &[u8] {
-        self.out.bytes()
-    }
-
-    /// The account, where the run came to one.
-    pub fn account(&self) -> Option<&Account> {
-        self.ended.account.as_ref()
-    }
-
-    /// Whether the run ended well, and this was printed and nothing said.
-    fn is_well(&self, report: &str) -> bool {
-        self.status() == 0 && self.printed() == report.as_bytes() && self.err.bytes().is_empty()
-    }
-}
-
-/// The last client that was closed as too slow.
-fn slow_of<L>(left: &Left<L>) -> Slow {
-    match left.account() {
-        Some(account) => last_slow(account.events()),
-        None => Slow::NOBODY,
-    }
-}
-
-/// How many injections the writers of the first application were given.
-fn injected<L>(left: &Left<L>) -> u64 {
-    match left.account() {
-        Some(account) => first_injected(account),
-        None => 0,
-    }
-}
-
-/// How often the first client's link took nothing.
-fn waits<L: Link>(left: &Left<L>) -> u64 {
-    if left.ended.links.len() == 0 {
-        return 0;
-    }
-    left.ended.links.of(1).waits()
 }
 
 /// What is looked at of a run.
 #[derive(Clone, Copy)]
-pub struct Found {
-    /// Whether it ended well, just the expected report was printed and nothing said, and a worker that was to be held came, and what it waited for.
-    pub is_well: bool,
-    /// The last client that was closed as too slow.
-    pub slow: Slow,
+pub struct Seen {
+    /// The exit status.
+    pub status: u8,
+    /// The last client that was closed as too slow, with its room and its need; zeros where there is none.
+    pub slow: (u32, u64, u64),
     /// How many injections the writers of the first application were given.
     pub injected: u64,
-    /// How often the first client's link took nothing.
-    pub waits: u64,
+    /// How many calls the daemon took.
+    pub taken: u64,
+    /// How many claims the daemon noted, and how many the rings took.
+    pub claims: (u64, u64),
+    /// Whether two writers made a thousand calls each, and those behind the daemon's taking of their claims were filtered, or queued.
+    pub filtered: bool,
+    pub queued: bool,
 }
 
-/// What is looked at of a run that left this.
-fn look_at<L: Link>(left: &Left<L>, report: &str) -> Found {
-    Found {
-        is_well: left.is_well(report),
-        slow: slow_of(left),
-        injected: injected(left),
-        waits: waits(left),
+/// What is looked at of a run that came to no account.
+const NOTHING: Seen = Seen {
+    status: 255,
+    slow: (0, 0, 0),
+    injected: 0,
+    taken: 0,
+    claims: (0, 0),
+    filtered: false,
+    queued: false,
+};
+
+/// Adds what an event tells.
+fn add(seen: &mut Seen, event: &Event) {
+    match event {
+        Event::Log { .. } => seen.taken = seen.taken.saturating_add(1),
+        Event::Claim { .. } => seen.claims.0 = seen.claims.0.saturating_add(1),
+        Event::Close {
+            client,
+            why: Why::Slow { room, need },
+        } => seen.slow = (*client, *room, *need),
+        _ => {}
     }
 }
 
-/// Plays a case over this net, with this gate.
-pub fn play<R: Threads + Wait + Sync, N: Net + Send, G: Gate + Sync>(
-    rt: &R,
-    alloc: Global,
-    case: &Case,
-    net: &mut N,
-    gate: &G,
-) -> Result<Found, OutOfMemory>
-where
-    N::L: Drop + Send,
-{
-    let mut folder = folder(alloc, case.conf, case.scenario)?;
-    let left = left_by(rt, alloc, &mut folder, net, gate)?;
-    let found = look_at(&left, case.report);
-    drop(left);
-    Ok(found)
+/// How many claims the rings took.
+fn claimed(claims: &ClaimList) -> u64 {
+    let mut count = 0u64;
+    for writer in 0..claims.writers() {
+        count = count.saturating_add(claims.of(writer + 1).len() as u64);
+    }
+    count
 }
 
-/// A gate at which nobody waits.
-pub fn open_gate(alloc: Global) -> Result<SignGate, OutOfMemory> {
-    let nobody = Passing { writer: 0, call: 0 };
-    Ok(SignGate::make(nobody, Sign::make(alloc)?, PATIENCE))
+/// Whether these are the records of a thousand calls of a writer, in order. Those at version 0, before the daemon took the claim, were
+/// filtered; the others, at version 1, were answered with this.
+fn are_of_claimer(records: &[Record], behind: Answer) -> bool {
+    let mut call = 0u64;
+    let mut version = 0u64;
+    for record in records {
+        call = call.saturating_add(1);
+        let expected = match record.version {
+            0 => Answer::Filtered,
+            _ => behind,
+        };
+        let is_in_turn = record.item.call == call && record.version >= version;
+        if !is_in_turn || record.version > 1 || record.answer != expected {
+            return false;
+        }
+        version = record.version;
+    }
+    call == 1000
 }
 
-/// Plays a case over this net, with a gate that waits for what the case wants.
-fn play_at<R: Threads + Wait + Sync>(
-    rt: &R,
-    alloc: Global,
-    case: &Case,
-    net: &mut WatchedNet<MemoryNet>,
-    gate: &SignGate,
-) -> Result<Found, OutOfMemory> {
-    let mut found = play(rt, alloc, case, net, gate)?;
-    found.is_well = found.is_well && (case.held == 0 || gate.was_met());
-    Ok(found)
+/// Whether there are two such writers.
+fn are_of_claimers(account: &Account, behind: Answer) -> bool {
+    let records = account.records();
+    records.writers() == 2
+        && are_of_claimer(records.of(1), behind)
+        && are_of_claimer(records.of(2), behind)
 }
 
-/// Plays a case over this net.
-pub fn play_over<R: Threads + Wait + Sync>(
-    rt: &R,
-    alloc: Global,
-    case: &Case,
-    net: MemoryNet,
-) -> Result<Found, OutOfMemory> {
-    let sign = Sign::make(alloc)?;
-    let held = Passing {
-        writer: 1,
-        call: case.held,
+/// What is looked at of an account.
+fn look_at(account: &Account) -> Seen {
+    let mut seen = NOTHING;
+    for event in account.events() {
+        add(&mut seen, event);
+    }
+    seen.claims.1 = claimed(account.claims());
+    if !account.apps().is_empty() {
+        seen.injected = account.injected(0);
+    }
+    seen.filtered = are_of_claimers(account, Answer::Filtered);
+    seen.queued = are_of_claimers(account, Answer::Queued);
+    seen
+}
+
+/// Looks at a run that ended.
+fn seen_of<L>(ended: &Ended<L>) -> Seen {
+    let mut seen = match &ended.account {
+        Some(account) => look_at(account),
+        None => NOTHING,
     };
-    let gate = SignGate::make(held, sign.share()?, PATIENCE);
-    let mut net = WatchedNet::make(net, case.wanted, sign);
-    play_at(rt, alloc, case, &mut net, &gate)
+    seen.status = ended.status;
+    seen
 }
 
-/// Plays a case over links that have room for so many bytes each.
-pub fn play_with<R: Threads + Wait + Sync>(
+/// Plays the scenario of a stage over this net, with this gate.
+pub fn play<R: Threads + Wait + Sync, G: Gate + Sync>(
     rt: &R,
     alloc: Global,
-    case: &Case,
-    room: usize,
-) -> Result<Found, OutOfMemory> {
-    let net = net(alloc, room);
-    play_over(rt, alloc, case, net)
+    stage: &mut Stage,
+    net: &mut Clients,
+    gate: &G,
+) -> Seen {
+    let ended = run(
+        rt,
+        alloc,
+        &stage.words,
+        &mut stage.folder,
+        net,
+        &START,
+        gate,
+        &mut stage.out,
+        &mut stage.err,
+    );
+    let seen = seen_of(&ended);
+    drop(ended);
+    seen
 }

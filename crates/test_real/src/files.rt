@@ -102,12 +102,14 @@ fn counts<F: Folder>(folder: &F) -> (u64, u64, u64) {
     (folder.faults(), folder.changes(), folder.appends())
 }
 
+/// Whether an empty folder is filled and begun anew, and how often that changed a file.
+fn is_filled<F: Folder>(folder: &mut F) -> bool {
+    fills(folder) == [true; 7] && begins_anew(folder) == [true; 5] && counts(folder) == (0, 11, 6)
+}
+
 #[test]
 fn files(rt: HostRuntime) {
-    let mut folder = Directory::over(rt);
-    assert!(rt; fills(&mut folder) == [true; 7]);
-    assert!(rt; begins_anew(&mut folder) == [true; 5]);
-    assert!(rt; counts(&folder) == (0, 11, 6));
+    assert!(rt; is_so(rt, Trial::Fills));
 }
 
 /// So many bytes, no two pieces of them alike.
@@ -129,8 +131,7 @@ fn reads_whole<F: Folder>(alloc: Global, folder: &mut F) -> bool {
 
 #[test]
 fn a_large_file_is_read_whole(rt: HostRuntime) {
-    let mut folder = Directory::over(rt);
-    assert!(rt; reads_whole(rt.alloc(), &mut folder));
+    assert!(rt; is_so(rt, Trial::ReadsWhole));
 }
 
 /// Names of what is no plain file below the folder.
@@ -182,12 +183,16 @@ fn goes_up<F: Folder>(folder: &mut F) -> [bool; 4] {
     ]
 }
 
+/// Whether what is written stays below the folder, but for trace files.
+fn stays_below<F: Folder>(folder: &mut F) -> bool {
+    folder.put("there/plain", b"stays").is_ok()
+        && writes_none(folder, &ELSEWHERE)
+        && goes_up(folder) == [true; 4]
+}
+
 #[test]
 fn what_is_written_stays_below(rt: HostRuntime) {
-    let mut folder = Directory::over(rt);
-    assert!(rt; folder.put("there/plain", b"stays").is_ok());
-    assert!(rt; writes_none(&mut folder, &ELSEWHERE));
-    assert!(rt; goes_up(&mut folder) == [true; 4]);
+    assert!(rt; is_so(rt, Trial::StaysBelow));
 }
 
 /// Links to a plain file, to nothing, and to a directory.
@@ -209,13 +214,17 @@ fn stays<F: Folder>(folder: &mut F) -> [bool; 5] {
     ]
 }
 
+/// Whether plain files alone are touched, where links lie beside one.
+fn touches_plain<R: Files, F: Folder>(rt: &R, folder: &mut F) -> bool {
+    folder.put("there/plain", b"stays").is_ok()
+        && link_all(rt).is_ok()
+        && other(folder, &REFUSED).is_none()
+        && stays(folder) == [true; 5]
+}
+
 #[test]
 fn only_plain_files_are_touched(rt: HostRuntime) {
-    let mut folder = Directory::over(rt);
-    assert!(rt; folder.put("there/plain", b"stays").is_ok());
-    assert!(rt; link_all(&rt).is_ok());
-    assert!(rt; other(&mut folder, &REFUSED).is_none());
-    assert!(rt; stays(&mut folder) == [true; 5]);
+    assert!(rt; is_so(rt, Trial::TouchesPlain));
 }
 
 /// Whether a plain file isn't removed, none is made, and one of which no byte can be read is refused.
@@ -229,11 +238,41 @@ fn refuses<F: Folder>(folder: &mut F) -> [bool; 5] {
     ]
 }
 
+/// Whether what the system refuses is a fault: plain files that can't be removed or made, and one of which no byte can be read.
+fn are_faults<R: Files, F: Folder>(rt: &R, folder: &mut F) -> bool {
+    symlink(rt, "/proc/self", "process").is_ok()
+        && refuses(folder) == [true; 5]
+        && counts(folder) == (4, 3, 1)
+}
+
 #[test]
 fn what_the_system_refuses_is_a_fault(rt: HostRuntime) {
-    // Plain files that can't be removed or made, and one of which no byte can be read.
-    assert!(rt; symlink(&rt, "/proc/self", "process").is_ok());
+    assert!(rt; is_so(rt, Trial::AreFaults));
+}
+
+/// What is tried, each by the function of its name.
+#[derive(Clone, Copy)]
+enum Trial {
+    Fills,
+    ReadsWhole,
+    StaysBelow,
+    TouchesPlain,
+    AreFaults,
+}
+
+/// Whether what is tried is as it should be.
+fn tried<R: Files, F: Folder>(rt: &R, alloc: Global, folder: &mut F, trial: Trial) -> bool {
+    match trial {
+        Trial::Fills => is_filled(folder),
+        Trial::ReadsWhole => reads_whole(alloc, folder),
+        Trial::StaysBelow => stays_below(folder),
+        Trial::TouchesPlain => touches_plain(rt, folder),
+        Trial::AreFaults => are_faults(rt, folder),
+    }
+}
+
+/// The same over the current folder.
+fn is_so(rt: HostRuntime, trial: Trial) -> bool {
     let mut folder = Directory::over(rt);
-    assert!(rt; refuses(&mut folder) == [true; 5]);
-    assert!(rt; counts(&folder) == (4, 3, 1));
+    tried(&rt, rt.alloc(), &mut folder, trial)
 }

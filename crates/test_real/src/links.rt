@@ -5,9 +5,10 @@ use dl_outside::{Link, Net, Sends};
 use dl_real::TcpNet;
 use std::alloc::Global;
 use std::io::Read;
-use std::net::TcpStream;
-use std::test::Fail;
+use std::net::{TcpListener, TcpStream};
 use std::thread;
+use std::thread::Threads;
+use std::time::Clock;
 
 /// 100,000 frames of 100 bytes.
 const TOTAL: u64 = 100_000 * 100;
@@ -88,12 +89,54 @@ fn send_all<L: Link>(link: &mut L, stuck: &mut L, frames: &[u8]) -> (u64, u64) {
     (sent, other)
 }
 
-/// How many bytes two links are sent, of which the other is stuck. The first one is shut then.
-fn send_through<L: Link>(alloc: Global, link: &mut L, stuck: &mut L) -> Option<(u64, u64)> {
-    let bytes = frames(alloc)?;
-    let sent = send_all(link, stuck, &bytes);
+/// What two links come to, of which the other is stuck: how many bytes each was sent, how many the first one's peer read, and the counts of both.
+#[derive(Clone, Copy)]
+struct Seen {
+    sent: u64,
+    other: u64,
+    read: u64,
+    faults: u64,
+    waits: u64,
+}
+
+/// Nobody came.
+const NOTHING: Seen = Seen {
+    sent: 0,
+    other: 0,
+    read: 0,
+    faults: u64::MAX,
+    waits: 0,
+};
+
+/// Sends all through one link, as far as there is memory, and shuts it then.
+fn send_through<L: Link>(alloc: Global, link: &mut L, stuck: &mut L) -> (u64, u64) {
+    let sent = match frames(alloc) {
+        Some(bytes) => send_all(link, stuck, &bytes),
+        None => (0, 0),
+    };
     link.shut();
-    Some(sent)
+    sent
+}
+
+/// The same of a link whose peer reads in a thread of its own, beside one that is stuck.
+fn send_beside<R: Threads, L: Link>(
+    rt: &R,
+    alloc: Global,
+    peer: TcpStream,
+    link: &mut L,
+    stuck: &mut L,
+) -> Seen {
+    let Ok(reader) = thread::spawn(rt, move || read_in_order(peer)) else {
+        return NOTHING;
+    };
+    let (sent, other) = send_through(alloc, link, stuck);
+    Seen {
+        sent,
+        other,
+        read: reader.join(rt),
+        faults: link.faults().saturating_add(stuck.faults()),
+        waits: stuck.waits(),
+    }
 }
 
 /// A peer of a net that listens, and its link.
@@ -109,24 +152,71 @@ where
     }
 }
 
-/// Whether the peer that reads nothing was not sent all, and was told so without a wait.
-fn is_stuck<L: Link>(stuck: &L, sent: u64, other: u64) -> bool {
-    other > 0 && other < sent && stuck.waits() > 0 && stuck.faults() == 0
+/// What a second peer comes to, beside one that is stuck.
+fn with_second<R: Threads + std::net::Net<Stream = TcpStream>, N: Net>(
+    rt: &R,
+    alloc: Global,
+    net: &mut N,
+    port: u16,
+    stuck: &mut N::L,
+) -> Seen
+where
+    N::L: Drop,
+{
+    match dialled(rt, net, port) {
+        Some((peer, mut link)) => send_beside(rt, alloc, peer, &mut link, stuck),
+        None => NOTHING,
+    }
+}
+
+/// What two peers come to, of which the first reads nothing.
+fn with_both<R: Threads + std::net::Net<Stream = TcpStream>, N: Net>(
+    rt: &R,
+    alloc: Global,
+    net: &mut N,
+    port: u16,
+) -> Seen
+where
+    N::L: Drop,
+{
+    match dialled(rt, net, port) {
+        Some((peer, mut stuck)) => {
+            let seen = with_second(rt, alloc, net, port, &mut stuck);
+            drop(peer);
+            seen
+        }
+        None => NOTHING,
+    }
+}
+
+/// The same over a net.
+fn stuck<
+    R: std::net::Net<Stream = TcpStream, Listener = TcpListener>
+        + Threads
+        + Clock
+        + AllocGlobal
+        + Copy
+        + Drop,
+>(rt: R) -> Seen {
+    let mut net = TcpNet::make(rt, LOOPBACK);
+    if net.listen(0).is_err() {
+        return NOTHING;
+    }
+    let port = net.port();
+    with_both(&rt, rt.alloc(), &mut net, port)
+}
+
+/// Whether all was sent, and read in order, and the peer that reads nothing was not sent all, and was told so without a wait.
+fn is_stuck(seen: Seen) -> [bool; 4] {
+    [
+        seen.sent >= TOTAL && seen.read == seen.sent,
+        seen.other > 0 && seen.other < seen.sent,
+        seen.waits > 0,
+        seen.faults == 0,
+    ]
 }
 
 #[test]
-fn a_stuck_peer_holds_up_nobody(rt: HostRuntime) -> Result<(), Fail> {
-    let mut net = TcpNet::make(rt, LOOPBACK);
-    assert!(rt; net.listen(0).is_ok());
-    let port = net.port();
-    let (stuck_peer, mut stuck) = dialled(&rt, &mut net, port).ok_or("no first client")?;
-    let (peer, mut link) = dialled(&rt, &mut net, port).ok_or("no second client")?;
-    let reader = thread::spawn(&rt, move || read_in_order(peer))
-        .ok()
-        .ok_or("no thread")?;
-    let (sent, other) = send_through(rt.alloc(), &mut link, &mut stuck).ok_or("no memory")?;
-    assert!(rt; sent >= TOTAL && reader.join(&rt) == sent && link.faults() == 0);
-    assert!(rt; is_stuck(&stuck, sent, other));
-    drop(stuck_peer);
-    Ok(())
+fn a_stuck_peer_holds_up_nobody(rt: HostRuntime) {
+    assert!(rt; is_stuck(stuck(rt)) == [true; 4]);
 }

@@ -5,9 +5,9 @@ use dl_outside::{Accepted, ClientScript, Dial, Gave, Link, Net, Sends};
 use dl_real::{TcpDial, TcpNet};
 use std::alloc::Global;
 use std::io;
-use std::net::{IpAddr, Ipv4Addr};
-use std::test::Fail;
-use std::time::Instant;
+use std::net::{IpAddr, Ipv4Addr, TcpListener, TcpStream};
+use std::thread::Threads;
+use std::time::{Clock, Instant};
 
 /// The address of the tests.
 pub const LOOPBACK: IpAddr = IpAddr::V4(Ipv4Addr::LOCALHOST);
@@ -106,13 +106,25 @@ where
     }
 }
 
+/// What a client comes to that leaves: whether the port was none before and one then, and how many bytes it read.
+fn left<
+    R: std::net::Net<Stream = TcpStream, Listener = TcpListener>
+        + Threads
+        + Clock
+        + AllocGlobal
+        + Copy
+        + Drop,
+>(rt: R) -> (Option<[bool; 4]>, bool, u64) {
+    let mut net = TcpNet::make(rt, LOOPBACK);
+    let before = net.port();
+    let played = play_client(rt.alloc(), &mut net);
+    let after = net.port();
+    (played, before == 0 && after > 0, net.finish())
+}
+
 #[test]
 fn a_client_that_leaves(rt: HostRuntime) {
-    let mut net = TcpNet::make(rt, LOOPBACK);
-    assert!(rt; net.port() == 0);
-    assert!(rt; play_client(rt.alloc(), &mut net) == Some([true; 4]));
-    assert!(rt; net.port() > 0);
-    assert!(rt; net.finish() == 4);
+    assert!(rt; left(rt) == (Some([true; 4]), true, 4));
 }
 
 /// Whether a link takes bytes until it is shut, and then takes and gives nothing.
@@ -139,22 +151,45 @@ where
     }
 }
 
-#[test]
-fn a_client_is_ended_by_shut_alone(rt: HostRuntime) -> Result<(), Fail> {
+/// Whether there is a link which is so.
+fn is_shut_there<L: Link>(link: &mut Option<L>) -> bool {
+    match link {
+        Some(link) => is_shut(link) == [true; 3],
+        None => false,
+    }
+}
+
+/// How often a link that is there failed, had nothing and waited.
+fn counts<L: Link>(link: &Option<L>) -> (u64, u64, u64) {
+    match link {
+        Some(link) => (link.faults(), link.idles(), link.waits()),
+        None => (u64::MAX, 0, 0),
+    }
+}
+
+/// What a client comes to whose link is shut and stays: how many bytes it read, and the counts of the link.
+fn shut<
+    R: std::net::Net<Stream = TcpStream, Listener = TcpListener>
+        + Threads
+        + Clock
+        + AllocGlobal
+        + Copy
+        + Drop,
+>(rt: R) -> (bool, u64, (u64, u64, u64)) {
     let mut net = TcpNet::make(rt, LOOPBACK);
-    let mut link = silent(rt.alloc(), &mut net).ok_or("no client")?;
-    assert!(rt; is_shut(&mut link) == [true; 3]);
-    assert!(rt; net.finish() == 5);
-    assert!(rt; (link.faults(), link.idles(), link.waits()) == (0, 1, 1));
-    Ok(())
+    let mut link = silent(rt.alloc(), &mut net);
+    let is_shut = is_shut_there(&mut link);
+    let read = net.finish();
+    (is_shut, read, counts(&link))
+}
+
+#[test]
+fn a_client_is_ended_by_shut_alone(rt: HostRuntime) {
+    assert!(rt; shut(rt) == (true, 5, (0, 1, 1)));
 }
 
 /// How long an accept took that finds nothing, and then a `recv`, in microseconds.
-fn took<R: std::time::Clock, N: Net>(
-    rt: &R,
-    net: &mut N,
-    link: &mut N::L,
-) -> io::Result<(u128, u128)>
+fn took<R: Clock, N: Net>(rt: &R, net: &mut N, link: &mut N::L) -> io::Result<(u128, u128)>
 where
     N::L: Drop,
 {
@@ -167,11 +202,7 @@ where
 }
 
 /// How long the quickest of a hundred took.
-fn quickest<R: std::time::Clock, N: Net>(
-    rt: &R,
-    net: &mut N,
-    link: &mut N::L,
-) -> io::Result<(u128, u128)>
+fn quickest<R: Clock, N: Net>(rt: &R, net: &mut N, link: &mut N::L) -> io::Result<(u128, u128)>
 where
     N::L: Drop,
 {
@@ -185,7 +216,7 @@ where
 }
 
 /// Whether neither waits, and each `recv` is counted as one that found nothing.
-fn is_at_once<R: std::time::Clock, N: Net>(rt: &R, net: &mut N, link: &mut N::L) -> [bool; 4]
+fn is_at_once<R: Clock, N: Net>(rt: &R, net: &mut N, link: &mut N::L) -> [bool; 4]
 where
     N::L: Drop,
 {
@@ -198,19 +229,46 @@ where
     ]
 }
 
-#[test]
-fn nothing_waits(rt: HostRuntime) -> Result<(), Fail> {
+/// The same of a link of a client that sends nothing.
+fn silent_is_at_once<R: Clock, N: Net>(rt: &R, alloc: Global, net: &mut N) -> bool
+where
+    N::L: Drop,
+{
+    match silent(alloc, net) {
+        Some(mut link) => is_at_once(rt, net, &mut link) == [true; 4],
+        None => false,
+    }
+}
+
+/// The same over a net, and how many bytes the client read.
+fn at_once<
+    R: std::net::Net<Stream = TcpStream, Listener = TcpListener>
+        + Threads
+        + Clock
+        + AllocGlobal
+        + Copy
+        + Drop,
+>(rt: R) -> (bool, u64) {
     let mut net = TcpNet::make(rt, LOOPBACK);
-    let mut link = silent(rt.alloc(), &mut net).ok_or("no client")?;
-    assert!(rt; is_at_once(&rt, &mut net, &mut link) == [true; 4]);
-    drop(link);
-    assert!(rt; net.finish() == 0);
-    Ok(())
+    let is_so = silent_is_at_once(&rt, rt.alloc(), &mut net);
+    (is_so, net.finish())
+}
+
+#[test]
+fn nothing_waits(rt: HostRuntime) {
+    assert!(rt; at_once(rt) == (true, 0));
+}
+
+/// Whether nobody is reached, and that is counted.
+fn reaches_nobody<D: Dial>(dial: &mut D) -> bool
+where
+    D::S: Drop,
+{
+    dial.dial(1).is_err() && dial.faults() == 1
 }
 
 #[test]
 fn nobody_listens(rt: HostRuntime) {
     let mut dial = TcpDial::over(rt, None);
-    assert!(rt; dial.dial(1).is_err());
-    assert!(rt; dial.faults() == 1);
+    assert!(rt; reaches_nobody(&mut dial));
 }

@@ -18,18 +18,6 @@ use Rattle.dl_writer.specs.State.{BookState, WriterState, numbers}
 use Rattle.dl_desk.specs.Made.{IsLater, IsMadeWith}
 use Rattle.dl_desk.specs.State.{DeskState}
 
-pub later_still : (first second third : DeskState) → IsLater first second → IsLater second third → IsLater first third
-later_still first second third a b = record {
-  apps = b.apps ∙ a.apps;
-  rings = b.rings ∙ a.rings;
-  queues = b.queues ∙ a.queues;
-  levels = b.levels ∙ a.levels;
-  claims = b.claims ∙ a.claims;
-  losses = b.losses ∙ a.losses;
-  more = a.more ++ b.more;
-  owners = b.owners ∙ ap (λ (os : List ℕ). os ++ b.more) a.owners ∙ append_assoc first.owners a.more b.more;
-}
-
 -- ---- a writer that logs and claims
 
 -- it stays one of its desk, under its number and with its base

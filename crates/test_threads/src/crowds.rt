@@ -1,6 +1,6 @@
 //! Threads, each with a book of its own, on one ring.
 
-ghost use Rattle.std.specs.Prelude.{◌≡◌, ◌<◌, ◌≤◌, length, map, All, IfOk, OnSome, vec_len};
+ghost use Rattle.std.specs.Prelude.{◌≡◌, ◌<◌, ◌≤◌, true, length, map, All, IfOk, vec_len};
 ghost use Rattle.std.specs.List.{range_with_len};
 ghost use Rattle.dl_desk.specs.Made.{IsLater, IsMadeWith};
 ghost use Rattle.dl_desk.specs.State.{DeskState};
@@ -9,10 +9,8 @@ ghost use Rattle.dl_account.specs.Making.{AreMadeWith};
 ghost use Rattle.dl_writer.specs.State.{numbers};
 
 use crate::jobs::{Job, OfWriter, Worked, work};
-use crate::programs::{Heard, Program, hear_all, no_ends, one_app};
-use dl_account::{
-    Account, Answer, Book, BookList, Claim, ClaimList, Closing, Ctx, Desk, Kept, Record,
-};
+use crate::programs::{Program, hear_all, no_ends, one_app};
+use dl_account::{Account, Book, BookList, Claim, ClaimList, Closing, Ctx, Desk, Kept, Record};
 use dl_bytes::{Level, OutOfMemory, Severity};
 use std::alloc::Global;
 use std::snapshot::Snapshot;
@@ -25,25 +23,6 @@ const ALL: u64 = 4000;
 
 /// How often the level is set.
 const SETS: u32 = 2000;
-
-/// Takes calls and losses while threads log, until half of all calls were heard of.
-fn hear_half<R: Wait>(rt: &R, desk: &mut Desk) -> Heard
-    requires { 0 < length desk.old.apps }
-    ensures { IsLater desk.old desk.new }
-{
-    let mut heard = Heard::nothing();
-    for _round in rt.forever() {
-        if heard.calls.saturating_add(heard.lost) >= ALL / 2 {
-            break;
-        }
-        match desk.take(rt, 0) {
-            Some(item) => heard = heard.with(&item),
-            None => thread::yield_now(),
-        }
-        heard = heard.with_lost(desk.losses(0));
-    }
-    heard
-}
 
 /// The level of this version: none at version 0, info at version 1, and then the severities in turn.
 fn level_of(version: u64) -> Option<Level> {
@@ -75,26 +54,13 @@ fn set_often(desk: &mut Desk)
     }
 }
 
-/// What the daemon does while the threads log.
-#[derive(Clone, Copy)]
-enum Meanwhile {
-    Waits,
-    SetsLevels,
-    Takes,
-}
-
-/// Does it, and answers what the daemon heard.
-fn serve<R: Wait>(rt: &R, desk: &mut Desk, meanwhile: Meanwhile) -> Heard
+/// Sets levels meanwhile, or does nothing.
+fn serve(desk: &mut Desk, sets: bool)
     requires { 0 < length desk.old.apps }
     ensures { IsLater desk.old desk.new }
 {
-    match meanwhile {
-        Meanwhile::Waits => Heard::nothing(),
-        Meanwhile::SetsLevels => {
-            set_often(desk);
-            Heard::nothing()
-        }
-        Meanwhile::Takes => hear_half(rt, desk),
+    if sets {
+        set_often(desk);
     }
 }
 
@@ -152,13 +118,6 @@ fn join_all<R: Threads>(rt: &R, children: Vec<PromisedHandle<Worked, OfWriter>>)
     Back { books, full }
 }
 
-/// What the daemon heard while the threads worked, and what they give back.
-#[derive(Drop)]
-struct Met {
-    heard: Heard,
-    back: Back,
-}
-
 /// Lets all books work beside the daemon, each in a thread of its own.
 fn work_beside<'s, E: 's, R: Threads + Wait + Sync>(
     scope: &'s Scope<'s, E>,
@@ -168,44 +127,38 @@ fn work_beside<'s, E: 's, R: Threads + Wait + Sync>(
     books: Vec<Book>,
     declared: Ctx,
     job: Job,
-    meanwhile: Meanwhile,
-) -> Result<Met, OutOfMemory>
+    sets: bool,
+) -> Result<Back, OutOfMemory>
     requires apps { 0 < length desk.old.apps }
     requires few { vec_len books ≤ 32 }
     requires made { All (λ b. IsMadeWith desk.old b.writer) books.items }
     requires numbered { map (λ b. b.writer.push.number) books.items ≡ range_with_len 1 (vec_len books) }
     requires bases { All (λ b. b.writer.base ≡ 1) books.items }
-    ensures made { IfOk result (λ met. AreMadeWith desk.new met.back.books) }
+    ensures made { IfOk result (λ back. AreMadeWith desk.new back.books) }
 {
     match start(scope, rt, alloc, desk, books, declared, job) {
         Ok(children) => {
-            let heard = serve(rt, desk, meanwhile);
-            let back = join_all(rt, children);
-            Ok(Met { heard, back })
+            serve(desk, sets);
+            Ok(join_all(rt, children))
         }
         Err(fault) => Err(fault),
     }
 }
 
-/// What happened while the threads worked, and the daemon's side once all are back.
+/// The daemon's side once all are back, and how many of their claims found the table full.
 #[derive(Drop)]
 struct Gathered {
-    heard: Heard,
     full: u64,
     closing: Closing,
 }
 
 /// The daemon's side once all are back, where that is all.
-fn gather(heard: Heard, desk: Desk, back: Back) -> Option<Gathered>
+fn gather(desk: Desk, back: Back) -> Option<Gathered>
     requires { AreMadeWith desk back.books }
 {
     let Back { books, full } = back;
     match Closing::make(desk, books) {
-        Ok(closing) => Some(Gathered {
-            heard,
-            full,
-            closing,
-        }),
+        Ok(closing) => Some(Gathered { full, closing }),
         Err(_) => None,
     }
 }
@@ -218,7 +171,7 @@ fn crowd<R: Threads + Wait + Sync>(
     books: Vec<Book>,
     declared: Ctx,
     job: Job,
-    meanwhile: Meanwhile,
+    sets: bool,
 ) -> Result<Option<Gathered>, OutOfMemory>
     requires apps { 0 < length desk.apps }
     requires few { vec_len books ≤ 32 }
@@ -237,32 +190,19 @@ fn crowd<R: Threads + Wait + Sync>(
             requires bases { All (λ b. b.writer.base ≡ 1) books.items }
         {
             let mut desk = desk;
-            match work_beside(scope, rt, alloc, &mut desk, books, declared, job, meanwhile) {
-                Ok(Met { heard, back }) => Ok(gather(heard, desk, back)),
+            match work_beside(scope, rt, alloc, &mut desk, books, declared, job, sets) {
+                Ok(back) => Ok(gather(desk, back)),
                 Err(fault) => Err(fault),
             }
         },
     )
 }
 
-/// What became of calls, and whether each met a level that its context held, with no version below the one before.
+/// How many calls were made, and whether each met a level that its context held, with no version below the one before.
 #[derive(Clone, Copy)]
 struct Calls {
     calls: u64,
-    queued: u64,
-    lost: u64,
     are_held: bool,
-}
-
-/// How many records have this answer.
-fn answered(records: &[Record], answer: Answer) -> u64 {
-    let mut count = 0u64;
-    for record in records {
-        if record.answer == answer {
-            count = count.saturating_add(1);
-        }
-    }
-    count
 }
 
 /// Whether each record has the level that its context held at its version, and no version falls.
@@ -281,10 +221,6 @@ fn are_held(records: &[Record]) -> bool {
 fn added(before: Calls, records: &[Record]) -> Calls {
     Calls {
         calls: before.calls.saturating_add(records.len() as u64),
-        queued: before
-            .queued
-            .saturating_add(answered(records, Answer::Queued)),
-        lost: before.lost.saturating_add(answered(records, Answer::Lost)),
         are_held: before.are_held && are_held(records),
     }
 }
@@ -294,8 +230,6 @@ fn counted(account: &Account) -> Calls {
     let records = account.records();
     let mut all = Calls {
         calls: 0,
-        queued: 0,
-        lost: 0,
         are_held: true,
     };
     for writer in 1..=records.writers() {
@@ -331,58 +265,49 @@ fn claimed(claims: &ClaimList) -> Option<u64> {
     Some(count)
 }
 
-/// What a crowd's calls became, how many places were claimed, how many claims found the table full, and what the daemon heard in
-/// all.
+/// A crowd's calls, how many places were claimed, and how many claims found the table full.
 #[derive(Clone, Copy)]
 struct Outcome {
     calls: Calls,
     claimed: Option<u64>,
     full: u64,
-    heard: Heard,
 }
 
-/// What is left once the threads are back, where it is all.
-fn hear_rest<R: Wait>(rt: &R, closing: &mut Closing) -> Option<Heard>
-    ensures { OnSome result (IsDrained closing.new) }
+/// Takes what is left once the threads are back, and tells whether it is all.
+fn hear_rest<R: Wait>(rt: &R, closing: &mut Closing) -> bool
+    ensures { result ≡ true → IsDrained closing.new }
 {
     if closing.apps().len() != 1 {
-        return None;
+        return false;
     }
-    let heard = hear_all(rt, closing);
-    if !closing.is_drained() {
-        return None;
-    }
-    Some(heard)
+    hear_all(rt, closing);
+    closing.is_drained()
 }
 
 /// What an account tells.
-fn told_by(account: &Account, full: u64, heard: Heard) -> Outcome {
+fn told_by(account: &Account, full: u64) -> Outcome {
     Outcome {
         calls: counted(account),
         claimed: claimed(account.claims()),
         full,
-        heard,
     }
 }
 
 /// What the account of a drained daemon's side tells.
-fn told(alloc: Global, closing: Closing, full: u64, heard: Heard) -> Outcome
+fn told(alloc: Global, closing: Closing, full: u64) -> Outcome
     requires { IsDrained closing }
 {
     let account = closing.finish(Kept::make(alloc), no_ends(alloc));
-    told_by(&account, full, heard)
+    told_by(&account, full)
 }
 
-/// What became of all calls and claims, of what was heard before the threads were back and of the daemon's side then.
+/// What became of all calls and claims, of the daemon's side once the threads are back.
 fn drained<R: Wait>(rt: &R, alloc: Global, gathered: Gathered) -> Option<Outcome> {
-    let Gathered {
-        heard,
-        full,
-        mut closing,
-    } = gathered;
-    match hear_rest(rt, &mut closing) {
-        Some(after) => Some(told(alloc, closing, full, heard.and(after))),
-        None => None,
+    let Gathered { full, mut closing } = gathered;
+    if hear_rest(rt, &mut closing) {
+        Some(told(alloc, closing, full))
+    } else {
+        None
     }
 }
 
@@ -393,56 +318,20 @@ fn run_crowd<R: Threads + Wait + Sync>(
     capacity: u16,
     threads: u8,
     job: Job,
-    meanwhile: Meanwhile,
+    sets: bool,
 ) -> Option<Outcome>
     requires capacity { (1 ≤ capacity) × (capacity ≤ 4096) }
     requires few { threads ≤ 32 }
 {
     match one_app(alloc, capacity, threads, job.calls) {
         Ok(Program { desk, ctx, books }) => {
-            match crowd(rt, alloc, desk, books, ctx, job, meanwhile) {
+            match crowd(rt, alloc, desk, books, ctx, job, sets) {
                 Ok(Some(gathered)) => drained(rt, alloc, gathered),
                 Ok(None) | Err(_) => None,
             }
         }
         Err(_) => None,
     }
-}
-
-/// Whether each call has a record, each queued one was taken, and each lost one told, before the threads were back or after.
-fn are_told(outcome: Option<Outcome>) -> [bool; 3] {
-    match outcome {
-        Some(Outcome { calls, heard, .. }) => [
-            calls.queued.saturating_add(calls.lost) == ALL,
-            heard.calls == calls.queued,
-            heard.lost == calls.lost,
-        ],
-        None => [false; 3],
-    }
-}
-
-/// Whatever the schedule: each call has a record, each queued one is taken, and each lost one is told, once.
-#[test]
-fn each_loss_is_told_once(rt: HostRuntime) {
-    let outcome = run_crowd(&rt, rt.alloc(), 1, 8, Job::calls(500), Meanwhile::Takes);
-    assert!(rt; are_told(outcome) == [true; 3]);
-}
-
-/// Whether the ring took all calls, all were taken from it, and none was lost.
-fn are_taken(outcome: Option<Outcome>) -> [bool; 3] {
-    match outcome {
-        Some(Outcome { calls, heard, .. }) => {
-            [calls.queued == ALL, heard.calls == ALL, heard.lost == 0]
-        }
-        None => [false; 3],
-    }
-}
-
-/// Eight threads on one ring that holds all that they log.
-#[test]
-fn ring_crowd(rt: HostRuntime) {
-    let outcome = run_crowd(&rt, rt.alloc(), 4096, 8, Job::calls(500), Meanwhile::Waits);
-    assert!(rt; are_taken(outcome) == [true; 3]);
 }
 
 /// Whether each call has a record, and met a level that its context held.
@@ -456,40 +345,8 @@ fn met_levels(outcome: Option<Outcome>) -> bool {
 /// Whatever the schedule: each level that a call met is one that its context held, and no version falls.
 #[test]
 fn levels_are_held(rt: HostRuntime) {
-    let outcome = run_crowd(
-        &rt,
-        rt.alloc(),
-        16,
-        2,
-        Job::calls(2000),
-        Meanwhile::SetsLevels,
-    );
+    let outcome = run_crowd(&rt, rt.alloc(), 16, 2, Job::calls(2000), true);
     assert!(rt; met_levels(outcome));
-}
-
-/// Whether each of two writers claimed a context, and all calls under these were filtered: nobody set their levels.
-fn are_off(outcome: Option<Outcome>) -> [bool; 4] {
-    match outcome {
-        Some(outcome) => [
-            outcome.claimed == Some(2),
-            outcome.heard.claims == 2,
-            outcome.calls.calls == 2000 && outcome.calls.queued == 0,
-            outcome.calls.lost == 0 && outcome.heard.calls == 0,
-        ],
-        None => [false; 4],
-    }
-}
-
-/// Two writers claim a context each, and make 1000 calls each under it.
-#[test]
-fn two_writers_claim(rt: HostRuntime) {
-    let job = Job {
-        claimers: 2,
-        claims: 1,
-        calls: 1000,
-    };
-    let outcome = run_crowd(&rt, rt.alloc(), 4096, 2, job, Meanwhile::Waits);
-    assert!(rt; are_off(outcome) == [true; 4]);
 }
 
 /// Whether 63 places were claimed behind the declared context, no place twice, and all other claims found the table full.
@@ -513,7 +370,7 @@ fn are_apart_each_time<R: Threads + Wait + Sync>(rt: &R, alloc: Global) -> bool 
         calls: 16,
     };
     for _run in 0..100 {
-        let outcome = run_crowd(rt, alloc, 256, 10, job, Meanwhile::Waits);
+        let outcome = run_crowd(rt, alloc, 256, 10, job, false);
         if are_apart(outcome) != [true; 3] {
             return false;
         }

@@ -28,5 +28,3 @@ mod rings;
 mod slots;
 #[cfg(test)]
 mod tests;
-#[cfg(test)]
-mod writers;

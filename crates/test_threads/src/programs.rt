@@ -162,53 +162,6 @@ pub fn no_ends(alloc: Global) -> Ends {
     }
 }
 
-/// How many calls and claims a daemon took, and how many lost calls it was told.
-#[derive(Clone, Copy)]
-pub struct Heard {
-    pub calls: u64,
-    pub claims: u64,
-    pub lost: u64,
-}
-
-impl Heard {
-    /// Of nothing.
-    pub fn nothing() -> Heard {
-        Heard {
-            calls: 0,
-            claims: 0,
-            lost: 0,
-        }
-    }
-
-    /// The same with an item of the ring.
-    pub fn with(self, item: &RingItem) -> Heard {
-        let mut heard = self;
-        let count = match item {
-            RingItem::Log(_) => &mut heard.calls,
-            RingItem::Register(_) => &mut heard.claims,
-        };
-        *count = count.saturating_add(1);
-        heard
-    }
-
-    /// The same with losses.
-    pub fn with_lost(self, lost: u64) -> Heard {
-        Heard {
-            lost: self.lost.saturating_add(lost),
-            ..self
-        }
-    }
-
-    /// What was heard before and after.
-    pub fn and(self, after: Heard) -> Heard {
-        Heard {
-            calls: self.calls.saturating_add(after.calls),
-            claims: self.claims.saturating_add(after.claims),
-            lost: self.lost.saturating_add(after.lost),
-        }
-    }
-}
-
 /// Takes what is oldest in the ring of the first application, where something waits.
 fn takes<R: Wait>(rt: &R, closing: &mut Closing) -> Option<RingItem>
     requires { 0 < length closing.old.apps }
@@ -218,15 +171,13 @@ fn takes<R: Wait>(rt: &R, closing: &mut Closing) -> Option<RingItem>
 }
 
 /// Takes what waits of the first application, and hears of its losses.
-pub fn hear_all<R: Wait>(rt: &R, closing: &mut Closing) -> Heard
+pub fn hear_all<R: Wait>(rt: &R, closing: &mut Closing)
     requires { 0 < length closing.old.apps }
 {
-    let mut heard = Heard::nothing();
     for _taken in 0..u64::MAX {
-        let Some(item) = takes(rt, closing) else {
+        if takes(rt, closing).is_none() {
             break;
-        };
-        heard = heard.with(&item);
+        }
     }
-    heard.with_lost(closing.losses(0))
+    let _lost = closing.losses(0);
 }

@@ -1,22 +1,16 @@
 //! Rings: an item comes back exactly where the ring is full, and none comes exactly where it is empty. Calls and claims
 //! come out as they went in, in whatever box.
 
-ghost use Rattle.std.specs.Prelude.{◌≡◌, ◌≤◌, ◌<◌, true, IfSome};
+ghost use Rattle.std.specs.Prelude.{◌≡◌, ◌≤◌, ◌<◌, IfSome};
 ghost use Rattle.dl_ring.specs.Order.{writer_of};
-ghost use Rattle.dl_ring.specs.State.{unused_push};
 
-use dl_bytes::{Claim, ClaimText, Id, Item, OutOfMemory, OwnLevel, Payload, Severity};
+use dl_bytes::{Claim, ClaimText, Id, Item, OwnLevel, Payload, Severity};
 use dl_ring::{Call, RingItem, RingPush, RingTake, Taken, make_ring};
 use std::alloc::Global;
 use std::sync::Wait;
-use std::thread;
-use std::thread::Threads;
 
 /// More items than any ring holds.
 const MANY: u64 = 5000;
-
-/// The calls of each writer of a crowd.
-const CALLS: u64 = 500;
 
 /// The argument of a call that carries one.
 const TEXT: &[u8] = b"one argument";
@@ -159,71 +153,6 @@ fn gives_in_turn<R: Wait>(rt: &R, take: &mut RingTake, calls: u64) -> bool
         }
     }
     true
-}
-
-/// A pass with its number.
-#[derive(Drop)]
-struct Writer {
-    number: u8,
-    push: RingPush,
-    ghost own: { push.number ≡ number },
-}
-
-/// Passes with the numbers 1 to 8.
-fn writers(alloc: Global, first: &mut RingPush) -> Result<Vec<Writer>, OutOfMemory>
-    requires { first.old ≡ unused_push first.old.ring first.old.capacity 0 true }
-{
-    let mut writers = Vec::new(alloc);
-    for number in 1..9 {
-        let push = first.split(number);
-        writers.push(Writer { number, push })?;
-    }
-    Ok(writers)
-}
-
-/// Makes a writer's calls, and answers how many items the ring took.
-fn log_all<R: Wait>(rt: &R, writer: Writer) -> u64 {
-    let Writer { number, mut push } = writer;
-    let mut queued = 0;
-    for call in 0..CALLS {
-        if !comes_back(rt, &mut push, number, call) {
-            queued += 1;
-        }
-    }
-    queued
-}
-
-/// All writers at once, each in a thread of its own: how many items the ring took of them all.
-fn crowd<R: Threads + Wait + Sync>(
-    rt: &R,
-    alloc: Global,
-    writers: Vec<Writer>,
-) -> Result<u64, OutOfMemory> {
-    thread::scope(
-        thread::scope_env(),
-        rt,
-        move |scope| -> Result<u64, OutOfMemory> {
-            let mut children = Vec::new(alloc);
-            for writer in writers {
-                children.push(scope.spawn(move || log_all(rt, writer))?)?;
-            }
-            let mut queued = 0u64;
-            for child in children {
-                queued = queued.saturating_add(child.join(rt));
-            }
-            Ok(queued)
-        },
-    )
-}
-
-/// Takes until nothing comes, and answers how many items came.
-fn drain<R: Wait>(rt: &R, take: &mut RingTake) -> u64 {
-    for count in 0..MANY {
-        if take.take(rt).is_none() {
-            return count;
-        }
-    }
-    MANY
 }
 
 /// Of a ring of this size: whether it takes just so many calls, gives the first half of them, and then takes as many again as it gave.
@@ -384,35 +313,4 @@ fn boxes_hold_both<R: Wait>(rt: &R, alloc: Global) -> bool {
 #[test]
 fn ring_boxes_hold_claims_and_calls_in_turn(rt: HostRuntime) {
     assert!(rt; boxes_hold_both(&rt, rt.alloc()));
-}
-
-/// How many calls of eight threads the ring takes, and how many come out.
-fn crowd_through<R: Threads + Wait + Sync>(
-    rt: &R,
-    alloc: Global,
-    first: &mut RingPush,
-    take: &mut RingTake,
-) -> Option<[u64; 2]>
-    requires { first.old ≡ unused_push first.old.ring first.old.capacity 0 true }
-{
-    match writers(alloc, first) {
-        Ok(writers) => match crowd(rt, alloc, writers) {
-            Ok(queued) => Some([queued, drain(rt, take)]),
-            Err(_) => None,
-        },
-        Err(_) => None,
-    }
-}
-
-/// The same of a ring that holds them all.
-fn crowd_on_one<R: Threads + Wait + Sync>(rt: &R, alloc: Global) -> Option<[u64; 2]> {
-    match make_ring(alloc, 4096) {
-        Ok((mut first, mut take)) => crowd_through(rt, alloc, &mut first, &mut take),
-        Err(_) => None,
-    }
-}
-
-#[test]
-fn ring_crowd(rt: HostRuntime) {
-    assert!(rt; crowd_on_one(&rt, rt.alloc()) == Some([4000, 4000]));
 }

@@ -26,8 +26,8 @@ loop-item-preserved g c =
     let s2 = g.J.Journal.spare c.note.new.self in
     let far = subst (λ (xs : List Item). Gathered c.args.ecu c.args.moment (take k items) xs c.args.hub.now c.loop-item.hub c.args.writer.now c.loop-item.writer e0 e1 n0 n1 s0 s1) here.1 c.loop-item.invariant in
     subst (λ (xs : List Item). Gathered c.args.ecu c.args.moment xs (drop (k + 1) items) c.args.hub.now c.admit.new.self c.args.writer.now c.add_to_batch.new.writer e0 e2 n0 n2 s0 s2) (sym here.0)
-    (gathers_one c.args.ecu c.args.moment (take k items) (drop (k + 1) items) item c.write_log_frame.new.frame c.args.hub.now c.loop-item.hub c.admit.new.self c.args.writer.now c.loop-item.writer c.add_to_batch.new.writer
-    e0 e1 e2 n0 n1 n2 s0 s1 s2 far c.write_log_frame.ensures c.admit.ensures.adds c.admit.ensures.rooms c.admit.ensures.same c.admit.ensures.open c.admit.ensures.replies c.admit.ensures.count c.add_to_batch.ensures.trace c.add_to_batch.ensures.batch
+    (gathers_one c.args.ecu c.args.moment (take k items) (drop (k + 1) items) item c.bytes-bytes.result.now c.args.hub.now c.loop-item.hub c.admit.new.self c.args.writer.now c.loop-item.writer c.add_to_batch.new.writer
+    e0 e1 e2 n0 n1 n2 s0 s1 s2 far (c.bytes-bytes.ensures.value ∙ c.write_log_frame.ensures) c.admit.ensures.adds c.admit.ensures.rooms c.admit.ensures.same c.admit.ensures.open c.admit.ensures.replies c.admit.ensures.count c.add_to_batch.ensures.trace c.add_to_batch.ensures.batch
     (subst (λ (e : Event). notes.Adds e1 e2 e) c.logged.ensures c.note.ensures.events) c.note.ensures.noted c.note.ensures.spare)
 
 pub returns-clause-adds : goal.returns-clause-adds

@@ -21,8 +21,8 @@ loop-msg-preserved g c =
     (g.J.Journal.events c.args.journal.now) (g.J.Journal.events c.loop-msg.journal) (g.J.Journal.noted c.args.journal.now) (g.J.Journal.noted c.loop-msg.journal)
     (g.J.Journal.spare c.args.journal.now) (g.J.Journal.spare c.loop-msg.journal)) here c.loop-msg.invariant.so in
     record {
-      so = gathers_message c.args.ecu c.args.moment c.args.channel c.args.msgs.now.items left msg c.write_message.new.frame c.args.hub.now c.loop-msg.hub c.admit.new.self
-          c.args.writer.now c.loop-msg.writer c.add_to_batch.new.writer _ _ _ _ _ _ _ _ _ far c.write_message.ensures.frame
+      so = gathers_message c.args.ecu c.args.moment c.args.channel c.args.msgs.now.items left msg c.frame_of-frame.result.now c.args.hub.now c.loop-msg.hub c.admit.new.self
+          c.args.writer.now c.loop-msg.writer c.add_to_batch.new.writer _ _ _ _ _ _ _ _ _ far c.frame_of-frame.ensures.frame
           c.admit.ensures.adds c.admit.ensures.rooms c.admit.ensures.same c.admit.ensures.open c.admit.ensures.replies c.admit.ensures.count
           c.add_to_batch.ensures.trace c.add_to_batch.ensures.batch c.note.ensures.events c.note.ensures.noted c.note.ensures.spare;
       capacity = ap (λ (b : Buffer UserMsg). b.capacity) c.pop_front.ensures.items ∙ c.loop-msg.invariant.capacity;

@@ -4,4 +4,4 @@ use Rattle.dl_daemon.proofs.laws.what_programs_took.Goals as goal
 pub returns : goal.returns
 returns g c = λ most begun old new why closed first begins has.
     let later = c.a_round_is_its_events.ensures in
-    took_so g.L.Link.told later.heard later.pumped later.closed most begun old new why closed first begins has
+    took_so g.L.Link.told later.closed most begun old new why closed first begins has

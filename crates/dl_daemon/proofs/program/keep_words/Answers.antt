@@ -32,6 +32,8 @@ returns-in-Ok-begin g c =
     (λ why closed has. c.how_programs_ended.ensures c.of_daemon.result c.in-Ok-begin.begun (outside between net users) new why closed has)
     (λ why closed has. c.how_clients_went.ensures c.of_daemon.result c.in-Ok-begin.begun (outside between net users) new why closed first start.trace has)
     (λ why closed has. c.what_programs_took.ensures c.of_daemon.result c.in-Ok-begin.begun (outside between net users) new why closed first start.trace has)
+    (λ why closed has. c.how_each_round_serves.ensures c.of_daemon.result c.in-Ok-begin.begun (outside between net users) new why closed first start.trace has)
+    (λ why closed has. c.why_links_were_dropped.ensures c.in-Ok-begin.begun (outside between net users) new why closed has)
     c.in-Ok.ensures start c.keep_begun.ensures
 
 pub returns-in-Err-begin : goal.returns-in-Err-begin

@@ -1,7 +1,7 @@
-use Rattle.dl_serve.proofs.HandedServings.{handed_out}
+use Rattle.dl_serve.proofs.FewRounds.{handed_out_few}
 use Rattle.dl_serve.proofs.laws.who_was_handed_out.Goals as goal
 
 pub returns : goal.returns
-returns g c = λ begun old new full closed first begins has room unwanted stand.
+returns g c = λ begun old new full closed last has frames served room unwanted stand.
     let later = c.a_round_is_its_events.ensures in
-    handed_out g.L.Link.told c.why_clients_stay.ensures.read later.heard later.pumped c.who_has_an_outbox.ensures begun old new full closed first begins has room unwanted stand
+    handed_out_few g.L.Link.told later.heard later.pumped begun old new full closed last has frames served room unwanted stand

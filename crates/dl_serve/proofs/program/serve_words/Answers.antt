@@ -25,7 +25,8 @@ returns-in-Ok g c =
     (λ full left has. c.how_clients_went.ensures c.in-Ok.begun (told between net users out) new full left first begins.2.trace has)
     (λ full left has. c.what_programs_took.ensures c.in-Ok.begun (told between net users out) new full left first begins.2.trace has)
     (λ full left has. c.why_links_were_dropped.ensures c.in-Ok.begun (told between net users out) new full left first begins.2.trace has)
-    (λ full left has. c.who_was_handed_out.ensures c.in-Ok.begun (told between net users out) new full left first begins.2.trace has)
+    (λ full left last has. c.who_was_handed_out.ensures c.in-Ok.begun (told between net users out) new full left last has)
+    (λ full left has. c.how_each_round_serves.ensures c.in-Ok.begun (told between net users out) new full left first begins.2.trace has)
     begins.1 begins.2 c.serve_begun.ensures
 
 pub returns-in-Err : goal.returns-in-Err

@@ -17,5 +17,5 @@ reset-requires c =
 pub returns-in-Ok-Inject-clause-reply : goal.returns-in-Ok-Inject-clause-reply
 returns-in-Ok-Inject-clause-reply c =
     let asks : c.args.request.now ≡ Ok (Inject c.in-Ok-Inject.service c.in-Ok-Inject.field-0-1) = grind (arith, common_steps) in
-    replies_inject c.args.injection c.args.level c.args.registry.now c.args.target c.args.request.now c.args.done c.inject.result c.args.wish
+    replies_inject c.args.software c.args.injection c.args.level c.args.registry.now c.args.target c.args.request.now c.args.done c.inject.result c.args.wish
     c.in-Ok-Inject.service c.in-Ok-Inject.field-0-1 asks c.requires c.inject.ensures

@@ -13,4 +13,4 @@ loop-name-preserved g c =
     let counted : into_iter_len c.next.new.self ≡ length (into_iter_items c.next.new.self) = omega arith in
     goes_on c.args.is_alone (g.F.Folder.told c.args.folder.now) (g.F.Folder.told at.folder) (g.F.Folder.told c.add_file.new.folder) (into_iter_items c.into_iter-name-iterator.result) at.yielded
     (into_iter_items at.name-iterator) (into_iter_items c.next.new.self) c.in-Some.name (into_iter_len at.name-iterator) (into_iter_len c.next.new.self) at.reading c.add_file.new.reading at.invariant steps counted
-    c.in-Ok.ensures.adds c.in-Ok.ensures.left
+    (c.in-Ok.ensures.adds at.invariant.told.0 at.invariant.told.1) c.in-Ok.ensures.left

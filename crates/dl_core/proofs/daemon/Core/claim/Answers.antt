@@ -11,8 +11,8 @@ use Rattle.dl_core.proofs.daemon.Core.claim.Goals as goal
 pub returns-clause-notes : goal.returns-clause-notes
 returns-clause-notes g c =
     let i = c.self.inside in
-    let old = core_of i.ecu i.level i.injection i.registry i.hub i.trace in
-    let new = core_of i.ecu i.level i.injection c.claim.new.self i.hub i.trace in
+    let old = core_of i.ecu i.level i.injection i.software i.registry i.hub i.trace in
+    let new = core_of i.ecu i.level i.injection i.software c.claim.new.self i.hub i.trace in
     let past = g.J.Journal.events c.args.journal.now in
     let present = g.J.Journal.events c.note.new.self in
     subst (λ (k : Core). NotesClaim c.args.moment c.args.claim.now k new past present) c.self.view_is

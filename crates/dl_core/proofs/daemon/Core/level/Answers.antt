@@ -15,7 +15,7 @@ note-requires g c =
 pub returns-clause-after : goal.returns-clause-after
 returns-clause-after g c =
     let change = c.in_ok-change.change in
-    let now : Core = record { ecu = c.self.inside.ecu; level = c.self.inside.level; injection = c.self.inside.injection; registry = c.next_change.new.self; hub = c.self.inside.hub; trace = option_map (λ w. w.trace) c.self.inside.trace } in
+    let now : Core = record { ecu = c.self.inside.ecu; level = c.self.inside.level; injection = c.self.inside.injection; software = c.self.inside.software; registry = c.next_change.new.self; hub = c.self.inside.hub; trace = option_map (λ w. w.trace) c.self.inside.trace } in
     subst (λ (old : Core). AddsAlone (event.Level change.slot change.level ∷ []) old now) c.self.view_is
     (level_follows (record now { registry = c.self.inside.registry }) c.next_change.new.self change c.in_ok-change.ensures.change c.in_ok-change.ensures.held)
 

@@ -14,13 +14,13 @@ pub returns-clause-notes : goal.returns-clause-notes
 returns-clause-notes g c =
     let i = c.self.inside in
     let items = c.args.items.now in
-    let old = core_of i.ecu i.level i.injection i.registry i.hub i.trace in
-    let new = core_of i.ecu i.level i.injection i.registry c.admit_each.new.hub c.store_batch.new.writer in
+    let old = core_of i.ecu i.level i.injection i.software i.registry i.hub i.trace in
+    let new = core_of i.ecu i.level i.injection i.software i.registry c.admit_each.new.hub c.store_batch.new.writer in
     let told = g.F.Folder.told c.args.folder.now in
     let now = g.F.Folder.told c.store_batch.new.folder in
     let past = g.J.Journal.events c.args.journal.now in
     let present = g.J.Journal.events c.admit_each.new.journal in
-    let same : IsSameCore old new = record { ecu = refl; level = refl; injection = refl; hub = c.admit_each.ensures.same } in
+    let same : IsSameCore old new = record { ecu = refl; level = refl; injection = refl; software = refl; hub = c.admit_each.ensures.same } in
     let kept = c.admit_each.ensures.trace ∙ c.begin_batch.ensures.trace in
     let stores = subst (λ (o : Option Trace). StoresIn (map (stored_call i.ecu c.args.moment) items) o (trace_in c.store_batch.new.writer) told now)
     kept (c.store_batch.ensures.stored (map (stored_call i.ecu c.args.moment) items) c.admit_each.ensures.batch) in

@@ -17,13 +17,13 @@ returns-clause-notes g c =
     let i = c.self.inside in
     let msgs = c.args.msgs.now.items in
     let frames = map (stored i.ecu c.args.moment) (message_frames i.ecu msgs) in
-    let old = core_of i.ecu i.level i.injection i.registry i.hub i.trace in
-    let new = core_of i.ecu i.level i.injection i.registry c.admit_messages.new.hub c.store_batch.new.writer in
+    let old = core_of i.ecu i.level i.injection i.software i.registry i.hub i.trace in
+    let new = core_of i.ecu i.level i.injection i.software i.registry c.admit_messages.new.hub c.store_batch.new.writer in
     let told = g.F.Folder.told c.args.folder.now in
     let now = g.F.Folder.told c.store_batch.new.folder in
     let past = g.J.Journal.events c.args.journal.now in
     let present = g.J.Journal.events c.admit_messages.new.journal in
-    let same : IsSameCore old new = record { ecu = refl; level = refl; injection = refl; hub = c.admit_messages.ensures.same } in
+    let same : IsSameCore old new = record { ecu = refl; level = refl; injection = refl; software = refl; hub = c.admit_messages.ensures.same } in
     let kept = c.admit_messages.ensures.trace ∙ c.begin_batch.ensures.trace in
     let stores = subst (λ (o : Option Trace). StoresIn frames o (trace_in c.store_batch.new.writer) told now) kept (c.store_batch.ensures.stored frames c.admit_messages.ensures.batch) in
     subst (λ (k : Core). NotesMessages c.args.moment c.args.channel msgs k new told now past present) c.self.view_is (record {

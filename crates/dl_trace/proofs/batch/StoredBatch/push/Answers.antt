@@ -19,7 +19,7 @@ unwrap-requires-2 c =
     let few : length sizes < 64 = omega (arith, c.requires.few, length-parted sizes bytes, ap (λ (frames : List (List ℕ)). length frames) c.self.view_is) in
     let most = bytes_most sizes bytes c.self.invariant.sized in
     let now = rw c.unwrap.ensures at c.extend_from_slice.ensures.len in
-    c.extend_from_slice-2.ensures.succeeds (omega (arith, now, most, few, c.self.inside.bytes.ok.0, c.self.invariant.room, c.extend_from_slice.ensures.capacity, c.bytes-frame.ensures.limit, ap (λ (xs : List ℕ). length xs) c.bytes-frame.ensures.value))
+    c.extend_from_slice-2.ensures.succeeds (omega (arith, now, most, few, c.self.inside.bytes.ok.0, c.self.invariant.room, c.extend_from_slice.ensures.capacity, c.requires.size))
 
 pub push-requires : goal.push-requires
 push-requires c =
@@ -33,15 +33,13 @@ invariant_of-self c =
     let sizes = c.self.inside.sizes.items in
     let bytes = c.self.inside.bytes.items in
     let header = c.storage_header-header.result in
-    let frame = c.bytes-frame.result.now in
+    let frame = c.args.frame.now in
     let first = rw c.unwrap.ensures at c.extend_from_slice.ensures.items in
     let second = rw c.unwrap-2.ensures at c.extend_from_slice-2.ensures.items in
     let all : c.extend_from_slice-2.new.self.items ≡ bytes ++ (header ++ frame) = second ∙ ap (λ (b : List ℕ). b ++ frame) first ∙ append_assoc bytes header frame in
     let few : length sizes < 64 = omega (arith, c.requires.few, length-parted sizes bytes, ap (λ (frames : List (List ℕ)). length frames) c.self.view_is) in
-    let some : 0 < length frame = omega (arith, c.requires.some, ap (λ (xs : List ℕ). length xs) c.bytes-frame.ensures.value) in
-    let most : length frame ≤ 1984 = omega (arith, c.bytes-frame.ensures.limit, ap (λ (xs : List ℕ). length xs) c.bytes-frame.ensures.value) in
     let len : 16 + length frame ≡ length (header ++ frame) = omega (arith, length-append header frame) in
-    let more = one_more sizes bytes (16 + length frame) (header ++ frame) c.self.invariant.sized len (omega arith) (omega arith) in
+    let more = one_more sizes bytes (16 + length frame) (header ++ frame) c.self.invariant.sized len (omega (arith, c.requires.some)) (omega (arith, c.requires.size)) in
     record {
       few = omega (arith, few, c.push.ensures.len);
       sized = rw (c.push.ensures.items, all) more;
@@ -53,7 +51,7 @@ returns c =
     let sizes = c.self.inside.sizes.items in
     let bytes = c.self.inside.bytes.items in
     let header = c.storage_header-header.result in
-    let frame = c.bytes-frame.result.now in
+    let frame = c.args.frame.now in
     let first = rw c.unwrap.ensures at c.extend_from_slice.ensures.items in
     let second = rw c.unwrap-2.ensures at c.extend_from_slice-2.ensures.items in
     let all : c.extend_from_slice-2.new.self.items ≡ bytes ++ (header ++ frame) = second ∙ ap (λ (b : List ℕ). b ++ frame) first ∙ append_assoc bytes header frame in
@@ -63,4 +61,3 @@ returns c =
     ∙ parted-one sizes bytes (16 + length frame) (header ++ frame) c.self.invariant.sized.whole len
     ∙ ap (λ (fs : List (List ℕ)). fs ++ (header ++ frame) ∷ []) c.self.view_is
     ∙ ap (λ (h : List ℕ). c.args.self.now ++ (h ++ frame) ∷ []) c.storage_header-header.ensures
-    ∙ ap (λ (f : List ℕ). c.args.self.now ++ (storage_header c.args.ecu c.args.moment ++ f) ∷ []) c.bytes-frame.ensures.value

@@ -1,0 +1,5 @@
+//! Traces in memory that are read in pieces, of which one read may fail.
+#![tactic(auto)]
+
+#[cfg(test)]
+mod faults;
