@@ -10,6 +10,7 @@
  *
  *     live libdlt COUNT SIZE THREADS          logs, and waits where the library's buffer is full
  *     live liblatency PORT COUNT REST         as latency
+ *     live libidle                            has a context, and logs nothing until it is killed
  *     live calls filtered|delivered COUNT     calls one_call so often, whose instructions callgrind counts
  *
  * Each prints one line of numbers. Sizes are of the message's payload, in bytes. */
@@ -239,6 +240,13 @@ static void measure_libdlt(char **words) {
     measure_latency(client, atoi(words[1]), atoi(words[2]), sends_by_libdlt);
 }
 
+static void log_nothing(char **words) {
+    (void)words;
+    begins_only();
+    printf("0\n"), fflush(stdout);
+    pause();
+}
+
 static void make_calls(char **words) {
     DltLogLevelType level = strcmp(words[0], "filtered") ? DLT_LOG_INFO : DLT_LOG_DEBUG;
     int count = atoi(words[1]), number, total, used = 0;
@@ -268,6 +276,7 @@ static const struct job jobs[] = {
 #ifdef LIBDLT
     {"libdlt", 3, log_with_libdlt},
     {"liblatency", 3, measure_libdlt},
+    {"libidle", 0, log_nothing},
     {"calls", 2, make_calls},
 #endif
 };

@@ -1,6 +1,6 @@
 -- Sums over the books of one application, book by book.
-use Rattle.std.proofs.Common.{◌≡◌, ◌≢◌, ℕ, ◌+◌, ◌-◌, ◌≤◌, ◌==◌, ◌^◌, min, List, [], ◌∷◌, ◌++◌, length, take, Some, slice_get, ap, ◌∙◌, arith}
-use Rattle.std.proofs.lemmas.List.{take_more, take_all}
+use Rattle.std.proofs.Common.{◌≡◌, ◌≢◌, ℕ, ◌+◌, ◌-◌, ◌==◌, ◌^◌, min, List, [], ◌∷◌, ◌++◌, length, take, Some, slice_get, ap, ◌∙◌, arith}
+use Rattle.std.proofs.lemmas.List.{take_more}
 use Rattle.std.proofs.lemmas.List.Elements.{filter-append}
 use Rattle.std.proofs.lemmas.List.FromFn.{length-map-range_with_len, map-range_with_len_more}
 use Rattle.dl_cells.specs.Views.{total}
@@ -35,10 +35,6 @@ module _ (f : BookState → ℕ) (app : ℕ) where
       let none : total f (books_of app (b ∷ [])) ≡ 0 = ap (total f) (other_book app b [] apart) in
       let all = next_books books place b at in
       omega (arith, none, all)
-
-  -- all of them
-  pub sum_all : (books : List BookState) (place : ℕ) → length books ≤ place → total f (books_of app (take place books)) ≡ total f (books_of app books)
-  sum_all books place high = ap (λ (bs : List BookState). total f (books_of app bs)) (take_all place books high)
 
 -- ---- a number for each application
 

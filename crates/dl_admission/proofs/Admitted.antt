@@ -7,7 +7,7 @@ use Rattle.dl_model.specs.Backlog.{size_of}
 use Rattle.dl_model.specs.Frames.{frames_of}
 use Rattle.dl_model.specs.Journal.{is_slow, is_stop, IsFramesNeed, IsInTurn, IsRunning, IsWellFormed}
 use Rattle.dl_model.specs.Report.{closed_of}
-use Rattle.dl_laws.proofs.LongerJournals.{goes_on}
+use Rattle.dl_model.proofs.LongerJournals.{goes_on}
 use Rattle.dl_hub.specs.State.{Hub}
 use Rattle.dl_trace.specs.State.{Trace}
 use Rattle.dl_core.specs.State.{Core}

@@ -14,7 +14,7 @@ use Rattle.dl_events.specs.declared.event.Why.{Why}
 use Rattle.dl_model.specs.Frames.{stored, user_frames}
 use Rattle.dl_model.specs.Journal.{AreInTurn, IsRunning}
 use Rattle.dl_model.specs.Report.{closed_of}
-use Rattle.dl_laws.proofs.LongerJournals.{goes_on}
+use Rattle.dl_model.proofs.LongerJournals.{goes_on}
 use Rattle.dl_registry.specs.Kept as registry
 use Rattle.dl_registry.specs.Kept.{Kept, owed_change}
 use Rattle.dl_registry.proofs.Following.{change_is_owed}

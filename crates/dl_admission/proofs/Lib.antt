@@ -3,6 +3,7 @@ pub mod SlowLists
 pub mod Rooms
 pub mod Slows
 pub mod KeptClients
+pub mod StandingClients
 pub mod KeptTraces
 pub mod Admitted
 pub mod Entries

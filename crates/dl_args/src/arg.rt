@@ -8,7 +8,7 @@ use dl_bytes::{Bytes, OutOfMemory, Sequence};
 use std::alloc::AllocFailed;
 
 /// An argument in verbose mode. A name, a unit and a text stand without their closing zero byte, and needn't be UTF-8.
-#[derive(Debug, Drop)]
+#[derive(Drop)]
 pub enum Arg {
     /// A truth value.
     Bool {

@@ -9,7 +9,7 @@ use dl_bytes::{Bytes, OutOfMemory, Sequence};
 use std::alloc::Global;
 
 /// An argument as [`Arg`] has it, whose name, unit and bytes still belong to the payload.
-#[derive(Clone, Copy, Debug)]
+#[derive(Clone, Copy)]
 pub enum ArgRef<'a> {
     /// A truth value.
     Bool {

@@ -22,7 +22,7 @@ use std::marker::Model;
 ///
 /// It gives the arguments in order, then the fault of the first that can't be read, if there is one. After the last
 /// argument and after a fault it stays where it is.
-#[derive(Debug, Drop)]
+#[derive(Drop)]
 pub struct ArgReader<'a> {
     cursor: Cursor<'a>,
     /// How many bytes the whole payload has.

@@ -4,7 +4,7 @@ ghost use Rattle.std.specs.Prelude.{◌≡◌, ◌↔◌, ◌<◌, ◌^◌, IsTr
 ghost use Rattle.dl_args.specs.Width.{tyle_of, width_of, byte_count, int_type};
 
 /// How many bits a number has: the field TYLE of a type info.
-#[derive(Clone, Copy, Debug, PartialEq, Eq)]
+#[derive(Clone, Copy, PartialEq, Eq)]
 pub enum Width {
     /// 8 bits, TYLE 1.
     W8,

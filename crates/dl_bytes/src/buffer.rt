@@ -11,7 +11,7 @@ use std::marker::Model;
 /// To consume costs the same however many bytes stay. Consumed bytes give their room back only when `compact` moves
 /// what stayed to the front: call it when what is held is no whole message, and each byte of the stream is moved
 /// at most once.
-#[derive(Debug, Drop)]
+#[derive(Drop)]
 pub struct Buffer {
     bytes: Vec<u8>,
     /// How many of the bytes are consumed.

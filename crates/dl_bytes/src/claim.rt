@@ -10,7 +10,7 @@ use crate::level::OwnLevel;
 use std::marker::Model;
 
 /// The description of a context that is claimed, kept in place.
-#[derive(Debug, Drop)]
+#[derive(Drop)]
 pub struct ClaimText {
     bytes: [u8; 48],
     len: u8,
@@ -62,7 +62,7 @@ impl ClaimText {
 }
 
 /// A claim of a writer: the place that it took among its application's contexts, and the context that is to have it.
-#[derive(Debug, Drop)]
+#[derive(Drop)]
 pub struct Claim {
     app: u8,
     writer: u8,

@@ -12,7 +12,7 @@ use crate::list::{Bytes, Sequence};
 pub const DIRECTORY_LIMIT: usize = 200;
 
 /// A configuration: one value for each key of `dlt.conf` that the daemon reads, each in its range.
-#[derive(Debug, Drop)]
+#[derive(Drop)]
 pub struct Conf {
     /// `ECUId`: the id of the control unit, which each frame of the daemon carries.
     pub ecu: Id,
@@ -40,7 +40,7 @@ pub struct Conf {
 }
 
 /// An own level that was stored for a context.
-#[derive(Clone, Copy, Debug, PartialEq, Eq)]
+#[derive(Clone, Copy, PartialEq, Eq)]
 pub struct StoredLevel {
     /// The id of the application.
     pub apid: Id,
@@ -51,7 +51,7 @@ pub struct StoredLevel {
 }
 
 /// The stored configuration: levels that outlive a run.
-#[derive(Debug, Drop)]
+#[derive(Drop)]
 pub struct Stored {
     /// The default level, where one was stored.
     pub level: Option<Level>,
@@ -60,7 +60,7 @@ pub struct Stored {
 }
 
 /// An application as it is declared before a run.
-#[derive(Debug, Drop)]
+#[derive(Drop)]
 pub struct AppSpec {
     /// The id of the application.
     pub apid: Id,

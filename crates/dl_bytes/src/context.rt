@@ -7,7 +7,7 @@ use crate::id::Id;
 use std::marker::Model;
 
 /// A context of an application: their numbers and their ids.
-#[derive(Clone, Copy, Debug)]
+#[derive(Clone, Copy)]
 pub struct Ctx {
     app: u8,
     place: u8,

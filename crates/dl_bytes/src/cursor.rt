@@ -7,7 +7,7 @@ use crate::id::Id;
 use byteorder::{BigEndian, ByteOrder, LittleEndian};
 
 /// The byte order of numbers: the bit MSBF of a standard header says which a payload has.
-#[derive(Clone, Copy, Debug, PartialEq, Eq)]
+#[derive(Clone, Copy, PartialEq, Eq)]
 pub enum Order {
     /// Lowest byte first.
     Little,
@@ -17,7 +17,7 @@ pub enum Order {
 
 /// What is left to read, with the order of its numbers. A read takes the value from the front, and gives nothing
 /// where too few bytes are left: then the cursor stays where it was.
-#[derive(Clone, Copy, Debug)]
+#[derive(Clone, Copy)]
 pub struct Cursor<'a> {
     /// What is left to read.
     pub rest: &'a [u8],

@@ -6,7 +6,7 @@ use arrayvec::ArrayVec;
 use std::marker::Model;
 
 /// A message's bytes, kept in place: standard header, extended header and payload.
-#[derive(Debug, Drop)]
+#[derive(Drop)]
 pub struct Frame {
     bytes: ArrayVec<u8, 1984>,
 }

@@ -4,7 +4,7 @@ ghost use Rattle.std.specs.Prelude.{◌≡◌, ◌≤◌};
 ghost use Rattle.dl_bytes.specs.Htyp as htyp_bits;
 
 /// HTYP: which parts the headers of a message have, the byte order of its payload, and the protocol's version.
-#[derive(Clone, Copy, Debug, PartialEq, Eq)]
+#[derive(Clone, Copy, PartialEq, Eq)]
 pub struct Htyp(pub u8);
 
 impl Htyp {

@@ -7,7 +7,7 @@ ghost use Rattle.dl_bytes.specs.Id.{id_of, zero_id, is_visible};
 use std::marker::Model;
 
 /// Names an ECU, an application or a context. A name of fewer than four letters is filled with zero bytes.
-#[derive(Clone, Copy, Debug, PartialEq, Eq, Hash)]
+#[derive(Clone, Copy, PartialEq, Eq, Hash)]
 pub struct Id {
     bytes: [u8; 4],
 }

@@ -7,7 +7,7 @@ use crate::level::Severity;
 use crate::payload::Payload;
 
 /// One log call as it lies in a ring.
-#[derive(Debug, Drop)]
+#[derive(Drop)]
 pub struct Item {
     /// The application's number, 0 to 15.
     pub app: u8,
@@ -49,7 +49,7 @@ impl Item {
 }
 
 /// A message that the daemon hands to a running application.
-#[derive(Debug, Drop)]
+#[derive(Drop)]
 pub struct Injection {
     /// The place of the context that it is for, 0 to 63.
     pub place: u8,

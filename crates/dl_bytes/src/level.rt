@@ -7,7 +7,7 @@ ghost use Rattle.dl_bytes.specs.Level.{severity_number, passes, own_level_of};
 use std::marker::Model;
 
 /// How grave a log message is: the field MTIN of its extended header.
-#[derive(Clone, Copy, Debug, PartialEq, Eq)]
+#[derive(Clone, Copy, PartialEq, Eq)]
 pub enum Severity {
     /// The control unit fails, 1.
     Fatal = 1,
@@ -50,7 +50,7 @@ impl Severity {
 }
 
 /// A log level, 0 (off) to 6 (verbose): messages whose severity is above it are filtered.
-#[derive(Clone, Copy, Debug, PartialEq, Eq)]
+#[derive(Clone, Copy, PartialEq, Eq)]
 pub struct Level {
     number: u8,
 }
@@ -107,7 +107,7 @@ impl From<Severity> for Level {
 }
 
 /// The level that a context has of its own, or none where it follows the daemon's default level.
-#[derive(Clone, Copy, Debug, PartialEq, Eq)]
+#[derive(Clone, Copy, PartialEq, Eq)]
 pub struct OwnLevel {
     level: Option<Level>,
 }

@@ -9,7 +9,7 @@ use std::marker::Model;
 pub type Bytes = Sequence<u8>;
 
 /// Entries in order: made of a vector, which it gives back, with no memory taken.
-#[derive(Debug, Drop)]
+#[derive(Drop)]
 pub struct Sequence<T> {
     items: Vec<T>,
 }

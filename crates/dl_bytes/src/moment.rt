@@ -3,7 +3,7 @@
 ghost use Rattle.std.specs.Prelude.{◌<◌};
 
 /// A moment of the daemon's clock: the time of day for stored headers, and the timestamp for messages.
-#[derive(Clone, Copy, Debug, PartialEq, Eq)]
+#[derive(Clone, Copy, PartialEq, Eq)]
 pub struct Moment {
     /// Seconds since the beginning of 1970, UTC.
     pub secs: u32,

@@ -6,7 +6,7 @@ use crate::list::{Bytes, Sequence};
 use std::marker::Model;
 
 /// What the folder answered to a request's write or removal, or the application's queue to its injection.
-#[derive(Clone, Copy, Debug, PartialEq, Eq)]
+#[derive(Clone, Copy, PartialEq, Eq)]
 pub enum Done {
     /// It was done, or nothing was to be done.
     Yes,
@@ -17,7 +17,7 @@ pub enum Done {
 }
 
 /// Why the storing of the trace ended before the run did.
-#[derive(Clone, Copy, Debug, PartialEq, Eq)]
+#[derive(Clone, Copy, PartialEq, Eq)]
 pub enum TraceEnd {
     /// The folder failed.
     Failed,
@@ -28,7 +28,7 @@ pub enum TraceEnd {
 }
 
 /// A trace file that stands.
-#[derive(Debug, Drop)]
+#[derive(Drop)]
 pub struct TraceFile {
     /// Its name, with its directory.
     pub name: Bytes,
@@ -37,7 +37,7 @@ pub struct TraceFile {
 }
 
 /// The trace files that stand, the oldest first.
-#[derive(Debug, Drop)]
+#[derive(Drop)]
 pub struct TraceState {
     /// The files, in the order of their numbers.
     pub files: Sequence<TraceFile>,
@@ -46,7 +46,7 @@ pub struct TraceState {
 }
 
 /// What became of a client's link.
-#[derive(Clone, Copy, Debug, PartialEq, Eq)]
+#[derive(Clone, Copy, PartialEq, Eq)]
 pub struct LinkEnd {
     /// The client's number, from 1.
     pub client: u32,
@@ -59,7 +59,7 @@ pub struct LinkEnd {
 }
 
 /// What stands at the end of a run beside its events.
-#[derive(Debug, Drop)]
+#[derive(Drop)]
 pub struct Ends {
     /// The end of each client's link, in the order of their numbers.
     pub links: Sequence<LinkEnd>,
@@ -70,7 +70,7 @@ pub struct Ends {
 }
 
 /// The backlog: frames that wait for a client.
-#[derive(Clone, Copy, Debug, PartialEq, Eq)]
+#[derive(Clone, Copy, PartialEq, Eq)]
 pub struct Backlog {
     /// How many frames wait.
     pub frames: u64,
@@ -81,7 +81,7 @@ pub struct Backlog {
 }
 
 /// The frames of each client's stream, by the clients' numbers.
-#[derive(Debug, Drop)]
+#[derive(Drop)]
 pub struct FrameList {
     clients: Sequence<Sequence<Bytes>>,
 }

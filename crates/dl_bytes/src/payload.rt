@@ -6,7 +6,7 @@ use arrayvec::ArrayVec;
 use std::marker::Model;
 
 /// The arguments of a log call as a message carries them, kept in place.
-#[derive(Debug, Drop)]
+#[derive(Drop)]
 pub struct Payload {
     bytes: ArrayVec<u8, 1390>,
     args: u8,

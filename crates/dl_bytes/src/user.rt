@@ -12,7 +12,7 @@ use byteorder::{BigEndian, ByteOrder};
 use std::alloc::{AllocError, Global};
 
 /// A user message, by its kind.
-#[derive(Debug, Drop)]
+#[derive(Drop)]
 pub enum UserMsg {
     /// Kind 1: a whole message, from its standard header on.
     Log(Bytes),

@@ -6,7 +6,7 @@ ghost use Rattle.dl_call_timeline.specs.Calls.{counted, teller_of};
 use dl_picture::{Bin, no_bin};
 
 /// An overflow record: it tells of calls that are missing.
-#[derive(Clone, Copy, Debug, PartialEq, Eq, Hash)]
+#[derive(Clone, Copy, PartialEq, Eq, Hash)]
 pub struct RecordName {
     /// The line of the script in which it was told; 0 where none is known.
     pub line: u64,
@@ -15,7 +15,7 @@ pub struct RecordName {
 }
 
 /// What became of a log call.
-#[derive(Clone, Copy, Debug, PartialEq, Eq)]
+#[derive(Clone, Copy, PartialEq, Eq)]
 pub enum Outcome {
     /// It was admitted: a client has it, or it waits for the next one.
     Admitted,
@@ -31,7 +31,7 @@ pub enum Outcome {
 }
 
 /// A log call of a script.
-#[derive(Clone, Copy, Debug, PartialEq, Eq)]
+#[derive(Clone, Copy, PartialEq, Eq)]
 pub struct Call {
     /// The number of its writer, from 1.
     pub writer: u8,

@@ -7,7 +7,7 @@ use crate::call::Call;
 use dl_picture::Axis;
 
 /// Where calls stand from left to right.
-#[derive(Clone, Copy, Debug, PartialEq, Eq)]
+#[derive(Clone, Copy, PartialEq, Eq)]
 pub struct Scale {
     /// Whether they stand at their times, or else at their lines.
     pub timed: bool,

@@ -1,5 +1,5 @@
 -- What holds of each view, after a change of one and with one more.
-use Rattle.std.proofs.Common.{◌≡◌, ◌≢◌, ℕ, zero, suc, ◌<◌, ◌⊎◌, inl, inr, List, [], ◌∷◌, ◌++◌, length, set, sym, refl, ap, ◌∙◌, subst, ⊎_elim, arith}
+use Rattle.std.proofs.Common.{◌≡◌, ◌≢◌, ℕ, zero, suc, ◌<◌, ◌⊎◌, inl, inr, List, [], ◌∷◌, ◌++◌, length, set, sym, refl, ap, subst, ⊎_elim, arith}
 use mathlib.Core.Option.{some, some-injective, some-ne-none}
 use lib.ListN.{get_elem?}
 use Rattle.atomic_table.proofs.Lists.{at_set, set_here}
@@ -22,10 +22,6 @@ module _ {V : Type 0} where
   at_end (x ∷ xs) w v zero e = inl e
   at_end (x ∷ xs) w v (suc id) e = ⊎_elim (λ there. inl there) (λ last. inr (ap suc last.0, last.1)) (at_end xs w v id e)
 
-  -- one view at one place
-  pub at_once : (views : List V) (id : ℕ) (v w : V) → get_elem? views id ≡ some v → get_elem? views id ≡ some w → v ≡ w
-  at_once views id v w e f = some-injective v w (sym e ∙ f)
-
   -- after a change of one view: what holds of it, and of the others
   pub each_set : (F : ℕ → V → Type 0) (views : List V) (id : ℕ) (w : V) → F id w → ((j : ℕ) (u : V) → j ≢ id → get_elem? views j ≡ some u → F j u) → Each F (set views id w)
   each_set F views id w mine others j u e = ⊎_elim (λ (x : (j ≡ id) × (w ≡ u)). subst (λ (y : ℕ × V). F y.0 y.1) (λ i. (sym x.0 i, x.1 i)) mine)
@@ -47,10 +43,6 @@ module _ {V : Type 0} where
   -- of a lone view
   pub each_one : (F : ℕ → V → Type 0) (v : V) → F 0 v → Each F (v ∷ [])
   each_one F v mine = each_end F [] v mine (λ j u e. absurd (some-ne-none u (sym e)))
-
-  -- a weaker fact holds of each too
-  pub each_map : (F G : ℕ → V → Type 0) (views : List V) → ((id : ℕ) (v : V) → F id v → G id v) → Each F views → Each G views
-  each_map F G views weaker before j u e = weaker j u (before j u e)
 
   pub each_tail : (F : V → Type 0) (v : V) (vs : List V) → Each (λ _ u. F u) (v ∷ vs) → Each (λ _ u. F u) vs
   each_tail F v vs each j u e = each (suc j) u e

@@ -21,9 +21,6 @@ module _ {V : Type 0} (f : V → ℕ) where
   total-snoc [] w = omega arith
   total-snoc (x ∷ xs) w = let rest = total-snoc xs w in omega arith
 
-  pub total_one : (v : V) → total f (v ∷ []) ≡ f v
-  total_one v = omega arith
-
   -- a view has at most the total
   pub total_at : (views : List V) (id : ℕ) (v : V) → get_elem? views id ≡ some v → f v ≤ total f views
   total_at [] id v e = absurd (some-ne-none v (sym e))
@@ -38,16 +35,7 @@ module _ {V : Type 0} (f : V → ℕ) where
   total_two (x ∷ xs) (suc i) zero v w apart e e' = let is : f x ≡ f w = ap f (some-injective x w e') in let rest = total_at xs i v e in omega arith
   total_two (x ∷ xs) (suc i) (suc j) v w apart e e' = let rest = total_two xs i j v w (λ same. apart (ap suc same)) e e' in omega arith
 
-  -- nothing of each is nothing in all
-  pub total_zero : (views : List V) → Each (λ _ v. f v ≡ 0) views → total f views ≡ 0
-  total_zero [] each = refl
-  total_zero (x ∷ xs) each = let mine = each 0 x refl in let rest = total_zero xs (each_tail (λ v. f v ≡ 0) x xs each) in omega arith
-
 module _ {V : Type 0} (f g : V → ℕ) where
-  pub total_same : (views : List V) → Each (λ _ v. f v ≡ g v) views → total f views ≡ total g views
-  total_same [] each = refl
-  total_same (x ∷ xs) each = let mine = each 0 x refl in let rest = total_same xs (each_tail (λ v. f v ≡ g v) x xs each) in omega arith
-
   pub total_le : (views : List V) → Each (λ _ v. f v ≤ g v) views → total f views ≤ total g views
   total_le [] each = omega arith
   total_le (x ∷ xs) each = let mine = each 0 x refl in let rest = total_le xs (each_tail (λ v. f v ≤ g v) x xs each) in omega arith

@@ -3,7 +3,7 @@
 use dl_bytes::Level;
 
 /// A level as it was found in a slot.
-#[derive(Clone, Copy, Debug, PartialEq, Eq)]
+#[derive(Clone, Copy, PartialEq, Eq)]
 pub struct Seen {
     /// How often the slot had been set, counted from the first version of all slots.
     pub version: u64,

@@ -1,7 +1,6 @@
 -- What stands at the front of what a program sent.
-use Rattle.std.proofs.Common.{◌≡◌, ℕ, ◌+◌, ◌-◌, ◌*◌, ◌<◌, ◌≤◌, List, ◌++◌, length, take, drop, refl, sym, ap, subst, ◌∙◌, append_assoc, length-append, length-take, length-drop, take-append-drop, arith}
+use Rattle.std.proofs.Common.{◌≡◌, ℕ, ◌+◌, ◌-◌, ◌*◌, ◌<◌, ◌≤◌, List, ◌++◌, length, take, drop, sym, ap, subst, ◌∙◌, append_assoc, length-append, length-take, length-drop, take-append-drop, arith}
 use Rattle.std.proofs.lemmas.List.{append-nil, drop-drop, drop_all}
-use Rattle.dl_bytes.specs.declared.user.UserMsg.{UserMsg}
 use Rattle.dl_user.specs.Channel as cutter
 use Rattle.dl_user.specs.Cut.{Begins, Stops}
 use Rattle.dl_user.specs.Cutter.{Cuts, Feeds}
@@ -19,15 +18,9 @@ pub record IsLooking (bytes piece : List ℕ) (taken : ℕ) (cutter : cutter.Cha
   pub same : bytes ≡ cutter.unread ++ drop taken piece
   pub room : IsWithin cutter
 
-pub sets_out : (piece : List ℕ) (cutter : cutter.Channel) → IsWithin cutter → IsLooking (cutter.unread ++ piece) piece 0 cutter
-sets_out piece cutter room = record { within = omega arith; same = refl; room = room }
-
 module _ (bytes piece : List ℕ) (taken : ℕ) (old new : cutter.Channel) (so : IsLooking bytes piece taken old) where
   abbrev more : List ℕ
   more = drop taken piece
-
-  pub finds_message : (msg : UserMsg) → Cuts old (cut.Message msg) new → Finds bytes piece (next.Message msg taken) new
-  finds_message msg cuts = (so.within, subst (λ (b : List ℕ). Begins b msg (new.unread ++ more)) (sym so.same) (begins_more old.unread new.unread more msg cuts.0))
 
   pub finds_bad : (fault : UserFault) → Cuts old (cut.Bad fault) new → Finds bytes piece (next.Bad fault) new
   finds_bad fault cuts = subst (λ (b : List ℕ). Stops b (stops.Bad fault)) (sym so.same) (fault_stays old.unread more fault cuts.0)

@@ -7,7 +7,7 @@ use dl_bytes::UserMsg;
 use dl_user::{UserCut, UserCutter, UserFault};
 
 /// What comes next in the bytes of a program.
-#[derive(Debug, Drop)]
+#[derive(Drop)]
 pub enum Next {
     /// A message, and how many bytes of the piece were fed until it was whole.
     Message(UserMsg, usize),

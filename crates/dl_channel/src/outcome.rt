@@ -3,7 +3,7 @@
 use dl_user::UserFault;
 
 /// Why a channel has ended.
-#[derive(Clone, Copy, Debug, PartialEq, Eq)]
+#[derive(Clone, Copy, PartialEq, Eq)]
 pub enum ChannelEnd {
     /// The program ended its connection.
     Left,

@@ -11,7 +11,7 @@ use Rattle.dl_outside.specs.declared.link.Gave.TheVariants as gave
 use Rattle.dl_user.specs.Channel as cutter
 use Rattle.dl_model.specs.Journal.{IsWellFormed}
 use Rattle.dl_model.specs.declared.registry.LevelChange.{LevelChange}
-use Rattle.dl_laws.proofs.LongerJournals.{goes_on}
+use Rattle.dl_model.proofs.LongerJournals.{goes_on}
 use Rattle.dl_registry.specs.Kept.{owed_change}
 use Rattle.dl_channel.specs.declared.outcome.ChannelEnd.{ChannelEnd}
 use Rattle.dl_core.specs.Admission.{has_frames}

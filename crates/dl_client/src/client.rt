@@ -8,7 +8,7 @@ use crate::context::{Context, Sender};
 
 /// A program's contexts by their places, and the bytes that wait for the link to the daemon.
 #[repr(C)]
-#[derive(Debug, Drop)]
+#[derive(Drop)]
 pub struct Client<'a> {
     /// The contexts. A context's place is its position in user messages.
     pub contexts: &'a mut [Context],

@@ -4,7 +4,7 @@ use dl_bytes::OwnLevel;
 
 /// A context, with its level and its counts since its last account.
 #[repr(C)]
-#[derive(Clone, Copy, Debug)]
+#[derive(Clone, Copy)]
 pub struct Context {
     /// APID: the id of the application.
     pub apid: [u8; 4],
@@ -24,7 +24,7 @@ pub struct Context {
 
 /// What each message says of the program that sends it.
 #[repr(C)]
-#[derive(Clone, Copy, Debug)]
+#[derive(Clone, Copy)]
 pub struct Sender {
     /// ECU: the control unit.
     pub ecu: [u8; 4],
@@ -34,7 +34,7 @@ pub struct Sender {
 
 /// What a log call says beside its payload.
 #[repr(C)]
-#[derive(Clone, Copy, Debug)]
+#[derive(Clone, Copy)]
 pub struct Call {
     /// The severity, 1 (fatal) to 6 (verbose): MTIN of the extended header.
     pub severity: u8,
@@ -47,7 +47,7 @@ pub struct Call {
 }
 
 /// A context as it is registered.
-#[derive(Clone, Copy, Debug)]
+#[derive(Clone, Copy)]
 pub struct Opening<'a> {
     /// APID: the id of the application.
     pub apid: [u8; 4],

@@ -15,7 +15,7 @@ const LOG: [u8; 8] = [0x44, 0x55, 0x48, 0x01, 1, 0, 0, 0];
 const HTYP: u8 = 0x3d;
 
 /// Which context a message is of, and its MCNT.
-#[derive(Clone, Copy, Debug)]
+#[derive(Clone, Copy)]
 pub struct Source {
     /// APID: the id of the application.
     pub apid: [u8; 4],

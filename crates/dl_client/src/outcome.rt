@@ -1,7 +1,7 @@
 //! What calls answer.
 
 /// What became of a log call.
-#[derive(Clone, Copy, Debug, PartialEq, Eq)]
+#[derive(Clone, Copy, PartialEq, Eq)]
 pub enum Logged {
     /// Its severity is above the level of its context.
     Filtered,
@@ -14,7 +14,7 @@ pub enum Logged {
 }
 
 /// What became of a level, a registration, or an account that was asked for.
-#[derive(Clone, Copy, Debug, PartialEq, Eq)]
+#[derive(Clone, Copy, PartialEq, Eq)]
 pub enum Answer {
     /// It was done.
     Done,

@@ -8,7 +8,7 @@ use crate::area::{Area, append, room};
 use crate::arguments::add_argument;
 
 /// What a number is.
-#[derive(Clone, Copy, Debug, PartialEq, Eq)]
+#[derive(Clone, Copy, PartialEq, Eq)]
 pub enum Kind {
     /// A truth value, in one byte.
     Bool,
@@ -21,7 +21,7 @@ pub enum Kind {
 }
 
 /// How a number is to be shown: SCOD of its type info.
-#[derive(Clone, Copy, Debug, PartialEq, Eq)]
+#[derive(Clone, Copy, PartialEq, Eq)]
 pub enum Format {
     /// As its kind is.
     Plain,
@@ -32,7 +32,7 @@ pub enum Format {
 }
 
 /// What a number is and how it is to be shown.
-#[derive(Clone, Copy, Debug)]
+#[derive(Clone, Copy)]
 pub struct Shape {
     /// What it is.
     pub kind: Kind,
@@ -41,7 +41,7 @@ pub struct Shape {
 }
 
 /// How bytes of any meaning are to be shown: in a format, and in units of so many bytes.
-#[derive(Clone, Copy, Debug)]
+#[derive(Clone, Copy)]
 pub struct Units {
     /// The format.
     pub format: Format,

@@ -2,7 +2,7 @@
 
 /// An application, or a context of one.
 #[repr(C)]
-#[derive(Clone, Copy, Debug)]
+#[derive(Clone, Copy)]
 pub struct Registration {
     /// APID: the id of the application.
     pub apid: [u8; 4],

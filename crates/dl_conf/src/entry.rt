@@ -7,7 +7,7 @@ use dl_bytes::{Level, StoredLevel};
 use dl_text::{parted_at, read_id};
 
 /// What a line says.
-#[derive(Clone, Copy, Debug, PartialEq, Eq)]
+#[derive(Clone, Copy, PartialEq, Eq)]
 pub enum StoredLine {
     /// Nothing: it is empty.
     Nothing,

@@ -10,7 +10,7 @@ use dl_bytes::{DIRECTORY_LIMIT, Id, Level};
 use dl_text::{number, parted_at, trimmed};
 
 /// A key that the daemon reads.
-#[derive(Clone, Copy, Debug, PartialEq, Eq)]
+#[derive(Clone, Copy, PartialEq, Eq)]
 pub enum Key {
     /// `ECUId`
     Ecu,
@@ -29,7 +29,7 @@ pub enum Key {
 }
 
 /// A key with the value that a line sets it to.
-#[derive(Clone, Copy, Debug)]
+#[derive(Clone, Copy)]
 pub enum Setting<'a> {
     /// The id of the control unit.
     Ecu(Id),

@@ -9,7 +9,7 @@ use dl_headers::{REPLY_HEADER_LEN, write_reply_headers};
 use std::alloc::Global;
 
 /// What the daemon replies to a request.
-#[derive(Debug, Drop)]
+#[derive(Drop)]
 pub struct Reply {
     /// The service id of the request.
     pub service: u32,

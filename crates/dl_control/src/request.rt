@@ -10,7 +10,7 @@ use dl_bytes::{Cursor, Id, Order, PAYLOAD_LIMIT, Payload};
 
 /// What a diagnostic client asks. In `SetLogLevel` and `GetLogInfo` an id of zero bytes stands for all ids. Reserved
 /// bytes that a request has besides are not looked at.
-#[derive(Debug, Drop)]
+#[derive(Drop)]
 pub enum Request {
     /// Service 0x01: sets the log level of contexts.
     SetLogLevel {

@@ -10,7 +10,7 @@ use Rattle.dl_model.specs.Frames.{FrameSource, frames_of}
 use Rattle.dl_model.specs.Journal.{is_request_of}
 use Rattle.dl_model.specs.Traffic.{Admitted, Reply}
 use Rattle.dl_model.specs.ClientStream.{traffic, traffic_of}
-use Rattle.dl_laws.proofs.Lists.{count_by-append}
+use Rattle.dl_model.proofs.Lists.{count_by-append}
 use Rattle.dl_hub.specs.State.{Hub, Client, client_of}
 use Rattle.dl_hub.specs.Follows.{is_reply_to}
 use Rattle.dl_core.specs.State.{Core}

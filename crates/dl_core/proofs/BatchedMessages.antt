@@ -13,7 +13,7 @@ use Rattle.dl_model.specs.ClientStream.{traffic, traffic_of}
 use Rattle.dl_model.specs.Frames.{FrameSource, stored, stored_frames, stored_of, user_frames}
 use Rattle.dl_model.specs.Setting.{Setting}
 use Rattle.dl_model.specs.Traffic.{Traffic, Admitted}
-use Rattle.dl_laws.proofs.Lists.{along_from-append}
+use Rattle.dl_model.proofs.Lists.{along_from-append}
 use Rattle.dl_registry.specs.Kept as registry
 use Rattle.dl_registry.specs.Kept.{Kept}
 use Rattle.dl_registry.proofs.Following.{after_event}

@@ -7,7 +7,7 @@ use Rattle.dl_events.specs.declared.event.Event.{Event}
 use Rattle.dl_model.specs.ClientStream.{traffic}
 use Rattle.dl_model.specs.Journal.{is_connect, is_close, IsRunning, IsWellFormed, MayConnect}
 use Rattle.dl_model.specs.Traffic as traffic
-use Rattle.dl_laws.proofs.Lists.{count_by-append}
+use Rattle.dl_model.proofs.Lists.{count_by-append}
 use Rattle.dl_laws.proofs.ClientCounts.{open_and_gone}
 use Rattle.dl_laws.proofs.Quiet.{came_in_journal}
 use Rattle.dl_registry.specs.Kept.{owed_change}

@@ -5,7 +5,7 @@ use Rattle.std.proofs.lemmas.Bool.{or_from}
 use Rattle.std.proofs.lemmas.List.Folds.{list_any-append}
 use Rattle.dl_events.specs.declared.event.Event.{Event}
 use Rattle.dl_model.specs.Journal.{is_stop, IsRunning}
-use Rattle.dl_laws.proofs.LongerJournals.{goes_on, in_turn_longer}
+use Rattle.dl_model.proofs.LongerJournals.{goes_on, in_turn_longer}
 use Rattle.dl_outside.specs.Told.{FolderTold}
 use Rattle.dl_core.specs.State.{Core}
 use Rattle.dl_core.specs.Follows.{Adds, source_of}

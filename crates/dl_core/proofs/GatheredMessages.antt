@@ -1,11 +1,10 @@
 -- Log messages of a batch, one after the other.
-use Rattle.std.proofs.Common.{◌≡◌, ℕ, ◌+◌, ◌<◌, ◌≤◌, List, [], ◌∷◌, ◌++◌, length, map, take, drop, zero, suc, Option, Some, None, refl, sym, ap, subst, ◌∙◌, append-nil, append_assoc, length-append, arith}
+use Rattle.std.proofs.Common.{◌≡◌, ℕ, ◌+◌, List, [], ◌∷◌, ◌++◌, length, map, take, drop, zero, suc, Option, Some, None, refl, sym, ap, subst, ◌∙◌, append-nil, append_assoc, length-append, arith}
 use Rattle.std.specs.List.{AllByRecursion}
 use Rattle.std.specs.Prelude.{IfSome, option_map, option_to_list, slice_get}
 use Rattle.std.proofs.lemmas.Grind.{flat_map-append}
-use Rattle.std.proofs.lemmas.List.{length-map, map-append}
+use Rattle.std.proofs.lemmas.List.{map-append}
 use Rattle.std.proofs.lemmas.List.Sums.{sum_by-append, sum_by-cons}
-use Rattle.dl_bytes.specs.Limits.{admitted_limit}
 use Rattle.dl_bytes.specs.declared.moment.Moment.{Moment}
 use Rattle.dl_bytes.specs.declared.user.UserMsg.{UserMsg}
 use Rattle.dl_bytes.specs.declared.user.UserMsg.TheVariants as user
@@ -20,7 +19,7 @@ use Rattle.dl_hub.specs.Follows.{Adds}
 use Rattle.dl_trace.specs.declared.writer.TraceWriter.{TraceWriter}
 use Rattle.dl_core.specs.Admission.{Admits, AddsEach, IsLog, message_frames, more_noted, user_event}
 use Rattle.dl_trace.specs.Writer.{trace_in}
-use Rattle.dl_core.proofs.Admitted.{admits-none, admits-one, less_room, same_hub-later}
+use Rattle.dl_core.proofs.Admitted.{admits-none, admits-one, same_hub-later}
 use Rattle.dl_core.proofs.Gathered.{batch-more, each-more}
 
 -- ---- lists
@@ -121,23 +120,6 @@ module _ (ecu : List ℕ) (moment : Moment) (channel : ℕ) (all left : List Use
 
   size : size_of (message_frames ecu (msg ∷ left)) ≡ length frame + size_of (message_frames ecu left)
   size = ap (λ (fs : List (List ℕ)). size_of (fs ++ message_frames ecu left)) (what ecu) ∙ sum_by-cons length frame (message_frames ecu left)
-
-  -- there is room for the next one
-  pub room_for_one : EachHasRoom (length frame) h1
-  room_for_one = less_room (size_of (message_frames ecu (msg ∷ left))) (length frame) h1 (omega (arith, size)) far.room
-
-  -- and so few were admitted that it may be
-  pub few_before : h0.admitted + length all ≤ admitted_limit → h1.admitted < admitted_limit
-  few_before few = omega (arith, few, far.admitted, ap length here, length-append far.done (msg ∷ left))
-
-  pub one_spare : length all ≤ s0 → 1 ≤ s1
-  one_spare enough = omega (arith, enough, far.spare_is, ap length here, length-append far.done (msg ∷ left))
-
-  pub few_gathered : length all ≤ 64 → IfSome w1 (λ (w : TraceWriter). length w.batch < 64)
-  few_gathered few = by w1 far.batch_is where
-    by : (w : Option TraceWriter) → IfSome w (λ (w : TraceWriter). w.batch ≡ map (stored ecu moment) (message_frames ecu far.done)) → IfSome w (λ (w : TraceWriter). length w.batch < 64)
-    by None is = tt {0}
-    by (Some w) is = omega (arith, few, ap length is, length-map (message_frames ecu far.done) (stored ecu moment), far.one_each, ap length here, length-append far.done (msg ∷ left))
 
   -- one message more
   pub gathers_message : Adds (Admitted frame) h1 h2 → ((more : ℕ) → EachHasRoom (length frame + more) h1 → EachHasRoom more h2) → IsSameHub h1 h2

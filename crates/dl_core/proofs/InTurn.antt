@@ -17,7 +17,7 @@ use Rattle.dl_model.specs.Frames.{FrameSource}
 use Rattle.dl_model.specs.Registry.{Registry, apid_numbered, app_of}
 use Rattle.dl_model.specs.Journal.{is_slow, IsFramesNeed, IsInTurn, IsReplyNeed, IsSettled, IsSlowAsTold}
 use Rattle.dl_model.specs.Setting.{Setting}
-use Rattle.dl_laws.proofs.Rotation.{length-concat}
+use Rattle.dl_model.proofs.Rotation.{length-concat}
 use Rattle.dl_registry.specs.Kept.{owed_change}
 use Rattle.dl_registry.proofs.Following.{change_is_owed}
 use Rattle.dl_hub.specs.State.{Client, Waiting, client_of, outbox_of}

@@ -1,5 +1,5 @@
 -- The core after one event more.
-use Rattle.std.proofs.Common.{◌≡◌, ℕ, ◌+◌, List, [], ◌∷◌, ◌++◌, drop, length, Option, None, sym, ap, subst, ◌∙◌, length-append, arith}
+use Rattle.std.proofs.Common.{◌≡◌, ◌≤◌, ℕ, ◌+◌, List, [], ◌∷◌, ◌++◌, drop, length, Option, None, sym, ap, subst, ◌∙◌, append_assoc, length-append, arith}
 use Rattle.std.specs.Prelude.{IfSome}
 use Rattle.std.proofs.lemmas.List.{append-nil, drop-append-le}
 use Rattle.std.proofs.lemmas.Grind.{flat_map-append}
@@ -8,7 +8,7 @@ use Rattle.dl_outside.specs.Told.{FolderTold}
 use Rattle.dl_model.specs.Frames.{FrameSource, stored_of, stored_frames}
 use Rattle.dl_model.specs.Traffic.{Traffic}
 use Rattle.dl_model.specs.ClientStream.{traffic, traffic_of}
-use Rattle.dl_laws.proofs.Lists.{along-one}
+use Rattle.dl_model.proofs.Lists.{along-one}
 use Rattle.dl_registry.specs.Kept as registry
 use Rattle.dl_hub.specs.Follows as hub
 use Rattle.dl_hub.specs.State.{Hub, IsSameHub}
@@ -45,6 +45,13 @@ set_later run old new same is = record {
 abbrev pub AddsTraffic : List Traffic → Hub → Hub → Type 0
 AddsTraffic more old new = (before : List Traffic) (taken : ℕ → List ℕ) → hub.IsAfter before taken old → hub.IsAfter (before ++ more) taken new
 
+-- the frames that a trace is to store, with some more
+pub stored_more : (run : Run) (before after frames : List (List ℕ)) → after ≡ before ++ frames → run.before ≤ length before
+    → run.head ++ drop run.before after ≡ (run.head ++ drop run.before before) ++ frames
+stored_more run before after frames all begun =
+    ap (λ (fs : List (List ℕ)). run.head ++ drop run.before fs) all ∙ ap (λ (fs : List (List ℕ)). run.head ++ fs) (drop-append-le run.before before frames begun)
+    ∙ sym (append_assoc run.head (drop run.before before) frames)
+
 -- The core after some events more: what they are for the registry, for the clients, and for the trace.
 pub events_follow : (run : Run) (events more : List Event) (taken : ℕ → List ℕ) (entries : List Traffic) (frames : List (List ℕ)) (old new : Core) (told told_now : FolderTold)
     → IsSameCore old new
@@ -58,7 +65,7 @@ pub events_follow : (run : Run) (events more : List Event) (taken : ℕ → List
 events_follow run events more taken entries frames old new told told_now same registers talk talks all traced is =
     let left = traced is.trace in
     let stored : stored_by run (events ++ more) ≡ stored_by run events ++ frames =
-    ap (λ (fs : List (List ℕ)). drop run.before fs) all ∙ drop-append-le run.before (stored_frames (source_of run) events) frames is.begun in
+    stored_more run (stored_frames (source_of run) events) (stored_frames (source_of run) (events ++ more)) frames all is.begun in
     let longer : length (stored_frames (source_of run) (events ++ more)) ≡ length (stored_frames (source_of run) events) + length frames =
     ap length all ∙ length-append (stored_frames (source_of run) events) frames in (
       record {

@@ -9,7 +9,7 @@ use Rattle.dl_model.specs.Journal.{need_after}
 use Rattle.dl_model.specs.Reply.{Need}
 use Rattle.dl_model.specs.Reply as need
 use Rattle.dl_model.specs.Setting.{Setting}
-use Rattle.dl_laws.proofs.Lists.{along_from-append}
+use Rattle.dl_model.proofs.Lists.{along_from-append}
 use Rattle.dl_outside.specs.Folder.{Files, HasCause, Puts, Removes}
 use Rattle.dl_outside.specs.Told.{FolderTold}
 use Rattle.dl_outside.specs.declared.folder.FolderFault.{FolderFault}

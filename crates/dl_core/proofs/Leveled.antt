@@ -24,7 +24,6 @@ use Rattle.dl_model.proofs.Order.{placed_of_found}
 use Rattle.dl_model.proofs.Placed.{apart-right, free_tells, numbered-among, places-further, places-same}
 use Rattle.dl_registry.proofs.Finding.{valued, valued-absent, valued-set_value, numbers_of}
 use Rattle.dl_registry.proofs.Placing.{all_of, not_both, placed, placed-free}
-use Rattle.dl_registry.specs.Change.{placed_again}
 use Rattle.dl_registry.proofs.Fitting.{level_of, level_at-found, level_at-places, level_at-same, level_at-new_app, level_of-further, level_of-told, level_of-new}
 use Rattle.dl_registry.proofs.Following.{change_is_level, change_follows}
 use Rattle.dl_events.specs.declared.event.Event.TheVariants as event
@@ -351,7 +350,7 @@ module _ (s : ℕ → Slot) (r : Registry) (is : IsInOrder r) where
       (λ apid app context may there.
       let free = free_tells claim.place app.contexts may.free in
       let all = placed_of_found r apid app is may.found in
-      place_changes r apid app (with_context app claim.ctid (placed_again claim.place context)) claim.place (Some (effective r.level context)) is may.found refl free.below
+      place_changes r apid app (with_context app claim.ctid (record context { further = context.further ++ claim.place ∷ [] })) claim.place (Some (effective r.level context)) is may.found refl free.below
       (level_of-further r.level app claim.ctid context claim.place all
       (numbered-among 64 claim.place (places app.contexts) _ (places-further (bytes_eq claim.ctid) app.contexts context claim.place there) all free.unused free.below) there))
       (λ apid app may there.

@@ -6,6 +6,7 @@ pub mod Gathered
 pub mod GatheredMessages
 pub mod Noted
 pub mod Beginnings
+pub mod Untold
 pub mod Leveled
 pub mod Claimed
 pub mod Owing

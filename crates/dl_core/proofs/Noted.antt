@@ -18,7 +18,7 @@ use Rattle.dl_model.specs.Setting.{Setting}
 use Rattle.dl_model.specs.Frames.{stored, stored_of, stored_frames}
 use Rattle.dl_model.specs.Traffic.{Traffic, Admitted, Connected, Closed}
 use Rattle.dl_model.specs.ClientStream.{traffic, traffic_of}
-use Rattle.dl_laws.proofs.Lists.{along_from-append}
+use Rattle.dl_model.proofs.Lists.{along_from-append}
 use Rattle.dl_registry.specs.Kept as registry
 use Rattle.dl_registry.specs.Kept.{Kept}
 use Rattle.dl_registry.proofs.Following.{after_event}

@@ -13,7 +13,7 @@ use Rattle.dl_events.specs.declared.event.Event.{Event}
 use Rattle.dl_model.specs.Traffic.{Traffic, Connected, Admitted, Reply, Closed, is_coming, comes_or_goes, comer_of, clients, is_open}
 use Rattle.dl_model.specs.ClientStream.{traffic}
 use Rattle.dl_model.specs.Journal.{IsOpen}
-use Rattle.dl_laws.proofs.ClientStreams.{is_open-one}
+use Rattle.dl_model.proofs.ClientStreams.{is_open-one}
 use Rattle.dl_laws.proofs.ClientStays.{is_open_in, opened_is}
 use Rattle.dl_laws.proofs.JournalStreams.{open_same}
 use Rattle.dl_hub.specs.State.{Client, Hub, client_of, outbox_of}

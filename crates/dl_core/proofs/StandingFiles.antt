@@ -3,7 +3,7 @@ use Rattle.std.proofs.Common.{◌≡◌, ℕ, ◌+◌, ◌-◌, ◌<◌, ◌≤�
 use Rattle.std.specs.Prelude.{IfSome, IsSomeAnd}
 use Rattle.std.specs.FinMap as map
 use Rattle.std.specs.List.{concat, AllByRecursion}
-use Rattle.std.proofs.lemmas.List.{append-nil, drop-append-le}
+use Rattle.std.proofs.lemmas.List.{append-nil}
 use Rattle.dl_bytes.specs.declared.outcome.TraceEnd.{TraceEnd}
 use Rattle.dl_bytes.specs.declared.outcome.TraceEnd.TheVariants.{Failed, Spent, NoMemory}
 use Rattle.dl_events.specs.declared.event.Event.{Event}
@@ -11,39 +11,19 @@ use Rattle.dl_model.specs.Frames.{stored_of, stored_frames}
 use Rattle.dl_model.specs.TraceFiles.{greatest, segments, trace_files, trace_name}
 use Rattle.dl_outside.specs.Folder.{Files}
 use Rattle.dl_outside.specs.Told.{FolderTold}
-use Rattle.dl_trace.specs.State.{IsAfter, Trace}
+use Rattle.dl_trace.specs.State.{IsAfter, Trace, missing}
 use Rattle.dl_trace.specs.Stands.{HasFiles}
 use Rattle.dl_trace.specs.Pieces.{frames_in, pieces, pieces_from, pieces_of, room_of}
 use Rattle.dl_trace.specs.Storing.{IsStored, Leaves, Stops}
+use Rattle.dl_trace.proofs.Joined.{frames_in-append, frames_in_cut}
 use Rattle.dl_core.specs.Follows.{Run, source_of, stored_by}
 use Rattle.dl_core.specs.State.{Core}
 use Rattle.dl_trace.specs.Written.{StoresEach, StoresIn, StoresTill}
-use Rattle.dl_core.proofs.Journals.{stored-one}
+use Rattle.dl_core.proofs.Journals.{stored-one, stored_more}
 use Rattle.dl_core.proofs.Requested.{KeepsTraces}
 use Rattle.dl_core.specs.Standing.{IsCutAt, IsKept, KeepsTrace, Stands, files_with, number_with}
 
 -- ---- pieces are the frames
-
-frames_in_from : (size room : ℕ) (piece frames : List (List ℕ)) → frames_in (pieces_from size room piece frames) ≡ piece ++ frames
-frames_in_from size room piece [] = refl
-frames_in_from size room piece (frame ∷ frames) =
-    by_test (leb (length frame) room) (frames_in_from size (room - length frame) (piece ++ frame ∷ []) frames) (frames_in_from size (size - length frame) (frame ∷ []) frames) where
-      by_test : (b : Bool) → frames_in (pieces_from size (room - length frame) (piece ++ frame ∷ []) frames) ≡ (piece ++ frame ∷ []) ++ frames
-          → frames_in (pieces_from size (size - length frame) (frame ∷ []) frames) ≡ frame ∷ frames
-          → frames_in (cond b (pieces_from size (room - length frame) (piece ++ frame ∷ []) frames) (piece ∷ pieces_from size (size - length frame) (frame ∷ []) frames)) ≡ piece ++ frame ∷ frames
-      by_test true goes_on begins = goes_on ∙ append_assoc piece (frame ∷ []) frames
-      by_test false goes_on begins = ap (λ (fs : List (List ℕ)). piece ++ fs) begins
-
-frames_in_cut : (size room : ℕ) (frames : List (List ℕ)) → frames_in (pieces size room frames) ≡ frames
-frames_in_cut size room [] = refl
-frames_in_cut size room (frame ∷ frames) = by_test (leb (length frame) room) where
-  by_test : (b : Bool) → frames_in (cond b (pieces_from size (room - length frame) (frame ∷ []) frames) (pieces_from size (size - length frame) (frame ∷ []) frames)) ≡ frame ∷ frames
-  by_test true = frames_in_from size (room - length frame) (frame ∷ []) frames
-  by_test false = frames_in_from size (size - length frame) (frame ∷ []) frames
-
-frames_in-append : (xs ys : List (List (List ℕ))) → frames_in (xs ++ ys) ≡ frames_in xs ++ frames_in ys
-frames_in-append [] ys = refl
-frames_in-append (x ∷ xs) ys = ap (λ (fs : List (List ℕ)). x ++ fs) (frames_in-append xs ys) ∙ sym (append_assoc x (frames_in xs) (frames_in ys))
 
 -- where a call's frames are cut, those of the pieces before, of the piece, and of the ones behind it are all of them
 cut_at : (trace : Trace) (frames : List (List ℕ)) (stored : List (List (List ℕ))) (piece : List (List ℕ)) (later : List (List (List ℕ))) → pieces_of trace frames ≡ stored ++ piece ∷ later
@@ -119,7 +99,7 @@ module _ (run : Run) (first : Option Files) where
   if_told (Some folder) P Q goes held = goes folder held
 
   -- it had ended before
-  ended_on : (frames more : List (List ℕ)) (t : Trace) (told : Option Files) (end : TraceEnd) → t.state.end ≡ Some end → IsKept run first frames t told → IsKept run first (frames ++ more) t told
+  ended_on : (frames more : List (List ℕ)) (t : Trace) (told : Option Files) (end : TraceEnd) → t.state.end ≡ Some end → IsKept run first frames t told → IsKept run first (frames ++ more) (missing (length more) t) told
   ended_on frames more t told end ended is = record {
     directory = is.directory;
     file_size = is.file_size;
@@ -127,7 +107,7 @@ module _ (run : Run) (first : Option Files) where
     stored = is.stored;
     later = is.later ++ more;
     all = ap (λ (fs : List (List ℕ)). fs ++ more) is.all ∙ append_assoc is.stored is.later more;
-    files = is.files;
+    files = record { files = is.files.files; last = is.files.last; begun = is.files.begun };
     whole = λ none. absurd (cc (ended, none));
     stands = λ stood. if_told told (Stands t.state.end run.setting run.stood is.stored is.later) (Stands t.state.end run.setting run.stood is.stored (is.later ++ more)) (longer t.state.end ended) (is.stands stood);
   } where
@@ -219,7 +199,7 @@ module _ (run : Run) (first : Option Files) where
       → StoresTill was now more old new told told_now → IsKept run first frames old told.files → IsKept run first (frames ++ more) new told_now.files
   by_ends frames more old new told told_now (Some end) now was_so now_so left is =
       subst (λ (t : Trace). IsKept run first (frames ++ more) t told_now.files) (sym left.0)
-      (subst (λ (f : FolderTold). IsKept run first (frames ++ more) old f.files) (sym left.1) (ended_on frames more old told.files end was_so is))
+      (subst (λ (f : FolderTold). IsKept run first (frames ++ more) (missing (length more) old) f.files) (sym left.1) (ended_on frames more old told.files end was_so is))
   by_ends frames more old new told told_now None None was_so now_so left is = stored_on frames more old new told.files told_now.files was_so is left.0
   by_ends frames more old new told told_now None (Some end) was_so now_so left is = stopped_on frames more old new told.files told_now.files end was_so is left.0
 
@@ -301,13 +281,13 @@ module _ (run : Run) (first : Option Files) where
 pub stored_by-one : (run : Run) (events : List Event) (e : Event) (frames : List (List ℕ)) → run.before ≤ length (stored_frames (source_of run) events) → stored_of (source_of run) e ≡ frames
     → stored_by run (events ++ e ∷ []) ≡ stored_by run events ++ frames
 stored_by-one run events e frames begun is =
-    ap (drop run.before) (stored-one (source_of run) events e ∙ ap (λ (fs : List (List ℕ)). stored_frames (source_of run) events ++ fs) is)
-    ∙ drop-append-le run.before (stored_frames (source_of run) events) frames begun
+    stored_more run (stored_frames (source_of run) events) (stored_frames (source_of run) (events ++ e ∷ [])) frames
+    (stored-one (source_of run) events e ∙ ap (λ (fs : List (List ℕ)). stored_frames (source_of run) events ++ fs) is) begun
 
 -- an event that stores none
 stored_by-same : (run : Run) (events : List Event) (e : Event) → stored_of (source_of run) e ≡ [] → stored_by run (events ++ e ∷ []) ≡ stored_by run events
 stored_by-same run events e none =
-    ap (drop run.before) (stored-one (source_of run) events e ∙ ap (λ (fs : List (List ℕ)). stored_frames (source_of run) events ++ fs) none ∙ append-nil (stored_frames (source_of run) events))
+    ap (λ (fs : List (List ℕ)). run.head ++ drop run.before fs) (stored-one (source_of run) events e ∙ ap (λ (fs : List (List ℕ)). stored_frames (source_of run) events ++ fs) none ∙ append-nil (stored_frames (source_of run) events))
 
 -- a trace that is kept as it was is kept by another core that has it
 pub keeps_by : (run : Run) (first : Option Files) (events : List Event) (one other : Core) (told : FolderTold) → other.trace ≡ one.trace → KeepsTrace run first events one told → KeepsTrace run first events other told

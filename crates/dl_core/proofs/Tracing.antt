@@ -1,5 +1,5 @@
 -- A trace after a call that stored frames, or that stopped at one of them.
-use Rattle.std.proofs.Common.{◌≡◌, ℕ, ◌+◌, ◌-◌, Bool, true, false, cond, leb, List, [], ◌∷◌, ◌++◌, length, map, Option, Some, None, refl, sym, ap, subst, ◌∙◌, append_assoc}
+use Rattle.std.proofs.Common.{◌≡◌, ℕ, ◌+◌, true, false, List, [], ◌∷◌, ◌++◌, length, map, Option, Some, None, refl, sym, ap, subst, ◌∙◌, append_assoc, length-append, arith}
 use Rattle.std.specs.Prelude.{IfSome}
 use Rattle.std.proofs.lemmas.List.{append-nil}
 use Rattle.dl_bytes.specs.declared.outcome.TraceEnd.{TraceEnd}
@@ -7,35 +7,14 @@ use Rattle.dl_bytes.specs.declared.outcome.TraceEnd.TheVariants.{Spent}
 use Rattle.dl_outside.specs.Folder.{Files}
 use Rattle.dl_outside.specs.Told.{FolderTold}
 use Rattle.dl_model.specs.TraceFiles.{trace_files, is_spent}
-use Rattle.dl_trace.specs.State.{Trace, IsAfter, listed}
+use Rattle.dl_trace.specs.State.{Trace, IsAfter, counted, listed, missing}
 use Rattle.dl_trace.specs.Stands.{HasFiles}
-use Rattle.dl_trace.specs.Pieces.{pieces, pieces_from, frames_in, room_of}
+use Rattle.dl_trace.specs.Pieces.{frames_in, room_of}
 use Rattle.dl_trace.specs.Storing.{IsStored, Stops}
 use Rattle.dl_trace.proofs.Spent.{spent_later}
-use Rattle.dl_trace.proofs.Joined.{frames_in-append}
+use Rattle.dl_trace.proofs.Joined.{frames_in-append, frames_in_cut}
 use Rattle.dl_core.specs.Follows.{Run, HoldsFiles, IsTraceAfter, files_with}
 use Rattle.dl_trace.specs.Written.{StoresTill, Stores, StoresIn, StoresEach}
-
--- ---- pieces are the frames
-
-frames_in_from : (size room : ℕ) (piece frames : List (List ℕ)) → frames_in (pieces_from size room piece frames) ≡ piece ++ frames
-frames_in_from size room piece [] = refl
-frames_in_from size room piece (frame ∷ frames) =
-    by_test (leb (length frame) room) (frames_in_from size (room - length frame) (piece ++ frame ∷ []) frames) (frames_in_from size (size - length frame) (frame ∷ []) frames) where
-      by_test : (b : Bool) → frames_in (pieces_from size (room - length frame) (piece ++ frame ∷ []) frames) ≡ (piece ++ frame ∷ []) ++ frames
-          → frames_in (pieces_from size (size - length frame) (frame ∷ []) frames) ≡ frame ∷ frames
-          → frames_in (cond b (pieces_from size (room - length frame) (piece ++ frame ∷ []) frames) (piece ∷ pieces_from size (size - length frame) (frame ∷ []) frames)) ≡ piece ++ frame ∷ frames
-      by_test true goes_on begins = goes_on ∙ append_assoc piece (frame ∷ []) frames
-      by_test false goes_on begins = ap (λ (fs : List (List ℕ)). piece ++ fs) begins
-
-frames_in_cut : (size room : ℕ) (frames : List (List ℕ)) → frames_in (pieces size room frames) ≡ frames
-frames_in_cut size room [] = refl
-frames_in_cut size room (frame ∷ frames) = by_test (leb (length frame) room) where
-  by_test : (b : Bool) → frames_in (cond b (pieces_from size (room - length frame) (frame ∷ []) frames) (pieces_from size (size - length frame) (frame ∷ []) frames)) ≡ frame ∷ frames
-  by_test true = frames_in_from size (room - length frame) (frame ∷ []) frames
-  by_test false = frames_in_from size (size - length frame) (frame ∷ []) frames
-
--- ---- more frames need no fewer files
 
 -- ---- a trace after more frames
 
@@ -52,8 +31,16 @@ all_stored run frames t is goes_on =
     let same : is.stored ≡ frames = sym (append-nil is.stored) ∙ ap (λ (fs : List (List ℕ)). is.stored ++ fs) (sym (is.whole goes_on)) ∙ sym is.all in
     subst (λ (fs : List (List ℕ)). IsAfter run.stood fs t) same is.files
 
+-- and so none is missing
+none_missing : (run : Run) (frames : List (List ℕ)) (t : Trace) → IsTraceAfter run frames t → t.state.end ≡ None → t.unstored ≡ 0
+none_missing run frames t is goes_on = is.unstored ∙ ap (λ (fs : List (List ℕ)). counted (length fs)) (is.whole goes_on)
+
+-- counts go on
+counted_with : (n a b all : ℕ) → n ≡ counted a → all ≡ a + b → counted (n + b) ≡ counted all
+counted_with n a b all is sum = omega (arith, is, sum)
+
 -- it had ended before
-ended_follows : (run : Run) (frames more : List (List ℕ)) (t : Trace) (end : TraceEnd) → t.state.end ≡ Some end → IsTraceAfter run frames t → IsTraceAfter run (frames ++ more) t
+ended_follows : (run : Run) (frames more : List (List ℕ)) (t : Trace) (end : TraceEnd) → t.state.end ≡ Some end → IsTraceAfter run frames t → IsTraceAfter run (frames ++ more) (missing (length more) t)
 ended_follows run frames more t end ended is = record {
   directory = is.directory;
   file_size = is.file_size;
@@ -61,7 +48,8 @@ ended_follows run frames more t end ended is = record {
   stored = is.stored;
   later = is.later ++ more;
   all = ap (λ (fs : List (List ℕ)). fs ++ more) is.all ∙ append_assoc is.stored is.later more;
-  files = is.files;
+  files = record { files = is.files.files; last = is.files.last; begun = is.files.begun };
+  unstored = counted_with t.unstored (length is.later) (length more) (length (is.later ++ more)) is.unstored (length-append is.later more);
   whole = λ none. absurd (cc (ended, none));
   unspent = λ none some. absurd (cc (ended, none));
   spent = λ at. spent_later run.setting.file_size run.stood frames more (is.spent at);
@@ -80,6 +68,7 @@ stored_follows run frames more old new told told_now goes_on is does =
       later = [];
       all = sym (append-nil (frames ++ more));
       files = does.state run.stood frames before;
+      unstored = does.unstored ∙ none_missing run frames old is goes_on;
       whole = λ none. refl;
       unspent = λ none some. of_run (λ d n m. is_spent n run.stood (frames ++ more) ≡ false) run frames old is (does.unspent run.stood frames before);
       spent = λ at. absurd (cc (does.goes_on, at));
@@ -117,6 +106,7 @@ stopped_follows run frames more old new told told_now end goes_on is does =
       later = rest;
       all = whole;
       files = does.state run.stood frames before;
+      unstored = does.unstored ∙ counted_with old.unstored 0 (length rest) (length rest) (none_missing run frames old is goes_on) (omega arith);
       whole = λ none. absurd (cc (does.ended, none));
       unspent = λ none some. absurd (cc (does.ended, none));
       spent = λ at.
@@ -140,7 +130,7 @@ stores_follow run frames more old new told told_now call is = by_ends old.state.
       × ((old.state.end ≡ None → HoldsFiles run frames told.files) → new.state.end ≡ None → HoldsFiles run (frames ++ more) told_now.files)
   by_ends (Some end) after was now left = (
     subst (λ (t : Trace). IsTraceAfter run (frames ++ more) t) (sym left.0) (ended_follows run frames more old end was is),
-    λ holds none. absurd (cc (was, none, left.0)),
+    λ holds none. absurd (cc (was, none, ap (λ (t : Trace). t.state.end) left.0)),
   )
   by_ends None None was now left = (
     stored_follows run frames more old new told.files told_now.files was is left.0,
@@ -185,11 +175,12 @@ each_follows run frames (x ∷ more) old new told told_now call =
 
 -- what a trace tells, with the directory and the sizes of its run
 pub trace_tells : (run : Run) (frames : List (List ℕ)) (t : Trace) → IsTraceAfter run frames t
-    → (stored later : List (List ℕ)) × (frames ≡ stored ++ later) × (t.state.end ≡ None → later ≡ []) × (t.state.files ≡ map (listed run.setting.directory) (files_with run stored))
+    → (stored later : List (List ℕ)) × (frames ≡ stored ++ later) × (t.state.end ≡ None → later ≡ []) × (t.unstored ≡ counted (length later)) × (t.state.files ≡ map (listed run.setting.directory) (files_with run stored))
 trace_tells run frames t is = (
   is.stored,
   is.later,
   is.all,
   is.whole,
+  is.unstored,
   of_run (λ d n m. t.state.files ≡ map (listed d) (trace_files n m run.stood is.stored)) run frames t is is.files.files,
 )

@@ -1,10 +1,10 @@
 //! The core as a whole: its parts, and what is read of it.
 
-ghost use Rattle.std.specs.Prelude.{◌≡◌, ◌≤◌, [], IfOk, IfSome, IsSome, Some, option_map};
+ghost use Rattle.std.specs.Prelude.{◌≡◌, ◌≤◌, IfOk, IfSome, option_map};
+ghost use Rattle.std.specs.Option.{option_map_or};
 ghost use Rattle.dl_bytes.specs.Limits.{last_version};
-ghost use Rattle.dl_bytes.specs.declared.conf.Conf.{Conf};
 ghost use Rattle.dl_trace.specs.Made.{IsMade};
-ghost use Rattle.dl_core.specs.Follows.{Begins, BeginsAnew};
+ghost use Rattle.dl_core.specs.Follows.{Begins};
 ghost use Rattle.dl_core.specs.Settings.{begun, begun_for, setting_for, setting_of};
 ghost use Rattle.dl_trace.specs.Writer.{trace_in};
 
@@ -126,18 +126,17 @@ impl Core {
         }
     }
 
-    /// Has this trace in the place of the one that is kept, which has ended: what is admitted from now on is stored by it. It takes no memory.
-    pub fn begin_trace(&mut self, trace: Trace)
-        requires kept { IsSome self.old.trace }
-        ensures value { self.new ≡ record self.old { trace = Some trace } }
-        ensures anew { (conf : Conf) → IsMade conf trace → BeginsAnew conf trace self.old self.new }
+    /// How many frames that were to be stored in the trace are not, since it has ended: at most 2^64 - 1. None where no trace was handed in.
+    pub fn unstored(&self) -> u64
+        ensures { result ≡ option_map_or (λ trace. trace.unstored) self.now.trace 0 }
     {
-        if let Some(writer) = &mut self.trace {
-            writer.trace = trace;
+        match &self.trace {
+            Some(writer) => writer.trace.unstored(),
+            None => 0,
         }
     }
 
-    /// The same by value.
+    /// The trace files that stand, by value.
     pub fn into_trace_state(self) -> Option<TraceState>
         ensures { result ≡ option_map (λ trace. trace.state) self.trace }
     {

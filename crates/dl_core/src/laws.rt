@@ -7,19 +7,24 @@ ghost use Rattle.dl_outside.specs.Told.{FolderTold};
 ghost use Rattle.dl_registry.specs.Kept.{owed_change};
 ghost use Rattle.dl_hub.specs.Follows.{took_more};
 ghost use Rattle.dl_hub.specs.State.{Client, bytes_before, changed, client_of, outbox_of, without};
-ghost use Rattle.dl_trace.specs.Stands.{HasFiles};
-ghost use Rattle.dl_trace.specs.State.{Trace, listed};
+ghost use Rattle.dl_trace.specs.State.{Trace, counted, listed};
+ghost use Rattle.dl_bytes.specs.declared.conf.Conf.{Conf};
 ghost use Rattle.dl_bytes.specs.declared.item.Item.{Item};
 ghost use Rattle.dl_bytes.specs.declared.moment.Moment.{Moment};
 ghost use Rattle.dl_bytes.specs.declared.user.UserMsg.{UserMsg};
 ghost use Rattle.dl_core.specs.Admission.{lost_frames};
-ghost use Rattle.dl_core.specs.Follows.{Run, HoldsTrace, IsAfter, files_with, stored_by};
+ghost use Rattle.dl_core.specs.Follows.{Run, GoesOnWith, HoldsFiles, HoldsTrace, IsAfter, files_with, stored_by};
 ghost use Rattle.dl_core.specs.Noting.{AddsCall, AddsCalls, AddsMessage, AddsMessages};
 ghost use Rattle.dl_core.specs.State.{Core};
 
-/// While no event came, the folder holds the trace files that stood before.
+/// While no event came, the folder holds the trace files that stood before, with the frames with which the trace begins.
 pub fn the_beginning_holds_what_stood()
-    ensures { (run : Run) (core : Core) (folder : FolderTold) → IsSomeAnd folder.files (λ files. HasFiles run.setting.directory files run.stood) → HoldsTrace run [] core folder }
+    ensures { (run : Run) (core : Core) (folder : FolderTold) → HoldsFiles run run.head folder.files → HoldsTrace run [] core folder }
+{}
+
+/// Where a trace that has begun has the place of one that was kept, the core stands for the same events.
+pub fn a_new_trace_goes_on()
+    ensures { (conf : Conf) (head : List (List ℕ)) (kept : Trace) (core : Core) → GoesOnWith conf head kept core }
 {}
 
 /// No Level event waits exactly where the journal owes none.
@@ -58,11 +63,11 @@ pub fn how_many_records()
     ensures { (ecu apid : List ℕ) (count : ℕ) → length (lost_frames ecu apid count) ≡ count / 4294967295 + min 1 (count % 4294967295) }
 {}
 
-/// What a trace tells: the trace files, with their names and sizes, of the frames that the events store. Once it has ended, of some first
-/// ones of them.
+/// What a trace tells: the trace files, with their names and sizes, of the frames that it was to store. Once it has ended, of some first
+/// ones of them, and how many the others are.
 pub fn what_a_trace_tells()
     ensures { (run : Run) (events : List Event) (taken : ℕ → List ℕ) (core : Core) (kept : Trace) → IsAfter run events taken core → core.trace ≡ Some kept
-        → (stored later : List (List ℕ)) × (stored_by run events ≡ stored ++ later) × (kept.state.end ≡ None → later ≡ [])
+        → (stored later : List (List ℕ)) × (stored_by run events ≡ stored ++ later) × (kept.state.end ≡ None → later ≡ []) × (kept.unstored ≡ counted (length later))
         × (kept.state.files ≡ map (listed run.setting.directory) (files_with run stored)) }
 {}
 

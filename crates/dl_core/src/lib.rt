@@ -10,6 +10,7 @@
 
 mod admission;
 mod admitting;
+mod anew;
 mod claims;
 pub mod client_turns;
 mod clients;

@@ -1,6 +1,7 @@
 -- A trace that is begun anew, and nets that are asked again: nothing else of a daemon changes.
-use Rattle.std.proofs.Common.{◌≡◌, ◌⊎◌, inl, inr, Bool, sym, subst}
+use Rattle.std.proofs.Common.{◌≡◌, ◌⊎◌, inl, inr, ℕ, Option, sym, subst}
 use Rattle.dl_bytes.specs.declared.conf.Conf.{Conf}
+use Rattle.dl_bytes.specs.declared.moment.Moment.{Moment}
 use Rattle.dl_core.specs.State.{Core}
 use Rattle.dl_outside.specs.Told.{FolderTold, LinkTold}
 use Rattle.dl_rounds.specs.Seats.{Seated}
@@ -52,9 +53,9 @@ server_with told s trace is = record {
   shut = is.shut;
 }
 
-pub server_renewed : {L : Type 0} (told : L → LinkTold) (conf : Conf) (begun : Bool) (old new : Server Told L) (folder folder_now : FolderTold) → new ≡ record old { core = new.core }
-    → IsStill begun old.core new.core folder folder_now ⊎ IsAnew conf begun old.core new.core folder folder_now → IsServer told old → IsServer told new
-server_renewed told conf begun old new folder folder_now rest (inl still) is =
+pub server_renewed : {L : Type 0} (told : L → LinkTold) (conf : Conf) (moment : Moment) (begun : Option ℕ) (old new : Server Told L) (folder folder_now : FolderTold) → new ≡ record old { core = new.core }
+    → IsStill begun old.core new.core folder folder_now ⊎ IsAnew conf moment begun old.core new.core folder folder_now → IsServer told old → IsServer told new
+server_renewed told conf moment begun old new folder folder_now rest (inl still) is =
     subst (IsServer told) (sym rest) (subst (λ (c : Core). IsServer told (record old { core = c })) (sym still.same) (server_as told old is))
-server_renewed told conf begun old new folder folder_now rest (inr anew) is =
+server_renewed told conf moment begun old new folder folder_now rest (inr anew) is =
     subst (IsServer told) (sym rest) (subst (λ (c : Core). IsServer told (record old { core = c })) (sym anew.is) (server_with told old anew.trace is))

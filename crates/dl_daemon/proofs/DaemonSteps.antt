@@ -1,26 +1,21 @@
 -- A daemon that was opened, ran and closed, as steps; and what its links of programs show in the end.
-use Rattle.std.proofs.Common.{◌≡◌, ◌⊎◌, ℕ, zero, suc, Bool, true, false, inl, inr, List, [], length, map, Option, Some, None, Result, Ok, Err, refl, ap, ◌∙◌, arith}
-use Rattle.std.specs.Prelude.{IfOk}
+use Rattle.std.proofs.Common.{◌≡◌, ◌⊎◌, ℕ, zero, suc, true, inl, inr, List, [], length, map, Option, Some, None, refl, ap, ◌∙◌, arith, false}
 use Rattle.dl_bytes.specs.declared.conf.Conf.{Conf}
 use Rattle.dl_bytes.specs.declared.moment.Moment.{Moment}
-use Rattle.dl_core.specs.Follows.{BeginsAnew}
+use Rattle.dl_core.specs.Follows.{unstored_records}
 use Rattle.dl_core.specs.State.{Core}
 use Rattle.dl_events.specs.Told.{Told as JournalTold}
 use Rattle.dl_model.specs.TraceFiles.{StoredFile}
-use Rattle.dl_outside.specs.Folder.{Files}
 use Rattle.dl_outside.specs.Links.{Links}
 use Rattle.dl_outside.specs.Told.{FolderTold, LinkTold, NetTold}
 use Rattle.dl_server.specs.State as server
 use Rattle.dl_server.specs.State.{seen}
 use Rattle.dl_socket.specs.Channels.{Channels}
 use Rattle.dl_startup.specs.Setup.{IsBegun}
-use Rattle.dl_trace.specs.Made.{IsMade}
-use Rattle.dl_trace.specs.State.{IsAfter, Trace}
-use Rattle.dl_trace.specs.declared.trace.TraceFault.{TraceFault}
+use Rattle.dl_trace.specs.Made.{HasBegun}
+use Rattle.dl_trace.specs.State.{Trace}
 use Rattle.dl_turns.proofs.LaterStages.{WhatLinksTake}
-use Rattle.dl_machine.specs.Steps.{Goes, IsToldBy, Renewed as RenewedKind}
-use Rattle.dl_machine.proofs.Composed.{goes_both, goes_one}
-use Rattle.dl_machine.proofs.ServerSteps.{Leading, closing_goes, lead_both, lead_same, round_leads, state_in, state_of}
+use Rattle.dl_serve.proofs.ServerSteps.{Goes_on, Leading, both, closing_goes, lead_both, lead_same, renew_leads, round_leads, state_in, state_of}
 use Rattle.dl_serve.specs.declared.beginning.Begun.{Begun}
 use Rattle.dl_serve.specs.declared.closed.Closed.{Closed}
 use Rattle.dl_serve.specs.Admitted.{AllAdmitted, TellGiven}
@@ -35,30 +30,24 @@ use Rattle.dl_serve.proofs.ServingSteps.{first_ready, seen_tells}
 use Rattle.dl_serve.proofs.ShownEnds.{left_shown}
 use Rattle.dl_serve.proofs.WentServers.{left_went}
 use Rattle.dl_daemon.specs.declared.limits.Limits.{Limits}
-use Rattle.dl_daemon.specs.declared.renewing.Tries.{Tries}
 use Rattle.dl_daemon.specs.declared.rounds.Stop.{Stop}
 use Rattle.dl_daemon.specs.Limits.{limits}
 use Rattle.dl_daemon.specs.Open.{setting}
 use Rattle.dl_daemon.specs.Outside.{Outside}
 use Rattle.dl_daemon.specs.Program.{HasOpened}
-use Rattle.dl_daemon.specs.Renewing.{Renewed, RenewsIf, Takes, untried}
+use Rattle.dl_daemon.specs.Renewing.{Renewed, untried}
+use Rattle.dl_daemon.proofs.Renewals.{IsAnew, IsStill, renewed_so}
 use Rattle.dl_daemon.specs.Rounds.{AreRounds, IsRenewedRound, asked_again, noted, with_trace}
 
 -- the trace goes on as it was, or was begun anew
 abbrev pub BeginsIn : Core → Core → Type 0
 BeginsIn old new =
-    (new ≡ old)
-    ⊎ ((conf : Conf) × (trace : Trace) × (new ≡ record old { trace = Some trace }) × BeginsAnew conf trace old new × IsMade conf trace × (stood : List StoredFile) × IsAfter stood [] trace)
+    (new ≡ old) ⊎ ((conf : Conf) × (trace : Trace) × (new ≡ record old { trace = Some trace }) × (stood : List StoredFile) × (head : List (List ℕ)) × HasBegun conf stood head trace)
 
-takes_begin : (conf : Conf) (files : Option Files) (made : Result (Option Trace) TraceFault) (begun : Bool) (old new : Core) → IfOk made (IsBegun conf files) → Takes conf made begun old new → BeginsIn old new
-takes_begin conf files (Ok (Some trace)) begun old new over takes = inr (conf, trace, takes.1, takes.2, over.1, over.2.0, over.2.1)
-takes_begin conf files (Ok None) begun old new over takes = inl takes.1
-takes_begin conf files (Err fault) begun old new over takes = inl takes.1
-
-renews_begin : (due : Bool) (conf : Conf) (moment : Moment) (begun : Bool) (tries tries_now : Tries) (old new : Core) (folder folder_now : FolderTold)
-    → RenewsIf due conf moment begun tries tries_now old new folder folder_now → BeginsIn old new
-renews_begin true conf moment begun tries tries_now old new folder folder_now renews = takes_begin conf folder.files renews.0.made begun old new renews.0.over renews.0.takes
-renews_begin false conf moment begun tries tries_now old new folder folder_now renews = inl renews.2
+pub begins_so : (conf : Conf) (moment : Moment) (begun : Option ℕ) (old new : Core) (folder folder_now : FolderTold) → IsStill begun old new folder folder_now ⊎ IsAnew conf moment begun old new folder folder_now
+    → BeginsIn old new
+begins_so conf moment begun old new folder folder_now (inl still) = inl still.same
+begins_so conf moment begun old new folder folder_now (inr anew) = inr (conf, anew.trace, anew.is, anew.stood, unstored_records old.ecu moment anew.unstored, anew.has)
 
 module _ {L : Type 0} (told : L → LinkTold) where
   module _ (conf : Conf) (kept kept_now : Renewed) (net net_now users users_now : NetTold L) (old new : server.State) (r : IsRenewedRound told conf kept kept_now net net_now users users_now old new) where
@@ -66,16 +55,13 @@ module _ {L : Type 0} (told : L → LinkTold) where
     renewed = asked_again (with_trace old r.core r.folder)
 
     pub begins_in : BeginsIn old.core r.core
-    begins_in = renews_begin _ conf r.moment r.begun kept.tries kept_now.tries old.core r.core old.folder r.folder r.renews
+    begins_in = begins_so conf r.moment r.begun old.core r.core old.folder r.folder (renewed_so conf r.moment r.begun old.core r.core old.folder r.folder r.rest kept.tries kept_now.tries r.renews)
 
     pub renewed_leads : Leading told old renewed
-    renewed_leads = λ ready. (
-      goes_one (IsToldBy told) RenewedKind (state_of old) (state_of renewed) (begins_in, refl),
-      record { ends = ready.ends; listeners = ready.listeners; low = ready.low },
-    )
+    renewed_leads = renew_leads told old r.core r.folder false false begins_in
 
     one_leads : Leading told old new
-    one_leads = lead_both told old renewed new renewed_leads (round_leads told net net_now users users_now renewed new r.round (seen_tells told noted (with_trace old r.core r.folder) r.seen_so))
+    one_leads = lead_both told old renewed new renewed_leads (round_leads told net net_now users users_now renewed new r.round (seen_tells told noted false (with_trace old r.core r.folder) r.seen_so))
 
   rounds_lead : (conf : Conf) (many : ℕ) (kept kept_now : Renewed) (net net_now users users_now : NetTold L) (old new : server.State)
       → AreRounds told conf many kept kept_now net net_now users users_now old new → Leading told old new
@@ -86,15 +72,15 @@ module _ {L : Type 0} (told : L → LinkTold) where
 
   module _ (most : Limits) (begun : Begun) (old new : Outside L) (why : Stop) (closed : Closed L) (has : HasOpened told most begun why old new closed) where
     abbrev first : server.State
-    first = seen told noted old.folder has.opened.server
+    first = seen told noted false old.folder has.opened.server
 
-    keeping_goes : Goes (IsToldBy told) (state_of first) (state_in true has.run.closes.0)
+    keeping_goes : Goes_on told (state_of first) (state_in true has.run.closes.0)
     keeping_goes =
         let made = has.is_opened.made in
         let last : server.State = has.run.last in
         let rounds = rounds_lead begun.conf has.run.served.many (record { tries = untried; anew = None }) has.run.served.kept has.net new.net has.users new.users first last has.run.served.rounds
         (first_ready first most.clients most.channels (ap (λ (c : Channels). c.inboxes) made.channels_are) made.listeners_are made.no_end) in
-        goes_both (IsToldBy told) (state_of first) (state_of last) (state_in true has.run.closes.0) rounds.0 (closing_goes told has.run.moment last has.run.closes.0 rounds.1.low has.run.closes.2)
+        both told (state_of first) (state_of last) (state_in true has.run.closes.0) rounds.0 (closing_goes told has.run.moment last has.run.closes.0 rounds.1.low has.run.closes.2)
 
     pub ended_so : AllShowEnds (TellLeft told) (map told closed.users.links) closed.ends
     ended_so = left_shown told first has.run.closes.0 closed keeping_goes (ap (λ (ls : Links L). map told ls.links) has.is_opened.made.no_program) has.run.closes.3
@@ -119,4 +105,4 @@ module _ {L : Type 0} (told : L → LinkTold) where
   unfolding limits
   dropped_so begun old new why closed has =
       left_dropped told (first limits begun old new why closed has) has.run.closes.0 closed (keeping_goes limits begun old new why closed has)
-      (first_kept told noted old.folder _ _ _ limits.clients limits.channels has.opened.server has.is_opened.made refl refl refl (omega arith) (omega arith) (omega arith)) has.run.closes.3
+      (first_kept told noted false old.folder _ _ _ limits.clients limits.channels has.opened.server has.is_opened.made refl refl refl (omega arith) (omega arith) (omega arith)) has.run.closes.3

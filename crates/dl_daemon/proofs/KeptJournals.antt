@@ -1,9 +1,10 @@
 -- What the daemon comes to, by the laws of its rounds and of its closing.
-use Rattle.std.proofs.Common.{◌≡◌, ◌⊎◌, inl, inr, ℕ, zero, suc, Bool, true, List, [], ◌++◌, map, Option, Some, None, is_some, refl, sym, ap, subst, ◌∙◌, append-nil, append_assoc}
-use Rattle.std.specs.Prelude.{◌↔◌, IfSome, IsSome, if◌then◌else◌}
+use Rattle.std.proofs.Common.{◌≡◌, ◌⊎◌, inl, inr, ℕ, zero, suc, Bool, true, List, [], ◌++◌, map, Option, Some, None, is_some, refl, sym, ap, subst, ◌∙◌, append-nil, append_assoc, false}
+use Rattle.std.specs.Prelude.{◌↔◌, IfSome, IsSome, IsSomeAnd}
 use Rattle.std.proofs.lemmas.List.{length-map}
 use Rattle.dl_bytes.specs.declared.moment.Moment.{Moment}
-use Rattle.dl_core.specs.Follows.{BeginsAnew, HoldsFiles, IsAfter, Run, begun_anew, files_with, stored_by}
+use Rattle.dl_core.specs.Follows.{HoldsFiles, IsAfter, Run, begun_anew, files_with, stored_by, unstored_records}
+use Rattle.dl_core.proofs.Beginnings.{goes_on_with}
 use Rattle.dl_core.specs.Settings.{HasSizes}
 use Rattle.dl_core.specs.State.{Core}
 use Rattle.dl_events.specs.declared.event.Event.{Event}
@@ -11,7 +12,7 @@ use Rattle.dl_hub.specs.State.{outbox_of}
 use Rattle.dl_loop.specs.Daemon.{TellTaken}
 use Rattle.dl_model.specs.Journal.{IsOpen}
 use Rattle.dl_model.specs.Setting.{Setting}
-use Rattle.dl_model.specs.TraceFiles.{StoredFile}
+use Rattle.dl_model.specs.TraceFiles.{StoredFile, trace_files}
 use Rattle.dl_outside.specs.Folder.{Files}
 use Rattle.dl_outside.specs.Links.{Links}
 use Rattle.dl_outside.specs.Outside.{Stays}
@@ -23,6 +24,7 @@ use Rattle.dl_server.specs.State.{State, seen}
 use Rattle.dl_server.proofs.HeldStates.{goes_aside, goes_both}
 use Rattle.dl_startup.specs.Setup.{IsBegun}
 use Rattle.dl_startup.specs.Unchanged.{IsQuiet}
+use Rattle.dl_trace.specs.Made.{HasBegun}
 use Rattle.dl_trace.specs.Stands.{HasFiles}
 use Rattle.dl_trace.specs.State.{Trace}
 use Rattle.dl_turns.specs.Gone.{TellOver}
@@ -38,20 +40,25 @@ use Rattle.dl_daemon.specs.Comes.{IsKeptTo}
 use Rattle.dl_daemon.specs.Open.{setting}
 use Rattle.dl_daemon.specs.Outside.{Outside}
 use Rattle.dl_daemon.specs.Program.{HasOpened}
-use Rattle.dl_daemon.specs.Renewing.{Anew, Renewed, untried}
+use Rattle.dl_daemon.specs.Renewing.{Anew, Renewed, last_anew, untried}
 use Rattle.dl_daemon.specs.Rounds.{AreRounds, IsRenewedRound, asked_again, noted, with_trace}
-use Rattle.dl_daemon.proofs.Renewals.{IsAnew, IsStill, renewed_so, some_stays, told_stays, with_new}
+use Rattle.dl_daemon.proofs.Renewals.{HasEnded, IsAnew, IsStill, renewed_so, some_stays, told_so, with_new}
 
--- the run whose trace was begun behind so many stored frames
-abbrev pub run_behind : Setting → List StoredFile → ℕ → Run
-run_behind set stood before = record (run_in set stood) { before = before }
+-- the run whose trace was begun behind so many stored frames, with these
+abbrev pub run_behind : Setting → List StoredFile → ℕ × List (List ℕ) → Run
+run_behind set stood before = record (run_in set stood) { before = before.0; head = before.1 }
+
+-- the run whose trace was begun anew
+abbrev pub anew_in : Setting → List StoredFile → Anew → List Event → Run
+anew_in set stood anew past = begun_anew stood (unstored_records set.ecu anew.moment anew.unstored) past (run_in set stood)
 
 -- ---- the folder holds the trace still
 
-holds_still : (run : Run) (events : List Event) (trace : Option Trace) (old new : Option Files) → Stays old new → IfSome trace (λ kept. kept.state.end ≡ None → HoldsFiles run (stored_by run events) old)
+holds_still : (run : Run) (events : List Event) (trace : Option Trace) (old new : Option Files) → Stays old new ⊎ HasEnded trace → IfSome trace (λ kept. kept.state.end ≡ None → HoldsFiles run (stored_by run events) old)
     → IfSome trace (λ kept. kept.state.end ≡ None → HoldsFiles run (stored_by run events) new)
 holds_still run events None old new stays holds = tt
-holds_still run events (Some kept) old new stays holds = λ goes_on. some_stays (λ (files : Files). HasFiles run.setting.directory files (files_with run (stored_by run events))) old new stays (holds goes_on)
+holds_still run events (Some kept) old new (inr ended) holds = λ goes_on. absurd (ended goes_on)
+holds_still run events (Some kept) old new (inl stays) holds = λ goes_on. some_stays (λ (files : Files). HasFiles run.setting.directory files (files_with run (stored_by run events))) old new stays (holds goes_on)
 
 module _ (Tell Held : Type 0) where
   -- without a word on the folder
@@ -69,7 +76,7 @@ module _ (Tell Held : Type 0) where
   }
 
   -- what was done in vain
-  holds_as : (run : Run) (events : List Event) (s : State) (folder : FolderTold) → Stays s.folder.files folder.files → Holds Tell Held (Unit {0}) run events s
+  holds_as : (run : Run) (events : List Event) (s : State) (folder : FolderTold) → Stays s.folder.files folder.files ⊎ HasEnded s.core.trace → Holds Tell Held (Unit {0}) run events s
       → Holds Tell Held (Unit {0}) run events (with_trace s s.core folder)
   holds_as run events s folder stays h = record {
     kept = h.kept;
@@ -83,7 +90,7 @@ module _ (Tell Held : Type 0) where
     trace = λ held. holds_still run events s.core.trace s.folder.files folder.files stays (h.trace held);
   }
 
-  pub holds_same : (run : Run) (events : List Event) (s : State) (core : Core) (folder : FolderTold) → core ≡ s.core → Stays s.folder.files folder.files → Holds Tell Held (Unit {0}) run events s
+  pub holds_same : (run : Run) (events : List Event) (s : State) (core : Core) (folder : FolderTold) → core ≡ s.core → Stays s.folder.files folder.files ⊎ HasEnded s.core.trace → Holds Tell Held (Unit {0}) run events s
       → Holds Tell Held (Unit {0}) run events (with_trace s core folder)
   holds_same run events s core folder same stays h =
       subst (λ (c : Core). Holds Tell Held (Unit {0}) run events (with_trace s c folder)) (sym same) (holds_as run events s folder stays h)
@@ -97,17 +104,21 @@ pub record FromAnew (Tell Runs : Type 0) (set : Setting) (begun : Begun) (anew :
   pub stood : List StoredFile
   pub stood_so : IfSome anew.folder.files (λ files. HasFiles begun.conf.directory files stood)
   pub later : List Event
-  pub holds : Holds Tell (IsSome anew.folder.files) Runs (begun_anew stood past (run_in set stood)) (past ++ later) s
+  pub holds : Holds Tell (IsSome anew.folder.files) Runs (anew_in set stood anew past) (past ++ later) s
 
 -- a trace was begun
-begins_anew : (Tell : Type 0) (set : Setting) (begun : Begun) → HasSizes begun.conf set → (stood : List StoredFile) (before : ℕ) (events : List Event) (s : State) (trace : Trace) (folder : FolderTold)
-    → IsBegun begun.conf s.folder.files (Some trace) → BeginsAnew begun.conf trace s.core (with_new s.core trace) → Stays s.folder.files folder.files
-    → Holds Tell ⊥ (Unit {0}) (run_behind set stood before) events s
-    → FromAnew Tell (Unit {0}) set begun (record { folder = s.folder; past = s.events }) (with_trace s (with_new s.core trace) folder)
-begins_anew Tell set begun sizes stood before events s trace folder over anew stays h =
-    let there : List StoredFile = over.2.0 in
-    let next = anew (run_behind set stood before) events h.took there h.after sizes over.2.1 in
-    let now : Holds Tell (IsSome s.folder.files) (Unit {0}) (begun_anew there events (run_in set there)) events (with_trace s (with_new s.core trace) folder) = record {
+begins_anew : (Tell : Type 0) (set : Setting) (begun : Begun) → HasSizes begun.conf set → (stood : List StoredFile) (before : ℕ × List (List ℕ)) (events : List Event) (s : State) (moment : Moment) (so : Option ℕ) (core : Core)
+    (folder : FolderTold) (new : IsAnew begun.conf moment so s.core core s.folder folder) → Holds Tell ⊥ (Unit {0}) (run_behind set stood before) events s
+    → FromAnew Tell (Unit {0}) set begun (record { folder = s.folder; past = s.events; moment = moment; unstored = new.unstored }) (with_trace s (with_new s.core new.trace) folder)
+begins_anew Tell set begun sizes stood before events s moment so core folder new h =
+    let there : List StoredFile = new.stood in
+    let anew : Anew = record { folder = s.folder; past = s.events; moment = moment; unstored = new.unstored } in
+    let head : List ℕ → List (List ℕ) = λ ecu. unstored_records ecu moment new.unstored in
+    let conf = begun.conf in
+    let has : HasBegun conf there (head set.ecu) new.trace = subst (λ (ecu : List ℕ). HasBegun conf there (head ecu) new.trace) h.after.set_to.ecu new.has in
+    let next = goes_on_with conf (head set.ecu) new.trace s.core (run_behind set stood before) events h.took there h.after sizes has in
+    let holds = subst (λ (ecu : List ℕ). IfSome s.folder.files (λ was. IsSomeAnd folder.files (λ files. HasFiles conf.directory files (trace_files conf.file_size conf.max_size there (head ecu))))) h.after.set_to.ecu new.files in
+    let now : Holds Tell (IsSome s.folder.files) (Unit {0}) (anew_in set there anew events) events (with_trace s (with_new s.core new.trace) folder) = record {
       kept = h.kept;
       took = h.took;
       after = next.0;
@@ -116,14 +127,14 @@ begins_anew Tell set begun sizes stood before events s trace folder over anew st
       settled = h.settled;
       running = h.running;
       formed = h.formed;
-      trace = λ told. next.1 folder (told_stays (λ (files : Files). HasFiles begun.conf.directory files there) s.folder.files folder.files stays over.2.2 told);
+      trace = λ told. next.1 folder (told_so (IsSomeAnd folder.files (λ files. HasFiles conf.directory files (trace_files conf.file_size conf.max_size there (head set.ecu)))) s.folder.files holds told);
     } in record {
       past = events;
       noted = h.kept;
       stood = there;
-      stood_so = over.2.2;
+      stood_so = new.stood_so;
       later = [];
-      holds = subst (λ (es : List Event). Holds Tell (IsSome s.folder.files) (Unit {0}) (begun_anew there events (run_in set there)) es (with_trace s (with_new s.core trace) folder)) (sym (append-nil events)) now;
+      holds = subst (λ (es : List Event). Holds Tell (IsSome s.folder.files) (Unit {0}) (anew_in set there anew events) es (with_trace s (with_new s.core new.trace) folder)) (sym (append-nil events)) now;
     }
 
 module _ {L : Type 0} (link_told : L → LinkTold)
@@ -154,7 +165,7 @@ module _ {L : Type 0} (link_told : L → LinkTold)
   goes_on None was now goes known =
       let one = goes (is_some first.files) (run_in set stood) known.0 known.1 in (known.0 ++ one.0, one.1)
   goes_on (Some anew) was now goes known =
-      let run : Run = begun_anew known.stood known.past (run_in set known.stood) in
+      let run : Run = anew_in set known.stood anew known.past in
       let one = goes (is_some anew.folder.files) run (known.past ++ known.later) known.holds in record {
         past = known.past;
         noted = known.noted;
@@ -168,7 +179,7 @@ module _ {L : Type 0} (link_told : L → LinkTold)
   goes_out None was now goes known =
       let one = goes (is_some first.files) (run_in set stood) known.0 known.1 in (known.0 ++ one.0, one.1)
   goes_out (Some anew) was now goes known =
-      let run : Run = begun_anew known.stood known.past (run_in set known.stood) in
+      let run : Run = anew_in set known.stood anew known.past in
       let one = goes (is_some anew.folder.files) run (known.past ++ known.later) known.holds in record {
         past = known.past;
         noted = known.noted;
@@ -180,7 +191,7 @@ module _ {L : Type 0} (link_told : L → LinkTold)
 
   -- ---- nothing was begun, or a trace was
 
-  goes_still : (anew : Option Anew) (s : State) (core : Core) (folder : FolderTold) → core ≡ s.core → Stays s.folder.files folder.files → Known (Unit {0}) anew s
+  goes_still : (anew : Option Anew) (s : State) (core : Core) (folder : FolderTold) → core ≡ s.core → Stays s.folder.files folder.files ⊎ HasEnded s.core.trace → Known (Unit {0}) anew s
       → Known (Unit {0}) anew (with_trace s core folder)
   goes_still None s core folder same stays known = (known.0, holds_same Tell (IsSome first.files) (run_in set stood) known.0 s core folder same stays known.1)
   goes_still (Some anew) s core folder same stays known = record {
@@ -189,30 +200,31 @@ module _ {L : Type 0} (link_told : L → LinkTold)
     stood = known.stood;
     stood_so = known.stood_so;
     later = known.later;
-    holds = holds_same Tell (IsSome anew.folder.files) (begun_anew known.stood known.past (run_in set known.stood)) (known.past ++ known.later) s core folder same stays known.holds;
+    holds = holds_same Tell (IsSome anew.folder.files) (anew_in set known.stood anew known.past) (known.past ++ known.later) s core folder same stays known.holds;
   }
 
-  goes_anew : (anew : Option Anew) (s : State) (trace : Trace) (folder : FolderTold) → IsBegun begun.conf s.folder.files (Some trace) → BeginsAnew begun.conf trace s.core (with_new s.core trace)
-      → Stays s.folder.files folder.files → Known (Unit {0}) anew s → Known (Unit {0}) (Some (record { folder = s.folder; past = s.events })) (with_trace s (with_new s.core trace) folder)
-  goes_anew None s trace folder over begins_so stays known =
-      begins_anew Tell set begun sizes stood 0 known.0 s trace folder over begins_so stays (folderless Tell (IsSome first.files) (Unit {0}) (run_in set stood) known.0 s known.1)
-  goes_anew (Some anew) s trace folder over begins_so stays known =
-      let run : Run = begun_anew known.stood known.past (run_in set known.stood) in
-      begins_anew Tell set begun sizes known.stood run.before (known.past ++ known.later) s trace folder over begins_so stays
+  goes_anew : (anew : Option Anew) (s : State) (moment : Moment) (so : Option ℕ) (core : Core) (folder : FolderTold) (new : IsAnew begun.conf moment so s.core core s.folder folder) → Known (Unit {0}) anew s
+      → Known (Unit {0}) (Some (record { folder = s.folder; past = s.events; moment = moment; unstored = new.unstored })) (with_trace s (with_new s.core new.trace) folder)
+  goes_anew None s moment so core folder new known =
+      begins_anew Tell set begun sizes stood (0, []) known.0 s moment so core folder new (folderless Tell (IsSome first.files) (Unit {0}) (run_in set stood) known.0 s known.1)
+  goes_anew (Some anew) s moment so core folder new known =
+      let run : Run = anew_in set known.stood anew known.past in
+      begins_anew Tell set begun sizes known.stood (run.before, run.head) (known.past ++ known.later) s moment so core folder new
       (folderless Tell (IsSome anew.folder.files) (Unit {0}) run (known.past ++ known.later) s known.holds)
 
   -- by what was done
-  module _ (kept : Option Anew) (s : State) (core : Core) (folder : FolderTold) (known : Known (Unit {0}) kept s) where
-    abbrev last : Bool → Option Anew
-    last anew = if anew then Some (record { folder = s.folder; past = s.events }) else kept
+  module _ (kept : Option Anew) (s : State) (moment : Moment) (core : Core) (folder : FolderTold) (known : Known (Unit {0}) kept s) where
+    abbrev last : Option ℕ → Option Anew
+    last so = last_anew so moment s.folder s.events kept
 
-    by_what : (anew : Bool) → IsStill anew s.core core s.folder folder ⊎ IsAnew begun.conf anew s.core core s.folder folder → Known (Unit {0}) (last anew) (with_trace s core folder)
-    by_what anew (inl still) =
-        subst (λ (b : Bool). Known (Unit {0}) (last b) (with_trace s core folder)) (sym still.unbegun) (goes_still kept s core folder still.same still.stays known)
-    by_what anew (inr new) =
-        let at_new = goes_anew kept s new.trace folder new.over new.anew new.stays known in
-        let at_core : Known (Unit {0}) (last true) (with_trace s core folder) = subst (λ (c : Core). Known (Unit {0}) (last true) (with_trace s c folder)) (sym new.is) at_new in
-        subst (λ (b : Bool). Known (Unit {0}) (last b) (with_trace s core folder)) (sym new.begun_so) at_core
+    by_what : (so : Option ℕ) → IsStill so s.core core s.folder folder ⊎ IsAnew begun.conf moment so s.core core s.folder folder → Known (Unit {0}) (last so) (with_trace s core folder)
+    by_what so (inl still) =
+        subst (λ (o : Option ℕ). Known (Unit {0}) (last o) (with_trace s core folder)) (sym still.unbegun) (goes_still kept s core folder still.same still.stays known)
+    by_what so (inr new) =
+        let at_new = goes_anew kept s moment so core folder new known in
+        let at_core : Known (Unit {0}) (last (Some new.unstored)) (with_trace s core folder) =
+        subst (λ (c : Core). Known (Unit {0}) (last (Some new.unstored)) (with_trace s c folder)) (sym new.is) at_new in
+        subst (λ (o : Option ℕ). Known (Unit {0}) (last o) (with_trace s core folder)) (sym new.begun_so) at_core
 
   -- ---- rounds
 
@@ -220,9 +232,9 @@ module _ {L : Type 0} (link_told : L → LinkTold)
       → Known (Unit {0}) kept.anew between → Known (Unit {0}) kept_now.anew new
   one_on kept kept_now net net_now users users_now between new r known =
       let renewed : State = with_trace between r.core r.folder in
-      let what = renewed_so begun.conf r.begun between.core r.core between.folder r.folder r.moment kept.tries kept_now.tries r.renews in
+      let what = renewed_so begun.conf r.moment r.begun between.core r.core between.folder r.folder r.rest kept.tries kept_now.tries r.renews in
       let so_far : Known (Unit {0}) kept_now.anew renewed =
-      subst (λ (a : Option Anew). Known (Unit {0}) a renewed) (sym r.anew) (by_what kept.anew between r.core r.folder known r.begun what) in
+      subst (λ (a : Option Anew). Known (Unit {0}) a renewed) (sym r.anew) (by_what kept.anew between r.moment r.core r.folder known r.begun what) in
       goes_on kept_now.anew renewed new (λ held. goes_both Tell (held ≡ true) renewed (asked_again renewed) new
       (goes_aside Tell (held ≡ true) renewed (asked_again renewed) refl refl refl refl) (round held net net_now users users_now (asked_again renewed) new r.round)) so_far
 
@@ -237,7 +249,7 @@ module _ {L : Type 0} (link_told : L → LinkTold)
 
   module _ (old new : Outside L) (why : Stop) (closed : Closed L) (quiet : IsQuiet first old.folder) (has : HasOpened link_told most begun why old new closed) where
     abbrev start : State
-    start = seen link_told noted old.folder has.opened.server
+    start = seen link_told noted false old.folder has.opened.server
 
     abbrev final : State
     final = has.run.closes.0
@@ -265,7 +277,7 @@ module _ {L : Type 0} (link_told : L → LinkTold)
               (subst (λ (es : List Event). Holds Tell (IsSome first.files) ⊥ (run_in set stood) es final) same known.1);
         }
     comes_so (Some anew) known =
-        let run : Run = begun_anew known.stood known.past (run_in set known.stood) in
+        let run : Run = anew_in set known.stood anew known.past in
         let same : known.past ++ known.later ≡ closed.events.events = cc (known.holds.kept, left.events) in record {
           past = known.past;
           noted = known.noted;

@@ -1,10 +1,10 @@
 -- Round after round of a daemon, who is there is served.
 use Rattle.std.proofs.Common.{◌≡◌, ◌⊎◌, inl, inr, ℕ, zero, suc, Bool, true, false, List, [], map, Option, Some, None, refl, sym, ap, subst, ◌∙◌, arith}
-use Rattle.std.specs.Prelude.{Result, Ok, Err, if◌then◌else◌}
 use Rattle.std.proofs.lemmas.List.{length-map}
 use Rattle.dl_bytes.specs.declared.conf.Conf.{Conf}
 use Rattle.dl_bytes.specs.declared.moment.Moment.{Moment}
-use Rattle.dl_core.specs.Follows.{BeginsAnew, Run, begun_anew}
+use Rattle.dl_core.specs.Follows.{Run, begun_anew, unstored_records}
+use Rattle.dl_core.proofs.Beginnings.{goes_on_with}
 use Rattle.dl_core.specs.Settings.{HasSizes}
 use Rattle.dl_core.specs.State.{Core}
 use Rattle.dl_events.specs.Told.{Told}
@@ -24,10 +24,9 @@ use Rattle.dl_server.specs.Holds.{Holds}
 use Rattle.dl_server.specs.State.{State, seen}
 use Rattle.dl_startup.specs.Setup.{IsBegun}
 use Rattle.dl_trace.specs.State.{Trace}
-use Rattle.dl_trace.specs.declared.trace.TraceFault.{TraceFault}
 use Rattle.dl_turns.specs.Gone.{TellOver}
-use Rattle.dl_machine.proofs.ServerSteps.{TellsOvers, state_of}
-use Rattle.dl_serve.specs.Service.{Rounds, frames_in}
+use Rattle.dl_serve.proofs.ServerSteps.{TellsOvers, state_of}
+use Rattle.dl_serve.specs.Service.{Rounds, ServesRound, frames_in}
 use Rattle.dl_serve.specs.declared.beginning.Begun.{Begun}
 use Rattle.dl_serve.specs.declared.closed.Closed.{Closed}
 use Rattle.dl_serve.proofs.AdmittedSteps.{goes_keep}
@@ -37,32 +36,17 @@ use Rattle.dl_serve.proofs.Services.{closing, first_keeps, stands_first}
 use Rattle.dl_serve.proofs.ServingSteps.{seen_tells}
 use Rattle.dl_serve.proofs.WholeServers.{keeps_on}
 use Rattle.dl_daemon.specs.declared.limits.Limits.{Limits}
-use Rattle.dl_daemon.specs.declared.renewing.Tries.{Tries}
 use Rattle.dl_daemon.specs.declared.rounds.Stop.{Stop}
 use Rattle.dl_daemon.specs.declared.rounds.Stop.TheVariants.{Asked, Spent}
 use Rattle.dl_daemon.specs.Open.{setting}
 use Rattle.dl_daemon.specs.Outside.{Outside}
 use Rattle.dl_daemon.specs.Program.{HasOpened}
-use Rattle.dl_daemon.specs.Renewing.{Renewed, RenewsIf, Takes, is_try_due, untried}
+use Rattle.dl_daemon.specs.Renewing.{Renewed, Renews, last_anew, untried}
 use Rattle.dl_daemon.specs.Rounds.{AreRounds, IsRenewedRound, StopsFor, noted, with_trace}
-use Rattle.dl_daemon.specs.Service.{Between, EndsFor, HasGoneOn, ServesOnce, TriesIf, has_begun, untouched}
+use Rattle.dl_daemon.specs.Service.{Between, EndsFor, HasGoneOn, ServesOnce, untouched}
 use Rattle.dl_daemon.proofs.DaemonSteps.{BeginsIn, begins_in, renewed, renewed_leads}
 use Rattle.dl_daemon.proofs.KeptJournals.{holds_same, run_behind}
 use Rattle.dl_daemon.proofs.Renewals.{IsAnew, IsStill, renewed_so, with_new}
-
--- ---- tries
-
-begun_as : (conf : Conf) (made : Result (Option Trace) TraceFault) (begun : Bool) (old new : Core) → Takes conf made begun old new → begun ≡ has_begun made
-begun_as conf (Ok (Some trace)) begun old new takes = takes.0
-begun_as conf (Ok None) begun old new takes = takes.0
-begun_as conf (Err fault) begun old new takes = takes.0
-
-tries_if : (due : Bool) (conf : Conf) (moment : Moment) (begun : Bool) (tries tries_now : Tries) (old new : Core) (folder folder_now : FolderTold) → RenewsIf due conf moment begun tries tries_now old new folder folder_now
-    → TriesIf due conf moment begun tries tries_now folder folder_now
-tries_if true conf moment begun tries tries_now old new folder folder_now renews =
-    let tried = renews.0 in
-    (record { made = tried.made; over = tried.over; cause = tried.cause; unchanged = tried.unchanged; begun_so = begun_as conf tried.made begun old new tried.takes }, renews.1)
-tries_if false conf moment begun tries tries_now old new folder folder_now renews = (renews.0, renews.1, renews.3)
 
 -- ---- what stands
 
@@ -80,30 +64,30 @@ module _ {L : Type 0} (told : L → LinkTold) (heard : (moved : Bool) (old new :
     (sends : (moved : Bool) (old new : Clients) → VisitsAll Pumped moved old new → EachOpen WasSent old new) (parted : (hub : Hub) (old new : List LinkTold) → ShutsGone hub old new → AreShut hub new)
     (shuts : (old new : Clients) → ClosesAll (TellOver told) old new → AreShut old.side.core.hub old.links → AreShut new.side.core.hub new.links) where
   module _ (conf : Conf) (set : Setting) (sizes : HasSizes conf set) where
-    abbrev KeepsIn : List StoredFile → ℕ → List Event → State → Type 0
+    abbrev KeepsIn : List StoredFile → ℕ × List (List ℕ) → List Event → State → Type 0
     KeepsIn stood before events s = Keeps told heard pumped pump read sends parted set stood before events s
 
     -- what is known in a run of this setting, whenever its trace began
     abbrev KnownIn : List Event → State → Type 0
-    KnownIn events s = (stood : List StoredFile) × (before : ℕ) × KeepsIn stood before events s
+    KnownIn events s = (stood : List StoredFile) × (before : ℕ × List (List ℕ)) × KeepsIn stood before events s
 
     abbrev HoldsIn : List Event → State → Type 0
-    HoldsIn events s = (stood : List StoredFile) × (before : ℕ) × Holds (TellTaken told) ⊥ (Unit {0}) (run_behind set stood before) events s
+    HoldsIn events s = (stood : List StoredFile) × (before : ℕ × List (List ℕ)) × Holds (TellTaken told) ⊥ (Unit {0}) (run_behind set stood before) events s
 
     -- a trace is begun, or none
-    holds_anew : (events : List Event) (s : State) (trace : Trace) (folder : FolderTold) → IsBegun conf s.folder.files (Some trace) → BeginsAnew conf trace s.core (with_new s.core trace) → HoldsIn events s
-        → HoldsIn events (with_trace s (with_new s.core trace) folder)
-    holds_anew events s trace folder over anew held =
+    holds_anew : (events : List Event) (s : State) (moment : Moment) (so : Option ℕ) (core : Core) (folder : FolderTold) (new : IsAnew conf moment so s.core core s.folder folder) → HoldsIn events s
+        → HoldsIn events (with_trace s (with_new s.core new.trace) folder)
+    holds_anew events s moment so core folder new held =
         let was : Run = run_behind set held.0 held.1 in
-        let there : List StoredFile = over.2.0 in
-        let now : Run = begun_anew there events was in
+        let head = unstored_records s.core.ecu moment new.unstored in
+        let now : Run = begun_anew new.stood head events was in
         let h = held.2 in (
-          there,
-          now.before,
+          new.stood,
+          (now.before, now.head),
           record {
             kept = h.kept;
             took = h.took;
-            after = (anew was events h.took there h.after sizes over.2.1).0;
+            after = (goes_on_with conf head new.trace s.core was events h.took new.stood h.after sizes new.has).0;
             taken = h.taken;
             many = h.many;
             settled = h.settled;
@@ -113,11 +97,11 @@ module _ {L : Type 0} (told : L → LinkTold) (heard : (moved : Bool) (old new :
           },
         )
 
-    holds_renewed : (begun : Bool) (events : List Event) (s : State) (core : Core) (folder : FolderTold) → IsStill begun s.core core s.folder folder ⊎ IsAnew conf begun s.core core s.folder folder → HoldsIn events s
+    holds_renewed : (moment : Moment) (so : Option ℕ) (events : List Event) (s : State) (core : Core) (folder : FolderTold) → IsStill so s.core core s.folder folder ⊎ IsAnew conf moment so s.core core s.folder folder → HoldsIn events s
         → HoldsIn events (with_trace s core folder)
-    holds_renewed begun events s core folder (inl still) held =
+    holds_renewed moment so events s core folder (inl still) held =
         (held.0, held.1, holds_same (TellTaken told) ⊥ (run_behind set held.0 held.1) events s core folder still.same still.stays held.2)
-    holds_renewed begun events s core folder (inr new) held = subst (λ (c : Core). HoldsIn events (with_trace s c folder)) (sym new.is) (holds_anew events s new.trace folder new.over new.anew held)
+    holds_renewed moment so events s core folder (inr new) held = subst (λ (c : Core). HoldsIn events (with_trace s c folder)) (sym new.is) (holds_anew events s moment so core folder new held)
 
     -- ---- rounds
 
@@ -127,10 +111,10 @@ module _ {L : Type 0} (told : L → LinkTold) (heard : (moved : Bool) (old new :
       again = renewed told conf kept kept_now net net_now users users_now old new r
 
       held : HoldsIn events (with_trace old r.core r.folder)
-      held = holds_renewed r.begun events old r.core r.folder (renewed_so conf r.begun old.core r.core old.folder r.folder r.moment kept.tries kept_now.tries r.renews) (known.0, known.1, known.2.holds)
+      held = holds_renewed r.moment r.begun events old r.core r.folder (renewed_so conf r.moment r.begun old.core r.core old.folder r.folder r.rest kept.tries kept_now.tries r.renews) (known.0, known.1, known.2.holds)
 
       tell_overs : TellsOvers told again.clients
-      tell_overs = seen_tells told noted (with_trace old r.core r.folder) r.seen_so
+      tell_overs = seen_tells told noted false (with_trace old r.core r.folder) r.seen_so
 
       stands : Stands told heard pumped pump read sends parted set held.0 held.1 net.faults users.faults net users events again
       stands = record {
@@ -167,10 +151,12 @@ module _ {L : Type 0} (told : L → LinkTold) (heard : (moved : Bool) (old new :
         room = (let room = r.room in let h = known.2.holds in omega (arith, room, frames_so (run_behind set known.0 known.1) events h.took old.core h.after));
         moment = r.moment;
         begun = r.begun;
+        trace = r.core.trace;
         folder = r.folder;
-        tries = tries_if (is_try_due kept.tries old.core.trace r.moment) conf r.moment r.begun kept.tries kept_now.tries old.core r.core old.folder r.folder r.renews;
-        anew = r.anew ∙ ap (λ (past : Option (List Event)). if r.begun then Some (record { folder = old.folder; past = past }) else kept.anew) known.2.holds.kept;
-        serves = served told heard pumped pump read sends parted set held.0 held.1 net.faults users.faults net net_now users users_now again new events r.round tell_overs stands;
+        renews = subst (λ (ecu : List ℕ). Renews conf ecu r.moment r.begun kept.tries kept_now.tries old.core.trace r.core.trace old.folder r.folder) known.2.holds.after.set_to.ecu r.renews;
+        anew = r.anew ∙ ap (λ (past : Option (List Event)). last_anew r.begun r.moment old.folder past kept.anew) known.2.holds.kept;
+        serves = subst (λ (may : Bool). ServesRound told may set net.faults users.faults (standing net users events again) (standing net_now users_now events_now new)) (ap (λ (s : State). s.may_want) r.seen_so.is)
+            (served told heard pumped pump read sends parted set held.0 held.1 net.faults users.faults net net_now users users_now again new events r.round tell_overs stands);
       }
 
     module _ (kept : Renewed) (net users : NetTold L) (start : State) (first : Between L) (first_so : between net users [] kept start ≡ first) (known : KnownIn [] start) where
@@ -196,16 +182,16 @@ module _ {L : Type 0} (told : L → LinkTold) (heard : (moved : Bool) (old new :
 
   module _ (most : Limits) (begun : Begun) (old new : Outside L) (why : Stop) (closed : Closed L) (first : FolderTold) (begins : IsBegun begun.conf first.files begun.trace)
       (has : HasOpened told most begun why old new closed) where
-    pub keeping_serves : (last : Between L) × (last.renewed ≡ has.run.served.kept) × HasGoneOn told most begun why old.folder old.net new.net old.users new.users closed last
+    pub keeping_serves : (last : Between L) × (last.renewed ≡ has.run.served.kept) × HasGoneOn told most begun why old.folder old.net new.net old.users new.users old.watch new.watch closed last
     keeping_serves =
         let set : Setting = setting most begun in
         let found = what_stood begun.conf first.files begun.trace begins in
         let made = has.is_opened.made in
-        let start : State = seen told noted old.folder has.opened.server in
+        let start : State = seen told noted false old.folder has.opened.server in
         let no_clients : start.clients ≡ [] = ap (λ (ls : Links L). map told ls.links) made.no_client in
         let no_programs : start.programs ≡ [] = ap (λ (ls : Links L). map told ls.links) made.no_program in
-        let k = first_keeps told heard pumped closed_so pump read sends parted shuts set found.stood 0 start most.open_channels most.clients most.channels (ap (λ (j : Told). Some j.events) made.journal_is) no_clients no_programs
-        made.channels_are made.listeners_are made.no_end made.none_dropped (has.is_opened.begins (run_behind set found.stood 0) refl refl found.after)
+        let k = first_keeps told heard pumped closed_so pump read sends parted shuts set found.stood (0, []) start most.open_channels most.clients most.channels (ap (λ (j : Told). Some j.events) made.journal_is) no_clients no_programs
+        made.channels_are made.listeners_are made.no_end made.none_dropped (has.is_opened.begins (run_behind set found.stood (0, [])) refl refl found.after)
         (has.is_opened.is_server.linked.many ∙ sym (length-map has.opened.server.clients.links told)) has.is_opened.is_server.linked.settled in
         let untried_yet : Renewed = record { tries = untried; anew = None } in
         let nobody_came = stands_first has.net has.users start no_clients no_programs made.none_dropped made.unwanted in
@@ -213,7 +199,7 @@ module _ {L : Type 0} (told : L → LinkTold) (heard : (moved : Bool) (old new :
         let first_so : between has.net has.users [] untried_yet start ≡ untouched has.net has.users begun.trace old.folder =
         (λ i. record { standing = nobody_came i; trace = trace i; folder = old.folder; renewed = untried_yet }) in
         let sizes : HasSizes begun.conf set = record { directory = refl; file_size = refl; max_size = refl } in
-        let rounds = rounds_serve begun.conf set sizes untried_yet has.net has.users start (untouched has.net has.users begun.trace old.folder) first_so (found.stood, 0, k) has.run.served.many has.run.served.kept new.net new.users
+        let rounds = rounds_serve begun.conf set sizes untried_yet has.net has.users start (untouched has.net has.users begun.trace old.folder) first_so (found.stood, (0, []), k) has.run.served.many has.run.served.kept new.net new.users
         has.run.last has.run.served.rounds in
         let held = rounds.2.2.holds in (
           between new.net new.users rounds.0 has.run.served.kept has.run.last,
@@ -226,6 +212,7 @@ module _ {L : Type 0} (told : L → LinkTold) (heard : (moved : Bool) (old new :
             many = has.run.served.many;
             rounds = rounds.1;
             ends = ends_for why has.run.last.core (frames_in set rounds.0) (frames_so (run_behind set rounds.2.0 rounds.2.1) rounds.0 held.took has.run.last.core held.after) has.run.served.stops;
+            watched = has.run.served.watched;
             net_last = refl;
             users_last = refl;
             closing = closing told heard pumped closed_so pump read sends parted shuts set rounds.2.0 rounds.2.1 has.run.moment has.run.last has.run.closes.0 rounds.0 closed has.run.closes.2 has.run.closes.3 rounds.2.2

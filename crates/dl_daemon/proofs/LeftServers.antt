@@ -1,5 +1,5 @@
 -- What is left of a server, were its events kept.
-use Rattle.std.proofs.Common.{ap, take, refl, sym}
+use Rattle.std.proofs.Common.{ap, take, refl, sym, false}
 use Rattle.std.proofs.lemmas.List.{length-map}
 use Rattle.dl_outside.specs.Told.{FolderTold, LinkTold}
 use Rattle.dl_server.specs.State.{seen}
@@ -9,7 +9,7 @@ use Rattle.dl_serve.specs.Closed.{IsLeft}
 use Rattle.dl_daemon.specs.Left.{closed_of}
 use Rattle.dl_daemon.specs.Rounds.{noted}
 
-pub is_left : {L : Type 0} (told : L → LinkTold) (folder : FolderTold) (s : Server Told L) → IsLeft told (seen told noted folder s) (closed_of s)
+pub is_left : {L : Type 0} (told : L → LinkTold) (folder : FolderTold) (s : Server Told L) → IsLeft told (seen told noted false folder s) (closed_of s)
 is_left told folder s = record {
   events = refl;
   state = refl;

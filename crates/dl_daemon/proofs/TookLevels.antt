@@ -1,5 +1,5 @@
 -- What the links of programs outside took, of a daemon that was opened, ran and closed.
-use Rattle.std.proofs.Common.{inl, inr, ℕ, zero, suc, map, Some, None, refl, sym, ap, subst}
+use Rattle.std.proofs.Common.{inl, inr, ℕ, zero, suc, map, Some, None, refl, sym, ap, subst, false}
 use Rattle.dl_bytes.specs.declared.conf.Conf.{Conf}
 use Rattle.dl_core.specs.Follows.{Run}
 use Rattle.dl_core.specs.State.{Core}
@@ -14,7 +14,7 @@ use Rattle.dl_rounds.specs.Visits.{ClosesAll}
 use Rattle.dl_server.specs.State.{State, seen}
 use Rattle.dl_startup.specs.Setup.{IsBegun}
 use Rattle.dl_turns.specs.Gone.{TellOver}
-use Rattle.dl_machine.proofs.ServerSteps.{state_of}
+use Rattle.dl_serve.proofs.ServerSteps.{state_of}
 use Rattle.dl_serve.specs.declared.beginning.Begun.{Begun}
 use Rattle.dl_serve.specs.declared.closed.Closed.{Closed}
 use Rattle.dl_serve.specs.Comes.{run_in}
@@ -46,7 +46,7 @@ module _ {L : Type 0} (told : L → LinkTold) (conf : Conf) (set : Setting) (roo
   one_stands kept kept_now net net_now users users_now old new r stands =
       let mid : State = renewed told conf kept kept_now net net_now users users_now old new r in
       let lead = renewed_leads told conf kept kept_now net net_now users users_now old new r stands.ready in
-      round_stands told set room net net_now users users_now mid new r.round (seen_tells told noted (with_trace old r.core r.folder) r.seen_so) (record {
+      round_stands told set room net net_now users users_now mid new r.round (seen_tells told noted false (with_trace old r.core r.folder) r.seen_so) (record {
         keeps = keeps_on told set room (state_of old) (state_of mid) lead.0 stands.keeps;
         ready = lead.1;
         settled = begun_settled old mid (begins_in told conf kept kept_now net net_now users users_now old new r) stands.settled;
@@ -68,7 +68,7 @@ module _ {L : Type 0} (told : L → LinkTold) (closed_so : (old new : Clients) �
       let set : Setting = setting most begun in
       let run : Run = run_in set before.stood in
       let after = opened.begins run refl refl before.after in
-      let start : State = seen told noted old.folder has.opened.server in
+      let start : State = seen told noted false old.folder has.opened.server in
       let at_first : Stands told set most.channels start =
       first_stands told set most.channels start most.open_channels most.clients most.channels (ap (λ (j : Told). Some j.events) made.journal_is) (ap (λ (ls : Links L). map told ls.links) made.no_program)
       made.channels_are made.listeners_are made.no_end (record { registry = after.registry; level = after.set_to.level }) opened.is_server.linked.settled in

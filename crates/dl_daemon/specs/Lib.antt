@@ -1,4 +1,5 @@
 pub mod Limits
+pub mod Watching
 pub mod Outside
 pub mod Status
 pub mod Begin

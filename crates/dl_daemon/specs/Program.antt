@@ -1,5 +1,5 @@
 -- What the daemon promises.
-use Rattle.std.specs.Prelude.{◌≡◌, ◌≢◌, ◌⊎◌, ℕ, List, map, Option, Some, None, IsSome, IsSomeAnd}
+use Rattle.std.specs.Prelude.{◌≡◌, ◌≢◌, ◌⊎◌, ℕ, List, map, Option, Some, None, IsSome, IsSomeAnd, false}
 use Rattle.dl_bytes.specs.declared.conf.Conf.{Conf}
 use Rattle.dl_bytes.specs.declared.moment.Moment.{Moment}
 use Rattle.dl_loop.specs.Daemon.{TellTaken}
@@ -38,6 +38,7 @@ use Rattle.dl_daemon.specs.Renewing.{untried}
 use Rattle.dl_daemon.specs.Rounds.{HasGoneRound, noted}
 use Rattle.dl_daemon.specs.Service.{Between, HasGoneOn}
 use Rattle.dl_daemon.specs.Status.{line_of, status_of}
+use Rattle.dl_daemon.specs.Watching.{told_for, told_of}
 
 -- ---- what the daemon did
 
@@ -53,7 +54,7 @@ pub record HasClosed {L : Type 0} (link_told : L → LinkTold) (said : List (Lis
   pub closed : Closed L
   pub is_left : IsOf closed left
   pub last : Between L
-  pub serves : HasGoneOn link_told limits it.begun why it.between old.net new.net old.users new.users closed last
+  pub serves : HasGoneOn link_told limits it.begun why it.between old.net new.net old.users new.users (told_of it.asked.status old.watch) new.watch closed last
   pub comes : IsKeptTo link_told (setting limits it.begun) it.begun last.renewed.anew old.folder new.folder closed
   pub admits : TellGiven link_told → AllAdmitted closed.events.events (map link_told closed.users.links) closed.ends
   pub shows : AllShowEnds (TellLeft link_told) (map link_told closed.users.links) closed.ends
@@ -64,13 +65,15 @@ pub record HasClosed {L : Type 0} (link_told : L → LinkTold) (said : List (Lis
 -- ---- how it ends
 
 -- Why there was no closing: one line a status. Nothing began, and the nets were left alone; or one of them could not listen, and listens as before;
--- or memory ran out.
+-- or memory ran out. The watch was told what the words ask for, and let no round begin.
 abbrev pub EndsEarly : {L : Type 0} → List (List ℕ) → Outside L → Outside L → Status → Type 0
 EndsEarly words old new NetFault =
     (it : Started words old.folder) × IsUnchanged old.folder new.folder
     × ((HasNotListened old.net new.net × (new.users ≡ old.users)) ⊎ (IsHeard it.begun.port old.net new.net × HasNotListened old.users new.users))
+    × (new.watch ≡ told_of it.asked.status old.watch)
 EndsEarly words old new OutOfMemory = Unit {0}
-EndsEarly words old new status = Refuses words old.folder new.folder status × (new.net ≡ old.net) × (new.users ≡ old.users)
+EndsEarly words old new status =
+    Refuses words old.folder new.folder status × (new.net ≡ old.net) × (new.users ≡ old.users) × (new.watch ≡ told_for (daemon_of words) old.watch)
 
 -- The daemon ended with this status: there was no closing; or there was, and the status is that of why its rounds ended.
 abbrev pub Ended : {L : Type 0} → (L → LinkTold) → List (List ℕ) → Outside L → Outside L → Status → Option (Left L) → Type 0
@@ -82,7 +85,7 @@ Ended link_told said old new status (Some left) = (why : Stop) × (status ≡ st
 -- Rounds of a server, over a trace of this configuration, until there was a cause to end them; then it closed, and this is left of it.
 pub record HasRun {L : Type 0} (link_told : L → LinkTold) (conf : Conf) (tries : Tries) (server : Server Told L) (why : Stop) (old new : Outside L) (closed : Closed L) : Type 0 where
   pub last : State
-  pub served : HasGoneRound link_told conf tries why old.net new.net old.users new.users (seen link_told noted old.folder server) last
+  pub served : HasGoneRound link_told conf tries why old.net new.net old.users new.users old.watch new.watch (seen link_told noted false old.folder server) last
   pub moment : Moment
   pub closes : HasClosedTo link_told moment last new.folder closed
 
@@ -94,7 +97,7 @@ pub record HasOpened {L : Type 0} (link_told : L → LinkTold) (most : Limits) (
   pub users : NetTold L
   pub net_heard : IsHeard begun.port old.net net
   pub users_heard : IsHeard begun.users old.users users
-  pub run : HasRun link_told begun.conf untried opened.server why (outside old.folder net users) new closed
+  pub run : HasRun link_told begun.conf untried opened.server why (outside old.folder net users old.watch) new closed
   pub net_listens : Listens begun.port old.net new.net
   pub users_listen : Listens begun.users old.users new.users
 
@@ -107,7 +110,7 @@ EndsWith {L} link_told conf tries server old new status (Some left) =
 -- one of the nets did not listen, or memory was wanting
 abbrev pub LeavesEarly : {L : Type 0} → Begun → Outside L → Outside L → Status → Type 0
 LeavesEarly begun old new NetFault =
-    (new.folder ≡ old.folder)
+    (new.folder ≡ old.folder) × (new.watch ≡ old.watch)
     × ((HasNotListened old.net new.net × (new.users ≡ old.users)) ⊎ (IsHeard begun.port old.net new.net × HasNotListened old.users new.users))
 LeavesEarly begun old new OutOfMemory = Unit {0}
 LeavesEarly begun old new _ = ⊥

@@ -1,5 +1,5 @@
 -- Rounds of a daemon, one after the other, for as long as it goes on.
-use Rattle.std.specs.Prelude.{◌≡◌, ◌<◌, ◌≤◌, ◌+◌, ℕ, zero, suc, Bool, false, List, Option, Some, None, if◌then◌else◌}
+use Rattle.std.specs.Prelude.{◌≡◌, ◌<◌, ◌≤◌, ◌+◌, ℕ, zero, suc, false, List, Option, Some, None}
 use Rattle.dl_bytes.specs.Limits.{admitted_limit}
 use Rattle.dl_bytes.specs.declared.conf.Conf.{Conf}
 use Rattle.dl_bytes.specs.declared.moment.Moment.{Moment}
@@ -14,7 +14,9 @@ use Rattle.dl_events.specs.Told.{Told}
 use Rattle.dl_daemon.specs.declared.renewing.Tries.{Tries}
 use Rattle.dl_daemon.specs.declared.rounds.Stop.{Stop}
 use Rattle.dl_daemon.specs.declared.rounds.Stop.TheVariants.{Asked, Spent}
-use Rattle.dl_daemon.specs.Renewing.{Renewed, Renews}
+use Rattle.dl_daemon.specs.Renewing.{Renewed, Renews, last_anew}
+use Rattle.dl_daemon.specs.declared.watch.Watched.{Watched}
+use Rattle.dl_daemon.specs.Watching.{ended_for, let_begin}
 
 -- all events that were noted, which a journal tells that keeps none
 abbrev pub noted : Told → Option (List Event)
@@ -41,12 +43,13 @@ with_trace s core folder = record s { core = core; folder = folder }
 pub record IsRenewedRound {L : Type 0} (told : L → LinkTold) (conf : Conf) (kept kept_now : Renewed) (net net_now users users_now : NetTold L) (old new : State) : Type 0 where
   pub room : HasRoom old.core
   pub moment : Moment
-  pub begun : Bool
+  pub begun : Option ℕ
   pub core : Core
   pub folder : FolderTold
-  pub renews : Renews conf moment begun kept.tries kept_now.tries old.core core old.folder folder
-  pub anew : kept_now.anew ≡ (if begun then Some (record { folder = old.folder; past = old.events }) else kept.anew)
-  pub seen_so : IsSeen told noted (with_trace old core folder)
+  pub renews : Renews conf old.core.ecu moment begun kept.tries kept_now.tries old.core.trace core.trace old.folder folder
+  pub rest : core ≡ record old.core { trace = core.trace }
+  pub anew : kept_now.anew ≡ last_anew begun moment old.folder old.events kept.anew
+  pub seen_so : IsSeen told noted false (with_trace old core folder)
   pub round : IsRound told net net_now users users_now (asked_again (with_trace old core folder)) new
 
 -- so many of them
@@ -62,19 +65,22 @@ abbrev pub StopsFor : Stop → Core → Type 0
 StopsFor Spent core = admitted_limit < core.hub.admitted + turn_frames
 StopsFor Asked core = HasRoom core
 
--- Rounds were made until there was a cause to end them. A trace has this configuration, and these tries to begin one anew were made before the first round.
-pub record HasGoneRound {L : Type 0} (told : L → LinkTold) (conf : Conf) (tries : Tries) (why : Stop) (net net_now users users_now : NetTold L) (old new : State) : Type 0 where
+-- Rounds were made until there was a cause to end them: as many as the watch let begin. A trace has this configuration, and these tries to begin one anew were
+-- made before the first round.
+pub record HasGoneRound {L : Type 0} (told : L → LinkTold) (conf : Conf) (tries : Tries) (why : Stop) (net net_now users users_now : NetTold L) (watch watch_now : Watched) (old new : State) : Type 0 where
   pub many : ℕ
   pub kept : Renewed
   pub rounds : AreRounds told conf many (record { tries = tries; anew = None }) kept net net_now users users_now old new
   pub stops : StopsFor why new.core
+  pub watched : watch_now ≡ ended_for why (let_begin many watch)
 
 -- ---- for inner functions
 
 -- the same of a server, and of what its folder tells
-abbrev pub HasMadeRounds : {L : Type 0} → (L → LinkTold) → Conf → Tries → Stop → NetTold L → NetTold L → NetTold L → NetTold L → FolderTold → FolderTold → Server Told L → Server Told L → Type 0
-HasMadeRounds told conf tries why net net_now users users_now folder folder_now old new =
-    HasGoneRound told conf tries why net net_now users users_now (seen told noted folder old) (seen told noted folder_now new)
+abbrev pub HasMadeRounds : {L : Type 0} → (L → LinkTold) → Conf → Tries → Stop → NetTold L → NetTold L → NetTold L → NetTold L → FolderTold → FolderTold → Watched → Watched
+    → Server Told L → Server Told L → Type 0
+HasMadeRounds told conf tries why net net_now users users_now folder folder_now watch watch_now old new =
+    HasGoneRound told conf tries why net net_now users users_now watch watch_now (seen told noted false folder old) (seen told noted false folder_now new)
 
 -- nets are asked again, of the daemon itself
 abbrev pub opened_again : {L : Type 0} → Server Told L → Server Told L

@@ -1,5 +1,5 @@
 -- What each round of a daemon does for those who are there, and for its trace.
-use Rattle.std.specs.Prelude.{◌≡◌, ◌<◌, ◌≤◌, ◌+◌, ℕ, Bool, true, false, Option, Some, None, IfOk, Result, Ok, if◌then◌else◌}
+use Rattle.std.specs.Prelude.{◌≡◌, ◌<◌, ◌≤◌, ◌+◌, ℕ, Option, Some, None, false}
 use Rattle.dl_bytes.specs.Limits.{admitted_limit}
 use Rattle.dl_bytes.specs.declared.conf.Conf.{Conf}
 use Rattle.dl_bytes.specs.declared.moment.Moment.{Moment}
@@ -9,18 +9,15 @@ use Rattle.dl_serve.specs.Open.{IsHeard, Listens}
 use Rattle.dl_serve.specs.Service.{IsClosing, Rounds, ServesRound, Standing, frames_in, nobody}
 use Rattle.dl_serve.specs.declared.beginning.Begun.{Begun}
 use Rattle.dl_serve.specs.declared.closed.Closed.{Closed}
-use Rattle.dl_startup.specs.Setup.{IsBegun}
-use Rattle.dl_startup.specs.Unchanged.{IsUnchanged}
-use Rattle.dl_trace.specs.Made.{HasFailed}
 use Rattle.dl_trace.specs.State.{Trace}
-use Rattle.dl_trace.specs.declared.trace.TraceFault.{TraceFault}
 use Rattle.dl_daemon.specs.declared.limits.Limits.{Limits}
-use Rattle.dl_daemon.specs.declared.renewing.Tries.{Tries}
 use Rattle.dl_daemon.specs.declared.rounds.Stop.{Stop}
 use Rattle.dl_daemon.specs.declared.rounds.Stop.TheVariants.{Asked, Spent}
+use Rattle.dl_daemon.specs.declared.watch.Watched.{Watched}
 use Rattle.dl_daemon.specs.Open.{setting}
-use Rattle.dl_daemon.specs.Renewing.{Renewed, is_try_due, one_try_more, untried}
+use Rattle.dl_daemon.specs.Renewing.{Renewed, Renews, last_anew, untried}
 use Rattle.dl_daemon.specs.Rounds.{turn_frames}
+use Rattle.dl_daemon.specs.Watching.{ended_for, let_begin}
 
 -- What stands between two rounds of a daemon: what stands of a server; the trace, and what the folder tells; and how the trace was kept so far.
 pub record Between (L : Type 0) : Type 0 where
@@ -34,27 +31,6 @@ abbrev pub untouched : {L : Type 0} → NetTold L → NetTold L → Option Trace
 untouched net users trace folder =
     record { standing = nobody net users; trace = trace; folder = folder; renewed = record { tries = untried; anew = None } }
 
--- ---- the trace
-
--- a trace was made
-abbrev pub has_begun : Result (Option Trace) TraceFault → Bool
-has_begun (Ok (Some trace)) = true
-has_begun other = false
-
--- A trace that had ended was tried to be begun anew, over the trace files that stand: it was; or the folder failed, or memory was wanting. No file is to
--- change.
-pub record TriesOnce (conf : Conf) (begun : Bool) (folder folder_now : FolderTold) : Type 0 where
-  pub made : Result (Option Trace) TraceFault
-  pub over : IfOk made (IsBegun conf folder.files)
-  pub cause : HasFailed folder.faults folder_now.faults made
-  pub unchanged : IsUnchanged folder folder_now
-  pub begun_so : begun ≡ has_begun made
-
--- by whether a try is due
-abbrev pub TriesIf : Bool → Conf → Moment → Bool → Tries → Tries → FolderTold → FolderTold → Type 0
-TriesIf true conf moment begun tries tries_now folder folder_now = TriesOnce conf begun folder folder_now × (tries_now ≡ one_try_more moment begun tries)
-TriesIf false conf moment begun tries tries_now folder folder_now = (begun ≡ false) × (tries_now ≡ tries) × (folder_now ≡ folder)
-
 -- ---- a round
 
 -- One round, which began with room for the frames of a turn. Before it a try to begin the trace anew was made where one was due, and else none; where it was
@@ -62,11 +38,12 @@ TriesIf false conf moment begun tries tries_now folder folder_now = (begun ≡ f
 pub record ServesOnce {L : Type 0} (told : L → LinkTold) (conf : Conf) (setting : Setting) (old new : Between L) : Type 0 where
   pub room : frames_in setting old.standing.events + turn_frames ≤ admitted_limit
   pub moment : Moment
-  pub begun : Bool
+  pub begun : Option ℕ
+  pub trace : Option Trace
   pub folder : FolderTold
-  pub tries : TriesIf (is_try_due old.renewed.tries old.trace moment) conf moment begun old.renewed.tries new.renewed.tries old.folder folder
-  pub anew : new.renewed.anew ≡ (if begun then Some (record { folder = old.folder; past = Some old.standing.events }) else old.renewed.anew)
-  pub serves : ServesRound told setting old.standing.net.faults old.standing.users.faults old.standing new.standing
+  pub renews : Renews conf setting.ecu moment begun old.renewed.tries new.renewed.tries old.trace trace old.folder folder
+  pub anew : new.renewed.anew ≡ last_anew begun moment old.folder (Some old.standing.events) old.renewed.anew
+  pub serves : ServesRound told false setting old.standing.net.faults old.standing.users.faults old.standing new.standing
 
 -- why rounds end, by how many frames were admitted: a channel's turn might admit more than may be; or the watch ended them, and none might
 abbrev pub EndsFor : Stop → ℕ → Type 0
@@ -74,9 +51,10 @@ EndsFor Spent frames = admitted_limit < frames + turn_frames
 EndsFor Asked frames = frames + turn_frames ≤ admitted_limit
 
 -- The daemon went on, by what both nets tell before and after it, and the folder before it. First both nets listened, each on its port. Then rounds were made until
--- there was a cause to end them, each of which served who was there. Behind the last of them was the closing. Both nets listen on their ports at the end, too.
+-- there was a cause to end them, as many as the watch let begin, each of which served who was there. Behind the last of them was the closing. Both nets listen on
+-- their ports at the end, too.
 pub record HasGoneOn {L : Type 0} (told : L → LinkTold) (most : Limits) (begun : Begun) (why : Stop) (folder : FolderTold) (net net_now users users_now : NetTold L)
-    (closed : Closed L) (last : Between L) : Type 0 where
+    (watch watch_now : Watched) (closed : Closed L) (last : Between L) : Type 0 where
   pub first_net : NetTold L
   pub first_users : NetTold L
   pub net_heard : IsHeard begun.port net first_net
@@ -84,6 +62,7 @@ pub record HasGoneOn {L : Type 0} (told : L → LinkTold) (most : Limits) (begun
   pub many : ℕ
   pub rounds : Rounds (ServesOnce told begun.conf (setting most begun)) many (untouched first_net first_users begun.trace folder) last
   pub ends : EndsFor why (frames_in (setting most begun) last.standing.events)
+  pub watched : watch_now ≡ ended_for why (let_begin many watch)
   pub net_last : last.standing.net ≡ net_now
   pub users_last : last.standing.users ≡ users_now
   pub closing : IsClosing told (setting most begun) last.standing closed

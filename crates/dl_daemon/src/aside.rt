@@ -12,7 +12,7 @@ use std::alloc::Global;
 pub const BAD_NAME: &str = "dlt_stored.cfg.bad";
 
 /// What is wrong with a stored configuration.
-#[derive(Clone, Copy, Debug, PartialEq, Eq)]
+#[derive(Clone, Copy, PartialEq, Eq)]
 pub struct BadStored {
     /// The number of the first line at fault, counted from 1; 0 for the whole text.
     pub line: u32,

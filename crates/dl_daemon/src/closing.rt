@@ -1,6 +1,6 @@
 //! The closing of a daemon, and what is left of it.
 
-ghost use Rattle.std.specs.Prelude.{IfOk};
+ghost use Rattle.std.specs.Prelude.{IfOk, false};
 ghost use Rattle.dl_server.specs.Server.{IsServer};
 ghost use Rattle.dl_server.specs.State.{seen};
 ghost use Rattle.dl_daemon.specs.Left.{ClosesTo, IsOf, closed_of};
@@ -50,7 +50,7 @@ pub fn close<R: Wait, L: Link, F: Folder>(
 where
     L: Drop,
     requires server { IsServer L.told server }
-    ensures { IfOk result (ClosesTo L.told moment (seen L.told noted (F.told folder.old) server) (F.told folder.new)) }
+    ensures { IfOk result (ClosesTo L.told moment (seen L.told noted false (F.told folder.old) server) (F.told folder.new)) }
 {
     let mut server = server;
     match server.close(rt, moment, folder) {

@@ -1,13 +1,15 @@
 //! What a daemon counts, read off what it is.
 
-ghost use Rattle.std.specs.Prelude.{◌≡◌, length};
-ghost use Rattle.dl_daemon.specs.Figures.{figures_of, files_of, has_ended, sum_of};
+ghost use Rattle.std.specs.Prelude.{◌≡◌, ◌++◌, ◌∷◌, [], length, List, Option};
+ghost use Rattle.dl_channel.specs.declared.outcome.ChannelEnd.{ChannelEnd};
+ghost use Rattle.dl_daemon.specs.Figures.{ends_in, figures_of, files_of, has_ended, sum_of};
 
-use crate::figures::{Figures, Passed};
+use crate::figures::{ChannelEnds, Figures, Passed};
 use dl_bytes::{TraceFile, TraceState};
+use dl_channel::ChannelEnd;
 use dl_channel_turns::open_clients;
 use dl_core::Core;
-use dl_events::Unkept;
+use dl_events::{Unkept, counted};
 use dl_outside::Link;
 use dl_server::Server;
 use dl_socket::Channels;
@@ -22,6 +24,46 @@ fn open_channels(channels: &Channels) -> usize
         count += 1;
     }
     count
+}
+
+impl ChannelEnds {
+    /// None has ended.
+    fn none() -> ChannelEnds
+        ensures { result ≡ ends_in [] }
+    {
+        ChannelEnds {
+            left: 0,
+            broken: 0,
+            bad: 0,
+            slow: 0,
+            no_memory: 0,
+        }
+    }
+
+    /// These, and one more channel that has ended so, or has not.
+    #[tactic(auto, using(dl_events::proofs::Closed::counted_more))]
+    fn with(self, end: Option<ChannelEnd>) -> ChannelEnds
+        ensures { (ends : List (Option ChannelEnd)) → self ≡ ends_in ends → result ≡ ends_in (ends ++ end ∷ []) }
+    {
+        ChannelEnds {
+            left: counted(self.left, matches!(end, Some(ChannelEnd::Left))),
+            broken: counted(self.broken, matches!(end, Some(ChannelEnd::Broken))),
+            bad: counted(self.bad, matches!(end, Some(ChannelEnd::Bad(_)))),
+            slow: counted(self.slow, matches!(end, Some(ChannelEnd::Slow))),
+            no_memory: counted(self.no_memory, matches!(end, Some(ChannelEnd::NoMemory))),
+        }
+    }
+}
+
+/// How many of these channels have ended, by cause.
+fn ends_in(ends: &[Option<ChannelEnd>]) -> ChannelEnds
+    ensures { result ≡ ends_in ends.now }
+{
+    let mut counts = ChannelEnds::none();
+    for end in ends {
+        counts = counts.with(*end);
+    }
+    counts
 }
 
 /// How many bytes trace files have together, at most 2^64 - 1.
@@ -66,8 +108,11 @@ pub fn figures_of<L: Link>(server: &Server<Unkept, L>, passed: Passed) -> Figure
     Figures {
         clients: server.clients.len(),
         open_clients: open_clients(hub),
+        closes: server.journal.closes(),
+        untaken: hub.untaken(),
         channels: server.programs.len(),
         open_channels: open_channels(&server.channels) as u64,
+        ends: ends_in(&server.ends),
         frames: hub.admitted(),
         waiting: backlog.bytes,
         refused: backlog.refused,
@@ -78,6 +123,7 @@ pub fn figures_of<L: Link>(server: &Server<Unkept, L>, passed: Passed) -> Figure
         bytes: sum_of(files),
         renewed: passed.renewed,
         taken: passed.taken,
+        unstored: passed.unstored.saturating_add(server.core.unstored()),
         ended: has_ended(&server.core),
     }
 }

@@ -82,7 +82,7 @@ pub fn why_links_were_dropped<L: Link>()
 pub fn how_each_round_serves<L: Link>()
     ensures { (most : Limits) (begun : Begun) (old new : Outside L) (why : Stop) (closed : Closed L) (first : FolderTold)
         → IsBegun begun.conf first.files begun.trace → (has : HasOpened L.told most begun why old new closed) → (last : Between L)
-        × (last.renewed ≡ has.run.served.kept) × HasGoneOn L.told most begun why old.folder old.net new.net old.users new.users closed last }
+        × (last.renewed ≡ has.run.served.kept) × HasGoneOn L.told most begun why old.folder old.net new.net old.users new.users old.watch new.watch closed last }
 {
     dl_rounds::laws::a_round_is_its_events::<L>();
     dl_rounds::laws::why_clients_stay();

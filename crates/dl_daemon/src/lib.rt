@@ -26,7 +26,8 @@ mod watch;
 
 pub use aside::{BAD_NAME, BadStored, set_aside};
 pub use counting::figures_of;
-pub use figures::{Figures, Passed};
+pub use dl_server::Server;
+pub use figures::{ChannelEnds, Figures, Passed};
 pub use left::Left;
 pub use limits::Limits;
 pub use line::status_line;
@@ -37,4 +38,4 @@ pub use program::{USAGE, keep};
 pub use renewing::{Renewal, Tries};
 pub use rounds::{Stop, go_round};
 pub use teller::Teller;
-pub use watch::Watch;
+pub use watch::{Watch, Watched};

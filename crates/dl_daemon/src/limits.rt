@@ -4,7 +4,7 @@ ghost use Rattle.std.specs.Prelude.{◌≡◌};
 ghost use Rattle.dl_daemon.specs.Limits.{limits};
 
 /// How many clients and channels may come. Who comes beyond that is let go, and counted.
-#[derive(Clone, Copy, Debug, PartialEq, Eq)]
+#[derive(Clone, Copy, PartialEq, Eq)]
 pub struct Limits {
     /// The most clients in all.
     pub clients: u32,

@@ -63,8 +63,8 @@ fn keep_opened<R: Wait, F: Folder, N: Net, C: Clock, W: Watch>(
 where
     N::L: Drop,
     requires server { IsServer N.L.told opened.server }
-    ensures { let s = seen F.told N.told in EndsWith N.L.told opened.renewal.conf opened.renewal.tries opened.server
-        (s folder.old net.old users.old) (s folder.new net.new users.new) result.status result.left }
+    ensures { let s = seen F.told N.told W.watched in EndsWith N.L.told opened.renewal.conf opened.renewal.tries opened.server
+        (s folder.old net.old users.old watch.old) (s folder.new net.new users.new watch.new) result.status result.left }
 {
     let Opened {
         mut server,
@@ -105,8 +105,8 @@ fn keep_begun<R: Wait, F: Folder, N: Net, C: Clock, W: Watch>(
 where
     N::L: Drop,
     requires { IfSome begun.trace (IsMade begun.conf) }
-    ensures { let s = seen F.told N.told in EndsBegun N.L.told limits begun
-        (s folder.old net.old users.old) (s folder.new net.new users.new) result.status result.left }
+    ensures { let s = seen F.told N.told W.watched in EndsBegun N.L.told limits begun
+        (s folder.old net.old users.old watch.old) (s folder.new net.new users.new watch.new) result.status result.left }
 {
     let opened = match open(alloc, limits, begun) {
         Ok(opened) => opened,
@@ -131,8 +131,8 @@ fn keep_words<R: Wait, F: Folder, N: Net, C: Clock, W: Watch>(
 ) -> Outcome<N::L>
 where
     N::L: Drop,
-    ensures { let s = seen F.told N.told in Ended N.L.told (map string_bytes words.now)
-        (s folder.old net.old users.old) (s folder.new net.new users.new) result.status result.left }
+    ensures { let s = seen F.told N.told W.watched in Ended N.L.told (map string_bytes words.now)
+        (s folder.old net.old users.old watch.old) (s folder.new net.new users.new watch.new) result.status result.left }
 {
     what_was_kept_is_its_journal::<N::L>();
     what_programs_sent_is_admitted::<N::L>();
@@ -180,8 +180,8 @@ pub fn keep<R: Wait, F: Folder, N: Net, C: Clock, W: Watch, E: Sink>(
 ) -> Outcome<N::L>
 where
     N::L: Drop,
-    ensures { let s = seen F.told N.told in Keeps N.L.told E.told (map string_bytes words.now)
-        (s folder.old net.old users.old) (s folder.new net.new users.new) err.old err.new result.status result.left }
+    ensures { let s = seen F.told N.told W.watched in Keeps N.L.told E.told (map string_bytes words.now)
+        (s folder.old net.old users.old watch.old) (s folder.new net.new users.new watch.new) err.old err.new result.status result.left }
 {
     an_end_is_a_keeping::<N::L>();
     let ended = keep_words(rt, alloc, words, folder, net, users, clock, watch);

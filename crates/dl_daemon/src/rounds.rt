@@ -3,6 +3,7 @@
 ghost use Rattle.std.specs.Prelude.{◌≡◌, IfSome, None};
 ghost use Rattle.dl_server.specs.Server.{IsServer};
 ghost use Rattle.dl_daemon.specs.Rounds.{HasMadeRounds, HasRoom, StopsFor, opened_again};
+ghost use Rattle.dl_daemon.specs.Watching.{asked_once};
 
 use crate::figures::Passed;
 use crate::renewing::Renewal;
@@ -29,6 +30,7 @@ fn stops<L: Link, W: Watch>(
     moment: Moment,
     watch: &mut W,
 ) -> Option<Stop>
+    ensures watched { W.watched watch.new ≡ asked_once result (W.watched watch.old) }
     ensures stops { IfSome result (λ why. StopsFor why server.now.core) }
     ensures room { result ≡ None → HasRoom server.now.core }
 {
@@ -50,12 +52,21 @@ fn ask_again<L>(server: &mut Server<Unkept, L>)
 }
 
 /// What has passed so far.
-fn passed<N: Net>(net: &N, users: &N, renewal: &Renewal) -> Passed {
+fn passed<N: Net>(net: &N, users: &N, renewal: &Renewal) -> Passed
+    ensures { result ≡ record {
+      client_faults = (N.told net.now).faults;
+      program_faults = (N.told users.now).faults;
+      renewed = renewal.now.tries.renewed;
+      taken = 0;
+      unstored = renewal.now.tries.unstored;
+    } }
+{
     Passed {
         client_faults: net.faults(),
         program_faults: users.faults(),
         renewed: renewal.tries.renewed,
         taken: 0,
+        unstored: renewal.tries.unstored,
     }
 }
 
@@ -75,7 +86,7 @@ where
     N::L: Drop,
     requires server { IsServer N.L.told server.old }
     ensures rounds { HasMadeRounds N.L.told renewal.old.conf renewal.old.tries result (N.told net.old) (N.told net.new) (N.told users.old) (N.told users.new)
-        (F.told folder.old) (F.told folder.new) server.old server.new }
+        (F.told folder.old) (F.told folder.new) (W.watched watch.old) (W.watched watch.new) server.old server.new }
     ensures server { IsServer N.L.told server.new }
 {
     for _round in rt.forever() {

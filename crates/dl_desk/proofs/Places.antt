@@ -20,14 +20,6 @@ module _ {A : Type 0} where
     put (y ∷ ys) zero x e = let is : new ≡ x = cc in subst P is holds
     put (y ∷ ys) (suc p) x e = put ys p x e
 
-  -- the entry that is read is the one at its place
-  pub at_read : (P : A → Type 0) (xs : List A) (at place : ℕ) (here : A) → at ≡ place → place < length xs → here ≡ get_or xs at here → At xs place P → P here
-  at_read P xs at place here same within is holds = read xs place within (is ∙ ap (λ p. get_or xs p here) same) holds where
-    read : (ys : List A) (p : ℕ) → p < length ys → here ≡ get_or ys p here → At ys p P → P here
-    read [] p within is holds = absurd (omega (arith, within))
-    read (y ∷ ys) zero within is holds = subst P (sym is) (holds y refl)
-    read (y ∷ ys) (suc p) within is holds = read ys p (omega (arith, within)) is holds
-
   -- and what holds of the entry that is read holds at its place
   pub at_here : (P : A → Type 0) (xs : List A) (at place : ℕ) (here : A) → at ≡ place → here ≡ get_or xs at here → P here → At xs place P
   at_here P xs at place here same is holds = read xs place (is ∙ ap (λ p. get_or xs p here) same) where
@@ -63,14 +55,6 @@ module _ {A : Type 0} where
   map-changed_at g zero f (x ∷ xs) same = ap (λ y. y ∷ map g xs) (same x)
   map-changed_at g (suc place) f (x ∷ xs) same = ap (λ ys. g x ∷ ys) (map-changed_at g place f xs same)
 
-  -- what holds of each place after a change of one
-  pub at_changed : (P : ℕ → A → Type 0) (place : ℕ) (f : A → A) (xs : List A) → At xs place (λ x. P place (f x)) → ((n : ℕ) → n ≢ place → At xs n (P n)) → (n : ℕ) → At (changed_at place f xs) n (P n)
-  at_changed P place f [] here others n x e = absurd cc
-  at_changed P zero f (y ∷ xs) here others zero x e = let is : f y ≡ x = cc in subst (P 0) is (here y refl)
-  at_changed P zero f (y ∷ xs) here others (suc n) x e = others (suc n) (λ same. omega (arith, same)) x e
-  at_changed P (suc place) f (y ∷ xs) here others zero x e = others 0 (λ same. omega (arith, same)) x e
-  at_changed P (suc place) f (y ∷ xs) here others (suc n) x e = at_changed (λ k. P (suc k)) place f xs here (λ k apart. others (suc k) (λ same. apart (omega (arith, same)))) n x e
-
   -- and with one put there
   pub at_set : (P : ℕ → A → Type 0) (xs : List A) (at place : ℕ) (new : A) → at ≡ place → P place new → ((n : ℕ) → n ≢ place → At xs n (P n)) → (n : ℕ) → At (set xs at new) n (P n)
   at_set P xs at place new same here others = subst (λ (p : ℕ). (n : ℕ) → At (set xs p new) n (P n)) (sym same) (put P xs place here others) where
@@ -80,12 +64,6 @@ module _ {A : Type 0} where
     put Q (y ∷ ys) zero here others (suc n) x e = others (suc n) (λ same. omega (arith, same)) x e
     put Q (y ∷ ys) (suc p) here others zero x e = others 0 (λ same. omega (arith, same)) x e
     put Q (y ∷ ys) (suc p) here others (suc n) x e = put (λ k. Q (suc k)) ys p here (λ k apart. others (suc k) (λ same. apart (omega (arith, same)))) n x e
-
-  -- what is known of a changed entry
-  pub of_changed : (P : A → Type 0) (place : ℕ) (f : A → A) (xs : List A) → At (changed_at place f xs) place P → At xs place (λ x. P (f x))
-  of_changed P place f [] holds x e = absurd cc
-  of_changed P zero f (y ∷ xs) holds x e = let is : y ≡ x = cc in subst (λ (z : A). P (f z)) is (holds (f y) refl)
-  of_changed P (suc place) f (y ∷ xs) holds x e = of_changed P place f xs holds x e
 
   -- an entry that is there
   pub there : (xs : List A) (at place : ℕ) (d : A) → at ≡ place → place < length xs → slice_get xs place ≡ Some (get_or xs at d)
@@ -107,15 +85,6 @@ module _ {A : Type 0} where
   changed_keeps P zero (suc n) f (y ∷ xs) keeps holds x e = holds x e
   changed_keeps P (suc place) zero f (y ∷ xs) keeps holds x e = holds x e
   changed_keeps P (suc place) (suc n) f (y ∷ xs) keeps holds x e = changed_keeps P place n f xs keeps holds x e
-
-  -- a changed entry that is put back, as it was read
-  pub set_read : (xs : List A) (at place : ℕ) (f : A → A) (d new : A) → at ≡ place → new ≡ f (get_or xs at d) → set xs at new ≡ changed_at place f xs
-  set_read xs at place f d new same made =
-      subst (λ (p : ℕ). set xs p new ≡ changed_at place f xs) (sym same) (put xs place (made ∙ ap (λ p. f (get_or xs p d)) same)) where
-        put : (ys : List A) (p : ℕ) → new ≡ f (get_or ys p d) → set ys p new ≡ changed_at p f ys
-        put [] p is = refl
-        put (y ∷ ys) zero is = ap (λ z. z ∷ ys) is
-        put (y ∷ ys) (suc p) is = ap (λ zs. y ∷ zs) (put ys p is)
 
   -- what a part of each entry is at a place
   pub mapped_at : {B : Type 0} (g : A → B) (xs : List A) (n : ℕ) (y : B) → slice_get (map g xs) n ≡ Some y → At xs n (λ x. y ≡ g x)

@@ -1,3 +1,4 @@
 pub mod Journal
 pub mod Records
+pub mod Closes
 pub mod Told

@@ -7,7 +7,7 @@ use dl_bytes::{Claim, Sequence};
 use std::marker::Model;
 
 /// The claims of at most 32 writers, by the writers' numbers. It takes no memory beside the lists that it is given.
-#[derive(Debug, Drop)]
+#[derive(Drop)]
 pub struct ClaimList {
     writers: ArrayVec<Option<Sequence<Claim>>, 32>,
 }

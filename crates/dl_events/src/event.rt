@@ -3,7 +3,7 @@
 use dl_bytes::{Bytes, Claim, Done, Level, Moment, UserMsg};
 
 /// Why a client's connection ended.
-#[derive(Clone, Copy, Debug, PartialEq, Eq)]
+#[derive(Clone, Copy, PartialEq, Eq)]
 pub enum Why {
     /// The client left.
     Left,
@@ -32,7 +32,7 @@ pub enum Why {
 }
 
 /// One thing that the daemon did, in the order of the journal.
-#[derive(Debug, Drop)]
+#[derive(Drop)]
 pub enum Event {
     /// It took a log call from an application's ring, and admitted its frame.
     Log {

@@ -1,6 +1,6 @@
 //! The journal: the one list of all that the daemon did.
 
-ghost use Rattle.std.specs.Prelude.{◌≡◌, ◌<◌, ◌≤◌, ◌-◌, ◌+◌, ◌++◌, ◌∷◌, [], List, ℕ, Option, Some, None, OnOk, OnErr, IsOk, length};
+ghost use Rattle.std.specs.Prelude.{Bool, true, false, ◌≡◌, ◌<◌, ◌≤◌, ◌-◌, ◌+◌, ◌++◌, ◌∷◌, [], List, ℕ, Option, Some, None, OnOk, OnErr, IsOk, length};
 ghost use Rattle.dl_events.specs.Journal.{Adds, one_more};
 ghost use Rattle.dl_events.specs.declared.event.Event.{Event};
 
@@ -20,13 +20,17 @@ pub trait Journal {
     /// How many more events it can take with no memory.
     ghost spare: { Self → ℕ };
 
+    /// Whether memory may be wanting for room.
+    ghost may_want: { Bool };
+
     /// Makes room for this many events.
     fn reserve(&mut self, more: u64) -> Result<(), OutOfMemory>
         ensures events { events self.new ≡ events self.old }
         ensures noted { noted self.new ≡ noted self.old }
         ensures room { OnOk result (more ≤ spare self.new) }
         ensures later { spare self.old ≤ spare self.new }
-        ensures refused { OnErr result (spare self.new ≡ spare self.old) };
+        ensures refused { OnErr result (spare self.new ≡ spare self.old) }
+        ensures wanted { OnErr result (may_want ≡ true) };
 
     /// Adds an event at the end.
     fn note(&mut self, event: Event)
@@ -41,7 +45,7 @@ pub trait Journal {
 }
 
 /// A journal that keeps its events.
-#[derive(Debug, Drop)]
+#[derive(Drop)]
 pub struct Kept {
     events: Vec<Event>,
     spare: u64,
@@ -84,6 +88,8 @@ impl Journal for Kept {
 
     ghost spare = { λ k. k.spare };
 
+    ghost may_want = { true };
+
     fn reserve(&mut self, more: u64) -> Result<(), OutOfMemory> {
         if self.spare < more {
             self.events.reserve(more as usize)?;
@@ -103,7 +109,7 @@ impl Journal for Kept {
 }
 
 /// A journal that keeps the number of its events alone, and never wants memory.
-#[derive(Debug, Drop)]
+#[derive(Drop)]
 pub struct Counted {
     /// How many events were noted.
     noted: u64,
@@ -140,6 +146,8 @@ impl Journal for Counted {
     ghost noted = { λ c. c.noted };
 
     ghost spare = { λ c. c.spare };
+
+    ghost may_want = { false };
 
     fn reserve(&mut self, more: u64) -> Result<(), OutOfMemory>
         ensures noted { self.new.noted ≡ self.old.noted }

@@ -1,7 +1,7 @@
 //! What happened: the events of the daemon, the records of log calls, and the journals that take the events.
 //!
 //! [`Kept`] keeps its events, [`Counted`] as many as it has room for. [`Unkept`] is for a daemon that runs for months: it keeps no event, only
-//! how many there were, and never wants memory. In proofs it tells all events that were noted, so laws on journals that tell their events
+//! how many there were and how clients went, and never wants memory. In proofs it tells all events that were noted, so laws on journals that tell their events
 //! hold of it.
 //!
 //! What must be believed: its list of events is data of proofs alone, and nothing but its length is tied to memory. So a clause on that list
@@ -11,6 +11,7 @@
 #![tactic(auto)]
 
 mod claim_list;
+mod closes;
 mod event;
 mod journal;
 mod log;
@@ -18,6 +19,7 @@ mod record;
 mod unkept;
 
 pub use claim_list::ClaimList;
+pub use closes::{Closes, counted};
 pub use dl_bytes::Done;
 pub use event::{Event, Why};
 pub use journal::{Counted, Journal, Kept};

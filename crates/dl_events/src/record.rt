@@ -7,7 +7,7 @@ use dl_bytes::{Item, Level, Sequence};
 use std::marker::Model;
 
 /// What became of a log call.
-#[derive(Clone, Copy, Debug, PartialEq, Eq)]
+#[derive(Clone, Copy, PartialEq, Eq)]
 pub enum Answer {
     /// Its severity was above the level that its context held.
     Filtered,
@@ -18,7 +18,7 @@ pub enum Answer {
 }
 
 /// A log call, the level that it met, and its answer.
-#[derive(Debug, Drop)]
+#[derive(Drop)]
 pub struct Record {
     /// The call. In a filtered one the message counter is the one that the next passing call will have.
     pub item: Item,
@@ -33,7 +33,7 @@ pub struct Record {
 }
 
 /// The records of at most 32 writers, by the writers' numbers. It takes no memory beside the lists that it is given.
-#[derive(Debug, Drop)]
+#[derive(Drop)]
 pub struct RecordList {
     writers: ArrayVec<Option<Sequence<Record>>, 32>,
 }

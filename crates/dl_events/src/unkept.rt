@@ -1,28 +1,36 @@
 //! The journal, and how it takes an event.
 
-ghost use Rattle.std.specs.Prelude.{◌≡◌, ◌≤◌, [], Some, IsOk};
+ghost use Rattle.std.specs.Prelude.{◌≡◌, ◌≤◌, false, [], Some, IsOk};
+ghost use Rattle.dl_events.specs.Closes.{closes_in};
 ghost use Rattle.dl_events.specs.Told.{Told, count};
 
+use crate::closes::Closes;
 use crate::log::Log;
 use crate::{Event, Journal};
 use dl_bytes::OutOfMemory;
 use std::marker::Model;
 
-/// A journal that keeps the number of its events alone, never wants memory, and tells its events in proofs.
+/// A journal that keeps no event, but how many there were and how clients went. It never wants memory, and tells its events in proofs.
 #[derive(Drop)]
 pub struct Unkept {
     /// How many events were noted.
     noted: u64,
+    /// How clients went.
+    closes: Closes,
     spare: u64,
     log: Log,
 }
 
 impl Model for Unkept {
+    ghost use Rattle.std.specs.Prelude.{◌≡◌};
+    ghost use Rattle.dl_events.specs.Closes.{closes_in};
+    ghost use Rattle.dl_events.specs.Told.{Told, count};
+
     ghost Value = { Told };
 
     ghost view = { λ u. record { events = u.log.events; noted = u.noted; spare = u.spare } };
 
-    ghost invariant = { λ u. u.noted ≡ count u.log.events };
+    ghost invariant = { λ u. (u.noted ≡ count u.log.events) × (u.closes ≡ closes_in u.log.events) };
 }
 
 impl Unkept {
@@ -32,6 +40,7 @@ impl Unkept {
     {
         Unkept {
             noted: 0,
+            closes: Closes::none(),
             spare: 0,
             log: Log::new(),
         }
@@ -44,6 +53,13 @@ impl Unkept {
     {
         self.noted
     }
+
+    /// How many clients were closed, by cause.
+    pub fn closes(&self) -> Closes
+        ensures { result ≡ closes_in self.now.events }
+    {
+        self.closes
+    }
 }
 
 impl Journal for Unkept {
@@ -52,6 +68,8 @@ impl Journal for Unkept {
     ghost noted = { λ u. u.noted };
 
     ghost spare = { λ u. u.spare };
+
+    ghost may_want = { false };
 
     fn reserve(&mut self, more: u64) -> Result<(), OutOfMemory>
         ensures events { self.new.events ≡ self.old.events }
@@ -65,6 +83,9 @@ impl Journal for Unkept {
     }
 
     fn note(&mut self, event: Event) {
+        if let Event::Close { why, .. } = &event {
+            self.closes = self.closes.with(*why);
+        }
         self.log = self.log.and(&event);
         self.noted = self.noted.saturating_add(1);
         self.spare -= 1;

@@ -6,7 +6,7 @@ use Rattle.dl_call_timeline.specs.declared.call.Call.{Call}
 use Rattle.dl_fates.specs.declared.call.CallAt.{CallAt}
 use Rattle.dl_events.specs.declared.event.Event.{Event}
 use Rattle.dl_events.specs.declared.record.Record.{Record}
-use Rattle.dl_laws.proofs.Lists.{along-one}
+use Rattle.dl_model.proofs.Lists.{along-one}
 use Rattle.dl_model.specs.Along.{along}
 use Rattle.dl_model.specs.Frames.{FrameSource}
 use Rattle.dl_model.specs.WholeAccounts.{record_named}

@@ -21,8 +21,8 @@ use Rattle.dl_model.specs.Setting.{Setting}
 use Rattle.dl_model.specs.Traffic as t
 use Rattle.dl_model.specs.Traffic.{Traffic, Admitted, Connected, Reply, is_any_open}
 use Rattle.dl_model.specs.WholeAccounts.{source_of_records}
-use Rattle.dl_laws.proofs.ClientStreams.{is_open-one}
-use Rattle.dl_laws.proofs.Lists.{along-one, along_from-append}
+use Rattle.dl_model.proofs.ClientStreams.{is_open-one}
+use Rattle.dl_model.proofs.Lists.{along-one, along_from-append}
 use Rattle.dl_laws.specs.Fates.{Fate, BufferFull, ForOthers, InStream, next_client, of_frame}
 use Rattle.dl_laws.specs.Fates as law
 use Rattle.dl_laws.proofs.ClientStays.{opened-one}

@@ -10,7 +10,7 @@ use Rattle.std.proofs.lemmas.List.Sums.{sum_by-cons, sum_by-append}
 use Rattle.dl_lemmas.proofs.Bools.{or_right}
 use Rattle.dl_model.specs.Backlog.{size_of}
 use Rattle.dl_model.specs.TraceFiles.{StoredFile, greatest, kept, numbered, rotated, total_size}
-use Rattle.dl_laws.proofs.Rotation.{length-concat}
+use Rattle.dl_model.proofs.Rotation.{length-concat}
 use Rattle.dl_fates.specs.FilePlaces.{has_number}
 use Rattle.dl_fates.specs.Sizes.{going}
 

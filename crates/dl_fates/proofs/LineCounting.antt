@@ -16,7 +16,7 @@ use Rattle.dl_model.specs.Along.{last_that}
 use Rattle.dl_model.specs.Setting.{Setting}
 use Rattle.dl_script_model.specs.Marks.{Call, Mark, Counted, Passed, Queued, Refused, app_of_writer, is_counted_of, is_full, is_step_of, number_of, passed, pending, refused, to_count, to_push}
 use Rattle.dl_script_model.specs.Steps.{Act, act_of, announce, announce_all, begin_call, claim, count, finish, for_some, in_sequence, just, load, on_app, push, take_log, whole_call}
-use Rattle.dl_laws.proofs.Lists.{last_that-one}
+use Rattle.dl_model.proofs.Lists.{last_that-one}
 use Rattle.dl_runs.proofs.Founded.{last_step, passed_is, refused_is, step_one}
 use Rattle.dl_runs.proofs.Relations.{AreAll, holds_on, second_part}
 use Rattle.dl_fates.specs.Lines.{StepAt}

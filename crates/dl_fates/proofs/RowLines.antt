@@ -5,7 +5,7 @@ use Rattle.std.specs.Option.{option_map_or}
 use Rattle.dl_bytes.specs.declared.conf.AppSpec.{AppSpec}
 use Rattle.dl_events.specs.declared.record.Record.{Record}
 use Rattle.dl_model.specs.WholeAccounts.{record_named}
-use Rattle.dl_laws.proofs.Lists.{along-one}
+use Rattle.dl_model.proofs.Lists.{along-one}
 use Rattle.dl_fates.specs.Rows.{is_by, record_at}
 use Rattle.dl_fates.specs.Written.{row_by, rows_by}
 use Rattle.dl_fates.specs.declared.call.CallAt.{CallAt}

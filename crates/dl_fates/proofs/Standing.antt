@@ -7,7 +7,7 @@ use Rattle.std.proofs.lemmas.Bool.{le-ltb, lt-ltb}
 use Rattle.std.proofs.lemmas.List.{append-nil, length-take, take-append-drop, take_all}
 use Rattle.std.proofs.lemmas.List.Folds.{concat-append, list_any-append}
 use Rattle.dl_model.specs.TraceFiles.{StoredFile, closed, greatest, is_spent, kept, made, number_limit, numbered, opened, rotated, segments, trace_files}
-use Rattle.dl_laws.proofs.Rotation.{kept_suffix, segments-all}
+use Rattle.dl_model.proofs.Rotation.{kept_suffix, segments-all}
 use Rattle.dl_fates.specs.FilePlaces.{HasFrame, Says, has_number, left_files, named, place_of, segment_of}
 use Rattle.dl_fates.specs.declared.place.StoredPlace.TheVariants.{InFile, Removed, TraceEnded}
 use Rattle.dl_fates.proofs.LeftFiles.{length-numbered, none_below, numbered-take}

@@ -18,7 +18,7 @@ use Rattle.dl_model.specs.declared.registry.LevelChange.{LevelChange}
 use Rattle.dl_model.specs.Setting.{Setting}
 use Rattle.dl_script_model.specs.Marks.{Mark, Noted, app_of, apps, is_counted_of, is_later, is_lost_of, journal, moment, number_of, pending}
 use Rattle.dl_script_model.specs.Steps.{act_of, changes, for_some, level_noted, note, note_levels, note_levels_now, on_app, take_losses, when}
-use Rattle.dl_laws.proofs.Lists.{after_last-one, count_by-append}
+use Rattle.dl_model.proofs.Lists.{after_last-one, count_by-append}
 use Rattle.dl_runs.proofs.Relations.{AreAll, asked_for, holds_on}
 use Rattle.dl_runs.proofs.KeptIds.{named_id}
 use Rattle.dl_fates.specs.Lines.{StepAt}

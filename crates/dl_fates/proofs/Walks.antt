@@ -29,7 +29,7 @@ use Rattle.dl_model.specs.Registry.{slot_of}
 use Rattle.dl_model.specs.Journal.{slots_of, is_connect, is_close, is_request_of, need_after}
 use Rattle.dl_script_model.specs.Marks.{Call, Mark, HasApp, HasContext, HasWriter, Filtered, Passed, Queued, Refused, Counted, HasClaim, Announced, HeldBack, Noted, Clocked, LevelsWait, Fed, Heard, Answered, Injected, Handed, calls_of, passed_of, passed, refused, is_step_of, named_place, journal, number_of, app_of_writer, to_push, to_count, to_announce, unannounced, Pushed, OfCall, OfClaim, pushes, taken, is_full, is_later, pending, moment_at, moment, is_answer, injections, fed}
 use Rattle.dl_script_model.specs.Steps.{Act, in_sequence, just, for_some, when, changes, level_noted, note_levels, note_levels_now, note, loaded, load, push, count, finish, begin_call, whole_call, claim_made, claim, announce, announce_all, event_taken, take_log, take_losses, is_open, close, close_malformed, connect, served, request_now, ask, new_requests, receive, new_messages, tell, hear, take_injection, on_app, act_of}
-use Rattle.dl_laws.proofs.Lists.{find-passes}
+use Rattle.dl_model.proofs.Lists.{find-passes}
 use Rattle.dl_runs.proofs.Founded.{last_step, passed_is, refused_is}
 use Rattle.dl_runs.proofs.Relations.{AreAll, Keeps, turns, each, and_one, asked_for, where_so, announced}
 

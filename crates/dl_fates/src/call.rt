@@ -14,7 +14,7 @@ use dl_script_model::Step;
 use std::alloc::Global;
 
 /// A log call of a script.
-#[derive(Clone, Copy, Debug, PartialEq, Eq)]
+#[derive(Clone, Copy, PartialEq, Eq)]
 pub struct CallAt {
     /// The number of its line, from 1.
     pub line: u64,

@@ -12,7 +12,7 @@ use dl_script_model::Step;
 use std::alloc::Global;
 
 /// A line of a script that claims a place.
-#[derive(Clone, Copy, Debug, PartialEq, Eq)]
+#[derive(Clone, Copy, PartialEq, Eq)]
 pub struct ClaimAt {
     /// The number of the line, from 1.
     pub line: u64,

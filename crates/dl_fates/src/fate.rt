@@ -1,7 +1,7 @@
 //! What became of a log call, for one client.
 
 /// What became of a log call, for one client.
-#[derive(Clone, Copy, Debug, PartialEq, Eq)]
+#[derive(Clone, Copy, PartialEq, Eq)]
 pub enum Fate {
     /// Its severity was above the level that its context held.
     Filtered,
@@ -29,7 +29,7 @@ pub enum Fate {
 }
 
 /// A log call, by its writer and its number.
-#[derive(Clone, Copy, Debug, PartialEq, Eq, Hash)]
+#[derive(Clone, Copy, PartialEq, Eq, Hash)]
 pub struct CallName {
     /// The writer's number, 1 to 32.
     pub writer: u8,

@@ -23,7 +23,7 @@ use dl_events::Event;
 use dl_report::{Sources, Waiting, admitted_by, note};
 
 /// A client after the events so far.
-#[derive(Clone, Copy, Debug, PartialEq, Eq)]
+#[derive(Clone, Copy, PartialEq, Eq)]
 pub struct Follower {
     /// The client's number.
     pub client: u32,

@@ -1,7 +1,7 @@
 //! Where a stored frame is in the end.
 
 /// Where the stored frame of a log call is in the end.
-#[derive(Clone, Copy, Debug, PartialEq, Eq)]
+#[derive(Clone, Copy, PartialEq, Eq)]
 pub enum StoredPlace {
     /// It stands in a trace file.
     InFile {

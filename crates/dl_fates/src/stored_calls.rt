@@ -26,7 +26,7 @@ const NUMBER_LIMIT: u64 = 999_999;
 const HEADER_FIELDS: u64 = 12;
 
 /// What says into which files frames go.
-#[derive(Clone, Copy, Debug, PartialEq, Eq)]
+#[derive(Clone, Copy, PartialEq, Eq)]
 pub struct Rotation {
     /// The most bytes of one file.
     pub file_size: u32,

@@ -4,7 +4,7 @@ use Rattle.std.specs.Prelude.{IfSome}
 use Rattle.std.proofs.Props.{props}
 use Rattle.std.proofs.lemmas.Bool.{le-ltb}
 use Rattle.std.proofs.lemmas.List.{take_at, drop_at}
-use Rattle.dl_lemmas.proofs.Options.{some_is}
+use Rattle.std.proofs.lemmas.Option.{same_Some}
 use Rattle.dl_bytes.specs.Htyp.{has_ecu, has_session, has_ticks}
 use Rattle.dl_bytes.specs.Number.{At, Gives, bytes_at}
 use Rattle.dl_bytes.specs.declared.cursor.Order.{Order}
@@ -34,7 +34,7 @@ id_again None left bytes order (Some id) rest g there len e =
     absurd cc
 id_again (Some x) left bytes order (Some id) rest g there len e =
     let front = ap (λ (b : List ℕ). bytes_at 4 (record { rest = b; order = order })) e ∙ id_at_front id rest order len in
-    let same = some_is (sym g ∙ front) in
+    let same = same_Some _ _ (sym g ∙ front) in
     (ap (λ (p : List ℕ × At). Some p.0) same, ap (λ (p : List ℕ × At). p.1.rest) same)
 
 -- ids have four bytes

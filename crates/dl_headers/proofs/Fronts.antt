@@ -1,8 +1,7 @@
 -- The four bytes that every standard header begins with: what they say, and that nothing behind them changes it.
 use Rattle.std.proofs.Common.{◌≡◌, ℕ, ◌<◌, ◌≤◌, Bool, true, false, cond, ltb, List, [], ◌∷◌, ◌++◌, length, Option, Some, None, refl, length-append, arith}
 use Rattle.std.specs.Prelude.{not, ◌==◌}
-use Rattle.std.proofs.lemmas.Bool.{ltb-false, le-ltb, lt-ltb, eqb-true}
-use Rattle.dl_lemmas.proofs.Bools.{not_false}
+use Rattle.std.proofs.lemmas.Bool.{ltb-false, le-ltb, lt-ltb, eqb-true, not-false}
 use Rattle.dl_bytes.specs.Htyp.{htyp_of, len_of, version, header_len}
 use Rattle.dl_headers.specs.declared.fault.HeaderFault.TheVariants.{Short, Version, Length}
 use Rattle.dl_headers.specs.Reading.{front_fault}
@@ -22,7 +21,7 @@ good_front bytes e =
     let a = passed (ltb (length bytes) 4) _ _ e in
     let b = passed (not (version (htyp_of bytes) == 1)) _ _ a.1 in
     let c = passed (ltb (len_of bytes) (header_len (htyp_of bytes))) _ _ b.1 in
-    record { long = ltb-false _ _ a.0; version_is = eqb-true (version (htyp_of bytes)) 1 (not_false _ b.0); headers = ltb-false _ _ c.0 }
+    record { long = ltb-false _ _ a.0; version_is = eqb-true (version (htyp_of bytes)) 1 (not-false _ b.0); headers = ltb-false _ _ c.0 }
 
 pub good_again : (bytes : List ℕ) → GoodFront bytes → front_fault bytes ≡ None
 good_again bytes good =

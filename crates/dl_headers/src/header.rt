@@ -8,7 +8,7 @@ use dl_bytes::{Htyp, Id};
 
 /// The standard header, with which every message begins. Its optional fields are there exactly where the bits of
 /// HTYP say so.
-#[derive(Clone, Copy, Debug)]
+#[derive(Clone, Copy)]
 pub struct Standard {
     /// HTYP: which parts there are, the byte order of the payload, and the version.
     pub htyp: u8,
@@ -28,7 +28,7 @@ pub struct Standard {
 }
 
 /// The extended header, of a log or control message.
-#[derive(Clone, Copy, Debug)]
+#[derive(Clone, Copy)]
 pub struct Extended {
     /// MSIN: the kind of message, with its severity or its direction.
     pub msin: u8,
@@ -51,7 +51,7 @@ impl Extended {
 }
 
 /// The four bytes that every standard header begins with.
-#[derive(Clone, Copy, Debug)]
+#[derive(Clone, Copy)]
 pub struct Front {
     /// HTYP: which parts there are, the byte order of the payload, and the version.
     pub htyp: Htyp,

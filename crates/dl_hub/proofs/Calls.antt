@@ -15,7 +15,7 @@ use Rattle.dl_control.specs.Reply.{daemon_apid, daemon_ctid}
 use Rattle.dl_model.specs.Overflow.{counters, overflow_frames}
 use Rattle.dl_model.specs.Backlog.{outbox_limit, size_of, waiting, fitting, refused, due_backlog}
 use Rattle.dl_model.specs.Traffic.{Connected, Admitted, Reply, Closed}
-use Rattle.dl_laws.proofs.Rotation.{length-concat}
+use Rattle.dl_model.proofs.Rotation.{length-concat}
 use Rattle.dl_hub.specs.State.{Client, Waiting, Stored, Hub, hub_of, stored, emptied, added, with_frame, with_reply, without, shut, is_open, is_any_open, client_of, outbox_of, HasRoom, EachHasRoom, changed}
 use Rattle.dl_hub.specs.Kept.{Fits, IsBounded, IsFree, places_of}
 use Rattle.dl_hub.specs.Overflow.{came, left_over}
@@ -52,25 +52,6 @@ written n xs ys is same =
     rw (nothing, append-nil ys, all) (take_all (length ys) ys (omega arith))
 
 module _ (ecu : List ℕ) (store : Stored) (limit : ℕ) (clients : List Client) (n : ℕ) (free : List Waiting) (fits : Fits (hub_of ecu store limit clients n) free) where
-  -- ---- the size of outboxes
-  pub limits : (now : Hub) (number : ℕ) → hub_of ecu store limit clients n ≡ now
-      → IfSome (client_of now number) (λ c. IfSome c.outbox (λ outbox. outbox.capacity ≡ outbox_limit now.buffer))
-  limits now number e = subst (λ hub. IfSome (client_of hub number) (λ c. IfSome c.outbox (λ outbox. outbox.capacity ≡ outbox_limit hub.buffer))) e (by_number (eqb number 0)) where
-    size : (c : Client) → IsBounded store.ring.capacity n c → IfSome c.outbox (λ outbox. outbox.capacity ≡ outbox_limit store.ring.capacity)
-    size c bounded = of c.outbox bounded.outbox where
-      of : (o : Option Waiting) → IfSome o (λ outbox. (outbox.capacity ≡ outbox_limit store.ring.capacity) × (length outbox.bytes ≤ outbox_limit store.ring.capacity))
-          → IfSome o (λ outbox. outbox.capacity ≡ outbox_limit store.ring.capacity)
-      of None h = tt {0}
-      of (Some w) h = h.0
-
-    of_client : (o : Option Client) → slice_get clients (number - 1) ≡ o → IfSome o (λ c. IfSome c.outbox (λ outbox. outbox.capacity ≡ outbox_limit store.ring.capacity))
-    of_client None is = tt {0}
-    of_client (Some c) is = size c (bounded-at ecu store limit clients n free (number - 1) c fits is)
-
-    by_number : (b : Bool) → IfSome (cond b None (slice_get clients (number - 1))) (λ c. IfSome c.outbox (λ outbox. outbox.capacity ≡ outbox_limit store.ring.capacity))
-    by_number true = tt {0}
-    by_number false = of_client (slice_get clients (number - 1)) refl
-
   -- ---- a reply
   pub reply-all : (now : Hub) (number : ℕ) (frame : List ℕ) (c d : Client) → hub_of ecu store limit clients n ≡ now → c ≡ get_or clients (number - 1) d
       → HasRoom (length frame) now number → length frame ≤ 65535 → IsSomeAnd (client_of now number) (λ x. x.replies < 1000)

@@ -19,10 +19,10 @@ use Rattle.dl_model.specs.Traffic as traffic
 use Rattle.dl_model.specs.Traffic.{Traffic, Connected, Admitted, Reply, Closed, comer_of, frame_of, comes_or_goes, is_coming, is_going, clients, admitted_in}
 use Rattle.dl_model.specs.Backlog.{size_of, waiting, fitting, refused, due_backlog}
 use Rattle.dl_model.specs.ClientStream.{put, sent}
-use Rattle.dl_laws.proofs.Lists.{along-one}
+use Rattle.dl_model.proofs.Lists.{along-one}
 use Rattle.std.proofs.Math.Nat.{eq-zero-or-pos}
-use Rattle.dl_laws.proofs.ClientStreams.{fitting-one, is_open-one, same_number, waiting-comes, waiting-goes, waiting-admit, waiting-reply}
-use Rattle.dl_laws.proofs.Rotation.{length-concat}
+use Rattle.dl_model.proofs.ClientStreams.{fitting-one, is_open-one, same_number, waiting-comes, waiting-goes, waiting-admit, waiting-reply}
+use Rattle.dl_model.proofs.Rotation.{length-concat}
 use Rattle.dl_hub.specs.State as state
 use Rattle.dl_hub.specs.State.{Client, Waiting, Stored, Hub, stored, keeps, added, with_frame, with_reply, without, consumed, bytes_before, shut}
 use Rattle.dl_hub.specs.Follows.{IsAfter, IsStream, IsBacklog, is_reply_to, took_more}

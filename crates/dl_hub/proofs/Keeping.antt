@@ -1,12 +1,12 @@
 -- What keeps the hub within its bounds.
 use Rattle.std.proofs.Common.{◌≡◌, ℕ, ◌+◌, ◌-◌, ◌^◌, ◌≤◌, ◌<◌, ◌⊎◌, inl, inr, Bool, true, false, cond, eqb, leb, get_or, List, [], ◌∷◌, ◌++◌, length, map, Option, Some, None, refl, sym, ◌∙◌, length-append, length-drop, subst, suc, zero, arith}
-use Rattle.std.specs.Prelude.{count_by, slice_get, slice_set, IfSome, IsSome, IsTrue, nat_lt, nat_le, ◌||◌, ◌&&◌}
+use Rattle.std.specs.Prelude.{count_by, sum_by, slice_get, slice_set, IfSome, IsSome, IsTrue, nat_lt, nat_le, ◌||◌, ◌&&◌}
 use Rattle.std.specs.List.{All, list_any, list_all}
 use Rattle.std.specs.Option.{option_and_then, option_map_or}
 use Rattle.std.proofs.lemmas.List.{length-map, length-set}
 use Rattle.std.proofs.lemmas.Option.{get_or_from_slice_get, slice_get_within}
 use Rattle.std.proofs.lemmas.List.Elements.{All-set, All-map, All-append, All-cons}
-use Rattle.std.proofs.lemmas.List.Sums.{sum_by-cons}
+use Rattle.std.proofs.lemmas.List.Sums.{sum_by-cons, sum_by_push}
 use Rattle.std.proofs.lemmas.Bool.{le-leb}
 use Rattle.std.proofs.lemmas.Bool.Decides.{nat_tests, leb_tells}
 use Rattle.dl_lemmas.proofs.Bools.{both}
@@ -16,6 +16,9 @@ use Rattle.dl_hub.specs.Kept.{Fits, IsBounded, IsFree}
 use Rattle.dl_hub.proofs.Places.{slice_get_or, still_open}
 
 -- ---- counts
+
+pub left_more : (clients : List Client) (client : Client) → sum_by (λ (c : Client). c.left) (clients ++ client ∷ []) ≡ sum_by (λ (c : Client). c.left) clients + client.left
+left_more clients client = sum_by_push (λ (c : Client). c.left) clients client
 
 pub count-cons : {X : Type 0} (p : X → Bool) (x : X) (xs : List X) → count_by p (x ∷ xs) ≡ cond (p x) 1 0 + count_by p xs
 count-cons p x xs = sum_by-cons (λ y. cond (p y) 1 0) x xs

@@ -1,5 +1,5 @@
 -- What contracts see of the hub and its clients.
-use Rattle.std.specs.Prelude.{◌≡◌, ℕ, ◌+◌, ◌-◌, ◌≤◌, ◌<◌, ◌==◌, ◌&&◌, nat_le, Bool, true, List, [], ◌∷◌, ◌++◌, length, count_by, map, take, drop, slice_get, slice_set, Option, Some, None, is_some, option_map, IfSome, IsSome, IsSomeAnd, if◌then◌else◌}
+use Rattle.std.specs.Prelude.{◌≡◌, ℕ, ◌+◌, ◌-◌, ◌^◌, ◌≤◌, ◌<◌, ◌==◌, ◌&&◌, min, nat_le, Bool, true, List, [], ◌∷◌, ◌++◌, length, count_by, sum_by, map, take, drop, slice_get, slice_set, Option, Some, None, is_some, option_map, IfSome, IsSome, IsSomeAnd, if◌then◌else◌}
 use Rattle.std.specs.Option.{option_and_then, option_map_or}
 use Rattle.std.specs.List.{list_any}
 use Rattle.dl_bytes.specs.Limits.{open_client_limit, request_limit}
@@ -43,6 +43,10 @@ is_open client = is_some client.outbox
 -- a client can take so many bytes more: its outbox has room for them, or it has none
 abbrev pub takes : ℕ → Client → Bool
 takes more client = option_map_or (λ outbox. nat_le (length outbox.bytes + more) outbox.capacity) client.outbox true
+
+-- How many bytes these clients left that are gone: what was put into their streams and not taken by their links. A sum of 64 bits stops at its top.
+abbrev pub left_by : List Client → ℕ
+left_by clients = min (sum_by (λ client. client.left) clients) (2 ^ 64 - 1)
 
 -- how many replies were put into the stream of each client that came
 abbrev pub replies_of : Hub → List ℕ

@@ -5,7 +5,7 @@ ghost use Rattle.std.specs.Prelude.{IsTrue, IsSome, IsSomeAnd, count_by, find, l
 ghost use Rattle.std.specs.List.{All, list_all};
 ghost use Rattle.dl_bytes.specs.Limits.{admitted_limit, client_limit, frame_limit, open_client_limit, request_limit};
 ghost use Rattle.dl_model.specs.Traffic.{Connected, Admitted, Reply, Closed};
-ghost use Rattle.dl_hub.specs.State.{client_of, outbox_of, fresh, changed, without, with_frame, with_reply, shut, is_open, is_any_open, replies_of};
+ghost use Rattle.dl_hub.specs.State.{client_of, outbox_of, fresh, changed, without, with_frame, with_reply, shut, is_open, is_any_open, left_by, replies_of};
 ghost use Rattle.dl_hub.specs.State.{Comes, HasPlace, HasRoom, EachHasRoom, IsFull, IsNextOpen, IsSameHub, IsSpent, MayAsk};
 ghost use Rattle.dl_model.specs.Backlog.{outbox_limit, size_of};
 ghost use Rattle.dl_model.specs.Overflow.{overflow_frames};
@@ -39,7 +39,7 @@ pub enum HubFault {
 }
 
 /// How far an outbox was sent.
-#[derive(Clone, Copy, Debug, PartialEq, Eq)]
+#[derive(Clone, Copy, PartialEq, Eq)]
 pub enum Pumped {
     /// Nothing is left of it.
     All,
@@ -75,6 +75,18 @@ impl Model for Hub {
     ghost invariant = { λ h. Fits (state.hub_of h.ecu h.store h.limit h.clients.items h.admitted) h.free.items
         × (h.limit ≤ vec_capacity h.clients) × (open_client_limit ≤ vec_capacity h.free)
         × (h.places.items ≡ places_of 0 (map state.is_open h.clients.items)) };
+}
+
+/// How many bytes these clients left.
+#[tactic(auto, using(crate::proofs::Keeping::left_more))]
+fn left_by(clients: &[Client]) -> u64
+    ensures { result ≡ left_by clients.now }
+{
+    let mut bytes: u64 = 0;
+    for client in clients {
+        bytes = bytes.saturating_add(client.left());
+    }
+    bytes
 }
 
 impl Hub {
@@ -390,6 +402,14 @@ impl Hub {
         ensures { IsSomeAnd (client_of self.now client) (λ c. result ≡ c.left) }
     {
         self.clients[client as usize - 1].left()
+    }
+
+    /// How many bytes clients left that are gone, all together: what was put into their streams and not taken by their links, at most 2^64 - 1. It goes through
+    /// all that came.
+    pub fn untaken(&self) -> u64
+        ensures { result ≡ left_by self.now.clients }
+    {
+        left_by(&self.clients)
     }
 
     /// What waits for a client.

@@ -12,7 +12,7 @@ use Rattle.dl_model.specs.Frames.{FrameSource}
 use Rattle.dl_model.specs.ClientStream.{traffic}
 use Rattle.dl_model.specs.Traffic as t
 use Rattle.dl_model.specs.Journal.{is_connect, is_close, comes_or_goes, IsOpen, IsWellFormed}
-use Rattle.dl_laws.proofs.Lists.{count_by-append}
+use Rattle.dl_model.proofs.Lists.{count_by-append}
 use Rattle.dl_laws.specs.ClientParts.{open_count}
 use Rattle.dl_laws.proofs.ClientStays.{AllSpeak, Speaks, all_speak, came_more, closed_on, first_speak, none_above, none_open, opened, opened-one, opened_is, second_speak}
 use Rattle.dl_laws.proofs.JournalStreams.{open_same}

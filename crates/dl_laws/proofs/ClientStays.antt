@@ -13,7 +13,7 @@ use Rattle.dl_model.specs.Along.{last_that}
 use Rattle.dl_model.specs.Setting.{Setting}
 use Rattle.dl_model.specs.Frames.{FrameSource}
 use Rattle.dl_model.specs.Journal.{is_connect, comes_or_goes, IsOpen, IsInTurn, AreInTurn, IsWellFormed}
-use Rattle.dl_laws.proofs.Lists.{last_that-one, count_by-append, find-passes}
+use Rattle.dl_model.proofs.Lists.{last_that-one, count_by-append, find-passes}
 
 -- what an event may say of clients, after those before it
 abbrev pub Speaks : List Event → Event → Type 0

@@ -7,7 +7,7 @@ use Rattle.std.proofs.lemmas.List.Elements.{filter-append}
 use Rattle.std.proofs.lemmas.List.Concat.{flat_map-append}
 use Rattle.dl_lemmas.proofs.Lists.{all_second}
 use Rattle.dl_model.specs.TraceFiles.{StoredFile, greatest, numbered, segments, made, trace_files}
-use Rattle.dl_laws.proofs.Rotation.{made_bytes, suffix, within_size}
+use Rattle.dl_model.proofs.Rotation.{made_bytes, suffix, within_size}
 use Rattle.dl_laws.specs.OwnFiles.{own_files}
 
 -- the files that a run makes have numbers above those of the old ones

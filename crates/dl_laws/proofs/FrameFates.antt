@@ -18,8 +18,8 @@ use Rattle.dl_model.specs.Traffic as t
 use Rattle.dl_model.specs.Traffic.{Traffic, Connected, Admitted, Reply, Closed, is_any_open}
 use Rattle.dl_model.specs.Backlog.{size_of, waiting, fitting, due_backlog}
 use Rattle.dl_model.specs.ClientStream.{put, sent, traffic_of, traffic, stream}
-use Rattle.dl_laws.proofs.Lists.{along_from-append, along-one}
-use Rattle.dl_laws.proofs.ClientStreams.{any_open, any_open-admit, any_open-reply, waiting-admit, waiting-reply, same_number, unbroken}
+use Rattle.dl_model.proofs.Lists.{along_from-append, along-one}
+use Rattle.dl_model.proofs.ClientStreams.{any_open, any_open-admit, any_open-reply, waiting-admit, waiting-reply, same_number, unbroken}
 use Rattle.dl_laws.specs.Fates.{next_client}
 use Rattle.dl_laws.proofs.ClientStays.{Speaks, AllSpeak, opened_is, quiet_before, true_not_false}
 use Rattle.dl_laws.proofs.JournalStreams.{open_same, quiet_traffic, traffic_parts}

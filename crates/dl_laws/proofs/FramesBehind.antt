@@ -10,7 +10,7 @@ use Rattle.dl_model.specs.Frames.{FrameSource}
 use Rattle.dl_model.specs.Traffic.{Traffic}
 use Rattle.dl_model.specs.ClientStream.{put, sent, traffic_of, traffic, stream}
 use Rattle.dl_laws.specs.Frames.{TellsLen}
-use Rattle.dl_laws.proofs.Lists.{along_from-append}
+use Rattle.dl_model.proofs.Lists.{along_from-append}
 use Rattle.dl_laws.specs.FrameLengths.{CarriesLen}
 use Rattle.dl_laws.specs.FramesPut.{IsPut}
 use Rattle.dl_laws.proofs.Traffics.{sent_tell}

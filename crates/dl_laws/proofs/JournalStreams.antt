@@ -19,8 +19,8 @@ use Rattle.dl_model.specs.Traffic as t
 use Rattle.dl_model.specs.Traffic.{Traffic, Connected, Admitted, Reply, Closed, is_going, frame_of, admitted_in, meant_for, is_any_open}
 use Rattle.dl_model.specs.Backlog.{waiting, fitting, refused}
 use Rattle.dl_model.specs.ClientStream.{put, sent, traffic_of, traffic, stream}
-use Rattle.dl_laws.proofs.Lists.{along_from-append, along-one, after_last-one}
-use Rattle.dl_laws.proofs.ClientStreams.{unbroken, any_open, is_open-one, admits_all, meant_admit}
+use Rattle.dl_model.proofs.Lists.{along_from-append, along-one, after_last-one}
+use Rattle.dl_model.proofs.ClientStreams.{unbroken, any_open, is_open-one, admits_all, meant_admit}
 use Rattle.dl_laws.proofs.Backlogs.{counted}
 use Rattle.dl_laws.specs.ClientParts.{IsMerged, reply_to, replies_after, IsSent}
 use Rattle.dl_laws.proofs.ClientStays.{opened, opened-one, opened_is, is_open_in, quiet_before, quiet_while, quiet_after}

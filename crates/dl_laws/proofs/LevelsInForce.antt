@@ -16,7 +16,7 @@ use Rattle.dl_model.specs.Journal.{IsSettled, registry_of, slots_of}
 use Rattle.dl_model.specs.Setting.{Setting}
 use Rattle.dl_model.proofs.OneMore.{registry-one, slot-other}
 use Rattle.dl_model.proofs.Order.{in_order-registry_of}
-use Rattle.dl_laws.proofs.Lists.{find-passes}
+use Rattle.dl_model.proofs.Lists.{find-passes}
 use Rattle.dl_laws.proofs.SlotChanges.{same_change}
 
 -- ---- where there is no first change there is none

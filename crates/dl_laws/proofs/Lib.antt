@@ -5,10 +5,7 @@ pub mod Answered
 pub mod Traffics
 pub mod FramesBehind
 pub mod Quiet
-pub mod Lists
-pub mod ClientStreams
 pub mod Backlogs
-pub mod Rotation
 pub mod SlotChanges
 pub mod Alls
 pub mod Partition
@@ -16,7 +13,6 @@ pub mod UniqueIds
 pub mod ClientStays
 pub mod JournalStreams
 pub mod FileSuffix
-pub mod LongerJournals
 pub mod LevelsInForce
 pub mod StoredFrames
 pub mod GivenLast

@@ -8,7 +8,7 @@ use Rattle.dl_model.specs.ClientEnds.{HasGone, IsCause, LinkDid, end_of_link}
 use Rattle.dl_model.specs.ClientStream.{stream}
 use Rattle.dl_model.specs.Frames.{FrameSource}
 use Rattle.dl_model.specs.Setting.{Setting}
-use Rattle.dl_laws.proofs.Rotation.{length-concat}
+use Rattle.dl_model.proofs.Rotation.{length-concat}
 
 module _ (setting : Setting) (source : FrameSource) (events : List Event) (client : ℕ) (did : LinkDid) (gone : HasGone setting source events client did) where
   sizes : size_of (stream source setting.buffer client events) ≡ length did.taken + length gone.left

@@ -17,8 +17,8 @@ use Rattle.dl_model.specs.Frames.{FrameSource, frames_of}
 use Rattle.dl_model.specs.Journal as journal
 use Rattle.dl_model.specs.Traffic.{Traffic, Connected, Admitted, Reply, Closed, comes_or_goes, comer_of, clients, is_open}
 use Rattle.dl_model.specs.ClientStream.{put, sent, traffic_of, traffic, stream}
-use Rattle.dl_laws.proofs.Lists.{along-one, last_that-one, count_by-append}
-use Rattle.dl_laws.proofs.ClientStreams.{all_quiet, is_open-one, puts_nothing}
+use Rattle.dl_model.proofs.Lists.{along-one, last_that-one, count_by-append}
+use Rattle.dl_model.proofs.ClientStreams.{all_quiet, is_open-one, puts_nothing}
 use Rattle.dl_laws.proofs.FramesBehind.{sent-append, traffic-append}
 
 -- ---- who is not there is put nothing

@@ -14,7 +14,7 @@ use Rattle.dl_model.specs.Traffic.{Traffic, Connected, Admitted, Reply, Closed, 
 use Rattle.dl_model.specs.Backlog.{waiting, fitting, refused, due_backlog}
 use Rattle.dl_model.specs.ClientStream.{put, sent, traffic_of, traffic}
 use Rattle.dl_laws.specs.Frames.{TellsLen}
-use Rattle.dl_laws.proofs.Lists.{along_from-append}
+use Rattle.dl_model.proofs.Lists.{along_from-append}
 use Rattle.dl_laws.specs.FrameLengths.{CarriesLen, GivesLengths, EachGivesLengths}
 use Rattle.dl_laws.proofs.Entries.{all_drop, all_given}
 use Rattle.dl_laws.proofs.Spellings.{records_tell, user_tells}

@@ -1,8 +1,7 @@
 -- Options and results: what is there, and what follows of it.
-use Rattle.std.proofs.Common.{Bool, Err, List, None, Ok, Option, Result, Some, [], ap, cond, false, refl, subst, true, ℕ, ◌≡◌}
+use Rattle.std.proofs.Common.{Bool, Err, List, None, Option, Result, Some, [], ap, cond, false, refl, subst, true, ℕ, ◌≡◌}
 use Rattle.std.specs.Option.{option_map, option_or}
 use Rattle.std.specs.Prelude.{IfOk, IfSome, IsSome, is_some}
-use Rattle.std.specs.Result.{result_ok}
 
 pub ifok_if : {A E : Type 0} (P : A → Type 0) (b : Bool) (e : E) (r : Result A E) → IfOk r P → IfOk (cond b (Err e) r) P
 ifok_if P true e r ok = tt
@@ -69,21 +68,9 @@ pub mapped_some : {A B : Type 0} (f : A → B) (o : Option A) (y : B) → option
 mapped_some f (Some x) y e = (x, refl, cc)
 mapped_some f None y e = absurd cc
 
-pub ifsome_if : {A : Type 0} (P : A → Type 0) (b : Bool) (o : Option A) → IfSome o P → IfSome (cond b None o) P
-ifsome_if P true o ok = tt
-ifsome_if P false o ok = ok
-
-pub ifsome_unless : {A : Type 0} (P : A → Type 0) (b : Bool) (o : Option A) → (b ≡ false → IfSome o P) → IfSome (cond b None o) P
-ifsome_unless P true o ok = tt
-ifsome_unless P false o ok = ok refl
-
 pub ifok_unless : {A E : Type 0} (P : A → Type 0) (b : Bool) (e : E) (r : Result A E) → (b ≡ false → IfOk r P) → IfOk (cond b (Err e) r) P
 ifok_unless P true e r ok = tt
 ifok_unless P false e r ok = ok refl
-
-pub some_ok : {A E : Type 0} (P : A → Type 0) (r : Result A E) → IfOk r P → IfSome (result_ok r) P
-some_ok P (Ok x) is = is
-some_ok P (Err e) is = tt
 
 pub or_none : {A : Type 0} (o : Option A) → option_or o None ≡ o
 or_none None = refl

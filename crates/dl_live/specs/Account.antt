@@ -43,6 +43,7 @@ run_of begun stood account = record {
   apid = apid_in account.apps;
   stood = stood;
   before = 0;
+  head = [];
 }
 
 -- how many links the daemon was given: one for each client that connected, and those that were dropped

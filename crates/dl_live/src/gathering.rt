@@ -14,7 +14,7 @@ use std::sync::Wait;
 const PATIENCE: u32 = 1000;
 
 /// How the wait for clients ended, where it did not end well.
-#[derive(Clone, Copy, Debug, PartialEq, Eq)]
+#[derive(Clone, Copy, PartialEq, Eq)]
 pub struct Gathered {
     /// An accept failed.
     pub failed: bool,

@@ -7,7 +7,7 @@ use Rattle.dl_events.specs.Journal.{Journaled}
 use Rattle.dl_events.specs.declared.event.Event.{Event}
 use Rattle.dl_events.specs.declared.event.Event.TheVariants as event
 use Rattle.dl_model.specs.Journal.{IsInTurn, IsRunning}
-use Rattle.dl_laws.proofs.LongerJournals.{goes_on}
+use Rattle.dl_model.proofs.LongerJournals.{goes_on}
 use Rattle.dl_outside.specs.Link.{IsFresh}
 use Rattle.dl_outside.specs.Links.{Links}
 use Rattle.dl_outside.specs.Told.{FolderTold, LinkTold, NetTold}

@@ -21,7 +21,7 @@ use Rattle.dl_model.specs.Journal.{IsRunning, IsWellFormed, is_stop, is_connect}
 use Rattle.dl_model.specs.Report.{reported}
 use Rattle.dl_model.specs.declared.registry.LevelChange.{LevelChange}
 use Rattle.dl_outside.specs.Told.{FolderTold, LinkTold}
-use Rattle.dl_laws.proofs.LongerJournals.{goes_on}
+use Rattle.dl_model.proofs.LongerJournals.{goes_on}
 use Rattle.dl_desk.specs.Apps.{AppState}
 use Rattle.dl_desk.specs.State.{DeskState}
 use Rattle.dl_desk.specs.Told.{PostTold}

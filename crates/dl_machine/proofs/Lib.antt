@@ -6,7 +6,6 @@ pub mod LowNumbers
 pub mod SaidEvents
 pub mod ClientSteps
 pub mod ProgramSteps
-pub mod ServerSteps
 pub mod LoopSteps
 pub mod RenewedRuns
 pub mod WentClients

@@ -1,6 +1,6 @@
 -- A run goes on with a trace that was begun anew: registry, streams and replies are what they were.
 use Rattle.std.proofs.Common.{◌≡◌, ℕ, List, [], ◌∷◌, ◌++◌, length, Some, refl, sym, ap, subst, ◌∙◌, arith}
-use Rattle.std.proofs.lemmas.List.{drop_all}
+use Rattle.std.proofs.lemmas.List.{append-nil, drop_all}
 use Rattle.dl_bytes.specs.declared.conf.Conf.{Conf}
 use Rattle.dl_bytes.specs.declared.outcome.Done.{Done}
 use Rattle.dl_control.specs.Reply.{control_reply}
@@ -19,8 +19,7 @@ use Rattle.dl_model.specs.Reply.{apid_of, asked, ctid_of, reply_frame_to}
 use Rattle.dl_model.specs.Setting.{Setting}
 use Rattle.dl_model.specs.TraceFiles.{StoredFile}
 use Rattle.dl_model.specs.declared.registry.Slot.{Slot}
-use Rattle.dl_trace.specs.Made.{IsMade}
-use Rattle.dl_trace.specs.State as traces
+use Rattle.dl_trace.specs.Made.{HasBegun}
 use Rattle.dl_trace.specs.State.{Trace}
 
 -- a run like this one, but for where its trace is and when that began
@@ -51,11 +50,11 @@ module _ (setting : Setting) (trace : Trace) where
       ap (λ (r : Registry). reply_frame_to sized (slots_of setting before) r frame answer) (after_same [] (start setting) before)
       ∙ ap (control_reply setting.ecu) (reply_alike sized setting (slots_of setting before) (registry_of setting before) (apid_of frame) (ctid_of frame) (asked frame) answer refl refl refl)
 
--- where a trace was made, over these files, in the place of the one that was kept
-module _ (run : Run) (events : List Event) (took : ℕ → List ℕ) (old : Core) (conf : Conf) (trace : Trace) (stood : List StoredFile) (is : IsAfter run events took old) (made : IsMade conf trace)
-    (over : traces.IsAfter stood [] trace) where
+-- where a trace has begun with these frames, over these files, in the place of the one that was kept
+module _ (run : Run) (events : List Event) (took : ℕ → List ℕ) (old : Core) (conf : Conf) (trace : Trace) (stood : List StoredFile) (head : List (List ℕ)) (is : IsAfter run events took old)
+    (begun : HasBegun conf stood head trace) where
   abbrev pub renewed : Run
-  renewed = record run { setting = sized run.setting trace; stood = stood; before = length (stored_frames (source_of run) events) }
+  renewed = record run { setting = sized run.setting trace; stood = stood; before = length (stored_frames (source_of run) events); head = head }
 
   like : IsLike run renewed
   like = record {
@@ -63,8 +62,10 @@ module _ (run : Run) (events : List Event) (took : ℕ → List ℕ) (old : Core
     buffer = refl;
   }
 
-  none_stored : stored_by renewed events ≡ []
-  none_stored = drop_all renewed.before (stored_frames (source_of renewed) events) (omega (arith, ap (λ (source : FrameSource). length (stored_frames source events)) like.source))
+  head_alone : stored_by renewed events ≡ head
+  head_alone =
+      ap (λ (frames : List (List ℕ)). head ++ frames) (drop_all renewed.before (stored_frames (source_of renewed) events) (omega (arith, ap (λ (source : FrameSource). length (stored_frames source events)) like.source)))
+      ∙ append-nil head
 
   pub renewed_after : IsLike run renewed × IsAfter renewed events took (record old { trace = Some trace })
   renewed_after = (
@@ -74,17 +75,18 @@ module _ (run : Run) (events : List Event) (took : ℕ → List ℕ) (old : Core
       registry = record { registry = is.registry.registry ∙ sym (after_same run.setting trace [] (start run.setting) events); slots = is.registry.slots; all = is.registry.all };
       hub = subst (λ (source : FrameSource). hub.IsAfter (traffic source events) took old.hub) (sym like.source) is.hub;
       begun = omega (arith, ap (λ (source : FrameSource). length (stored_frames source events)) like.source);
-      trace = subst (λ (frames : List (List ℕ)). IsTraceAfter renewed frames trace) (sym none_stored) (record {
+      trace = subst (λ (frames : List (List ℕ)). IsTraceAfter renewed frames trace) (sym head_alone) (record {
         directory = refl;
         file_size = refl;
         max_size = refl;
-        stored = [];
+        stored = head;
         later = [];
-        all = refl;
-        files = over;
+        all = sym (append-nil head);
+        files = begun.after;
+        unstored = begun.none_missing;
         whole = λ goes. refl;
-        unspent = λ goes some. absurd (omega (arith, some));
-        spent = λ at. absurd (cc (made.goes_on, at));
+        unspent = λ goes some. begun.unspent some;
+        spent = λ at. absurd (cc (begun.goes_on, at));
       });
     },
   )

@@ -20,8 +20,8 @@ use Rattle.dl_events.specs.declared.event.Why.{Why}
 use Rattle.dl_events.specs.declared.event.Why.TheVariants as why
 use Rattle.dl_hub.specs.Pumping.{IsOnlySent}
 use Rattle.dl_hub.specs.State.{Client as HubClient, Hub, client_of, outbox_of}
-use Rattle.dl_laws.proofs.ClientStreams.{is_open-one}
-use Rattle.dl_laws.proofs.Lists.{along-one}
+use Rattle.dl_model.proofs.ClientStreams.{is_open-one}
+use Rattle.dl_model.proofs.Lists.{along-one}
 use Rattle.dl_lemmas.proofs.Lists.{all_first, all_map, all_second}
 use Rattle.dl_message.specs.Cut.{rest_fault, rest_of}
 use Rattle.dl_message.specs.Cutting.{Cutting}

@@ -393,8 +393,8 @@ module _ (IsTold : LinkTold → Type 0) where
   renewed_known : (run : Run) (old new : State) → BeginsOrStays old new → Known run old.core old.events old.clients → Known run new.core old.events old.clients
   renewed_known run old new (inl same) k = same_part run old.core new.core old.events old.events old.clients same refl k
   renewed_known run old new (inr anew) k =
-      let now : Run = renewed k.now k.all k.took old.core anew.0 anew.1 anew.5 k.after anew.4 anew.6 in
-      let so = renewed_after k.now k.all k.took old.core anew.0 anew.1 anew.5 k.after anew.4 anew.6 in
+      let now : Run = renewed k.now k.all k.took old.core anew.0 anew.1 anew.3 anew.4 k.after anew.5 in
+      let so = renewed_after k.now k.all k.took old.core anew.0 anew.1 anew.3 anew.4 k.after anew.5 in
       subst (λ (c : Core). Known run c old.events old.clients) (sym anew.2) (record {
         now = now;
         like = like_both run k.now now k.like so.0;

@@ -19,7 +19,6 @@ use Rattle.dl_channel_turns.specs.State as program
 use Rattle.dl_channel_turns.specs.State.{without}
 use Rattle.dl_channel_turns.specs.Turns.{StopsAt}
 use Rattle.dl_core.specs.Admission.{has_frames}
-use Rattle.dl_core.specs.Follows.{BeginsAnew}
 use Rattle.dl_core.specs.Noting.{NotesClaim, NotesMessage}
 use Rattle.dl_core.specs.Registering.{Registers}
 use Rattle.dl_bytes.specs.declared.conf.Conf.{Conf}
@@ -47,8 +46,8 @@ use Rattle.dl_socket.specs.Channels.{Opens, Refuses, inbox_of, without_inbox}
 use Rattle.dl_socket.specs.declared.fault.ChannelFault.TheVariants.{Full, Spent}
 use Rattle.dl_taking.specs.Takes.{owned, owned_claim}
 use Rattle.dl_taking.specs.Took.{with_items, with_losses}
-use Rattle.dl_trace.specs.Made.{IsMade}
-use Rattle.dl_trace.specs.State.{IsAfter, Trace}
+use Rattle.dl_trace.specs.Made.{HasBegun}
+use Rattle.dl_trace.specs.State.{Trace}
 use Rattle.dl_turns.specs.Events.{Asks, Closes}
 use Rattle.dl_turns.specs.Sent.{HasCut, is_bad}
 use Rattle.dl_turns.specs.State.{Side, side}
@@ -201,8 +200,7 @@ MayPart number s = (program : Program) × IsOne number s.programs program × (pr
 abbrev pub BeginsOrStays : State → State → Type 0
 BeginsOrStays old new =
     (new.core ≡ old.core)
-    ⊎ ((conf : Conf) × (trace : Trace) × (new.core ≡ record old.core { trace = Some trace }) × BeginsAnew conf trace old.core new.core
-    × IsMade conf trace × (stood : List StoredFile) × IsAfter stood [] trace)
+    ⊎ ((conf : Conf) × (trace : Trace) × (new.core ≡ record old.core { trace = Some trace }) × (stood : List StoredFile) × (head : List (List ℕ)) × HasBegun conf stood head trace)
 
 -- ---- what is done with one client; beside it no more than core, events and folder changes
 

@@ -22,7 +22,7 @@ use dl_outside::{
 use dl_pieces::ReadAt;
 
 /// Another object, of which chosen calls fail. Its calls are numbered from 1.
-#[derive(Debug, Drop)]
+#[derive(Drop)]
 pub struct Failing<T> {
     /// The object within.
     pub inner: T,

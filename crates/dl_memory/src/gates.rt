@@ -7,7 +7,7 @@ use std::alloc::Global;
 use std::sync::atomic::{AtomicBool, Ordering};
 
 /// A call of a worker: the number of its writer, from 1, and that of the call, from 1.
-#[derive(Clone, Copy, Debug, PartialEq, Eq)]
+#[derive(Clone, Copy, PartialEq, Eq)]
 pub struct Passing {
     /// The writer's number.
     pub writer: u8,

@@ -10,7 +10,7 @@ use std::alloc::Global;
 use std::marker::Model;
 
 /// Bytes in memory, read in pieces.
-#[derive(Debug, Drop)]
+#[derive(Drop)]
 pub struct MemorySource {
     bytes: Vec<u8>,
     at: usize,
@@ -68,7 +68,7 @@ impl Source for MemorySource {
 }
 
 /// A sink in memory, which takes at most so many bytes in one write. Its only fault is want of memory.
-#[derive(Debug, Drop)]
+#[derive(Drop)]
 pub struct MemorySink {
     bytes: Vec<u8>,
     piece: usize,
@@ -133,7 +133,7 @@ impl Sink for MemorySink {
 }
 
 /// A sink that takes everything and keeps nothing. It never fails.
-#[derive(Clone, Copy, Debug)]
+#[derive(Clone, Copy)]
 pub struct Discard;
 
 impl Sink for Discard {

@@ -11,14 +11,14 @@ use std::cmp::Ordering;
 pub const NAME_LIMIT: usize = 255;
 
 /// A file: its name, and how many bytes it has.
-#[derive(Debug, Drop)]
+#[derive(Drop)]
 pub struct Entry {
     pub name: ArrayString<NAME_LIMIT>,
     pub size: usize,
 }
 
 /// Where a name stands among the entries, or where it would.
-#[derive(Clone, Copy, Debug)]
+#[derive(Clone, Copy)]
 pub struct Place {
     /// How many entries come before it.
     pub index: usize,

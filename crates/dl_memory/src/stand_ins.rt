@@ -9,7 +9,7 @@ use std::alloc::Global;
 use std::marker::Model;
 
 /// A clock that stands.
-#[derive(Clone, Copy, Debug)]
+#[derive(Clone, Copy)]
 pub struct StandingClock {
     /// What it always tells.
     pub moment: Moment,
@@ -22,7 +22,7 @@ impl Clock for StandingClock {
 }
 
 /// A dial in memory: one port gives bytes, every other one none. It never fails.
-#[derive(Debug, Drop)]
+#[derive(Drop)]
 pub struct MemoryDial {
     alloc: Global,
     port: u16,

@@ -11,7 +11,7 @@ use std::alloc::Global;
 use std::marker::Model;
 
 /// What a connection in memory does with one call.
-#[derive(Clone, Copy, Debug, PartialEq, Eq)]
+#[derive(Clone, Copy, PartialEq, Eq)]
 pub enum Turn {
     /// At most so many bytes go through; with 0 it is as `NotNow`.
     AtMost(usize),
@@ -20,7 +20,7 @@ pub enum Turn {
 }
 
 /// How a connection in memory behaves, call by call. Once its turns are over, each call gives or takes all that it can.
-#[derive(Debug, Drop)]
+#[derive(Drop)]
 pub struct Manner {
     /// What each call of `recv` does, in order.
     pub gives: Vec<Turn>,
@@ -43,7 +43,7 @@ impl Manner {
 
 /// A connection in memory. It never fails. It has room for so many bytes, and takes no more; what it took can be read.
 /// Its input is over once all of it was given and, if the peer leaves after so many bytes, once it took as many.
-#[derive(Debug, Drop)]
+#[derive(Drop)]
 pub struct MemoryLink {
     input: Vec<u8>,
     at: usize,

@@ -13,7 +13,7 @@ use std::marker::Model;
 const SERIAL_HEADER: [u8; 4] = [0x44, 0x4c, 0x53, 0x01];
 
 /// What a cutter found in the bytes that it was fed.
-#[derive(Clone, Copy, Debug, PartialEq, Eq)]
+#[derive(Clone, Copy, PartialEq, Eq)]
 pub enum Cut {
     /// The next message, which `Cutter::message` lends.
     Message,
@@ -25,7 +25,7 @@ pub enum Cut {
 
 /// Cuts a stream into its messages, in whatever pieces it comes. It has room for one message of the greatest length and
 /// takes memory in `make` alone. Each byte is copied once and moved at most once more.
-#[derive(Debug, Drop)]
+#[derive(Drop)]
 pub struct Cutter {
     buffer: Buffer,
     limit: u16,

@@ -14,7 +14,7 @@ use dl_bytes::Htyp;
 use dl_headers::{Extended, HeaderFault, Standard, read_extended, read_standard};
 
 /// Where the parts of a message are.
-#[derive(Clone, Copy, Debug)]
+#[derive(Clone, Copy)]
 pub struct Parts {
     /// The standard header.
     pub standard: Standard,

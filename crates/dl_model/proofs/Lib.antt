@@ -11,3 +11,7 @@ pub mod OwnLevels
 pub mod ContextPresence
 pub mod StandingApps
 pub mod Records
+pub mod Lists
+pub mod Rotation
+pub mod ClientStreams
+pub mod LongerJournals

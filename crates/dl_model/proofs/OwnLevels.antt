@@ -50,9 +50,6 @@ module _ (r : Registry) (a k : List ℕ) where
   abbrev gives : Option ℕ → Bool → Option (Option ℕ) → List (Option ℕ)
   gives level test old = if test && is_none old then option_or (stored_level r.stored a k) level ∷ [] else []
 
-  unnamed : (level : Option ℕ) (o : Option (Option ℕ)) → Stepped o (gives level false o) o
-  unnamed level o = stays o
-
   -- a context that is there is told anew, and keeps its own level
   told-own : (apid ctid : List ℕ) (level : Option ℕ) (app : App) (context told : Context) → lookup (bytes_eq apid) r.apps ≡ Some app → context_of app ctid ≡ Some context → told.own ≡ context.own
       → Stepped (own_at r a k) (gives level (bytes_eq apid a && bytes_eq ctid k) (own_at r a k)) (own_at (with_app r apid (with_context app ctid told)) a k)

@@ -1,5 +1,5 @@
 -- Why clients went and how their links ended: the journal of a daemon, over what each client's link gave and took.
-use Rattle.std.specs.Prelude.{◌≡◌, ℕ, ◌+◌, ◌-◌, ◌<◌, ◌≤◌, ◌==◌, ◌⊎◌, Bool, true, List, ◌∷◌, ◌++◌, length, map, count_by, is_some, slice_get, Option, Some, None, if◌then◌else◌}
+use Rattle.std.specs.Prelude.{◌≡◌, ℕ, ◌+◌, ◌-◌, ◌<◌, ◌≤◌, ◌==◌, ◌⊎◌, Bool, true, List, ◌∷◌, ◌++◌, length, map, count_by, is_some, Option, Some, None, if◌then◌else◌}
 use Rattle.std.specs.List.{concat, filter_map, range_with_len}
 use Rattle.dl_bytes.specs.Limits.{message_limit, open_client_limit, request_limit}
 use Rattle.dl_bytes.specs.declared.outcome.Done.{Done}
@@ -13,7 +13,7 @@ use Rattle.dl_events.specs.declared.event.Why.TheVariants as why
 use Rattle.dl_model.specs.Backlog.{outbox_limit, size_of}
 use Rattle.dl_model.specs.ClientStream.{stream}
 use Rattle.dl_model.specs.Frames.{FrameSource}
-use Rattle.dl_model.specs.Journal.{IsWellFormed, is_connect}
+use Rattle.dl_model.specs.Journal.{is_connect}
 use Rattle.dl_model.specs.Setting.{Setting}
 
 -- What a client's link did: the bytes that it gave and took, whether it will give no more, and how often it failed, had
@@ -106,13 +106,3 @@ end_of_link setting source events client did =
 -- links are dropped only where eight clients had come
 abbrev pub MayDrop : List Event → ℕ → Type 0
 MayDrop events dropped = count_by is_connect events < open_client_limit → dropped ≡ 0
-
--- The journal of a daemon that stopped: it is well-formed, every client went, the ends told of their links are so, and links
--- were dropped only where they may be. The links are those of the clients, in the order of their numbers.
-pub record IsServed (setting : Setting) (source : FrameSource) (events : List Event) (links : List LinkDid) (ends : List LinkEnd) (refused : ℕ) : Type 0 where
-  pub formed : IsWellFormed setting source events
-  pub clients : length links ≡ count_by is_connect events
-  pub gone : (number : ℕ) (did : LinkDid) → slice_get links number ≡ Some did → HasGone setting source events (number + 1) did
-  pub told : (number : ℕ) (did : LinkDid) → slice_get links number ≡ Some did → slice_get ends number ≡ Some (end_of_link setting source events (number + 1) did)
-  pub no_more : length ends ≡ length links
-  pub dropped : MayDrop events refused

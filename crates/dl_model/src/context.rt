@@ -8,7 +8,7 @@ use dl_bytes::OwnLevel;
 use std::marker::Model;
 
 /// A context, as it stands in the registry under its id.
-#[derive(Debug, Drop)]
+#[derive(Drop)]
 pub struct Context {
     /// Its place among those of its application, 0 to 63: the one at which its stay began.
     pub place: u8,
@@ -23,7 +23,7 @@ pub struct Context {
 }
 
 /// Places in order, kept in place.
-#[derive(Debug, Drop)]
+#[derive(Drop)]
 pub struct Places {
     places: ArrayVec<u8, 63>,
 }

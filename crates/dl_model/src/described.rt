@@ -3,7 +3,7 @@
 use dl_bytes::{Bytes, ClaimText};
 
 /// What told a description.
-#[derive(Debug, Drop)]
+#[derive(Drop)]
 pub(crate) enum Described {
     /// A message: the bytes are on the heap.
     Told(Bytes),

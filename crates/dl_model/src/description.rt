@@ -7,7 +7,7 @@ use dl_bytes::{Bytes, ClaimText};
 use std::marker::Model;
 
 /// The description of a context: as a message told it, or as a claim brought it along.
-#[derive(Debug, Drop)]
+#[derive(Drop)]
 pub struct Description {
     described: Described,
 }

@@ -5,7 +5,7 @@ ghost use Rattle.std.specs.Prelude.{◌≡◌};
 use dl_bytes::{Level, OutOfMemory};
 
 /// What the level word of a context's slot holds.
-#[derive(Clone, Copy, Debug, PartialEq, Eq)]
+#[derive(Clone, Copy, PartialEq, Eq)]
 pub struct Slot {
     /// How often the level was set since the beginning, counted from the first version.
     pub version: u64,
@@ -14,7 +14,7 @@ pub struct Slot {
 }
 
 /// A level that a slot gets: the filter of the context that has the slot.
-#[derive(Clone, Copy, Debug, PartialEq, Eq)]
+#[derive(Clone, Copy, PartialEq, Eq)]
 pub struct LevelChange {
     /// 64 times the number of the application, and the place of the context.
     pub slot: u16,

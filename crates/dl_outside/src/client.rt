@@ -3,7 +3,7 @@
 use dl_bytes::Bytes;
 
 /// A client that dials the daemon, sends its bytes, and reads.
-#[derive(Debug, Drop)]
+#[derive(Drop)]
 pub struct ClientScript {
     /// What it sends.
     pub sends: Bytes,

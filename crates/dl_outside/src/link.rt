@@ -6,7 +6,7 @@ ghost use Rattle.dl_outside.specs.Link.{EndsRightly, Gives, HasReceiveCause, Has
 ghost use Rattle.dl_outside.specs.Told.{LinkTold};
 
 /// What a link gave.
-#[derive(Clone, Copy, Debug, PartialEq, Eq)]
+#[derive(Clone, Copy, PartialEq, Eq)]
 pub enum Gave {
     /// So many bytes, at least one.
     Bytes(usize),
@@ -19,7 +19,7 @@ pub enum Gave {
 }
 
 /// What a link did with a piece.
-#[derive(Clone, Copy, Debug, PartialEq, Eq)]
+#[derive(Clone, Copy, PartialEq, Eq)]
 pub enum Sends {
     /// It took so many bytes of the piece, at least one.
     Bytes(usize),

@@ -9,7 +9,7 @@ use std::alloc::Global;
 use std::marker::Model;
 
 /// Links with the numbers 1, 2 and so on, in memory that was taken beforehand.
-#[derive(Debug, Drop)]
+#[derive(Drop)]
 pub struct LinkList<L> {
     links: Vec<L>,
     room: u32,

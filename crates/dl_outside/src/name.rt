@@ -6,7 +6,7 @@ use dl_bytes::Sequence;
 use std::marker::Model;
 
 /// The name of a file in its folder, as text. Contracts see its bytes.
-#[derive(Debug, Drop)]
+#[derive(Drop)]
 pub struct Name {
     text: String,
 }

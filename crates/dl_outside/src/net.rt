@@ -19,7 +19,7 @@ pub enum NetFault {
 }
 
 /// What an accept gave.
-#[derive(Debug, Drop)]
+#[derive(Drop)]
 pub enum Accepted<L> {
     /// The client that waited longest.
     Link(L),

@@ -5,7 +5,7 @@ ghost use Rattle.dl_outside.specs.Outside.{HasWriteCause, Takes};
 ghost use Rattle.dl_outside.specs.Told.{SinkTold};
 
 /// What a write did.
-#[derive(Clone, Copy, Debug, PartialEq, Eq)]
+#[derive(Clone, Copy, PartialEq, Eq)]
 pub enum Took {
     /// It took so many bytes of the piece, at least one.
     Bytes(usize),

@@ -5,7 +5,7 @@ ghost use Rattle.dl_outside.specs.Outside.{HasReadCause, Reads};
 ghost use Rattle.dl_outside.specs.Told.{SourceTold};
 
 /// What a read gave.
-#[derive(Clone, Copy, Debug, PartialEq, Eq)]
+#[derive(Clone, Copy, PartialEq, Eq)]
 pub enum Got {
     /// So many bytes, at least one.
     Bytes(usize),

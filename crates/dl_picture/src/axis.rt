@@ -6,7 +6,7 @@ ghost use Rattle.dl_picture.specs.Axis.{column_of, span_of, start_of};
 use crate::chart::COLUMNS;
 
 /// A stretch of numbers, from the first to the last.
-#[derive(Clone, Copy, Debug, PartialEq, Eq)]
+#[derive(Clone, Copy, PartialEq, Eq)]
 pub struct Axis {
     /// The first.
     pub first: u64,

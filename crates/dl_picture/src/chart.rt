@@ -4,7 +4,7 @@
 pub const COLUMNS: u64 = 120;
 
 /// What is counted in one column of a row.
-#[derive(Clone, Copy, Debug, PartialEq, Eq)]
+#[derive(Clone, Copy, PartialEq, Eq)]
 pub struct Bin {
     /// Messages that are there.
     pub messages: u64,

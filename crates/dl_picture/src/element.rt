@@ -9,7 +9,7 @@ use dl_bytes::OutOfMemory;
 use itoa::{Buffer, Integer};
 
 /// A rectangle.
-#[derive(Clone, Copy, Debug, PartialEq, Eq)]
+#[derive(Clone, Copy, PartialEq, Eq)]
 pub struct Rect {
     /// Its left side.
     pub x: u128,
@@ -22,7 +22,7 @@ pub struct Rect {
 }
 
 /// Where a label stands: the left end of its line.
-#[derive(Clone, Copy, Debug, PartialEq, Eq)]
+#[derive(Clone, Copy, PartialEq, Eq)]
 pub struct Label {
     /// From the left.
     pub x: u128,

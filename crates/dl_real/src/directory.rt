@@ -56,6 +56,8 @@ pub struct Directory<R: Files> {
 struct Last<F> {
     name: String,
     file: F,
+    // how many bytes it has, of whole pieces
+    len: u64,
     // when it was looked at, in seconds of the monotonic clock
     looked: u64,
 }
@@ -256,13 +258,14 @@ fn opened<R: Files + AllocGlobal + Clock>(
     }
     let name = writable(manner, name)?;
     let text = String::from_str(rt.alloc(), name)?;
-    let file = match look(rt, name)? {
-        Some(_) => OpenOptions::new().append(true).open(rt, name)?,
-        None => create(rt, name)?,
+    let (file, len) = match look(rt, name)? {
+        Some(found) => (OpenOptions::new().append(true).open(rt, name)?, found.len()),
+        None => (create(rt, name)?, 0),
     };
     Ok(Last {
         name: text,
         file,
+        len,
         looked: now,
     })
 }
@@ -426,7 +429,8 @@ impl<R: Files + Eprint> Directory<R> {
 }
 
 impl<R: Files + AllocGlobal + Clock> Directory<R> {
-    /// Adds to a file, which is made where it is missing, and keeps it open unless that failed.
+    /// Adds to a file, which is made where it is missing, and keeps it open unless that failed. What was written of a piece that did not get in whole is cut
+    /// off again, so that none is there that nobody counts.
     fn add(&mut self, name: &str, piece: &[u8]) -> io::Result<()>
         ensures faults { self.new.faults ≡ self.old.faults }
         ensures changes { self.new.changes ≡ self.old.changes }
@@ -434,9 +438,17 @@ impl<R: Files + AllocGlobal + Clock> Directory<R> {
     {
         let kept = self.last.take();
         let mut last = opened(&self.rt, self.manner, &self.taken, kept, name)?;
-        write_whole(&mut last.file, piece)?;
-        self.last = Some(last);
-        Ok(())
+        match write_whole(&mut last.file, piece) {
+            Ok(()) => {
+                last.len = last.len.wrapping_add(piece.len() as u64);
+                self.last = Some(last);
+                Ok(())
+            }
+            Err(error) => {
+                let _ = last.file.set_len(last.len);
+                Err(error)
+            }
+        }
     }
 }
 

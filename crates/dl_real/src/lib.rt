@@ -1,42 +1,29 @@
-//! The real outside: adapters over std's readers and writers, files, TCP and clocks. They count each fault, and tell no
+//! The real outside of every program: adapters over std's readers and writers, files, and ports that are dialled. They count each fault, and tell no
 //! content but where std tells it.
 #![tactic(auto)]
 
-mod alive;
 mod answers;
-mod attendance;
-mod bind;
-mod client;
-mod clock;
+mod dial;
 mod directory;
-mod folder_lock;
-mod input_end;
 mod manner;
 mod once;
 mod paths;
-mod presence;
-mod prompt;
 mod reading;
 mod ready;
 mod reasons;
-mod resting;
-mod streams;
 mod taken;
-mod tcp;
-mod trace_sync;
 mod troubles;
 mod whole;
 mod writing;
 
-pub use bind::{BIND_ADDRESS, BindFault, bind_address};
-pub use clock::{OpenGate, SystemClock};
+pub use answers::is_memory;
+pub use dial::TcpDial;
 pub use directory::Directory;
-pub use folder_lock::{FolderLock, LockFault, lock_folder};
-pub use input_end::InputEnd;
-pub use prompt::PromptOutput;
+pub use once::{read_once, write_once};
 pub use reading::Reading;
+pub use ready::{has_answer, has_room};
+pub use reasons::reason;
 pub use taken::Taken;
-pub use tcp::{TcpDial, TcpLink, TcpNet};
-pub use trace_sync::TraceSync;
-pub use troubles::say_troubles;
+pub use troubles::{Troubles, say_troubles};
+pub use whole::write_whole;
 pub use writing::Writing;

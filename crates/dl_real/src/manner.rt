@@ -14,7 +14,7 @@ const TEXT_MOST: u64 = 16_777_217;
 const PICTURE_FRONT: &[u8] = b"<svg";
 
 /// How a program uses its files.
-#[derive(Clone, Copy, Debug)]
+#[derive(Clone, Copy)]
 pub enum Manner {
     /// It reads texts, and writes below its folder.
     Texts,

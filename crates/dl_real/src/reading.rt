@@ -7,7 +7,7 @@ use dl_outside::{Got, Source};
 use std::io::Read;
 
 /// A source over a reader. It tells what is left where the reader does: standard input, a file and a socket don't.
-#[derive(Debug, Drop)]
+#[derive(Drop)]
 pub struct Reading<R> {
     inner: R,
     faults: u64,

@@ -8,7 +8,7 @@ use std::io::Write;
 
 /// A sink over a writer. It tells what it holds where the writer does: standard output, a file and a socket don't. A
 /// writer that takes nothing of a piece has failed.
-#[derive(Debug, Drop)]
+#[derive(Drop)]
 pub struct Writing<W> {
     inner: W,
     faults: u64,

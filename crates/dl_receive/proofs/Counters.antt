@@ -3,7 +3,7 @@ use Rattle.std.proofs.Common.{◌≡◌, ℕ, Bool, true, false, cond, eqb, List
 use Rattle.std.specs.Prelude.{OnOk}
 use Rattle.std.specs.Option.{option_or}
 use Rattle.dl_model.specs.Along.{along_from}
-use Rattle.dl_laws.proofs.Lists.{along-one, along_from-append}
+use Rattle.dl_model.proofs.Lists.{along-one, along_from-append}
 use Rattle.dl_receive.specs.declared.counting.Counted.{Counted}
 use Rattle.dl_receive.specs.declared.counting.Counter.{Counter}
 use Rattle.dl_receive.specs.declared.counting.Entry.{Entry}

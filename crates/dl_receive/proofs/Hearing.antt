@@ -15,8 +15,8 @@ use Rattle.dl_model.specs.Frames.{FrameSource, frames_of}
 use Rattle.dl_model.specs.Overflow.{overflow_frames}
 use Rattle.dl_model.specs.Traffic as ts
 use Rattle.dl_model.specs.Traffic.{Traffic, Connected, Admitted, Reply, Closed, meant_for, is_coming, is_open, is_any_open}
-use Rattle.dl_laws.proofs.Lists.{along_from-append}
-use Rattle.dl_laws.proofs.ClientStreams.{is_open-one, same_number, any_open-admit, any_open-reply, waiting-admit, waiting-reply, meant_admit}
+use Rattle.dl_model.proofs.Lists.{along_from-append}
+use Rattle.dl_model.proofs.ClientStreams.{is_open-one, same_number, any_open-admit, any_open-reply, waiting-admit, waiting-reply, meant_admit}
 use Rattle.dl_receive.specs.Calls.{heard_frames, comes_or_goes, stirs}
 use Rattle.dl_lemmas.proofs.Bools.{neither}
 

@@ -25,8 +25,8 @@ use Rattle.dl_model.specs.ClientStream.{traffic_of}
 use Rattle.dl_model.specs.Frames.{FrameSource}
 use Rattle.dl_model.specs.Report.{is_answer}
 use Rattle.dl_model.specs.Traffic.{meant_for}
-use Rattle.dl_laws.proofs.Lists.{along_from-append}
-use Rattle.dl_laws.proofs.ClientStreams.{same_number}
+use Rattle.dl_model.proofs.Lists.{along_from-append}
+use Rattle.dl_model.proofs.ClientStreams.{same_number}
 use Rattle.dl_receive.specs.declared.kind.Kind.{Kind}
 use Rattle.dl_receive.specs.declared.kind.Kind.TheVariants.{Log}
 use Rattle.dl_receive.specs.declared.counting.Counted.{Counted}

@@ -12,7 +12,7 @@ use dl_headers::{Extended, Standard};
 use dl_message::read_message;
 
 /// What message counters go by.
-#[derive(Clone, Copy, Debug, PartialEq, Eq)]
+#[derive(Clone, Copy, PartialEq, Eq)]
 pub enum Counting {
     /// The log messages of a session are counted together, as this project's writers count.
     Sessions,
@@ -21,7 +21,7 @@ pub enum Counting {
 }
 
 /// Whose messages are counted together: a context's, or a session's, whose ids are zero.
-#[derive(Clone, Copy, Debug, PartialEq, Eq, Hash)]
+#[derive(Clone, Copy, PartialEq, Eq, Hash)]
 pub struct Counted {
     /// SEID: the session.
     pub seid: u32,
@@ -32,7 +32,7 @@ pub struct Counted {
 }
 
 /// The counter of a message.
-#[derive(Clone, Copy, Debug, PartialEq, Eq)]
+#[derive(Clone, Copy, PartialEq, Eq)]
 pub struct Counter {
     /// With whose messages it is counted.
     pub counted: Counted,
@@ -41,7 +41,7 @@ pub struct Counter {
 }
 
 /// A message, as a receiver prints it.
-#[derive(Clone, Copy, Debug, PartialEq, Eq)]
+#[derive(Clone, Copy, PartialEq, Eq)]
 pub struct Entry {
     /// What it is.
     pub kind: Kind,

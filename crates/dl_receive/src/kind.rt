@@ -12,7 +12,7 @@ use dl_headers::{Extended, Standard};
 use dl_message::read_message;
 
 /// What a message is.
-#[derive(Clone, Copy, Debug, PartialEq, Eq)]
+#[derive(Clone, Copy, PartialEq, Eq)]
 pub enum Kind {
     /// A log message that tells its session.
     Log {

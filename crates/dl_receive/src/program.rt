@@ -12,7 +12,7 @@ use dl_outside::{Dial, DialFault, Sink, Source, write_text};
 use std::alloc::Global;
 
 /// How a run of the program ended.
-#[derive(Debug, Drop)]
+#[derive(Drop)]
 pub struct Received<S> {
     /// The exit status.
     pub status: u8,

@@ -12,7 +12,7 @@ use Rattle.dl_model.specs.declared.registry.Slot.{Slot}
 use Rattle.dl_bytes.specs.Limits.{last_version}
 use Rattle.dl_model.specs.Registry.{App, Registry, IsInOrder, IsNumbered, context_of, effective, has_place, level_at, places, places_of, slot_of, with_app, with_new_app, with_context, with_new_context, without}
 use Rattle.dl_registry.specs.Table.{Table, held_at, wanted_at, differing}
-use Rattle.dl_registry.specs.Change.{context_told_again, placed_again, without_context}
+use Rattle.dl_apps.specs.Change.{context_told_again, placed_again, without_context}
 use Rattle.dl_registry.specs.Kept.{Fits}
 use Rattle.dl_registry.proofs.Finding.{valued, valued-push, valued-found, valued-set_value, valued-remove}
 use Rattle.dl_registry.proofs.Placing.{placed, placed-push, placed-found, placed-free, placed-set_value, placed-remove}

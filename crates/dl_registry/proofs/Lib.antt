@@ -1,6 +1,3 @@
-pub mod Numbers
-pub mod Entries
-pub mod OneNamed
 pub mod Finding
 pub mod Waiting
 pub mod Placing

@@ -18,13 +18,13 @@ use Rattle.std.proofs.lemmas.Map.Steps.{set_value_same}
 use Rattle.std.proofs.lemmas.Bool.{le-leb, lt-ltb}
 use Rattle.std.proofs.lemmas.Bool.Decides.{eqb_tells, leb_tells}
 use Rattle.dl_model.proofs.Order.{app_of_found, in_order-with_app, in_order-with_new_app, in_order-without, placed_of_found}
-use Rattle.dl_registry.specs.Change.{changed_app, changed_context, told_again, context_told_again, placed_again, without_context}
+use Rattle.dl_apps.specs.Change.{changed_app, changed_context, told_again, context_told_again, placed_again, without_context}
 use Rattle.dl_registry.specs.Kept.{Kept, Applies, CanClaim, ClaimsIn, Fits, kept_of, slots, with_registry}
 use Rattle.dl_registry.specs.Refresh.{has_slot}
 use Rattle.dl_registry.specs.Table.{Table, held_at, wanted_at, IsFirstFree}
 use Rattle.dl_registry.proofs.Placing.{placed, placed_tells}
 use Rattle.dl_registry.proofs.Fitting.{level_of, level_at-same, level_at-places, level_at-new_app, level_at-without, level_of-told, level_of-new, level_of-gone, level_of-further, level_at-found, fits-same, fits-some, fits-app_gone}
-use Rattle.dl_registry.proofs.Numbers.{least_free_is, room_left, none_left}
+use Rattle.dl_apps.proofs.Numbers.{least_free_is, room_left, none_left}
 
 -- a statement of the changed applications, by whether the application is there
 by_app : (P : List (List ℕ × App) → Type 0) (apid : List ℕ) (change : App → App) (apps : List (List ℕ × App)) → P apps

@@ -15,8 +15,8 @@ use Rattle.dl_model.specs.Registry.{App, Registry, IsInOrder, IsNumbered, Releve
 use Rattle.dl_model.proofs.Order.{in_order-releveled, in_order-with_app, placed_of_found}
 use Rattle.dl_model.proofs.Placed.{places-same, releveled_places}
 use Rattle.dl_model.proofs.Presence.{lookup-set_same}
-use Rattle.dl_registry.specs.Change.{changed_app, changed_context, leveled, releveled_in}
-use Rattle.dl_registry.proofs.OneNamed.{any-absent, any-named, filter-absent, filter-named, gives-absent, gives-named, map-absent, map-named, matches-itself, matches-other}
+use Rattle.dl_apps.specs.Change.{changed_app, changed_context, leveled, releveled_in}
+use Rattle.dl_apps.proofs.OneNamed.{any-absent, any-named, filter-absent, filter-named, gives-absent, gives-named, map-absent, map-named, matches-itself, matches-other}
 use Rattle.dl_registry.specs.Kept.{Fits}
 use Rattle.dl_registry.specs.Refresh.{has_slot, level_in_app, level_named}
 use Rattle.dl_registry.specs.Table.{Table, held_at, wanted_at}

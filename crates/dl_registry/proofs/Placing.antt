@@ -16,13 +16,6 @@ pub none_any : (n : ℕ) (ns : List ℕ) → AllByRecursion (λ y. nat_eq n y �
 none_any n [] none = refl
 none_any n (x ∷ ns) none = ap (λ b. b || list_any (nat_eq n) ns) none.0 ∙ none_any n ns none.1
 
-one_of : (P : ℕ → Type 0) (n : ℕ) (ns : List ℕ) → AllByRecursion P ns → list_any (nat_eq n) ns ≡ true → P n
-one_of P n [] all is = absurd (true≢false (sym is))
-one_of P n (x ∷ ns) all is = elim (eqb_tells n x) [
-  | inl here ↦ subst P (sym here.1) all.0
-  | inr other ↦ one_of P n ns all.1 (sym (ap (λ b. b || list_any (nat_eq n) ns) other.0) ∙ is)
-]
-
 -- a number of the second part is none of the first
 pub not_both : (n : ℕ) (xs ys : List ℕ) → IsDistinct nat_eq (xs ++ ys) → list_any (nat_eq n) ys ≡ true → list_any (nat_eq n) xs ≡ false
 not_both n [] ys apart is = refl

@@ -1,4 +1,3 @@
-pub mod Change
 pub mod Kept
 pub mod Refresh
 pub mod Info

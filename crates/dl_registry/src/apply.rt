@@ -9,13 +9,14 @@ ghost use Rattle.std.specs.Str.{bytes_eq};
 ghost use Rattle.dl_bytes.specs.Id.{zero_id};
 ghost use Rattle.dl_bytes.specs.declared.user.UserMsg.TheVariants as msgs;
 ghost use Rattle.dl_model.specs.Registry.{applied, app_of, app_registered, app_unregistered, context_of, context_registered, context_unregistered, for_app, slot_of as slot_number};
-ghost use Rattle.dl_registry.specs.Change.{changed_app, changed_context, told_again, context_told_again};
+ghost use Rattle.dl_apps.specs.Change.{changed_app, changed_context, told_again, context_told_again};
 ghost use Rattle.dl_registry.specs.Kept.{Applies, slots};
 ghost use Rattle.dl_registry.specs.Refresh.{has_slot};
 ghost use Rattle.dl_registry.specs.Table.{wanted_at};
 
 use crate::registry::{Registry, copied, described, own_for};
-use crate::{Application, SlotTable, apps, slot_of};
+use crate::{SlotTable, slot_of};
+use dl_apps::{Application, apps};
 use dl_bytes::{Bytes, Id, LAST_VERSION, OwnLevel, UserMsg};
 use dl_model::{Context, Places, RegistryFault};
 

@@ -4,7 +4,8 @@ ghost use Rattle.std.specs.Prelude.{Some, None};
 ghost use Rattle.dl_registry.specs.Kept.{CanClaim, Claims, ClaimsIn};
 
 use crate::registry::{Registry, own_for};
-use crate::{apps, slot_of};
+use crate::slot_of;
+use dl_apps::apps;
 use dl_bytes::{Claim, Id, LAST_VERSION, OwnLevel};
 use dl_model::{Context, Description, Places};
 

@@ -8,7 +8,7 @@ ghost use Rattle.dl_model.specs.Reply.{described, context_info, app_info, info_b
 ghost use Rattle.dl_registry.specs.Info.{GivesInfo, info_of};
 
 use crate::registry::Registry;
-use crate::{Application, is_named};
+use dl_apps::{Application, is_named};
 use dl_bytes::{Bytes, Id, OutOfMemory};
 use dl_model::Context;
 

@@ -7,20 +7,20 @@ ghost use Rattle.std.specs.Option.{option_map_or, option_or};
 ghost use Rattle.std.specs.Str.{bytes_eq};
 ghost use Rattle.dl_bytes.specs.Limits.{last_version};
 ghost use Rattle.dl_model.specs.Registry.{slot_of as slot_number, is_worn, wears, wears_app, wears_context, unless_worn, is_pattern, matching, matching_in, own_set, default_set, reset, no_own, set_matching};
-ghost use Rattle.dl_registry.specs.Change.{relevel_of};
+ghost use Rattle.dl_apps.specs.Change.{relevel_of};
 ghost use Rattle.dl_registry.specs.Kept.{Sets, slots};
 ghost use Rattle.dl_registry.specs.Refresh.{has_slot, level_in_app, level_in_apps, level_named};
 ghost use Rattle.dl_registry.specs.Table.{held_at, wanted_at};
 
-use crate::apps::{self, Apps};
 use crate::registry::Registry;
-use crate::{Application, Relevel, SlotTable, is_match, is_pattern, named, slot_of};
+use crate::{SlotTable, slot_of};
+use dl_apps::{Application, Apps, Relevel, apps, is_match, is_pattern, named};
 use dl_bytes::{Id, LAST_VERSION, Level, OwnLevel, Sequence, StoredLevel};
 use dl_model::{Context, SetFault};
 use std::alloc::Global;
 
 /// A default level, with own levels for contexts.
-#[derive(Clone, Copy, Debug)]
+#[derive(Clone, Copy)]
 struct NewLevels {
     level: Level,
     own: Relevel,

@@ -8,8 +8,9 @@ ghost use Rattle.dl_bytes.specs.Limits.{last_version};
 ghost use Rattle.dl_model.specs.Registry.{IsInOrder, app_of, level_at, stored_level, owns_now, owns_of_app};
 ghost use Rattle.dl_registry.specs.Kept.{slots, made, owed_change, with_change, with_registry, slot_named, channel_at, first_app, position_at};
 
-use crate::apps::{Apps, first_of_channel};
-use crate::{Application, SlotTable, slot_of};
+use crate::{SlotTable, slot_of};
+use dl_apps::apps::first_of_channel;
+use dl_apps::{Application, Apps};
 use dl_bytes::{Bytes, Id, Level, OutOfMemory, OwnLevel, Sequence, Stored, StoredLevel};
 use dl_model::{Description, LevelChange, Slot};
 use indexmap::IndexMap;

@@ -19,7 +19,7 @@ pub const PLACES: u8 = 64;
 
 /// What each slot holds, and the level that its context is to have. Only the slots from `from` to before `to` may wait for
 /// another level, so that the next one is found without a look at all slots.
-#[derive(Debug, Drop)]
+#[derive(Drop)]
 pub struct SlotTable {
     first: u64,
     held: Vec<Slot>,

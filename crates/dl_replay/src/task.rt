@@ -7,7 +7,7 @@ use dl_bytes::CALL_LIMIT;
 use dl_text::number;
 
 /// What the words ask for.
-#[derive(Clone, Copy, Debug, PartialEq, Eq)]
+#[derive(Clone, Copy, PartialEq, Eq)]
 pub enum Task {
     /// `steps`: the script of the input.
     Steps,

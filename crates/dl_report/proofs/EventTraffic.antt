@@ -10,8 +10,8 @@ use Rattle.dl_model.specs.ClientStream.{traffic, traffic_of}
 use Rattle.dl_model.specs.Frames.{FrameSource, frames_of}
 use Rattle.dl_model.specs.Journal.{is_connect, is_close}
 use Rattle.dl_model.specs.Traffic.{Traffic, Admitted, is_any_open}
-use Rattle.dl_laws.proofs.ClientStreams.{any_open-admit, waiting-admit, waiting-comes, waiting-goes, waiting-reply}
-use Rattle.dl_laws.proofs.Lists.{along-one}
+use Rattle.dl_model.proofs.ClientStreams.{any_open-admit, waiting-admit, waiting-comes, waiting-goes, waiting-reply}
+use Rattle.dl_model.proofs.Lists.{along-one}
 
 -- nothing waits where a client is open
 pub none_waits : (ts : List Traffic) → is_any_open ts ≡ true → waiting ts ≡ []

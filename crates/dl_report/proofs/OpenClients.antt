@@ -10,7 +10,7 @@ use Rattle.dl_model.specs.ClientStream.{traffic}
 use Rattle.dl_model.specs.Frames.{FrameSource}
 use Rattle.dl_model.specs.Journal.{IsOpen, comes_or_goes}
 use Rattle.dl_model.specs.Traffic.{is_any_open}
-use Rattle.dl_laws.proofs.ClientStreams.{any_open}
+use Rattle.dl_model.proofs.ClientStreams.{any_open}
 use Rattle.dl_laws.proofs.ClientStays.{opened, opened-one, opened_is, is_open_in}
 use Rattle.dl_laws.proofs.JournalStreams.{open_same}
 use Rattle.dl_report.specs.Following.{AreOpen}

@@ -21,7 +21,7 @@ const LOG_FIELDS: usize = 14;
 const OVERFLOW_FIELDS: usize = 20;
 
 /// So many frames, each of the same size.
-#[derive(Clone, Copy, Debug, PartialEq, Eq)]
+#[derive(Clone, Copy, PartialEq, Eq)]
 pub struct Batch {
     /// How many frames there are.
     pub frames: u64,
@@ -33,7 +33,7 @@ pub struct Batch {
 const NONE: Batch = Batch { frames: 0, size: 0 };
 
 /// What the frames of events are made of: the records of all writers, the applications by their numbers, and the control unit.
-#[derive(Debug, Drop)]
+#[derive(Drop)]
 pub struct Sources<'r, 's> {
     /// The records of log calls.
     pub records: &'r RecordList,

@@ -12,7 +12,7 @@ use dl_events::{Answer, Event, Record, RecordList, Why};
 use std::alloc::Global;
 
 /// What became of an application's calls.
-#[derive(Clone, Copy, Debug, PartialEq, Eq)]
+#[derive(Clone, Copy, PartialEq, Eq)]
 pub struct AppCounts {
     /// How many calls its ring took.
     pub queued: u128,
@@ -25,7 +25,7 @@ pub struct AppCounts {
 }
 
 /// A client that went.
-#[derive(Clone, Copy, Debug, PartialEq, Eq)]
+#[derive(Clone, Copy, PartialEq, Eq)]
 pub struct Closed {
     /// The client's number.
     pub client: u32,
@@ -34,7 +34,7 @@ pub struct Closed {
 }
 
 /// What the records and the events say of applications and clients.
-#[derive(Debug, Drop)]
+#[derive(Drop)]
 pub struct Tally {
     /// The counts of each application, by their numbers from 0.
     pub apps: Vec<AppCounts>,

@@ -15,7 +15,7 @@ const EMPTY: Backlog = Backlog {
 };
 
 /// The backlog, and how many clients are open: while one is, nothing waits.
-#[derive(Clone, Copy, Debug, PartialEq, Eq)]
+#[derive(Clone, Copy, PartialEq, Eq)]
 pub struct Waiting {
     /// How many bytes the buffer keeps at most.
     pub limit: u32,

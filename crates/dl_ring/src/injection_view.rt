@@ -4,7 +4,7 @@ use dl_bytes::Injection;
 use std::collections::LinkedList;
 
 /// An injection as it lies in the queue: with its number among those pushed, from 0.
-#[derive(Debug, Drop)]
+#[derive(Drop)]
 pub struct Entry {
     /// Its number.
     pub number: u64,

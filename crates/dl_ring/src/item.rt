@@ -7,7 +7,7 @@ use crate::call::Call;
 use dl_bytes::{Claim, Item};
 
 /// One push of a writer, as it lies in a ring.
-#[derive(Debug, Drop)]
+#[derive(Drop)]
 pub enum RingItem {
     /// A log call.
     Log(Item),
@@ -16,7 +16,7 @@ pub enum RingItem {
 }
 
 /// What a take gave, where a call is copied into an item of the caller's.
-#[derive(Debug, Drop)]
+#[derive(Drop)]
 pub enum Taken {
     /// A log call, which is in the caller's item.
     Call,

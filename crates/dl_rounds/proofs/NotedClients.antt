@@ -8,11 +8,10 @@ use Rattle.std.proofs.lemmas.List.{append-nil}
 use Rattle.dl_events.specs.declared.event.Event.{Event}
 use Rattle.dl_events.specs.declared.event.Event.TheVariants as event
 use Rattle.dl_events.specs.declared.event.Why.{Why}
-use Rattle.dl_events.specs.declared.event.Why.TheVariants.{Left, Slow}
+use Rattle.dl_events.specs.declared.event.Why.TheVariants.{Left}
 use Rattle.dl_bytes.specs.Limits.{message_limit}
 use Rattle.dl_message.specs.Cut.{rest_fault, rest_of}
 use Rattle.dl_message.specs.Cutting.{Cutting}
-use Rattle.dl_model.specs.Backlog.{outbox_limit}
 use Rattle.dl_message.specs.Requests.{requests}
 use Rattle.dl_model.specs.ClientEnds.{HasGone, IsCause, LinkDid, asked_by}
 use Rattle.dl_model.specs.ClientStream.{sent, stream, traffic}
@@ -23,9 +22,9 @@ use Rattle.dl_core.specs.Follows.{IsAfter, Run, source_of}
 use Rattle.dl_core.specs.State.{Core}
 use Rattle.dl_core.proofs.OpenClients.{its_stream}
 use Rattle.dl_turns.specs.Gone.{IsShown, Tells}
-use Rattle.dl_turns.specs.Later.{HasLeft, IsLaterStage, IsOpenWith, LeavesSo}
+use Rattle.dl_turns.specs.Later.{IsLaterStage, IsOpenWith, LeavesSo}
 use Rattle.dl_turns.specs.Sent.{HasCut}
-use Rattle.dl_turns.specs.State.{Side, Stage}
+use Rattle.dl_turns.specs.State.{Side}
 use Rattle.dl_turns.proofs.GoneClients.{goes, stays, unasked}
 use Rattle.dl_turns.proofs.HeardSides.{asked_both}
 use Rattle.dl_rounds.specs.Clients.{Client, Clients, IsClient, Visits, stage_of, with_client}
@@ -80,39 +79,10 @@ pub over_longer : (past more : List Event) (number : ℕ) (did : LinkDid) → Is
 over_longer past more number did over before after is =
     over before (after ++ more) (ap (λ (es : List Event). es ++ more) is ∙ append_assoc before (event.Close number Left ∷ after) more)
 
--- ---- a client that was too slow
-
-left_slow : (run : Run) (events : List Event) (taken : ℕ → List ℕ) (core : Core) (number room need : ℕ) → IsAfter run events taken core → (o : Option HubClient) → client_of core.hub number ≡ o
-    → IsSomeAnd o (λ c. (c.outbox ≡ None) × (room + c.left ≡ outbox_limit core.hub.buffer)) → (size : ℕ) × IsLeft run events number (taken number) size × (room + size ≡ outbox_limit run.setting.buffer)
-left_slow run events taken core number room need is None there has = absurd has
-left_slow run events taken core number room need is (Some c) there has =
-    (c.left, left_of run events taken core number c is there has.0, subst (λ (b : ℕ). room + c.left ≡ outbox_limit b) is.set_to.buffer has.1)
+-- ---- a cutter that waits for more of the next message
 
 pub not_bad : (bytes : List ℕ) (cutter : Cutting) → HasCut bytes cutter → is_some (rest_fault message_limit (rest_of message_limit bytes)) ≡ false
 not_bad bytes cutter cut = ap (λ (rest : List ℕ). is_some (rest_fault message_limit rest)) (sym cut.rest) ∙ ap (λ (o : Option _). is_some o) cut.good.good
-
-pub slow_went : (number room need : ℕ) (run : Run) (past : List Event) (taken : ℕ → List ℕ) (from : List ℕ) (stage : Stage) → IsOpenWith number run past taken from stage
-    → (core : Core) → IsAfter run (past ++ event.Close number (Slow room need) ∷ []) taken core → HasLeft number (Slow room need) core.hub
-    → (did : LinkDid) → did.given ≡ from → did.taken ≡ taken number → HasGone run.setting (source_of run) (past ++ event.Close number (Slow room need) ∷ []) number did
-slow_went number room need run past taken from stage was core after has did given took =
-    let left = left_slow run (past ++ event.Close number (Slow room need) ∷ []) taken core number room need after (client_of core.hub number) refl has in
-    let asked : requests did.given ≡ asked_by number past = ap requests given ∙ sym was.asked in
-    record {
-      before = past;
-      cause = Slow room need;
-      after = [];
-      place = refl;
-      left = left.1.left;
-      took = left.1.parts ∙ ap (λ (bytes : List ℕ). bytes ++ left.1.left) (sym took);
-      so = ap (λ (n : ℕ). room + n) left.1.size_is ∙ left.2;
-      asked = inl asked;
-      malformed = λ bad same. absurd (by (is_some (rest_fault message_limit (rest_of message_limit did.given)))
-          (ap (λ (bytes : List ℕ). is_some (rest_fault message_limit (rest_of message_limit bytes))) given ∙ not_bad from stage.cutter was.cut) bad);
-      too_many = λ many full. absurd (omega (arith, many, full, ap length asked));
-    }
-  where
-    by : (b : Bool) → b ≡ false → b ≡ true → ⊥
-    by b no_so yes_so = let bad : true ≡ false = sym yes_so ∙ no_so in cc bad
 
 -- ---- what links tell
 

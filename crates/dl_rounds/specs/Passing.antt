@@ -9,10 +9,9 @@ use Rattle.dl_message.specs.Requests.{requests}
 use Rattle.dl_model.specs.ClientEnds.{HasGone, LinkDid, asked_by}
 use Rattle.dl_outside.specs.Outside.{Grows, HasRisen}
 use Rattle.dl_outside.specs.Told.{LinkTold}
-use Rattle.dl_hub.specs.State.{Client as HubClient, client_of, outbox_of}
+use Rattle.dl_hub.specs.State.{client_of, outbox_of}
 use Rattle.dl_core.specs.Admission.{AddsEach}
 use Rattle.dl_core.specs.Follows.{HoldsTrace, IsAfter, Run, source_of}
-use Rattle.dl_core.specs.State.{Core}
 use Rattle.dl_core.specs.Next.{ComeInTurn}
 use Rattle.dl_turns.specs.Gone.{IsShown, Tells}
 use Rattle.dl_turns.specs.Injected.{HasPosted}
@@ -108,23 +107,6 @@ pub record StayAsNoted (old new : Clients) : Type 0 where
   pub later : AreLater old new
   pub stay : (run : Run) (past : List Event) (taken : ℕ → List ℕ) → TellFrom 0 old.links → AreAsNoted run past taken old
       → AreAsNoted run (past ++ later.more) (took_all taken later.sent) new
-
--- a core, and what the links of its clients took
-pub record Stands : Type 0 where
-  pub core : Core
-  pub taken : ℕ → List ℕ
-
--- a client is gone in both, with as much left; its link took just what it tells
-pub record IsGoneSame (number : ℕ) (did : LinkDid) (old new : Stands) : Type 0 where
-  pub was : HubClient
-  pub now : HubClient
-  pub there : client_of old.core.hub number ≡ Some was
-  pub there_now : client_of new.core.hub number ≡ Some now
-  pub gone : was.outbox ≡ None
-  pub gone_now : now.outbox ≡ None
-  pub left : now.left ≡ was.left
-  pub taken : new.taken number ≡ old.taken number
-  pub told : did.taken ≡ old.taken number
 
 -- ---- clients that are still open
 

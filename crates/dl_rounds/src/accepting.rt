@@ -15,7 +15,7 @@ use dl_events::Journal;
 use dl_outside::{Accepted, LinkList, Net};
 
 /// What came of an accept.
-#[derive(Clone, Copy, Debug, PartialEq, Eq)]
+#[derive(Clone, Copy, PartialEq, Eq)]
 pub enum Arrival {
     /// A client connected, under this number.
     Client(u32),

@@ -1,23 +1,16 @@
 //! Laws of rounds over clients: what they are to the journal, to each client, and to what each link gave and took.
 
-ghost use Rattle.std.specs.Prelude.{◌≡◌, ◌∷◌, ◌++◌, [], ℕ, Bool, List, IsSome};
+ghost use Rattle.std.specs.Prelude.{ℕ, Bool, List, IsSome};
 ghost use Rattle.dl_bytes.specs.declared.moment.Moment.{Moment};
 ghost use Rattle.dl_bytes.specs.declared.user.UserMsg.{UserMsg};
-ghost use Rattle.dl_events.specs.declared.event.Event.{Event};
-ghost use Rattle.dl_events.specs.declared.event.Event.TheVariants as event;
-ghost use Rattle.dl_events.specs.declared.event.Why.TheVariants.{Slow};
-ghost use Rattle.dl_model.specs.ClientEnds.{HasGone, LinkDid};
 ghost use Rattle.dl_hub.specs.State.{Hub, outbox_of};
 ghost use Rattle.dl_outside.specs.Told.{LinkTold};
-ghost use Rattle.dl_core.specs.Follows.{IsAfter, Run, source_of};
-ghost use Rattle.dl_core.specs.State.{Core};
 ghost use Rattle.dl_turns.specs.Gone.{TellOver};
-ghost use Rattle.dl_turns.specs.Later.{HasLeft, IsOpenWith};
-ghost use Rattle.dl_turns.specs.State.{Side, Stage};
+ghost use Rattle.dl_turns.specs.State.{Side};
 ghost use Rattle.dl_rounds.specs.Clients.{Client, Clients, VisitsAll};
 ghost use Rattle.dl_rounds.specs.Greetings.{AreGreeted, GreetsEach};
 ghost use Rattle.dl_rounds.specs.Partings.{AreShut, ShutsGone};
-ghost use Rattle.dl_rounds.specs.Passing.{AreLater, EachOpen, IsGoneSame, IsVisit, Stands, StayAsNoted, WasRead, WasSent, WasVisited};
+ghost use Rattle.dl_rounds.specs.Passing.{AreLater, EachOpen, IsVisit, StayAsNoted, WasRead, WasSent, WasVisited};
 ghost use Rattle.dl_rounds.specs.Shown.{ShowWhy, TellOvers};
 ghost use Rattle.dl_rounds.specs.Visits.{Closed, ClosesAll, Heard, HearsAll, Pumped};
 
@@ -53,22 +46,6 @@ pub fn clients_are_as_noted<L: Link>()
 {
     a_visit_is_its_events::<L>();
 }
-
-/// A client that went stays as it went, whatever happens to others: with more events that change nothing of it, it has gone all the same.
-pub fn a_client_stays_gone()
-    ensures { (number : ℕ) (run : Run) (past more : List Event) (old new : Stands) (did : LinkDid) → IsAfter run past old.taken old.core
-        → IsAfter run (past ++ more) new.taken new.core → IsGoneSame number did old new
-        → HasGone run.setting (source_of run) past number did → HasGone run.setting (source_of run) (past ++ more) number did }
-{}
-
-/// A client that was closed as too slow for the frames of an event has gone as the model says: it was open before, and all that its link gave was
-/// served.
-pub fn how_a_slow_client_went()
-    ensures { (number room need : ℕ) (run : Run) (past : List Event) (taken : ℕ → List ℕ) (given : List ℕ) (old : Stage) (new : Core) (did : LinkDid)
-        → IsOpenWith number run past taken given old → IsAfter run (past ++ event.Close number (Slow room need) ∷ []) taken new
-        → HasLeft number (Slow room need) new.hub → did.given ≡ given → did.taken ≡ taken number
-        → HasGone run.setting (source_of run) (past ++ event.Close number (Slow room need) ∷ []) number did }
-{}
 
 /// Each client that is open after a round was visited in it.
 pub fn a_round_visits_each_client()

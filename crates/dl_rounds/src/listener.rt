@@ -9,7 +9,7 @@ use dl_message::Cutter;
 use std::alloc::Global;
 
 /// What cuts the bytes of a client, and how many of its requests were served.
-#[derive(Debug, Drop)]
+#[derive(Drop)]
 pub struct Listener {
     /// It holds the bytes that are no whole message yet.
     pub cutter: Cutter,

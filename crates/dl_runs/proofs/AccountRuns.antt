@@ -17,7 +17,7 @@ use Rattle.dl_script_model.specs.Marks.{Call, Mark, Filtered, Queued, Counted, j
 use Rattle.dl_script_model.specs.Runs.{AreFounded}
 use Rattle.dl_model.specs.Report.{is_answer, records_of_app}
 use Rattle.dl_model.specs.Accounts.{order, of_writer, name_of, with_answer, AreNumbered, IsExact, AreTold, claimed_by}
-use Rattle.dl_laws.proofs.Lists.{count_by-append}
+use Rattle.dl_model.proofs.Lists.{count_by-append}
 use Rattle.dl_runs.proofs.RunLaws.{losses_told, calls_in_order, queued_in_ring, calls_exact}
 use Rattle.dl_runs.proofs.RunCalls.{calls_numbered}
 use Rattle.dl_model.specs.WholeAccounts.{records_by, claims_by, BelongsTo, IsOwnedSoFar, IsAccountedSoFar}

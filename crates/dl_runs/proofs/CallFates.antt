@@ -23,10 +23,10 @@ use Rattle.dl_model.specs.Backlog.{size_of, waiting, fitting, due_backlog, refus
 use Rattle.dl_model.specs.Overflow.{overflow_frames}
 use Rattle.dl_control.specs.Reply.{daemon_apid, daemon_ctid}
 use Rattle.dl_model.specs.ClientStream.{put, sent, traffic_of, traffic, stream}
-use Rattle.dl_laws.proofs.Lists.{along_from-append, along-one}
-use Rattle.dl_laws.proofs.ClientStreams.{any_open, any_open-admit, waiting-admit, same_number}
+use Rattle.dl_model.proofs.Lists.{along_from-append, along-one}
+use Rattle.dl_model.proofs.ClientStreams.{any_open, any_open-admit, waiting-admit, same_number}
 use Rattle.dl_laws.specs.Fates.{Fate, InRing, InStream, BufferFull, ForOthers, next_client, kept, of_frame, logs, of_queued, by_answer, what_became_of}
-use Rattle.dl_runs.specs.Causes.{IsRefused, IsElsewhere, Says}
+use Rattle.dl_runs.specs.Causes.{IsRefused, IsAbsent, IsElsewhere, Says}
 use Rattle.dl_laws.proofs.ClientStays.{AllSpeak, all_speak, first_speak, second_speak, true_not_false}
 use Rattle.dl_laws.proofs.FrameFates.{at_place, kept_at, fits_no_more, waits_on, comes, begins_due}
 use Rattle.dl_runs.proofs.LevelLaws.{filtered_above}
@@ -191,6 +191,7 @@ module _ (setting : Setting) (source : FrameSource) (buffer : ℕ) (r : Record) 
         there = fates other ∙ ap (λ (b : Bool). cond b (InStream (length (stream source buffer other before)))
             (cond (is_any_open ts) ForOthers (cond (leb (size_of (waiting ts ++ frame ∷ [])) buffer) (kept other (length (waiting ts)) (next_client after)) (BufferFull (next_client after))))) there;
         frame = heard_live other there;
+        absent = record { app = app; moment = moment; before = before; after = after; logged = refl; shut = shut; not_next = λ none is. true_not_false (is_any_open ts) ((any_open ts).1 other there) none };
       }
 
       shut_for : (other : ℕ) → is_any_open ts ≡ false → t.is_open other ts ≡ false
@@ -218,6 +219,15 @@ module _ (setting : Setting) (source : FrameSource) (buffer : ℕ) (r : Record) 
               ∙ ap (λ (b : Bool). cond b (kept next (length (waiting ts)) (next_client after)) (BufferFull (next_client after))) fits
               ∙ ap (kept next (length (waiting ts))) is ∙ ap (λ (b : Bool). cond b (InStream (length (waiting ts))) ForOthers) (same_number next);
           frame = heard_due next is shut fits;
+          absent = record {
+            app = app;
+            moment = moment;
+            before = before;
+            after = after;
+            logged = refl;
+            shut = shut_for client shut;
+            not_next = λ none mine. let same : next ≡ client = cc in true_not_false (eqb next client) (ap (λ (n : ℕ). eqb n client) same ∙ same_number client) apart;
+          };
         }
 
       says_refused : is_any_open ts ≡ false → leb (size_of (waiting ts ++ frame ∷ [])) buffer ≡ false → (next : Option ℕ) → next_client after ≡ next → IsRefused source buffer all next frame

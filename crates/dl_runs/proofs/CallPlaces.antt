@@ -16,7 +16,7 @@ use Rattle.dl_events.specs.declared.record.Answer.TheVariants as answer
 use Rattle.dl_model.specs.Accounts.{order, of_writer, with_answer}
 use Rattle.dl_model.specs.Report.{is_answer}
 use Rattle.dl_model.specs.WholeAccounts.{IsOwned, IsOwnedSoFar}
-use Rattle.dl_laws.proofs.Lists.{count_by-append}
+use Rattle.dl_model.proofs.Lists.{count_by-append}
 use Rattle.dl_laws.specs.Fates.{logs}
 use Rattle.dl_runs.proofs.AccountRuns.{nr}
 use Rattle.dl_runs.proofs.HeardCalls.{NoOthers, fewer, of_its_app}

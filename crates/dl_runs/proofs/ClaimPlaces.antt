@@ -21,7 +21,7 @@ use Rattle.dl_model.specs.Accounts.{claims, claimed_by}
 use Rattle.dl_model.specs.WholeAccounts.{ArePlacesApart}
 use Rattle.dl_model.proofs.Presence.{same_bytes}
 use Rattle.dl_runs.proofs.Announcing.{announced_first}
-use Rattle.dl_laws.proofs.Lists.{count_by-append}
+use Rattle.dl_model.proofs.Lists.{count_by-append}
 use Rattle.dl_runs.proofs.RunLaws.{claims_in_order}
 use Rattle.dl_laws.proofs.Alls.{all_filter}
 use Rattle.dl_runs.proofs.OwnApps.{number_more, writer_more, in_range}

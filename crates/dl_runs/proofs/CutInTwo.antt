@@ -27,7 +27,7 @@ use Rattle.dl_model.specs.Setting.{Setting}
 use Rattle.dl_model.specs.Journal.{is_connect, comes_or_goes, is_request_of}
 use Rattle.dl_script_model.specs.Marks.{Mark, Noted, Fed, Heard, journal, event_of, fed, heard, is_later}
 use Rattle.dl_script_model.specs.Steps.{Act, in_sequence, when, changes, level_noted, note_levels, note_levels_now, note, is_open, close, request_now, ask, close_malformed, receive, tell, hear}
-use Rattle.dl_laws.proofs.Lists.{count_by-append}
+use Rattle.dl_model.proofs.Lists.{count_by-append}
 use Rattle.dl_runs.proofs.Relations.{AreAll, both, turns, each}
 use Rattle.dl_runs.proofs.Turns.{ready}
 use Rattle.dl_runs.proofs.WellFormed.{in_sequence-append}

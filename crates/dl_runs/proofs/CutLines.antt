@@ -22,7 +22,7 @@ use Rattle.dl_model.specs.Journal.{is_connect, comes_or_goes}
 use Rattle.dl_script_model.specs.Marks.{Mark, Noted, Fed, Heard, journal, event_of, fed_of, fed, heard_of, heard}
 use Rattle.dl_script_model.specs.Steps.{in_sequence, just, when, is_open, close, ask, new_requests, close_malformed, receive, new_messages, tell, hear, act_of}
 use Rattle.dl_script_model.proofs.Marks.{in_sequence-one}
-use Rattle.dl_laws.proofs.Lists.{last_that-one, count_by-append}
+use Rattle.dl_model.proofs.Lists.{last_that-one, count_by-append}
 use Rattle.dl_runs.proofs.Relations.{AreAll, holds_on}
 use Rattle.dl_runs.proofs.Turns.{NoStop, Turn, line_in_turn}
 use Rattle.dl_runs.proofs.WellFormed.{plain}

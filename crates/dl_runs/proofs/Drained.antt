@@ -19,7 +19,7 @@ use Rattle.dl_script_model.specs.Marks.{Mark, Noted, journal, event_of, app_of, 
 use Rattle.dl_script_model.specs.Runs.{RestsOn, AreFounded}
 use Rattle.dl_script_model.specs.Steps.{Act, in_sequence, for_some, when, changes, level_noted, note_levels, note_levels_now, note, event_taken, take_log, take_losses, is_open, close, drain, act_of, run}
 use Rattle.dl_script_model.proofs.Marks.{in_sequence-one}
-use Rattle.dl_laws.proofs.Lists.{after_last-one, count_by-append}
+use Rattle.dl_model.proofs.Lists.{after_last-one, count_by-append}
 use Rattle.dl_runs.proofs.Founded.{IsOf, pushed-own, run_founded}
 use Rattle.dl_runs.proofs.RunLaws.{admitted_in_order}
 use Rattle.dl_runs.proofs.Relations.{AreAll, Keeps, as_all, both, first_part, second_part, holds_on, turns, each, repeated, asked_for, where_so}

@@ -12,7 +12,7 @@ use Rattle.dl_model.specs.Along.{last_that}
 use Rattle.dl_model.specs.Setting.{Setting}
 use Rattle.dl_script_model.specs.Marks.{Call, Mark, Passed, Queued, Refused, Counted, Noted, is_step_of, passed, refused, to_push, to_count, is_full, writers, opened_call, calls_of, records_of}
 use Rattle.dl_script_model.specs.Steps.{in_sequence, for_some, just, push, count, finish, run}
-use Rattle.dl_laws.proofs.Lists.{last_that-one}
+use Rattle.dl_model.proofs.Lists.{last_that-one}
 use Rattle.dl_runs.proofs.Founded.{run_founded, pushes_own, counts_own, pushed}
 use Rattle.dl_runs.proofs.RunCalls.{calls_numbered}
 use Rattle.dl_runs.proofs.Relations.{AreAll}

@@ -36,7 +36,7 @@ use Rattle.dl_script_model.specs.declared.step.Step.{Step}
 use Rattle.dl_script_model.specs.declared.step.Step.TheVariants as line
 use Rattle.dl_model.specs.Reply.{Need, Nothing, Folder, Queue}
 use Rattle.dl_script_model.specs.Steps.{is_open, close, connect, served, request_now, ask, close_malformed, new_requests, receive, new_messages, tell, hear, on_app, take_injection, act_of, drain, end_of, after_lines, run, loaded, load, push, count, finish, begin_call, whole_call, claim_made, claim, announce, is_held_back, announce_upto, announce_all, event_taken, take_log, take_losses, Act, in_sequence, just, for_some, when, level_noted, note_levels, note_levels_now, changes, note}
-use Rattle.dl_laws.proofs.Lists.{last_that-one, after_last-one, count_by-append, find-passes}
+use Rattle.dl_model.proofs.Lists.{last_that-one, after_last-one, count_by-append, find-passes}
 
 -- ---- acts in turn
 

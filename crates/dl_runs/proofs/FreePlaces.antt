@@ -24,7 +24,7 @@ use Rattle.dl_model.specs.Setting.{Setting}
 use Rattle.dl_model.proofs.OneMore.{registry-one, slot-other}
 use Rattle.dl_model.proofs.Changes.{Claims, claim_makes, served_makes}
 use Rattle.dl_model.proofs.Placed.{Among, places-push, places-further, releveled_places}
-use Rattle.dl_laws.proofs.Lists.{find-passes}
+use Rattle.dl_model.proofs.Lists.{find-passes}
 use Rattle.dl_laws.proofs.SlotChanges.{change_is}
 use Rattle.dl_runs.specs.WaitingClaims.{IsFreeIn, IsUntaken, LeavesFree, MessagesLeaveFree}
 use Rattle.dl_laws.proofs.UniqueIds.{numbered, unique-registry_of}

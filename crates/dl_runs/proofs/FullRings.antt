@@ -15,7 +15,7 @@ use Rattle.dl_model.specs.Setting.{Setting}
 use Rattle.dl_script_model.specs.Marks.{Call, Mark, Filtered, Passed, Queued, Refused, Counted, Announced, event_of, journal, app_of, apps, record_of, recorded, records_of, OfCall, OfClaim, pushes, pushed_of, taken, is_taken_of, held_by, capacity_of, is_full}
 use Rattle.dl_model.specs.Report.{is_answer}
 use Rattle.dl_model.specs.Accounts.{with_answer}
-use Rattle.dl_laws.proofs.Lists.{count_by-append}
+use Rattle.dl_model.proofs.Lists.{count_by-append}
 use Rattle.dl_runs.specs.RunRecords.{MetFullRing}
 use Rattle.dl_runs.proofs.Relations.{AreAll, holds_on}
 use Rattle.dl_runs.proofs.WriterRuns.{Open, Shut, ToPush, ToCount, IfOpen, Right, GoesOn, writer_holds}

@@ -27,7 +27,7 @@ use Rattle.dl_model.specs.Setting.{Setting}
 use Rattle.dl_model.specs.Traffic.{Traffic, admitted_in, frame_of, is_any_open, is_going}
 use Rattle.dl_model.specs.WholeAccounts.{IsAccounted, IsOwned, apid_in, frame_of_record, records_by, claims_by, source_of_records}
 use Rattle.dl_laws.proofs.Backlogs.{sum_of_counters}
-use Rattle.dl_laws.proofs.ClientStreams.{traffic_admits}
+use Rattle.dl_model.proofs.ClientStreams.{traffic_admits}
 use Rattle.dl_laws.specs.ClientParts.{IsMerged, replies_after}
 use Rattle.dl_laws.specs.HeardCalls.{HearsAll, calls_heard, logs_by, losses_heard, tells_losses_of}
 use Rattle.dl_runs.proofs.AccountRuns.{nr}

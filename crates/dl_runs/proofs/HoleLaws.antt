@@ -25,7 +25,7 @@ use Rattle.dl_model.specs.Traffic.{Traffic, is_any_open}
 use Rattle.dl_model.specs.Backlog.{size_of, waiting}
 use Rattle.dl_model.specs.ClientStream.{traffic, stream}
 use Rattle.dl_model.specs.WholeAccounts.{IsOwnedSoFar}
-use Rattle.dl_laws.proofs.Lists.{count_by-append}
+use Rattle.dl_model.proofs.Lists.{count_by-append}
 use Rattle.dl_laws.specs.Fates.{Fate, InRing, InStream, BufferFull, ForOthers, next_client, kept, of_frame, logs, of_queued, by_answer, what_became_of}
 use Rattle.dl_runs.specs.Causes.{is_in_stream, IsMissing, passed, TellsHole}
 use Rattle.dl_runs.proofs.CallCauses.{all_places}

@@ -13,8 +13,8 @@ use Rattle.dl_model.specs.Setting.{Setting}
 use Rattle.dl_script_model.specs.Marks.{Call, Mark, Filtered, Passed, Queued, Refused, Counted, call_of, is_step_of, is_load, calls_of, passed, refused, to_push, to_count, Announced, Pushed, OfCall, OfClaim, call_in, pushed_of, pushes, taken}
 use Rattle.dl_script_model.specs.Runs.{IsLoaded, IsNext, RestsOn, AreFounded}
 use Rattle.dl_script_model.specs.Replay.{is_call, frame_of_call}
-use Rattle.dl_laws.proofs.Lists.{count_by-append}
-use Rattle.dl_laws.proofs.ClientStreams.{same_number}
+use Rattle.dl_model.proofs.Lists.{count_by-append}
+use Rattle.dl_model.proofs.ClientStreams.{same_number}
 use Rattle.dl_runs.proofs.Founded.{passed_is, refused_is, last_step}
 use Rattle.dl_runs.proofs.RunLaws.{holds_after}
 use Rattle.dl_runs.specs.CallFrame.{HasItsFrame}

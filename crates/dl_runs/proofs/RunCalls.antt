@@ -13,7 +13,7 @@ use Rattle.dl_model.specs.Along.{last_that}
 use Rattle.dl_model.specs.Setting.{Setting}
 use Rattle.dl_script_model.specs.Marks.{Call, Mark, Filtered, Passed, Queued, Refused, Counted, record_of, records_of, recorded, is_step_of, is_load, calls_of, passed, refused, to_push, to_count, opened_call}
 use Rattle.dl_script_model.specs.Runs.{RestsOn, AreFounded}
-use Rattle.dl_laws.proofs.Lists.{last_that-one, count_by-append}
+use Rattle.dl_model.proofs.Lists.{last_that-one, count_by-append}
 use Rattle.dl_runs.proofs.Founded.{passed_is, refused_is, last_step}
 use Rattle.dl_runs.proofs.RunLaws.{holds_after}
 

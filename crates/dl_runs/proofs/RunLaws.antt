@@ -22,7 +22,7 @@ use Rattle.dl_model.specs.Accounts.{IsExact, Took, TookCall, TookClaim, took_of,
 use Rattle.dl_model.specs.Report.{reported, lost_of}
 use Rattle.dl_runs.specs.Takes.{as_took}
 use Rattle.dl_runs.proofs.Founded.{passed_is, refused_is, last_step}
-use Rattle.dl_laws.proofs.Lists.{after_last-one, count_by-append}
+use Rattle.dl_model.proofs.Lists.{after_last-one, count_by-append}
 
 -- what holds at the beginning, and goes on to hold with each mark that rests on those before it, holds
 pub holds_after : (setting : Setting) (P : List Mark → Type 0) → ((done : List Mark) (mark : Mark) → P done → RestsOn setting done mark → P (done ++ mark ∷ [])) →

@@ -32,7 +32,7 @@ use Rattle.dl_model.specs.Reply.{Need, Nothing, Folder, Queue, MayAnswer}
 use Rattle.dl_model.specs.Journal.{slots_of, owed, is_connect, is_close, comes_or_goes, IsOpen, is_request_of, is_slow, is_stop, IsSettled, MayRequest, need_after}
 use Rattle.dl_script_model.specs.Marks.{Call, Mark, HasApp, HasContext, Filtered, Passed, Queued, Refused, Counted, HasClaim, Announced, HeldBack, Noted, Fed, Heard, Handed, Injected, Answered, is_answer, journal, event_of, apps, number_of, named_place, writer_numbers, app_of_writer, calls_of, passed_of, to_push, to_count, to_announce, unannounced, Pushed, OfCall, OfClaim, pushes, taken, held_by, is_full, is_later, pending, moment, fed, injections}
 use Rattle.dl_script_model.specs.Steps.{Act, in_sequence, just, for_some, when, level_noted, note_levels, note_levels_now, changes, note, loaded, load, push, count, finish, begin_call, whole_call, claim_made, claim, announce, announce_all, event_taken, take_log, take_losses, is_open, close, connect, served, request_now, ask, new_requests, close_malformed, receive, new_messages, tell, hear, take_injection, on_app, act_of, drain, after_lines}
-use Rattle.dl_laws.proofs.Lists.{last_that-one, count_by-append}
+use Rattle.dl_model.proofs.Lists.{last_that-one, count_by-append}
 use Rattle.dl_runs.proofs.Relations.{AreAll, both, turns, each, and_one, repeated, asked_for, where_so, announced, Keeps}
 use Rattle.dl_laws.proofs.ClientStays.{is_open_in}
 use Rattle.dl_runs.proofs.WriterRuns.{IsOwn}

@@ -14,7 +14,7 @@ use Rattle.dl_script_model.specs.declared.line.ContextLine.{ContextLine}
 use Rattle.dl_model.specs.Along.{last_that}
 use Rattle.dl_script_model.specs.Marks.{Mark, Fed, Heard, event_of, journal, record_of, app_of, apps, number_of, context_of, contexts_of, place_of, claim_of, claims_of, claims_on, announced_of, announced_by, to_announce, unannounced, claimed_place, named_place, next_place, writer_of, writers, writer_numbers, app_of_writer, call_of, is_step_of, is_load, is_passed, calls_of, passed_of, passed, refused, to_push, to_count, Pushed, pushed_of, pushes, queued_of, queued, is_taken_of, taken, capacity_of, held_by, is_full, is_counted_of, is_lost_of, pending, clocked, moment_at, moment, waits_of, is_later, is_answer, is_injected, is_handed, injections}
 use Rattle.dl_script_model.specs.Steps.{Act, in_sequence, for_some, when}
-use Rattle.dl_laws.proofs.Lists.{last_that-one, after_last-one, count_by-append}
+use Rattle.dl_model.proofs.Lists.{last_that-one, after_last-one, count_by-append}
 
 -- all but the bytes that came
 abbrev pub is_other : Mark → Bool

@@ -14,7 +14,7 @@ use Rattle.dl_script_model.specs.Marks.{Call, Mark, Filtered, Passed, Queued, Re
 use Rattle.dl_script_model.specs.Runs.{IsLoaded}
 use Rattle.dl_model.specs.Report.{is_answer}
 use Rattle.dl_model.specs.Accounts.{AreCounted, IsNoOlder, NeverFall, with_answer}
-use Rattle.dl_laws.proofs.Lists.{count_by-append}
+use Rattle.dl_model.proofs.Lists.{count_by-append}
 use Rattle.dl_runs.proofs.Founded.{own_step}
 use Rattle.dl_runs.specs.RunRecords.{is_refusal_of, refusals_of, IsLoadedIn, IsSeen}
 use Rattle.dl_runs.proofs.Relations.{AreAll}

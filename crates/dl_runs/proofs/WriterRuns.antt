@@ -12,7 +12,7 @@ use Rattle.dl_model.specs.Along.{last_that}
 use Rattle.dl_model.specs.Setting.{Setting}
 use Rattle.dl_script_model.specs.Marks.{Call, Mark, Filtered, Passed, Queued, Refused, Counted, record_of, records_of, recorded, is_step_of, passed, refused, to_push, to_count, app_of_writer, number_of, is_full}
 use Rattle.dl_script_model.specs.Runs.{IsLoaded, RestsOn}
-use Rattle.dl_laws.proofs.Lists.{last_that-one}
+use Rattle.dl_model.proofs.Lists.{last_that-one}
 use Rattle.dl_runs.proofs.Founded.{passed_is, refused_is, last_step}
 use Rattle.dl_runs.proofs.Relations.{AreAll, both, holds_on}
 

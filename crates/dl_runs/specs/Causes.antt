@@ -3,7 +3,9 @@ use Rattle.std.specs.Prelude.{◌≡◌, ◌<◌, ◌≤◌, ◌+◌, ◌%◌, �
 use Rattle.std.specs.List.{AllByRecursion}
 use Rattle.dl_bytes.specs.Claim.{Claimed}
 use Rattle.dl_bytes.specs.Level.{severity_number, passes}
+use Rattle.dl_bytes.specs.declared.moment.Moment.{Moment}
 use Rattle.dl_events.specs.declared.event.Event.{Event}
+use Rattle.dl_events.specs.declared.event.Event.TheVariants as event
 use Rattle.dl_events.specs.declared.record.Record.{Record}
 use Rattle.dl_events.specs.declared.record.Answer.TheVariants as answer
 use Rattle.dl_model.specs.Frames.{FrameSource}
@@ -14,9 +16,10 @@ use Rattle.dl_script_model.specs.Marks.{Mark, journal, records, records_of}
 use Rattle.dl_script_model.specs.Replay.{source_of}
 use Rattle.dl_model.specs.Report.{is_answer, records_of_app}
 use Rattle.dl_model.specs.Setting.{Setting}
+use Rattle.dl_model.specs.Traffic.{is_open, is_any_open}
 use Rattle.dl_model.specs.WholeAccounts.{IsOwnedSoFar}
 use Rattle.dl_runs.specs.RunRecords.{MetFullRing}
-use Rattle.dl_laws.specs.Fates.{Fate, logs, Filtered, RingFull, InRing, InStream, InBacklog, BufferFull, ForOthers, what_became_of}
+use Rattle.dl_laws.specs.Fates.{Fate, logs, Filtered, RingFull, InRing, InStream, InBacklog, BufferFull, ForOthers, next_client, what_became_of}
 
 -- the frames that waited for the client that came next: its stream begins with those that the buffer kept and a report of how many it
 -- refused; where none came yet, they wait
@@ -33,13 +36,24 @@ pub record IsRefused (source : FrameSource) (buffer : ℕ) (events : List Event)
   pub behind : length (fitting buffer waited) ≤ place
   pub told : WaitedFor source buffer events next waited
 
--- A call stands in the stream of a client other than this one.
+-- A client was not there when a call was admitted, and was not handed what waited then.
+pub record IsAbsent (source : FrameSource) (client : ℕ) (events : List Event) (r : Record) : Type 0 where
+  pub app : ℕ
+  pub moment : Moment
+  pub before : List Event
+  pub after : List Event
+  pub logged : events ≡ before ++ event.Log app r.item.writer r.item.call moment ∷ after
+  pub shut : is_open client (traffic source before) ≡ false
+  pub not_next : is_any_open (traffic source before) ≡ false → next_client after ≡ Some client → ⊥
+
+-- A call stands in the stream of a client other than this one, which was not there.
 pub record IsElsewhere (source : FrameSource) (buffer client : ℕ) (events : List Event) (r : Record) : Type 0 where
   pub other : ℕ
   pub apart : other ≡ client → ⊥
   pub place : ℕ
   pub there : what_became_of source buffer other events r ≡ InStream place
   pub frame : slice_get (stream source buffer other events) place ≡ Some (source.frame r.item.writer r.item.call)
+  pub absent : IsAbsent source client events r
 
 -- what each fate says
 abbrev pub Says : FrameSource → (buffer client : ℕ) → List Event → Record → Fate → Type 0

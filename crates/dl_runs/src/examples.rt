@@ -1,21 +1,24 @@
 //! Examples of whole runs: what the definitions give for small scripts.
 #![tactic(auto, unfolding(dl_script_model::specs::Steps::changes, dl_control::specs::Reading::request_of, dl_control::specs::Reading::log_level_at, dl_control::specs::Reading::default_level_at, dl_control::specs::Reading::injection_of, dl_control::specs::Reading::body_at))]
 
-ghost use Rattle.std.specs.Prelude.{◌≡◌, ℕ, List, [], ◌∷◌, ◌++◌, codes, map, drop, replicate, count_by, Option, Some, true, false};
+ghost use Rattle.std.specs.Prelude.{◌≡◌, ℕ, List, [], ◌∷◌, ◌++◌, codes, map, drop, replicate, count_by, Option, Some, None, negsuc, true, false};
 ghost use Rattle.std.specs.Option.{option_map};
 ghost use Rattle.dl_bytes.specs.declared.level.Severity.TheVariants.{Debug, Fatal, Info};
 ghost use Rattle.dl_bytes.specs.declared.moment.Moment.{Moment};
-ghost use Rattle.dl_bytes.specs.declared.user.UserMsg.TheVariants.{Overflow};
+ghost use Rattle.dl_bytes.specs.declared.user.UserMsg.TheVariants.{Overflow, RegisterApp, RegisterContext};
 ghost use Rattle.dl_events.specs.declared.event.Event.TheVariants as event;
 ghost use Rattle.dl_script_model.specs.declared.step.Step.TheVariants.{Call, Connect, Close, Level, Levels, Bytes, Inject};
 ghost use Rattle.dl_script_model.specs.declared.step.LevelEvents.TheVariants.{Later, Now};
 ghost use Rattle.dl_model.specs.Accounts.{claims};
 ghost use Rattle.dl_model.specs.RegistryExamples.{hex, defaults, query, id};
-ghost use Rattle.dl_model.specs.Journal.{is_connect};
+ghost use Rattle.dl_events.specs.declared.event.Event.TheVariants.{User};
+ghost use Rattle.dl_model.specs.Journal.{is_connect, registry_of};
+ghost use Rattle.dl_model.specs.Registry.{context_named};
 ghost use Rattle.dl_script_model.specs.Steps.{loaded, run};
 ghost use Rattle.dl_script_model.specs.Replay.{printed, source_of, stream_of};
 ghost use Rattle.dl_model.specs.Frames.{frames_of, stored_frames};
 ghost use Rattle.dl_model.specs.Overflow.{counters};
+ghost use Rattle.dl_model.specs.TraceFiles.{is_spent, trace_files};
 ghost use Rattle.dl_script_model.specs.Marks.{records_of, journal};
 ghost use Rattle.dl_bytes.specs.declared.outcome.Done.TheVariants.{Yes, Failed};
 ghost use Rattle.dl_events.specs.declared.record.Answer.TheVariants.{Filtered, Queued, Lost};
@@ -190,4 +193,21 @@ pub fn overflow_records()
         ≡ hex (codes "25 00 00 1C 45 43 55 31 26 01 4C 4F 47 32 00 00 00 00 14 00 00 00 00 01 05 00 00 00") ∷ [] }
     ensures two { counters 4294967296 ≡ 4294967295 ∷ 1 ∷ [] }
     ensures most { counters 4294967295 ≡ 4294967295 ∷ [] }
+{}
+
+/// The last file that has a name is used, and a frame that needs another one behind it ends the trace.
+pub fn the_last_number()
+    ensures used { trace_files 8 100 (record { number = 999998; bytes = 1 ∷ 2 ∷ 3 ∷ 4 ∷ 5 ∷ [] } ∷ []) ((6 ∷ 7 ∷ 8 ∷ 9 ∷ []) ∷ [])
+        ≡ record { number = 999998; bytes = 1 ∷ 2 ∷ 3 ∷ 4 ∷ 5 ∷ [] } ∷ record { number = 999999; bytes = 6 ∷ 7 ∷ 8 ∷ 9 ∷ [] } ∷ [] }
+    ensures goes_on { is_spent 8 (record { number = 999998; bytes = 1 ∷ 2 ∷ 3 ∷ 4 ∷ 5 ∷ [] } ∷ []) ((6 ∷ 7 ∷ 8 ∷ 9 ∷ []) ∷ []) ≡ false }
+    ensures ends { is_spent 8 (record { number = 999999; bytes = 1 ∷ 2 ∷ 3 ∷ 4 ∷ 5 ∷ [] } ∷ []) ((6 ∷ 7 ∷ 8 ∷ 9 ∷ []) ∷ []) ≡ true }
+{}
+
+/// A context that registers again is at its new position from then on.
+pub fn registers_at_another_position()
+    ensures { (at : Moment) → option_map (λ found. found.1.position)
+        (context_named (registry_of defaults (User 1 (RegisterApp (id (codes "APP1")) 0 []) at
+        ∷ User 1 (RegisterContext (id (codes "APP1")) (id (codes "CTX1")) 3 None (negsuc 0) 0 []) at
+        ∷ User 1 (RegisterContext (id (codes "APP1")) (id (codes "CTX1")) 5 None (negsuc 0) 0 []) at ∷ [])) (id (codes "APP1")) (id (codes "CTX1")))
+        ≡ Some 5 }
 {}

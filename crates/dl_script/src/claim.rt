@@ -14,7 +14,7 @@ use std::marker::Model;
 const SENT_LIMIT: u64 = 1_000_000;
 
 /// What a line declares, and what it asks of the lines before it.
-#[derive(Clone, Copy, Debug)]
+#[derive(Clone, Copy)]
 pub enum Claim {
     /// Nothing.
     Nothing,
@@ -47,7 +47,7 @@ pub enum Claim {
 }
 
 /// A context as lines name it.
-#[derive(Clone, Copy, Debug, PartialEq, Eq, Hash)]
+#[derive(Clone, Copy, PartialEq, Eq, Hash)]
 pub struct ContextName {
     /// The application's id.
     pub apid: Id,
@@ -56,7 +56,7 @@ pub struct ContextName {
 }
 
 /// A place that a writer claims.
-#[derive(Clone, Copy, Debug)]
+#[derive(Clone, Copy)]
 pub struct PlaceName {
     /// The writer's number.
     pub writer: u8,
@@ -67,7 +67,7 @@ pub struct PlaceName {
 }
 
 /// A client as lines declare it.
-#[derive(Clone, Copy, Debug)]
+#[derive(Clone, Copy)]
 pub struct Client {
     /// How many bytes it sends.
     pub sent: u64,

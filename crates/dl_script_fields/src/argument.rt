@@ -21,7 +21,7 @@ use hex::FromHexError;
 use std::alloc::Global;
 
 /// What an argument is, by the word before its colon.
-#[derive(Clone, Copy, Debug)]
+#[derive(Clone, Copy)]
 pub enum Kind {
     /// `bool`: a truth value.
     Bool,

@@ -4,7 +4,7 @@ ghost use Rattle.std.specs.Prelude.{◌≡◌};
 ghost use Rattle.dl_script_lines.specs.Word.{step_word, scenario_word};
 
 /// What a line of a step script is, by its first word.
-#[derive(Clone, Copy, Debug)]
+#[derive(Clone, Copy)]
 pub enum StepWord {
     App,
     Context,
@@ -30,7 +30,7 @@ pub enum StepWord {
 }
 
 /// What a line of a scenario is, by its first word.
-#[derive(Clone, Copy, Debug)]
+#[derive(Clone, Copy)]
 pub enum ScenarioWord {
     App,
     Context,

@@ -9,7 +9,7 @@ use std::marker::Model;
 
 /// The arguments of a log call, in memory of just their size: a list of lines may hold a million of them. Up to 48 bytes, as
 /// most calls have, lie in place and take none. Contracts see what they see of a [`Payload`].
-#[derive(Debug, Drop)]
+#[derive(Drop)]
 pub struct CallArguments {
     bytes: SmallVec<u8, 48>,
     args: u8,

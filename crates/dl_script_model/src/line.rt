@@ -4,7 +4,7 @@ use crate::arguments::CallArguments;
 use dl_bytes::{Bytes, ClaimText, Id, OwnLevel, Severity};
 
 /// `app ID CAPACITY [TEXT]`: an application of channel 0, with its ring.
-#[derive(Debug, Drop)]
+#[derive(Drop)]
 pub struct AppLine {
     /// The application's id.
     pub apid: Id,
@@ -15,7 +15,7 @@ pub struct AppLine {
 }
 
 /// `context APID CTID LEVEL [TEXT]`: a context of an application.
-#[derive(Debug, Drop)]
+#[derive(Drop)]
 pub struct ContextLine {
     /// The application's id.
     pub apid: Id,
@@ -28,7 +28,7 @@ pub struct ContextLine {
 }
 
 /// `W CTID LEVEL [TEXT]`: a writer claims a place for a context of its application.
-#[derive(Debug, Drop)]
+#[derive(Drop)]
 pub struct ClaimLine {
     /// The writer's number, 1 to 32.
     pub writer: u8,
@@ -41,7 +41,7 @@ pub struct ClaimLine {
 }
 
 /// `W CTID SEV AT ARG..`: a log call.
-#[derive(Debug, Drop)]
+#[derive(Drop)]
 pub struct CallLine {
     /// The writer's number, 1 to 32.
     pub writer: u8,

@@ -8,7 +8,7 @@ use dl_bytes::{Bytes, Id, Sequence, Severity};
 pub type Scenario = Sequence<ScenarioLine>;
 
 /// A line of a scenario.
-#[derive(Debug, Drop)]
+#[derive(Drop)]
 pub enum ScenarioLine {
     /// `app`: an application of channel 0, with its ring.
     App(AppLine),

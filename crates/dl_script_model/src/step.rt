@@ -7,7 +7,7 @@ use dl_bytes::{Bytes, Id, Sequence};
 pub type StepList = Sequence<Step>;
 
 /// When the daemon hands out a change of a log level.
-#[derive(Clone, Copy, Debug, PartialEq, Eq)]
+#[derive(Clone, Copy, PartialEq, Eq)]
 pub enum LevelEvents {
     /// Where a line asks for it.
     Later,
@@ -16,7 +16,7 @@ pub enum LevelEvents {
 }
 
 /// A line of a step script.
-#[derive(Debug, Drop)]
+#[derive(Drop)]
 pub enum Step {
     /// `app`: an application of channel 0, with its ring.
     App(AppLine),

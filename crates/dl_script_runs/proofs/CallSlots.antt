@@ -26,7 +26,7 @@ use Rattle.dl_script_model.specs.Steps.{run}
 use Rattle.dl_model.proofs.Order.{app_of_found, in_order-registry_of}
 use Rattle.dl_model.proofs.Presence.{bytes_same, same_bytes}
 use Rattle.dl_runs.proofs.Founded.{run_founded}
-use Rattle.dl_laws.proofs.Lists.{find-passes, last_that-one}
+use Rattle.dl_model.proofs.Lists.{find-passes, last_that-one}
 use Rattle.dl_runs.specs.RunRecords.{IsLoadedIn}
 use Rattle.dl_runs.specs.WaitingClaims.{IsRegistered}
 use Rattle.dl_runs.proofs.ClaimPlaces.{IsOwnClaim, all_own}

@@ -24,7 +24,7 @@ use Rattle.dl_script_model.specs.Marks.{Mark, HasContext, HasWriter, HasClaim, a
 use Rattle.dl_model.specs.Setting.{Setting}
 use Rattle.dl_script_model.specs.Steps.{Act, claim, claim_made, finish, for_some, in_sequence, just, tell}
 use Rattle.dl_model.proofs.Presence.{bytes_differ, bytes_same}
-use Rattle.dl_laws.proofs.Lists.{count_by-append}
+use Rattle.dl_model.proofs.Lists.{count_by-append}
 use Rattle.dl_runs.proofs.ClaimPlaces.{same_id}
 use Rattle.dl_runs.proofs.OwnApps.{number_more}
 use Rattle.dl_runs.proofs.Relations.{Keeps, holds_on, turns, weaker}

@@ -38,7 +38,7 @@ use Rattle.dl_machine.proofs.Joined.{EachNumbered, joined_get, numbered_changed}
 use Rattle.dl_machine.proofs.ProgramSteps.{program_with, programs_with}
 use Rattle.dl_machine.proofs.SaidEvents as events
 use Rattle.dl_machine.proofs.SaidEvents.{only, only_it, only_other, program_says, said_by, step_says, told_of}
-use Rattle.dl_machine.proofs.ServerSteps.{state_in, state_of}
+use Rattle.dl_serve.proofs.ServerSteps.{state_in, state_of}
 use Rattle.dl_machine.proofs.Standing.{changed_length}
 use Rattle.dl_serve.specs.declared.beginning.Begun.{Begun}
 use Rattle.dl_serve.specs.declared.closed.Closed.{Closed}

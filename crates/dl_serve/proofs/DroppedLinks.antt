@@ -22,7 +22,7 @@ use Rattle.dl_machine.proofs.ClientSteps.{client_with}
 use Rattle.dl_machine.proofs.Composed.{steps_keep}
 use Rattle.dl_machine.proofs.Joined.{joined_length}
 use Rattle.dl_machine.proofs.ProgramSteps.{program_with}
-use Rattle.dl_machine.proofs.ServerSteps.{state_in, state_of}
+use Rattle.dl_serve.proofs.ServerSteps.{state_in, state_of}
 use Rattle.dl_serve.specs.declared.beginning.Begun.{Begun}
 use Rattle.dl_serve.specs.declared.closed.Closed.{Closed}
 use Rattle.dl_serve.specs.Closed.{IsLeft}
@@ -150,11 +150,11 @@ module _ (IsTold : LinkTold → Type 0) where
 -- ---- the whole
 
 -- before anybody came to a server that was made like this
-pub first_kept : {J L : Type 0} (told : L → LinkTold) (events : J → Option (List Event)) (folder : FolderTold) (core : Core) (journal : J) (channels : Channels) (clients programs : ℕ) (s : Server J L)
+pub first_kept : {J L : Type 0} (told : L → LinkTold) (events : J → Option (List Event)) (may_want : Bool) (folder : FolderTold) (core : Core) (journal : J) (channels : Channels) (clients programs : ℕ) (s : Server J L)
     → IsMade core journal channels clients programs s → length core.hub.clients ≡ 0 → channels.opened ≡ 0 → channels.inboxes ≡ [] → open_client_limit ≤ core.hub.limit → open_channel_limit ≤ channels.at_once
-    → open_channel_limit ≤ channels.in_all → IsKept (counts (state_of (server.seen told events folder s)))
-first_kept told events folder core journal channels clients programs s made nobody opened inboxes limit at_once in_all =
-    let start : State = state_of (server.seen told events folder s) in
+    → open_channel_limit ≤ channels.in_all → IsKept (counts (state_of (server.seen told events may_want folder s)))
+first_kept told events may_want folder core journal channels clients programs s made nobody opened inboxes limit at_once in_all =
+    let start : State = state_of (server.seen told events may_want folder s) in
     let no_program : length start.programs ≡ 0 = joined_length program_with None _ _ ∙ ap (λ (ls : Links _). length (map told ls.links)) made.no_program in
     let no_client : length start.clients ≡ 0 = joined_length client_with fresh_listener _ _ ∙ ap (λ (ls : Links _). length (map told ls.links)) made.no_client in
     let no_inbox : length start.channels.inboxes ≡ 0 = ap (λ (c : Channels). length c.inboxes) made.channels_are ∙ ap (λ (is : List (ℕ × cutter.Channel)). length is) inboxes in record {
@@ -185,4 +185,4 @@ module _ {L : Type 0} (link_told : L → LinkTold) where
   pub dropped_so : (begun : Begun) (old new : Told L) (full : Bool) (closed : Closed L) → HasOpened link_told begun full old new closed → HasDropped closed
   dropped_so begun old new full closed has =
       left_dropped (first link_told begun old new full closed has) (final link_told begun old new full closed has) closed (serving_goes link_told begun old new full closed has)
-      (first_kept link_told kept old.folder _ _ _ client_limit channel_limit has.opened.server has.is_opened.made refl refl refl (omega arith) (omega arith) (omega arith)) has.run.closes.3
+      (first_kept link_told kept true old.folder _ _ _ client_limit channel_limit has.opened.server has.is_opened.made refl refl refl (omega arith) (omega arith) (omega arith)) has.run.closes.3

@@ -10,7 +10,7 @@ use Rattle.dl_channel_turns.specs.State.{Side}
 use Rattle.dl_core.specs.Admission.{AddsEach}
 use Rattle.dl_events.specs.declared.event.Event.{Event}
 use Rattle.dl_events.specs.declared.event.Event.TheVariants as event
-use Rattle.dl_laws.proofs.Lists.{along-one}
+use Rattle.dl_model.proofs.Lists.{along-one}
 use Rattle.dl_lemmas.proofs.Lists.{all_both}
 use Rattle.dl_model.specs.ClientStream.{traffic, traffic_of}
 use Rattle.dl_model.specs.Frames.{FrameSource, user_frames}

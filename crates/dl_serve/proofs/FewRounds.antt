@@ -1,5 +1,5 @@
 -- How few frames are admitted in the rounds of a server, and so who was handed out.
-use Rattle.std.proofs.Common.{◌≡◌, ◌<◌, ◌≤◌, ◌+◌, ◌*◌, ℕ, zero, suc, Bool, false, inl, inr, List, [], ◌∷◌, ◌++◌, length, map, replicate, Option, Some, sym, ap, subst, ◌∙◌, arith, slice_get, length-append, append-nil}
+use Rattle.std.proofs.Common.{◌≡◌, ◌<◌, ◌≤◌, ◌+◌, ◌*◌, ℕ, zero, suc, Bool, false, inl, inr, List, [], ◌∷◌, ◌++◌, length, map, replicate, Option, Some, sym, ap, subst, ◌∙◌, arith, slice_get, length-append, append-nil, true}
 use Rattle.std.specs.Prelude.{IsSomeAnd}
 use Rattle.std.proofs.lemmas.List.{length-map, length-replicate, map-append}
 use Rattle.dl_channel.specs.declared.outcome.ChannelEnd.{ChannelEnd}
@@ -305,7 +305,7 @@ module _ {L : Type 0} (told : L → LinkTold) (heard : (moved : Bool) (old new :
   few_last =
       let made = has.is_opened.made in
       let channels = made.channels_are in
-      let start : State = seen told kept old.folder has.opened.server in
+      let start : State = seen told kept true old.folder has.opened.server in
       let no_programs : start.programs ≡ [] = ap (λ (ls : Links L). map told ls.links) made.no_program in
       let no_inboxes = ap (λ (c : Channels). c.inboxes) channels in
       let nothing = ap (λ (c : Core). c.hub.admitted) made.core_is in

@@ -138,7 +138,7 @@ module _ {L : Type 0} (told : L → LinkTold) (set : Setting) (first_net first_u
       users_undropped : Users_count → s.dropped ≡ 0
       room : frames_in set s.events + 4096 ≤ admitted_limit
 
-    module _ (many : ℕ) (old new : Standing L) (r : ServesRound told set first_net.faults first_users.faults old new) (well : IsWell new) where
+    module _ (many : ℕ) (old new : Standing L) (r : ServesRound told true set first_net.faults first_users.faults old new) (well : IsWell new) where
       sooner : IsWell old
       sooner = record {
         net = λ rose. well.net (rose_on first_net.faults first_net.faults old.net.faults new.net.faults (omega arith) (never_fell told first_net.faults new.wanted old.net new.net r.clients_came r.clients_dropped r.accepts) rose);

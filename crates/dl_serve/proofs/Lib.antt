@@ -6,6 +6,7 @@ pub mod CameTo
 pub mod ServedJournals
 pub mod MoreRounds
 pub mod OtherEntries
+pub mod ServerSteps
 pub mod ServingSteps
 pub mod ShownEnds
 pub mod HeldInboxes

@@ -16,7 +16,7 @@ limits_both a b c one two = record { clients = two.clients ∙ one.clients; chan
 
 module _ {L : Type 0} (told : L → LinkTold) where
   pub one_more : (many : ℕ) (net net_then net_now users users_then users_now : NetTold L) (old between new : State) → AreRounds told many net net_then users users_then old between
-      → HasRoom between.events → IsRound told net_then net_now users_then users_now between new → IsSeen told kept between → AreRounds told (many + 1) net net_now users users_now old new
+      → HasRoom between.events → IsRound told net_then net_now users_then users_now between new → IsSeen told kept true between → AreRounds told (many + 1) net net_now users users_now old new
   one_more many net net_then net_now users users_then users_now old between new rounds room round seen =
       let next : suc many ≡ many + 1 = omega arith in
       subst (λ (n : ℕ). AreRounds told n net net_now users users_now old new) next (net_then, users_then, between, rounds, room, round, seen)

@@ -16,7 +16,7 @@ use Rattle.dl_channel_turns.specs.Turns.{Heeds, IsTurn}
 use Rattle.dl_core.specs.Follows.{IsAfter, Run, source_of}
 use Rattle.dl_core.specs.State.{Core}
 use Rattle.dl_events.specs.declared.event.Event.{Event}
-use Rattle.dl_laws.proofs.ClientStreams.{traffic_admits}
+use Rattle.dl_model.proofs.ClientStreams.{traffic_admits}
 use Rattle.dl_model.specs.Frames.{admitted, frames_of}
 use Rattle.dl_outside.specs.Outside.{HasRisen}
 use Rattle.dl_outside.specs.Told.{LinkTold}

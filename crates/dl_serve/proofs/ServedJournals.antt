@@ -50,7 +50,7 @@ module _ {L : Type 0} (link_told : L → LinkTold)
   module _ (begun : Begun) (old new : Told L) (full : Bool) (closed : Closed L) (first : FolderTold) (begins : IsBegun begun.conf first.files begun.trace) (quiet : IsQuiet first old.folder)
       (has : HasOpened link_told begun full old new closed) where
     abbrev start : State
-    start = seen link_told kept old.folder has.opened.server
+    start = seen link_told kept true old.folder has.opened.server
 
     fresh : IsFresh (setting begun) begun start
     fresh = record {

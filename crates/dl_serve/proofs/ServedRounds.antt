@@ -1,6 +1,6 @@
 -- What one round of a server is to those who are there.
 use Rattle.std.proofs.Common.{◌≡◌, ◌≢◌, ◌⊎◌, ◌<◌, ◌≤◌, ◌+◌, ◌-◌, ℕ, zero, suc, Bool, true, false, inl, inr, List, [], ◌∷◌, ◌++◌, length, replicate, Option, Some, None, is_some, refl, sym, ap, subst, ◌∙◌, arith, slice_get, append-nil, append_assoc}
-use Rattle.std.specs.Prelude.{IfSome, IsSome, IsSomeAnd}
+use Rattle.std.specs.Prelude.{◌&&◌, IfSome, IsSome, IsSomeAnd}
 use Rattle.std.specs.List.{concat}
 use Rattle.std.specs.Option.{option_and_then}
 use Rattle.std.proofs.lemmas.Bool.Decides.{eqb_tells}
@@ -13,14 +13,14 @@ use Rattle.dl_core.specs.Follows.{IsAfter, Run, source_of}
 use Rattle.dl_core.specs.State.{Core}
 use Rattle.dl_events.specs.declared.event.Event.{Event}
 use Rattle.dl_hub.specs.State.{Client as HubClient, Comes, Hub, Waiting, client_of, outbox_of}
-use Rattle.dl_laws.proofs.ClientStreams.{traffic_admits}
+use Rattle.dl_model.proofs.ClientStreams.{traffic_admits}
 use Rattle.dl_loop.proofs.TakenEvents.{open_before}
 use Rattle.dl_loop.proofs.Visited.{PumpsAreEvents}
 use Rattle.dl_loop.specs.Daemon.{TellTaken}
 use Rattle.dl_machine.proofs.Joined.{joined, joined_first, joined_get, joined_length}
 use Rattle.dl_machine.proofs.ProgramSteps.{programs_with}
 use Rattle.dl_machine.proofs.SaidEvents.{told_of}
-use Rattle.dl_machine.proofs.ServerSteps.{IsReady, TellsOvers, round_leads, state_of}
+use Rattle.dl_serve.proofs.ServerSteps.{IsReady, TellsOvers, round_leads, state_of}
 use Rattle.dl_machine.specs.Steps.{Goes, IsToldBy}
 use Rattle.dl_model.specs.ClientStream.{sent, stream, traffic}
 use Rattle.dl_model.specs.Frames.{admitted}
@@ -163,27 +163,29 @@ record BesideClient (old new : State) : Type 0 where
   programs : new.programs ≡ old.programs
   ends : new.ends ≡ old.ends
   no_programs : new.no_programs ≡ old.no_programs
+  may_want : new.may_want ≡ old.may_want
 
 record BesideProgram (old new : State) : Type 0 where
   core : new.core ≡ old.core
   clients : new.clients ≡ old.clients
   ends : new.ends ≡ old.ends
   no_clients : new.no_clients ≡ old.no_clients
+  may_want : new.may_want ≡ old.may_want
 
 module _ {L : Type 0} (told : L → LinkTold) where
   client_beside : (moved : Bool) (net net_now : NetTold L) (old new : State) → AcceptsClientIfMay told moved net net_now old new → BesideClient old new
   client_beside moved net net_now old new (inl none) =
-      record { programs = ap (λ (s : State). s.programs) none.3; ends = ap (λ (s : State). s.ends) none.3; no_programs = ap (λ (s : State). s.no_programs) none.3 }
+      record { programs = ap (λ (s : State). s.programs) none.3; ends = ap (λ (s : State). s.ends) none.3; no_programs = ap (λ (s : State). s.no_programs) none.3; may_want = ap (λ (s : State). s.may_want) none.3 }
   client_beside moved net net_now old new (inr (inl want)) =
-      record { programs = ap (λ (s : State). s.programs) want.3; ends = ap (λ (s : State). s.ends) want.3; no_programs = ap (λ (s : State). s.no_programs) want.3 }
+      record { programs = ap (λ (s : State). s.programs) want.3; ends = ap (λ (s : State). s.ends) want.3; no_programs = ap (λ (s : State). s.no_programs) want.3; may_want = ap (λ (s : State). s.may_want) want.3 }
   client_beside moved net net_now old new (inr (inr accepts)) =
-      let rest = accepts.1.2.rest in record { programs = ap (λ (s : State). s.programs) rest; ends = ap (λ (s : State). s.ends) rest; no_programs = ap (λ (s : State). s.no_programs) rest }
+      let rest = accepts.1.2.rest in record { programs = ap (λ (s : State). s.programs) rest; ends = ap (λ (s : State). s.ends) rest; no_programs = ap (λ (s : State). s.no_programs) rest; may_want = ap (λ (s : State). s.may_want) rest }
 
   program_beside : (moved : Bool) (net net_now : NetTold L) (old new : State) → AcceptsProgramIfMay told moved net net_now old new → BesideProgram old new
   program_beside moved net net_now old new (inl none) =
-      record { core = ap (λ (s : State). s.core) none.3; clients = ap (λ (s : State). s.clients) none.3; ends = ap (λ (s : State). s.ends) none.3; no_clients = ap (λ (s : State). s.no_clients) none.3 }
+      record { core = ap (λ (s : State). s.core) none.3; clients = ap (λ (s : State). s.clients) none.3; ends = ap (λ (s : State). s.ends) none.3; no_clients = ap (λ (s : State). s.no_clients) none.3; may_want = ap (λ (s : State). s.may_want) none.3 }
   program_beside moved net net_now old new (inr accepts) =
-      let rest = accepts.3.rest in record { core = ap (λ (s : State). s.core) rest; clients = ap (λ (s : State). s.clients) rest; ends = ap (λ (s : State). s.ends) rest; no_clients = ap (λ (s : State). s.no_clients) rest }
+      let rest = accepts.3.rest in record { core = ap (λ (s : State). s.core) rest; clients = ap (λ (s : State). s.clients) rest; ends = ap (λ (s : State). s.ends) rest; no_clients = ap (λ (s : State). s.no_clients) rest; may_want = ap (λ (s : State). s.may_want) rest }
 
 -- one that came before is open where it was
 came_before : (old new : Hub) (place : ℕ) → Comes old new → place < length old.clients → IsSome (outbox_of new (place + 1)) → IsSome (outbox_of old (place + 1))
@@ -225,15 +227,16 @@ heard_links moved old new (inr (inr hears)) = (let serves = hears.serves in clie
 record BesideVisits (old new : State) : Type 0 where
   programs : new.programs ≡ old.programs
   ends : new.ends ≡ old.ends
+  may_want : new.may_want ≡ old.may_want
 
 heard_beside : (moved : Bool) (old new : State) → HearsClientsIfMay moved old new → BesideVisits old new
-heard_beside moved old new (inl nobody) = record { programs = ap (λ (s : State). s.programs) nobody.2; ends = ap (λ (s : State). s.ends) nobody.2 }
-heard_beside moved old new (inr (inl want)) = record { programs = ap (λ (s : State). s.programs) want.1; ends = ap (λ (s : State). s.ends) want.1 }
-heard_beside moved old new (inr (inr hears)) = record { programs = ap (λ (s : State). s.programs) hears.rest; ends = ap (λ (s : State). s.ends) hears.rest }
+heard_beside moved old new (inl nobody) = record { programs = ap (λ (s : State). s.programs) nobody.2; ends = ap (λ (s : State). s.ends) nobody.2; may_want = ap (λ (s : State). s.may_want) nobody.2 }
+heard_beside moved old new (inr (inl want)) = record { programs = ap (λ (s : State). s.programs) want.1; ends = ap (λ (s : State). s.ends) want.1; may_want = ap (λ (s : State). s.may_want) want.1 }
+heard_beside moved old new (inr (inr hears)) = record { programs = ap (λ (s : State). s.programs) hears.rest; ends = ap (λ (s : State). s.ends) hears.rest; may_want = ap (λ (s : State). s.may_want) hears.rest }
 
 pumped_beside : (moved : Bool) (old new : State) → PumpsClientsIfMay moved old new → BesideVisits old new
-pumped_beside moved old new (inl want) = record { programs = ap (λ (s : State). s.programs) want.1; ends = ap (λ (s : State). s.ends) want.1 }
-pumped_beside moved old new (inr pumps) = record { programs = ap (λ (s : State). s.programs) pumps.rest; ends = ap (λ (s : State). s.ends) pumps.rest }
+pumped_beside moved old new (inl want) = record { programs = ap (λ (s : State). s.programs) want.1; ends = ap (λ (s : State). s.ends) want.1; may_want = ap (λ (s : State). s.may_want) want.1 }
+pumped_beside moved old new (inr pumps) = record { programs = ap (λ (s : State). s.programs) pumps.rest; ends = ap (λ (s : State). s.ends) pumps.rest; may_want = ap (λ (s : State). s.may_want) pumps.rest }
 
 -- what a pump of all clients sees
 module _ (moved : Bool) (old new : State) (pumps : PumpsClients moved old new) where
@@ -274,13 +277,13 @@ module _ {L : Type 0} (told : L → LinkTold) (heard : (moved : Bool) (old new :
     (pumped : (moved : Bool) (old new : Clients) → VisitsAll Pumped moved old new → AreLater old new) (pump : PumpsAreEvents)
     (read : (moved : Bool) (old new : Clients) → HearsAll moved old new → EachOpenClient WasHeard old new)
     (sends : (moved : Bool) (old new : Clients) → VisitsAll Pumped moved old new → EachOpenClient WasPumped old new)
-    (parted : (hub : Hub) (old new : List LinkTold) → ShutsGone hub old new → AreShut hub new) (setting : Setting) (stood : List StoredFile) (before : ℕ) where
+    (parted : (hub : Hub) (old new : List LinkTold) → ShutsGone hub old new → AreShut hub new) (setting : Setting) (stood : List StoredFile) (before : ℕ × List (List ℕ)) where
   abbrev pub Tells : Type 0
   Tells = TellTaken told
 
-  -- the run of a setting, whenever its trace began
+  -- the run of a setting, behind how many stored frames its trace began, and with which
   abbrev pub run : Run
-  run = record (run_in setting stood) { before = before }
+  run = record (run_in setting stood) { before = before.0; head = before.1 }
 
   -- what is known between two rounds
   pub record Keeps (events : List Event) (s : State) : Type 0 where
@@ -461,16 +464,30 @@ module _ {L : Type 0} (told : L → LinkTold) (heard : (moved : Bool) (old new :
         open_by_journal run events k.holds.took old.core k.holds.after (place + 1)
         (open_came told a.came net net_now old a.accepted a.accepts place (let many = k.holds.many in omega (arith, below, many)) came)
 
+    -- where the journal may want memory, and clients were served all the same, none was wanted
+    abbrev NoneWanted : Type 0
+    NoneWanted = (old.may_want && new.wanted) ≡ false
+
+    accepted_may : round.accepted.may_want ≡ old.may_want
+    accepted_may = entered_beside.may_want ∙ came_beside.may_want
+
+    heard_may : round.heard.may_want ≡ old.may_want
+    heard_may = (let h = round.hears in ap (λ (s : State). s.may_want) h.programs.rest ∙ (heard_beside h.asked round.accepted h.served h.clients).may_want ∙ accepted_may)
+
+    unwanted_so : (may : Bool) → may ≡ old.may_want → may ≡ true → NoneWanted → new.wanted ≡ false
+    unwanted_so may same wants is = ap (λ (b : Bool). b && new.wanted) (sym wants ∙ same) ∙ is
+
     module _ (place : ℕ) (link : LinkTold) (there : slice_get new.clients place ≡ Some link) (ls : ClientLinks place link) where
       back : place ≡ place + 1 - 1
       back = omega arith
 
-      was_read : IsOpen (place + 1) noted → new.wanted ≡ false → WasRead ls.was link
+      was_read : IsOpen (place + 1) noted → NoneWanted → WasRead ls.was link
       was_read is none = read_on ls.was ls.was ls.heard_link link (goes_still ls.was) (by round.hears.clients (open_served place is)) (goes_both ls.heard_link ls.sent_link link ls.pumps ls.rests) where
         by : HearsClientsIfMay round.hears.asked round.accepted round.hears.served → IsSome (outbox_of round.hears.served.core.hub (place + 1)) → WasRead ls.was ls.heard_link
         by (inl nobody) some = absurd (not_some (outbox_of round.accepted.core.hub (place + 1)) (nobody.1 (place + 1) (omega arith)) (subst (λ (s : State). IsSome (outbox_of s.core.hub (place + 1))) nobody.2 some))
         by (inr (inl want)) some = absurd (let bad : true ≡ false =
-            sym (ap (λ (s : State). s.wanted) want.1) ∙ sym (ap (λ (s : State). s.wanted) round.hears.programs.rest) ∙ (round_unwanted told net net_now users users_now old new round none).at_hearing in cc bad)
+            sym (ap (λ (s : State). s.wanted) want.1) ∙ sym (ap (λ (s : State). s.wanted) round.hears.programs.rest)
+            ∙ (round_unwanted told net net_now users users_now old new round (unwanted_so round.accepted.may_want accepted_may want.3 none)).at_hearing in cc bad)
         by (inr (inr hears)) some =
             let serves = hears.serves in
             read round.hears.asked (clients_of round.accepted serves.desk) (clients_of round.hears.served serves.desk_now) serves.visits (place + 1) some ls.was ls.heard_link
@@ -505,11 +522,12 @@ module _ {L : Type 0} (told : L → LinkTold) (heard : (moved : Bool) (old new :
           now.taken tells place link there
           ∙ ap Some (sym (stream_waits run noted now.took new.core now.after (place + 1) outbox.0 outbox.1 ∙ ap (λ (bytes : List ℕ). now.took (place + 1) ++ bytes) (sym empty_so) ∙ append-nil (now.took (place + 1))))
 
-      was_sent : IsOpen (place + 1) noted → new.wanted ≡ false → WasSent Tells (concat (stream (source_in setting) setting.buffer (place + 1) noted)) ls.was link
+      was_sent : IsOpen (place + 1) noted → NoneWanted → WasSent Tells (concat (stream (source_in setting) setting.buffer (place + 1) noted)) ls.was link
       was_sent is none = by round.pumps.clients where
         by : PumpsClientsIfMay round.pumps.moved round.heard round.pumps.sent → WasSent Tells (concat (stream (source_in setting) setting.buffer (place + 1) noted)) ls.was link
         by (inl want) = absurd (let bad : true ≡ false =
-            sym (ap (λ (s : State). s.wanted) want.1) ∙ sym (ap (λ (s : State). s.wanted) round.pumps.programs.rest) ∙ sym (ap (λ (s : State). s.wanted) round.pumps.parts.rest) ∙ none in cc bad)
+            sym (ap (λ (s : State). s.wanted) want.1) ∙ sym (ap (λ (s : State). s.wanted) round.pumps.programs.rest) ∙ sym (ap (λ (s : State). s.wanted) round.pumps.parts.rest)
+            ∙ unwanted_so round.heard.may_want heard_may want.2 none in cc bad)
         by (inr pumps) =
             let m = round.pumps.moved in
             elim (sends m (before_pumps m round.heard round.pumps.sent pumps) (after_pumps m round.heard round.pumps.sent pumps) (visits_of m round.heard round.pumps.sent pumps) (place + 1) (open_sent place is) ls.heard_link ls.sent_link
@@ -525,7 +543,7 @@ module _ {L : Type 0} (told : L → LinkTold) (heard : (moved : Bool) (old new :
         by None none =
             are_shut (place + 1) link (omega arith) none (subst (λ (n : ℕ). slice_get new.clients n ≡ Some link) back there)
 
-    clients_served : EachNow (IsNewLink told) (ServesClient Tells setting noted new.wanted) old.clients new.clients
+    clients_served : EachNow (IsNewLink told) (ServesClient Tells setting noted (old.may_want && new.wanted)) old.clients new.clients
     clients_served = λ place link there. (let ls = links_of place link there in (
       ls.was,
       ls.origin,
@@ -740,7 +758,7 @@ module _ {L : Type 0} (told : L → LinkTold) (heard : (moved : Bool) (old new :
 
     -- ---- the round
 
-    pub served : ServesRound told setting faults user_faults (standing net users events old) (standing net_now users_now noted new)
+    pub served : ServesRound told old.may_want setting faults user_faults (standing net users events old) (standing net_now users_now noted new)
     served = record {
       clients_came = asked.came;
       clients_dropped = asked.gone;

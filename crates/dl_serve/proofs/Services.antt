@@ -12,7 +12,7 @@ use Rattle.dl_core.specs.State.{Core}
 use Rattle.dl_events.specs.Journal.{Journaled}
 use Rattle.dl_events.specs.declared.event.Event.{Event}
 use Rattle.dl_hub.specs.State.{Hub, outbox_of}
-use Rattle.dl_laws.proofs.Rotation.{length-concat}
+use Rattle.dl_model.proofs.Rotation.{length-concat}
 use Rattle.dl_lemmas.proofs.Lists.{all_both, there}
 use Rattle.dl_lemmas.proofs.Options.{none_of}
 use Rattle.dl_loop.proofs.Visited.{PumpsAreEvents}
@@ -45,7 +45,7 @@ use Rattle.dl_serve.specs.Comes.{run_in}
 use Rattle.dl_serve.specs.Open.{setting as setting_of}
 use Rattle.dl_serve.specs.Program.{HasOpened, IsServed, ServesOnce}
 use Rattle.dl_serve.specs.Rounds.{AreRounds, HasRoom, IsFull, event_limit, kept}
-use Rattle.dl_serve.specs.Service.{ComesNever, EachNow, GoesOn, IsAt, IsClosing, Program, Rounds, Standing, frames_in, nobody, source_in}
+use Rattle.dl_serve.specs.Service.{ComesNever, EachNow, GoesOn, IsAt, IsClosing, Program, Rounds, ServesRound, Standing, frames_in, nobody, source_in}
 use Rattle.dl_serve.specs.Told.{Told}
 use Rattle.dl_serve.proofs.AdmittedSteps.{none_admitted}
 use Rattle.dl_serve.proofs.CameTo.{what_stood}
@@ -97,12 +97,12 @@ module _ {L : Type 0} (told : L → LinkTold) (heard : (moved : Bool) (old new :
     (pump : PumpsAreEvents) (read : (moved : Bool) (old new : Clients) → HearsAll moved old new → EachOpen WasRead old new)
     (sends : (moved : Bool) (old new : Clients) → VisitsAll Pumped moved old new → EachOpen WasSent old new) (parted : (hub : Hub) (old new : List LinkTold) → ShutsGone hub old new → AreShut hub new)
     (shuts : (old new : Clients) → ClosesAll (TellOver told) old new → AreShut old.side.core.hub old.links → AreShut new.side.core.hub new.links) where
-  module _ (setting : Setting) (stood : List StoredFile) (before : ℕ) where
+  module _ (setting : Setting) (stood : List StoredFile) (before : ℕ × List (List ℕ)) where
     abbrev pub KeepsIn : List Event → State → Type 0
     KeepsIn events s = Keeps told heard pumped pump read sends parted setting stood before events s
 
     abbrev run : Run
-    run = record (run_in setting stood) { before = before }
+    run = record (run_in setting stood) { before = before.0; head = before.1 }
 
     pub first_keeps : (start : State) (at_once most many : ℕ) → start.events ≡ Some [] → start.clients ≡ [] → start.programs ≡ [] → start.channels ≡ none_opened at_once many → start.listeners ≡ replicate most fresh_listener
         → start.ends ≡ replicate many None → start.dropped ≡ 0 → IsAfter run [] (λ number. []) start.core → length start.core.hub.clients ≡ length start.clients → owed_change start.core.registry ≡ None → KeepsIn [] start
@@ -248,10 +248,10 @@ module _ {L : Type 0} (told : L → LinkTold) (heard : (moved : Bool) (old new :
   full_events : (events : Option (List Event)) (all : List Event) → events ≡ Some all → IsFull events → event_limit ≤ length all
   full_events events all is full = subst (λ (o : Option (List Event)). IsSomeAnd o (λ es. event_limit ≤ length es)) is full
 
-  module _ (setting : Setting) (stood : List StoredFile) (net users : NetTold L) (start : State) (k : KeepsIn setting stood 0 [] start) (first : standing net users [] start ≡ nobody net users)
+  module _ (setting : Setting) (stood : List StoredFile) (net users : NetTold L) (start : State) (k : KeepsIn setting stood (0, []) [] start) (first : standing net users [] start ≡ nobody net users)
       (clients_come : start.no_clients ≡ false) (programs_come : start.no_programs ≡ false) where
     abbrev StandsAt : NetTold L → NetTold L → List Event → State → Type 0
-    StandsAt net_now users_now events s = Stands told heard pumped pump read sends parted setting stood 0 net.faults users.faults net_now users_now events s
+    StandsAt net_now users_now events s = Stands told heard pumped pump read sends parted setting stood (0, []) net.faults users.faults net_now users_now events s
 
     -- rounds were made, and each served
     abbrev HaveServed : ℕ → NetTold L → NetTold L → State → Type 0
@@ -277,15 +277,20 @@ module _ {L : Type 0} (told : L → LinkTold) (heard : (moved : Bool) (old new :
     rounds_serve (suc many) net_now users_now new rounds =
         let middle = rounds.2 in
         let so_far = rounds_serve many rounds.0 rounds.1 middle rounds.3 in
-        let tell_overs = seen_tells told kept middle rounds.6 in
+        let tell_overs = seen_tells told kept true middle rounds.6 in
         let room = few_events middle.events so_far.0 so_far.2.keeps.holds.kept rounds.4 in (
-          noted told heard pumped pump read sends parted setting stood 0 net.faults users.faults rounds.0 net_now rounds.1 users_now middle new so_far.0 rounds.5 tell_overs so_far.2,
+          noted told heard pumped pump read sends parted setting stood (0, []) net.faults users.faults rounds.0 net_now rounds.1 users_now middle new so_far.0 rounds.5 tell_overs so_far.2,
           (
             standing rounds.0 rounds.1 so_far.0 middle,
             so_far.1,
-            (room, served told heard pumped pump read sends parted setting stood 0 net.faults users.faults rounds.0 net_now rounds.1 users_now middle new so_far.0 rounds.5 tell_overs so_far.2),
+            (
+              room,
+              subst (λ (may : Bool). ServesRound told may setting net.faults users.faults (standing rounds.0 rounds.1 so_far.0 middle) (standing net_now users_now (noted told heard pumped pump read sends parted setting stood (0, []) net.faults users.faults rounds.0 net_now rounds.1 users_now middle new so_far.0 rounds.5 tell_overs so_far.2) new))
+                  (ap (λ (s : State). s.may_want) rounds.6.is)
+                  (served told heard pumped pump read sends parted setting stood (0, []) net.faults users.faults rounds.0 net_now rounds.1 users_now middle new so_far.0 rounds.5 tell_overs so_far.2),
+            ),
           ),
-          stands_on told heard pumped pump read sends parted setting stood 0 net.faults users.faults rounds.0 net_now rounds.1 users_now middle new so_far.0 rounds.5 tell_overs so_far.2,
+          stands_on told heard pumped pump read sends parted setting stood (0, []) net.faults users.faults rounds.0 net_now rounds.1 users_now middle new so_far.0 rounds.5 tell_overs so_far.2,
         )
 
   module _ (begun : Begun) (old new : Told L) (full : Bool) (closed : Closed L) (first : FolderTold) (begins : IsBegun begun.conf first.files begun.trace) (has : HasOpened told begun full old new closed) where
@@ -294,17 +299,17 @@ module _ {L : Type 0} (told : L → LinkTold) (heard : (moved : Bool) (old new :
         let set : Setting = setting_of begun in
         let found = what_stood begun.conf first.files begun.trace begins in
         let made = has.is_opened.made in
-        let start : State = seen told kept old.folder has.opened.server in
+        let start : State = seen told kept true old.folder has.opened.server in
         let no_clients : start.clients ≡ [] = ap (λ (ls : Links L). map told ls.links) made.no_client in
         let no_programs : start.programs ≡ [] = ap (λ (ls : Links L). map told ls.links) made.no_program in
-        let k = first_keeps set found.stood 0 start open_channel_limit client_limit channel_limit (ap (λ (j : Journaled). Some j.events) made.journal_is) no_clients no_programs made.channels_are made.listeners_are
-        made.no_end made.none_dropped (has.is_opened.begins (run set found.stood 0) refl refl found.after)
+        let k = first_keeps set found.stood (0, []) start open_channel_limit client_limit channel_limit (ap (λ (j : Journaled). Some j.events) made.journal_is) no_clients no_programs made.channels_are made.listeners_are
+        made.no_end made.none_dropped (has.is_opened.begins (run set found.stood (0, [])) refl refl found.after)
         (has.is_opened.is_server.linked.many ∙ sym (length-map has.opened.server.clients.links told)) has.is_opened.is_server.linked.settled in
         let rounds = rounds_serve set found.stood has.net has.users start k (stands_first has.net has.users start no_clients no_programs made.none_dropped made.unwanted) made.clients_come made.programs_come
         has.run.served.many new.net new.users has.run.last has.run.served.rounds in (
           standing new.net new.users rounds.0 has.run.last,
           rounds.2.keeps.holds.kept,
-          (let held = rounds.2.keeps.holds in frames_so (run set found.stood 0) rounds.0 held.took has.run.last.core held.after),
+          (let held = rounds.2.keeps.holds in frames_so (run set found.stood (0, [])) rounds.0 held.took has.run.last.core held.after),
           record {
             first_net = has.net;
             first_users = has.users;
@@ -316,7 +321,7 @@ module _ {L : Type 0} (told : L → LinkTold) (heard : (moved : Bool) (old new :
             fewer = λ is. (let some = has.run.served.fewer is in (some.0, full_events has.run.last.events rounds.0 rounds.2.keeps.holds.kept some.1));
             net_last = refl;
             users_last = refl;
-            closing = closing set found.stood 0 has.run.moment has.run.last has.run.closes.0 rounds.0 closed has.run.closes.2 has.run.closes.3 rounds.2.keeps new.net new.users;
+            closing = closing set found.stood (0, []) has.run.moment has.run.last has.run.closes.0 rounds.0 closed has.run.closes.2 has.run.closes.3 rounds.2.keeps new.net new.users;
             net_listens = has.net_listens;
             users_listen = has.users_listen;
           },

@@ -14,7 +14,7 @@ use Rattle.dl_machine.specs.Steps.{Goes, IsToldBy}
 use Rattle.dl_machine.proofs.Composed.{goes_both}
 use Rattle.dl_machine.proofs.Joined.{replicate_at}
 use Rattle.dl_machine.proofs.LowNumbers.{AreLowIn}
-use Rattle.dl_machine.proofs.ServerSteps.{IsReady, Leading, TellsOvers, closing_goes, lead_both, lead_same, map_tells, round_leads, state_in, state_of}
+use Rattle.dl_serve.proofs.ServerSteps.{IsReady, Leading, TellsOvers, closing_goes, lead_both, lead_same, map_tells, round_leads, state_in, state_of}
 use Rattle.dl_serve.specs.declared.beginning.Begun.{Begun}
 use Rattle.dl_serve.specs.declared.closed.Closed.{Closed}
 use Rattle.dl_serve.specs.Program.{HasOpened}
@@ -30,19 +30,19 @@ first_ready s clients programs inboxes listeners ends = record {
 }
 
 -- the links of clients that are seen of a server are told
-pub seen_tells : {J L : Type 0} (told : L → LinkTold) (events : J → Option (List Event)) (s : server.State) → IsSeen told events s → TellsOvers told s.clients
-seen_tells told events s is_seen = subst (λ (t : server.State). TellsOvers told t.clients) (sym is_seen.is) (map_tells told is_seen.server.clients.links)
+pub seen_tells : {J L : Type 0} (told : L → LinkTold) (events : J → Option (List Event)) (may_want : Bool) (s : server.State) → IsSeen told events may_want s → TellsOvers told s.clients
+seen_tells told events may_want s is_seen = subst (λ (t : server.State). TellsOvers told t.clients) (sym is_seen.is) (map_tells told is_seen.server.clients.links)
 
 module _ {L : Type 0} (told : L → LinkTold) where
   rounds_lead : (many : ℕ) (net net_now users users_now : NetTold L) (old new : server.State) → AreRounds told many net net_now users users_now old new → Leading told old new
   rounds_lead zero net net_now users users_now old new rounds = lead_same told old new rounds.2
   rounds_lead (suc many) net net_now users users_now old new rounds =
-      lead_both told old rounds.2 new (rounds_lead many net rounds.0 users rounds.1 old rounds.2 rounds.3) (round_leads told rounds.0 net_now rounds.1 users_now rounds.2 new rounds.5 (seen_tells told kept rounds.2 rounds.6))
+      lead_both told old rounds.2 new (rounds_lead many net rounds.0 users rounds.1 old rounds.2 rounds.3) (round_leads told rounds.0 net_now rounds.1 users_now rounds.2 new rounds.5 (seen_tells told kept true rounds.2 rounds.6))
 
   module _ (begun : Begun) (old new : Told L) (full : Bool) (closed : Closed L) (has : HasOpened told begun full old new closed) where
     -- as it was opened, and in the end
     abbrev pub first : server.State
-    first = seen told kept old.folder has.opened.server
+    first = seen told kept true old.folder has.opened.server
 
     abbrev pub final : server.State
     final = has.run.closes.0

@@ -22,7 +22,7 @@ use Rattle.dl_machine.specs.Steps.{Came, Ended, Entered, Forwarded, Goes, IsProg
 use Rattle.dl_machine.proofs.Joined.{EachOne, each_changed, each_more, joined_get}
 use Rattle.dl_machine.proofs.ProgramSteps.{program_with, programs_with}
 use Rattle.dl_machine.proofs.Composed.{steps_keep}
-use Rattle.dl_machine.proofs.ServerSteps.{state_in, state_of}
+use Rattle.dl_serve.proofs.ServerSteps.{state_in, state_of}
 use Rattle.dl_serve.specs.declared.beginning.Begun.{Begun}
 use Rattle.dl_serve.specs.declared.closed.Closed.{Closed}
 use Rattle.dl_serve.specs.Closed.{IsLeft}

@@ -48,7 +48,7 @@ module _ {L : Type 0} (link_told : L → LinkTold) where
 
   -- it ran, and closed
   pub opened_closed : (server : Server Journaled L) (asked : ℕ) (full : Bool) (old new : Told L) (last : State) (moment : Moment) (closed : Closed L) (before now : Faults) (failures : Failures) (s : Status)
-      → HasMadeRounds link_told asked full old.net new.net old.users new.users (seen link_told kept old.folder server) last → HasClosedTo link_told moment last new.folder closed
+      → HasMadeRounds link_told asked full old.net new.net old.users new.users (seen link_told kept true old.folder server) last → HasClosedTo link_told moment last new.folder closed
       → before ≡ counts old → now ≡ counts new → failures ≡ failures_of closed before now full → Finishes (text_of closed) failures old.out new.out s
       → EndsWith link_told server asked old new s (Some closed)
   opened_closed server asked full old new last moment closed before now failures s served closes before_is now_is failures_are finishes =
@@ -95,7 +95,7 @@ module _ {L : Type 0} (link_told : L → LinkTold) where
       → EndsBegun link_told begun old new s closed
   begun_ran begun opened old net users new s None is net_heard users_heard ends = (subst (λ (t : Status). LeavesEarly begun old new t) (sym ends.0) tt, ends.1)
   begun_ran begun opened old net users new s (Some closed) is net_heard users_heard ends =
-      let listen = rounds_listen link_told ends.1.served.many net new.net users new.users (seen link_told kept old.folder opened.server) ends.1.last ends.1.served.rounds in (
+      let listen = rounds_listen link_told ends.1.served.many net new.net users new.users (seen link_told kept true old.folder opened.server) ends.1.last ends.1.served.rounds in (
         ends.0,
         record {
           opened = opened;
@@ -106,7 +106,7 @@ module _ {L : Type 0} (link_told : L → LinkTold) where
           users_heard = users_heard;
           run = record {
             last = ends.1.last;
-            served = subst (λ (n : ℕ). HasMadeRounds link_told n ends.0 net new.net users new.users (seen link_told kept old.folder opened.server) ends.1.last) is.rounds ends.1.served;
+            served = subst (λ (n : ℕ). HasMadeRounds link_told n ends.0 net new.net users new.users (seen link_told kept true old.folder opened.server) ends.1.last) is.rounds ends.1.served;
             moment = ends.1.moment;
             closes = ends.1.closes;
           };

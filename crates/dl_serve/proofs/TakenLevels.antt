@@ -15,7 +15,7 @@ use Rattle.dl_channel_turns.specs.Levels.{put_for, told}
 use Rattle.dl_channel_turns.specs.Put.{message_for, to_channel}
 use Rattle.dl_channel_turns.specs.State.{outbox_of}
 use Rattle.dl_events.specs.declared.event.Event.{Event}
-use Rattle.dl_laws.proofs.Lists.{along_from-append}
+use Rattle.dl_model.proofs.Lists.{along_from-append}
 use Rattle.dl_model.specs.Along.{along_from}
 use Rattle.dl_model.specs.Registry.{Registry}
 use Rattle.dl_model.specs.Setting.{Setting}

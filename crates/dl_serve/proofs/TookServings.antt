@@ -1,12 +1,12 @@
 -- What the links of programs outside took, of a server that was opened, ran and closed.
-use Rattle.std.proofs.Common.{◌≡◌, ℕ, zero, suc, Bool, List, [], map, Some, None, refl, sym, ap, subst, replicate}
+use Rattle.std.proofs.Common.{◌≡◌, ℕ, zero, suc, Bool, List, [], map, Some, None, refl, sym, ap, subst, replicate, true}
 use Rattle.std.specs.Prelude.{slice_get}
 use Rattle.dl_bytes.specs.Limits.{client_limit}
 use Rattle.dl_core.specs.Follows.{Run}
 use Rattle.dl_events.specs.Journal.{Journaled}
 use Rattle.dl_loop.specs.Daemon.{TellTaken}
 use Rattle.dl_machine.proofs.ProgramSteps.{programs_with}
-use Rattle.dl_machine.proofs.ServerSteps.{state_of}
+use Rattle.dl_serve.proofs.ServerSteps.{state_of}
 use Rattle.dl_model.specs.Setting.{Setting}
 use Rattle.dl_outside.specs.Links.{Links}
 use Rattle.dl_outside.specs.Told.{FolderTold, LinkTold, NetTold}
@@ -46,7 +46,7 @@ module _ {L : Type 0} (told : L → LinkTold) (set : Setting) (room : ℕ) where
   rounds_stand : (many : ℕ) (net net_now users users_now : NetTold L) (old new : State) → AreRounds told many net net_now users users_now old new → Stands told set room old → Stands told set room new
   rounds_stand zero net net_now users users_now old new rounds stands = subst (Stands told set room) (sym rounds.2) stands
   rounds_stand (suc many) net net_now users users_now old new rounds stands =
-      round_stands told set room rounds.0 net_now rounds.1 users_now rounds.2 new rounds.5 (seen_tells told kept rounds.2 rounds.6) (rounds_stand many net rounds.0 users rounds.1 old rounds.2 rounds.3 stands)
+      round_stands told set room rounds.0 net_now rounds.1 users_now rounds.2 new rounds.5 (seen_tells told kept true rounds.2 rounds.6) (rounds_stand many net rounds.0 users rounds.1 old rounds.2 rounds.3 stands)
 
 module _ {L : Type 0} (told : L → LinkTold) (closed_so : (old new : Clients) → ClosesAll (TellOver told) old new → AreLater old new) (begun : Begun) (old new : Told L) (full : Bool) (closed : Closed L) (first : FolderTold)
     (begins : IsBegun begun.conf first.files begun.trace) (has : HasOpened told begun full old new closed) where

@@ -13,7 +13,7 @@ use Rattle.dl_events.specs.declared.event.Event.TheVariants as event
 use Rattle.dl_events.specs.declared.event.Why.{Why}
 use Rattle.dl_events.specs.declared.event.Why.TheVariants as why
 use Rattle.dl_hub.specs.State.{Client as HubClient, Hub, client_of, outbox_of}
-use Rattle.dl_laws.proofs.Rotation.{length-concat}
+use Rattle.dl_model.proofs.Rotation.{length-concat}
 use Rattle.dl_lemmas.proofs.Lists.{within_of}
 use Rattle.dl_lemmas.proofs.Numbers.{all_or_some}
 use Rattle.dl_lemmas.proofs.Options.{one_is, some_is}
@@ -42,7 +42,7 @@ use Rattle.dl_machine.specs.State.{Client}
 use Rattle.dl_machine.specs.Steps.{Goes, IsToldBy}
 use Rattle.dl_machine.proofs.ClientSteps.{TellOvers, client_with, clients_with}
 use Rattle.dl_machine.proofs.Joined.{joined_first, joined_length}
-use Rattle.dl_machine.proofs.ServerSteps.{state_in, state_of}
+use Rattle.dl_serve.proofs.ServerSteps.{state_in, state_of}
 use Rattle.dl_machine.proofs.WentClients as known
 use Rattle.dl_machine.proofs.WentClients.{Asked, IsTriedFor, StandsBy, frames_in, liked}
 use Rattle.dl_machine.proofs.WentSteps.{Known, TellGiven, all_known}

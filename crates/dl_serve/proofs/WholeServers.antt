@@ -35,7 +35,7 @@ use Rattle.dl_machine.proofs.Joined.{joined_get, joined_length}
 use Rattle.dl_machine.proofs.LowNumbers.{low_keys}
 use Rattle.dl_machine.proofs.NamedSlots.{AreApart}
 use Rattle.dl_machine.proofs.ProgramSteps.{program_with, programs_with}
-use Rattle.dl_machine.proofs.ServerSteps.{IsReady, TellsOvers, close_programs, closing_goes, round_leads, sent_leads, state_in, state_of}
+use Rattle.dl_serve.proofs.ServerSteps.{IsReady, TellsOvers, close_programs, closing_goes, round_leads, sent_leads, state_in, state_of}
 use Rattle.dl_serve.specs.declared.closed.Closed.{Closed}
 use Rattle.dl_serve.specs.Closed.{IsLeft}
 use Rattle.dl_serve.specs.Levels.{AllTookLevels, TookLevels, levels_put}

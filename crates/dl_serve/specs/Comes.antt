@@ -19,7 +19,7 @@ use Rattle.dl_serve.specs.declared.closed.Closed.{Closed}
 
 -- the run of this setting that a journal tells of, where these trace files stood before: no call of this process is in it
 abbrev pub run_in : Setting → List StoredFile → Run
-run_in setting stood = record { setting = setting; frame = λ writer number. []; apid = λ app. []; stood = stood; before = 0 }
+run_in setting stood = record { setting = setting; frame = λ writer number. []; apid = λ app. []; stood = stood; before = 0; head = [] }
 
 -- What a client's link took is the front of the client's stream; and what is told of its end says whether it is all of it.
 pub record TookStream (run : Run) (events : List Event) (number : ℕ) (link : LinkTold) (end : LinkEnd) : Type 0 where

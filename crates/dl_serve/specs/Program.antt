@@ -44,7 +44,7 @@ counts told = counted told.folder told.net told.users
 
 -- one round, which does not begin with a full journal
 abbrev pub ServesOnce : {L : Type 0} → (L → LinkTold) → Setting → ℕ → ℕ → Standing L → Standing L → Type 0
-ServesOnce told setting faults user_faults old new = (length old.events < event_limit) × ServesRound told setting faults user_faults old new
+ServesOnce told setting faults user_faults old new = (length old.events < event_limit) × ServesRound told true setting faults user_faults old new
 
 -- Serving, by what both nets tell before and after it. First both listened, each on its port. Then so many rounds were made, each of which served who was
 -- there: as many as were asked for, or the journal was full at the begin of the next one. Behind the last of them was the closing. Both nets listen on
@@ -95,7 +95,7 @@ Ended link_told said old new status (Some closed) =
 pub record HasRun {L : Type 0} (link_told : L → LinkTold) (server : Server Journaled L) (asked : ℕ) (full : Bool) (old new : Told L)
     (closed : Closed L) : Type 0 where
   pub last : State
-  pub served : HasMadeRounds link_told asked full old.net new.net old.users new.users (seen link_told kept old.folder server) last
+  pub served : HasMadeRounds link_told asked full old.net new.net old.users new.users (seen link_told kept true old.folder server) last
   pub moment : Moment
   pub closes : HasClosedTo link_told moment last new.folder closed
 

@@ -23,19 +23,19 @@ HasRoom events = IsSomeAnd events (λ all. length all < event_limit)
 abbrev pub IsFull : Option (List Event) → Type 0
 IsFull events = IsSomeAnd events (λ all. event_limit ≤ length all)
 
--- it is what is seen of a server, where these are the words for what links and the journal tell
-pub record IsSeen {J L : Type 0} (told : L → LinkTold) (events : J → Option (List Event)) (s : State) : Type 0 where
+-- it is what is seen of a server, where these are the words for what links and the journal tell, and for whether the journal may want memory
+pub record IsSeen {J L : Type 0} (told : L → LinkTold) (events : J → Option (List Event)) (may_want : Bool) (s : State) : Type 0 where
   pub server : Server J L
   pub folder : FolderTold
   pub is_server : IsServer told server
-  pub is : s ≡ seen told events folder server
+  pub is : s ≡ seen told events may_want folder server
 
 -- so many rounds of a server, none of which began with a full journal
 abbrev pub AreRounds : {L : Type 0} → (L → LinkTold) → ℕ → NetTold L → NetTold L → NetTold L → NetTold L → State → State → Type 0
 AreRounds told zero net net_now users users_now old new = (net_now ≡ net) × (users_now ≡ users) × (new ≡ old)
 AreRounds {L} told (suc many) net net_now users users_now old new =
     (net_then : NetTold L) × (users_then : NetTold L) × (between : State) × AreRounds told many net net_then users users_then old between
-    × HasRoom between.events × IsRound told net_then net_now users_then users_now between new × IsSeen told kept between
+    × HasRoom between.events × IsRound told net_then net_now users_then users_now between new × IsSeen told kept true between
 
 -- Of so many rounds that were asked for all were made; or the journal was full at the begin of the next one.
 pub record HasMadeRounds {L : Type 0} (told : L → LinkTold) (asked : ℕ) (full : Bool) (net net_now users users_now : NetTold L) (old new : State) : Type 0 where

@@ -1,5 +1,5 @@
 -- Service: what each round does for those who are there, by what nets, links and journal tell before it and after it.
-use Rattle.std.specs.Prelude.{◌≡◌, ◌≤◌, ◌<◌, ◌⊎◌, ◌+◌, ◌-◌, ◌^◌, ◌++◌, ℕ, zero, suc, min, Bool, true, false, List, [], length, map, count_by, slice_get, Option, Some, None, IfSome, IsSome, IsSomeAnd}
+use Rattle.std.specs.Prelude.{◌≡◌, ◌≤◌, ◌<◌, ◌⊎◌, ◌&&◌, ◌+◌, ◌-◌, ◌^◌, ◌++◌, ℕ, zero, suc, min, Bool, true, false, List, [], length, map, count_by, slice_get, Option, Some, None, IfSome, IsSome, IsSomeAnd}
 use Rattle.std.specs.List.{AllByRecursion, concat}
 use Rattle.dl_bytes.specs.Limits.{admitted_limit}
 use Rattle.dl_bytes.specs.declared.moment.Moment.{Moment}
@@ -95,8 +95,8 @@ WasRead was now = HasGiven was.given now.given ⊎ HasRisen was.idles now.idles
 abbrev pub WasSent : Type 0 → List ℕ → LinkTold → LinkTold → Type 0
 WasSent Tells bytes was now = (Tells → now.taken ≡ Some bytes) ⊎ HasRisen was.waits now.waits
 
--- A client whose link was so before a round and is so behind it. Where it is open then, and no memory was wanted, its link was read, and was sent all of
--- its stream. The link of one that is gone is shut.
+-- A client whose link was so before a round and is so behind it. Where it is open then, and memory was not wanted for its Close, its link was read, and was sent
+-- all of its stream. The link of one that is gone is shut.
 pub record ServesClient (Tells : Type 0) (setting : Setting) (events : List Event) (wanted : Bool) (place : ℕ) (was now : LinkTold) : Type 0 where
   pub goes_on : GoesOn was now
   pub read : IsOpen (place + 1) events → wanted ≡ false → WasRead was now
@@ -126,8 +126,9 @@ EachAdmitted events programs =
 
 -- One round, where the nets are told to have failed by counts of faults above these: each acceptor was asked once, and each who was handed out came or was
 -- dropped; each client that came has its Connect; more may be noted, but no Close as at a stop; what the links of programs gave was noted; who is open was so
--- before, unless it came; and each client and each program was served. Where memory was wanted before, it still is.
-pub record ServesRound {L : Type 0} (told : L → LinkTold) (setting : Setting) (faults user_faults : ℕ) (old new : Standing L) : Type 0 where
+-- before, unless it came; and each client and each program was served. Where memory was wanted before, it still is; clients may be left unserved then, but only
+-- where the journal may want memory for their Closes.
+pub record ServesRound {L : Type 0} (told : L → LinkTold) (may_want : Bool) (setting : Setting) (faults user_faults : ℕ) (old new : Standing L) : Type 0 where
   pub clients_came : ℕ
   pub clients_dropped : ℕ
   pub accepts : Accepts told faults new.wanted old.net new.net clients_came clients_dropped
@@ -144,7 +145,7 @@ pub record ServesRound {L : Type 0} (told : L → LinkTold) (setting : Setting) 
   pub admits : TellGiven told → EachAdmitted new.events new.programs
   pub still_wanted : old.wanted ≡ true → new.wanted ≡ true
   pub still_open : (place : ℕ) → place < length old.clients → IsOpen (place + 1) new.events → IsOpen (place + 1) old.events
-  pub clients : EachNow (IsNewLink told) (ServesClient (TellTaken told) setting new.events new.wanted) old.clients new.clients
+  pub clients : EachNow (IsNewLink told) (ServesClient (TellTaken told) setting new.events (may_want && new.wanted)) old.clients new.clients
   pub programs : EachNow (IsNewProgram told) (ServesProgram (TellTaken told) setting new.events) old.programs new.programs
 
 -- so many rounds, one after the other

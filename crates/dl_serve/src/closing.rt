@@ -1,6 +1,6 @@
 //! The closing of a server, and what is left of it.
 
-ghost use Rattle.std.specs.Prelude.{◌≡◌, ◌≤◌, IfOk};
+ghost use Rattle.std.specs.Prelude.{◌≡◌, ◌≤◌, IfOk, true};
 ghost use Rattle.dl_bytes.specs.Limits.{client_limit};
 ghost use Rattle.dl_outside.specs.Told.{FolderTold};
 ghost use Rattle.dl_server.specs.Server.{HaveLinks, IsServer};
@@ -38,7 +38,7 @@ where
     L: Drop,
     requires linked { HaveLinks server.clients server.core }
     requires few { server.core.hub.limit ≤ client_limit }
-    ensures { (folder : FolderTold) → IsLeft L.told (seen L.told kept folder server) result }
+    ensures { (folder : FolderTold) → IsLeft L.told (seen L.told kept true folder server) result }
 {
     let Server {
         core,
@@ -81,7 +81,7 @@ where
     L: Drop,
     requires server { IsServer L.told server }
     requires few { server.core.hub.limit ≤ client_limit }
-    ensures { IfOk result (HasClosedTo L.told moment (seen L.told kept (F.told folder.old) server) (F.told folder.new)) }
+    ensures { IfOk result (HasClosedTo L.told moment (seen L.told kept true (F.told folder.old) server) (F.told folder.new)) }
 {
     let mut server = server;
     match server.close(rt, moment, folder) {

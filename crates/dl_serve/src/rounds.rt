@@ -34,7 +34,7 @@ pub fn serve_rounds<R: Wait, N: Net, C: Clock, F: Folder>(
 where
     N::L: Drop,
     requires server { IsServer N.L.told server.old }
-    ensures served { let s = shown N.L.told kept F.told in HasMadeRounds N.L.told rounds result (N.told net.old) (N.told net.new) (N.told users.old) (N.told users.new)
+    ensures served { let s = shown N.L.told kept true F.told in HasMadeRounds N.L.told rounds result (N.told net.old) (N.told net.new) (N.told users.old) (N.told users.new)
         (s folder.old server.old) (s folder.new server.new) }
     ensures server { IsServer N.L.told server.new }
     ensures limits { SameLimits server.old server.new }

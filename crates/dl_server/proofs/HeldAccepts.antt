@@ -12,7 +12,7 @@ use Rattle.dl_loop.specs.Holds.{AreTaken}
 use Rattle.dl_model.specs.Journal.{IsInTurn}
 use Rattle.dl_outside.specs.Links.{Links}
 use Rattle.dl_outside.specs.Told.{FolderTold, LinkTold, NetTold}
-use Rattle.dl_laws.proofs.LongerJournals.{goes_on}
+use Rattle.dl_model.proofs.LongerJournals.{goes_on}
 use Rattle.dl_registry.specs.Kept.{owed_change}
 use Rattle.dl_rounds.specs.Arrivals.{Arrives, Connects, ConnectsAs}
 use Rattle.dl_rounds.specs.declared.accepting.Arrival.{Arrival}

@@ -13,7 +13,7 @@ use Rattle.dl_rounds.specs.Passing.{AreLater}
 use Rattle.dl_rounds.specs.Ready.{fresh_listener}
 use Rattle.dl_rounds.specs.Visits.{ClosesAll, HearsAll, Pumped}
 use Rattle.dl_rounds.specs.declared.listener.Listener.{Listener}
-use Rattle.dl_settling.proofs.Ready.{as_many}
+use Rattle.dl_admission.proofs.StandingClients.{as_many}
 use Rattle.dl_server.specs.Closing.{ClosesClients, ClosesPrograms, IsClosed, closing_scene}
 use Rattle.dl_server.specs.Holds.{GoesOn, GoesOut, Holds}
 use Rattle.dl_server.specs.Round.{AcceptsAll, Hears, IsRound, Pumps}

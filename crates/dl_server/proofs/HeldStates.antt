@@ -12,7 +12,7 @@ use Rattle.dl_events.specs.declared.event.Event.{Event}
 use Rattle.dl_loop.specs.Holds.{AreTaken}
 use Rattle.dl_model.specs.Journal.{IsRunning}
 use Rattle.dl_outside.specs.Told.{FolderTold, LinkTold}
-use Rattle.dl_laws.proofs.LongerJournals.{goes_on}
+use Rattle.dl_model.proofs.LongerJournals.{goes_on}
 use Rattle.dl_registry.specs.Kept.{owed_change}
 use Rattle.dl_rounds.specs.Clients.{Clients}
 use Rattle.dl_rounds.specs.Passing.{AreLater, took_all}

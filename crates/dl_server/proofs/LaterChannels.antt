@@ -18,7 +18,7 @@ use Rattle.dl_events.specs.declared.event.Event.TheVariants as event
 use Rattle.dl_model.specs.declared.registry.LevelChange.{LevelChange}
 use Rattle.dl_outside.specs.declared.link.Gave.{Gave}
 use Rattle.dl_outside.specs.declared.link.Gave.TheVariants as gave
-use Rattle.dl_laws.proofs.LongerJournals.{goes_on}
+use Rattle.dl_model.proofs.LongerJournals.{goes_on}
 use Rattle.dl_registry.specs.Kept.{owed_change}
 use Rattle.dl_serving.specs.Visits.{Ends, EndsFor, Hears, HearsOpen, Pumps, side_of}
 use Rattle.dl_socket.specs.Channels.{Channels}

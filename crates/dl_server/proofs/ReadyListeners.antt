@@ -11,7 +11,7 @@ use Rattle.dl_model.specs.Registry.{IsInOrder}
 use Rattle.dl_rounds.specs.Ready.{AreHeard, fresh_listener}
 use Rattle.dl_rounds.specs.Seats.{HasSeat, Seated}
 use Rattle.dl_rounds.specs.declared.listener.Listener.{Listener}
-use Rattle.dl_settling.proofs.Ready.{as_many, replies, same_replies, was_open, served_by}
+use Rattle.dl_admission.proofs.StandingClients.{as_many, replies, same_replies, was_open, served_by}
 use Rattle.dl_socket.specs.Listening.{HaveListeners}
 use Rattle.dl_turns.specs.Events.{HasServed}
 use Rattle.dl_server.proofs.SomeDesk.{is_desk, some_desk}

@@ -21,7 +21,7 @@ use Rattle.dl_rounds.specs.declared.accepting.Arrival.{Arrival}
 use Rattle.dl_rounds.specs.declared.accepting.Arrival.TheVariants as arrival
 use Rattle.dl_rounds.proofs.ByPlace.{get_before}
 use Rattle.dl_rounds.proofs.Connected.{at_next}
-use Rattle.dl_settling.proofs.Ready.{as_many, was_open}
+use Rattle.dl_admission.proofs.StandingClients.{as_many, was_open}
 use Rattle.dl_channel_turns.proofs.OpenClients.{one}
 use Rattle.dl_server.proofs.HeldRounds.{no_desk}
 use Rattle.dl_server.proofs.ReadyListeners.{Keeps}

@@ -58,7 +58,7 @@ AcceptsOne told moved net net_now old new = (came : Arrival) × (moved ≡ has_a
 abbrev pub AcceptsClientIfMay : {L : Type 0} → (L → LinkTold) → Bool → NetTold L → NetTold L → State → State → Type 0
 AcceptsClientIfMay told moved net net_now old new =
     ((old.no_clients ≡ true) × (moved ≡ false) × (net_now ≡ net) × (new ≡ old))
-    ⊎ ((old.no_clients ≡ false) × (moved ≡ false) × (net_now ≡ net) × (new ≡ with_want old))
+    ⊎ ((old.no_clients ≡ false) × (moved ≡ false) × (net_now ≡ net) × (new ≡ with_want old) × (old.may_want ≡ true))
     ⊎ ((old.no_clients ≡ false) × AcceptsOne told moved net net_now old new)
 
 -- ---- programs

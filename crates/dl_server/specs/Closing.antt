@@ -1,5 +1,5 @@
 -- The closing of a server.
-use Rattle.std.specs.Prelude.{◌≡◌, ◌⊎◌, ℕ, [], length, None}
+use Rattle.std.specs.Prelude.{◌≡◌, ◌⊎◌, ℕ, true, [], length, None}
 use Rattle.dl_bytes.specs.declared.moment.Moment.{Moment}
 use Rattle.dl_hub.specs.State.{outbox_of}
 use Rattle.dl_registry.specs.Kept.{owed_change}
@@ -46,4 +46,4 @@ pub record IsClosed (Tells : Type 0) (moment : Moment) (old new : State) : Type 
 -- Memory was wanting for the end of a channel; or all of them ended, and it was wanting for the Closes of the clients.
 abbrev pub IsHalfClosed : Moment → State → State → Type 0
 IsHalfClosed moment old new =
-    ClosesSomePrograms moment old new ⊎ ((between : State) × ClosesPrograms moment old between × (new ≡ with_want between))
+    ClosesSomePrograms moment old new ⊎ ((between : State) × ClosesPrograms moment old between × (new ≡ with_want between) × (between.may_want ≡ true))

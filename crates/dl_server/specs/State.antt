@@ -15,7 +15,7 @@ use Rattle.dl_server.specs.declared.server.Server.{Server}
 
 -- The core, the events where the journal keeps them, and what the folder tells; what the clients' links tell, by number, and their listeners; the
 -- channels, what their links tell, and why each has ended, by number; how many links were dropped; whether an accept of a client, and one of a
--- program, has failed; and whether memory was wanted.
+-- program, has failed; whether memory may be wanting for room in the journal; and whether memory was wanted.
 pub record State : Type 0 where
   pub core : Core
   pub events : Option (List Event)
@@ -28,11 +28,12 @@ pub record State : Type 0 where
   pub dropped : ℕ
   pub no_clients : Bool
   pub no_programs : Bool
+  pub may_want : Bool
   pub wanted : Bool
 
--- what is seen of a server beside what the folder tells, where these are the words for what links and the journal tell
-abbrev pub seen : {J L : Type 0} → (L → LinkTold) → (J → Option (List Event)) → FolderTold → Server J L → State
-seen told events folder s = record {
+-- what is seen of a server beside what the folder tells, where these are the words for what links and the journal tell, and for whether the journal may want memory
+abbrev pub seen : {J L : Type 0} → (L → LinkTold) → (J → Option (List Event)) → Bool → FolderTold → Server J L → State
+seen told events may_want folder s = record {
   core = s.core;
   events = events s.journal;
   folder = folder;
@@ -44,12 +45,13 @@ seen told events folder s = record {
   dropped = s.dropped;
   no_clients = s.no_clients;
   no_programs = s.no_programs;
+  may_want = may_want;
   wanted = s.wanted;
 }
 
 -- the same with what a folder tells, where this is the word for it
-abbrev pub shown : {J L F : Type 0} → (L → LinkTold) → (J → Option (List Event)) → (F → FolderTold) → F → Server J L → State
-shown told events folder_told folder s = seen told events (folder_told folder) s
+abbrev pub shown : {J L F : Type 0} → (L → LinkTold) → (J → Option (List Event)) → Bool → (F → FolderTold) → F → Server J L → State
+shown told events may_want folder_told folder s = seen told events may_want (folder_told folder) s
 
 -- what visits to its clients see, beside what sets levels
 abbrev pub clients_of : State → PostTold → Clients

@@ -21,8 +21,8 @@ impl<J: Journal, L: Link> Server<J, L> {
         folder: &mut F,
     ) -> Result<(), OutOfMemory>
         requires server { IsServer L.told self.old }
-        ensures closed { OnOk result (let s = seen L.told J.events in ClosesPrograms moment (s (F.told folder.old) self.old) (s (F.told folder.new) self.new)) }
-        ensures some { OnErr result (let s = seen L.told J.events in ClosesSomePrograms moment
+        ensures closed { OnOk result (let s = seen L.told J.events J.may_want in ClosesPrograms moment (s (F.told folder.old) self.old) (s (F.told folder.new) self.new)) }
+        ensures some { OnErr result (let s = seen L.told J.events J.may_want in ClosesSomePrograms moment
             (s (F.told folder.old) self.old) (s (F.told folder.new) self.new)) }
         ensures server { IsServer L.told self.new }
         ensures limits { SameLimits self.old self.new }
@@ -45,7 +45,7 @@ impl<J: Journal, L: Link> Server<J, L> {
     fn close_clients<R: Wait, F: Folder>(&mut self, rt: &R, folder: &mut F)
         requires server { IsServer L.told self.old }
         requires room { length self.old.clients.links + 2 ≤ J.spare self.old.journal }
-        ensures closes { let s = seen L.told J.events in ClosesClients (TellOver L.told) (s (F.told folder.old) self.old) (s (F.told folder.new) self.new) }
+        ensures closes { let s = seen L.told J.events J.may_want in ClosesClients (TellOver L.told) (s (F.told folder.old) self.old) (s (F.told folder.new) self.new) }
         ensures linked { HaveLinks self.new.clients self.new.core }
         ensures limits { SameLimits self.old self.new }
     {
@@ -68,9 +68,9 @@ impl<J: Journal, L: Link> Server<J, L> {
         folder: &mut F,
     ) -> Result<(), OutOfMemory>
         requires server { IsServer L.told self.old }
-        ensures closed { OnOk result (let s = seen L.told J.events in IsClosed (TellOver L.told) moment
+        ensures closed { OnOk result (let s = seen L.told J.events J.may_want in IsClosed (TellOver L.told) moment
             (s (F.told folder.old) self.old) (s (F.told folder.new) self.new)) }
-        ensures half { OnErr result (let s = seen L.told J.events in IsHalfClosed moment (s (F.told folder.old) self.old) (s (F.told folder.new) self.new)) }
+        ensures half { OnErr result (let s = seen L.told J.events J.may_want in IsHalfClosed moment (s (F.told folder.old) self.old) (s (F.told folder.new) self.new)) }
         ensures linked { HaveLinks self.new.clients self.new.core }
         ensures limits { SameLimits self.old self.new }
     {

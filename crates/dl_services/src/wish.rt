@@ -16,7 +16,7 @@ use dl_registry::Registry;
 use std::alloc::Global;
 
 /// What a request wants of the folder that has the stored configuration, or of the queue of an application.
-#[derive(Debug, Drop)]
+#[derive(Drop)]
 pub enum Want {
     /// Nothing: the request is served as it is.
     Nothing,

@@ -8,7 +8,7 @@ use dl_outside::{Accepted, LinkList, Net};
 use dl_socket::{ChannelFault, Channels};
 
 /// What came of an accept.
-#[derive(Clone, Copy, Debug, PartialEq, Eq)]
+#[derive(Clone, Copy, PartialEq, Eq)]
 pub enum Entry {
     /// A channel opened, under this number.
     Channel(u16),

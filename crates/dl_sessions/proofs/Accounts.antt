@@ -4,7 +4,7 @@ use Rattle.std.specs.Prelude.{is_none, not, ◌&&◌}
 use Rattle.std.specs.List.{filter_map}
 use Rattle.std.proofs.lemmas.List.{append-nil}
 use Rattle.std.proofs.lemmas.List.Elements.{filter_map-append}
-use Rattle.dl_laws.proofs.Lists.{along-one}
+use Rattle.dl_model.proofs.Lists.{along-one}
 use Rattle.dl_sessions.specs.declared.account.Account.{Account}
 use Rattle.dl_sessions.specs.declared.account.Step.{Step}
 use Rattle.dl_sessions.specs.declared.session.Entry.{Entry}

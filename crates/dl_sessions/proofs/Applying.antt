@@ -7,7 +7,7 @@ use Rattle.std.proofs.lemmas.List.{append-nil}
 use Rattle.std.proofs.lemmas.List.Sums.{fold-append, sum_by-append}
 use Rattle.dl_lemmas.proofs.Bools.{both}
 use Rattle.dl_model.specs.Along.{along}
-use Rattle.dl_laws.proofs.Lists.{along-one, count_by-append}
+use Rattle.dl_model.proofs.Lists.{along-one, count_by-append}
 use Rattle.dl_sessions.specs.declared.session.Entry.{Entry}
 use Rattle.dl_sessions.specs.declared.session.Lost.{Lost}
 use Rattle.dl_sessions.specs.declared.session.Position.{Position}

@@ -5,7 +5,7 @@ use Rattle.std.specs.List.{filter_map}
 use Rattle.std.specs.Option.{option_map_or}
 use Rattle.std.proofs.lemmas.List.{append-nil}
 use Rattle.std.proofs.lemmas.List.Elements.{filter_map-append}
-use Rattle.dl_laws.proofs.Lists.{along-one}
+use Rattle.dl_model.proofs.Lists.{along-one}
 use Rattle.dl_sessions.specs.Calls.{calls_in}
 use Rattle.dl_sessions.specs.declared.ledger.Ledger.{Ledger}
 use Rattle.dl_sessions.specs.declared.session.Calls.{Calls}

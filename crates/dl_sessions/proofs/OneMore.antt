@@ -8,7 +8,7 @@ use Rattle.std.proofs.lemmas.List.Folds.{find-append}
 use Rattle.std.proofs.lemmas.List.Sums.{sum_by-append}
 use Rattle.dl_lemmas.proofs.Bools.{both, both_true}
 use Rattle.dl_model.specs.Along.{last_that}
-use Rattle.dl_laws.proofs.Lists.{along-one, count_by-append, last_that-one}
+use Rattle.dl_model.proofs.Lists.{along-one, count_by-append, last_that-one}
 use Rattle.dl_sessions.specs.declared.session.Context.{Context}
 use Rattle.dl_sessions.specs.declared.session.Entry.{Entry}
 use Rattle.dl_sessions.specs.declared.session.Latest.{Latest}

@@ -10,7 +10,7 @@ use Rattle.std.proofs.lemmas.List.Elements.{filter_map-append}
 use Rattle.std.proofs.lemmas.List.Sums.{sum_by-append}
 use Rattle.dl_lemmas.proofs.Bools.{both}
 use Rattle.dl_model.proofs.Presence.{after_last-push}
-use Rattle.dl_laws.proofs.Lists.{along-one, count_by-append}
+use Rattle.dl_model.proofs.Lists.{along-one, count_by-append}
 use Rattle.dl_sessions.specs.Calls.{calls_in}
 use Rattle.dl_sessions.specs.declared.session.Calls.{Calls}
 use Rattle.dl_sessions.specs.declared.session.Context.{Context}

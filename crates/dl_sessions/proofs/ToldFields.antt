@@ -3,9 +3,11 @@ use Rattle.std.proofs.Common.{◌≡◌, ℕ, ◌+◌, ◌-◌, ◌<◌, ◌^◌
 use Rattle.std.specs.Prelude.{IfSome, slice_index, unwrap_or}
 use Rattle.std.proofs.lemmas.Bool.{cond-true, cond-false}
 use Rattle.std.proofs.lemmas.List.{take_at, drop_at}
+use Rattle.std.specs.Option.{option_map_or}
 use Rattle.byteorder.specs.Endian.{big_bytes, big_number}
 use Rattle.byteorder.specs.Numbers.{big_number-reads_back}
 use Rattle.dl_bytes.specs.Htyp.{htyp_of, has_ecu, has_extended, has_ticks, standard_len}
+use Rattle.dl_bytes.specs.Id.{zero_id}
 use Rattle.dl_headers.specs.Header.{standard_header, extended_header, optional, IsExtended}
 use Rattle.dl_headers.specs.Message.{Message, IsMessage}
 use Rattle.dl_headers.proofs.Lengths.{number_long, apid_at, ctid_at}
@@ -13,7 +15,7 @@ use Rattle.dl_headers.specs.declared.header.Extended.{Extended}
 use Rattle.dl_headers.specs.Reading.{mcnt_of}
 use Rattle.dl_receive.specs.MessageKind.{apid_of, behind_standard, ctid_of, msin_of, payload_of, session_of}
 use Rattle.dl_receive.proofs.Fields.{behind_read, mcnt_read, session_read}
-use Rattle.dl_sessions.specs.Stream.{calls_by, ecu_of, entry_at, entry_by, entry_in, noar_of, ticks_of}
+use Rattle.dl_sessions.specs.Stream.{calls_by, context_of, ecu_of, entry_at, entry_by, entry_in, noar_of, ticks_of}
 use Rattle.dl_sessions.specs.declared.session.Calls.{Calls}
 use Rattle.dl_sessions.specs.declared.session.Told.{Told}
 use Rattle.dl_sessions.specs.declared.session.Told.TheVariants as told
@@ -71,6 +73,16 @@ module _ (m : Message) (bytes : List ℕ) (is : IsMessage m bytes) where
       ∙ ap (λ (there : Bool). cond there (big_number 4 (drop (standard_len s.htyp - 4) bytes)) 0) (sym s.ticks_as_told)
       ∙ ap (λ (b : List ℕ). cond (is_some s.ticks) (big_number 4 (drop (standard_len s.htyp - 4) b)) 0) parts
       ∙ ticks_at front s.ticks rest (standard_len s.htyp - 4) long is.standard.ticks
+
+  context_when : (e : Option Extended) → m.extended ≡ e → IfSome e IsExtended → context_of bytes ≡ option_map_or (λ head. head.ctid) e zero_id
+  context_when None there fits = (let said : has_extended (htyp_of bytes) ≡ false = ap has_extended htyp_read ∙ sym is.told ∙ ap (λ (e : Option Extended). is_some e) there in cond-false _ _ _ said)
+  context_when (Some head) there fits =
+      let said : has_extended (htyp_of bytes) ≡ true = ap has_extended htyp_read ∙ sym is.told ∙ ap (λ (e : Option Extended). is_some e) there in
+      let at : behind_standard bytes ≡ extended_header head ++ m.payload = behind_read m bytes is ∙ ap (λ (e : Option Extended). optional extended_header e ++ m.payload) there in
+      cond-true _ _ _ said ∙ ap (λ (x : List ℕ). take 4 (drop 6 x)) at ∙ ctid_at head.msin head.noar head.apid head.ctid m.payload fits.apid fits.ctid
+
+  pub context_read : context_of bytes ≡ option_map_or (λ head. head.ctid) m.extended zero_id
+  context_read = context_when m.extended refl is.extended
 
   module _ (payload : payload_of bytes ≡ m.payload) where
     entry_when : (ecu : List ℕ) (ticks : ℕ) (e : Option Extended) → m.extended ≡ e → IfSome e IsExtended → entry_at ecu ticks bytes ≡ entry_in m.standard e m.payload ecu ticks

@@ -1,5 +1,5 @@
 -- Who is who in a stream of messages, and how many are missing before each of them.
-use Rattle.std.specs.Prelude.{ℕ, ◌-◌, ◌^◌, ◌==◌, ◌&&◌, not, min, Bool, true, false, List, Option, Some, None, is_some, nat_le, nat_lt, if◌then◌else◌}
+use Rattle.std.specs.Prelude.{ℕ, ◌-◌, ◌^◌, ◌==◌, ◌&&◌, ◌||◌, not, min, Bool, true, false, List, Option, Some, None, is_some, nat_le, nat_lt, if◌then◌else◌}
 use Rattle.std.specs.List.{filter_map}
 use Rattle.std.specs.Option.{option_map, option_map_or}
 use Rattle.std.specs.Str.{bytes_eq}
@@ -94,9 +94,9 @@ abbrev pub of_session : Option Latest → Bool → Entry → ℕ
 of_session last in_context e = if is_some last && (gap last e == 0 && not in_context) then 1 else 0
 
 -- 1 where a message goes on from its context's last counter, and that of its session is met again or steps back: so it is taken where at least 127
--- of 256 counters would be passed over
+-- of 256 counters would be passed over. Likewise where it is an account: programs write these whose library counts each context by itself.
 abbrev pub of_context : Option Latest → Bool → Entry → ℕ
-of_context last in_context e = if nat_le 127 (gap last e) && in_context then 1 else 0
+of_context last in_context e = if (nat_le 127 (gap last e) && in_context) || e.calls.are_told then 1 else 0
 
 -- 1 where who counts has begun anew
 abbrev pub anew : Option Latest → Entry → ℕ

@@ -6,6 +6,7 @@ use Rattle.std.specs.Option.{option_map_or}
 use Rattle.std.specs.Str.{bytes_eq}
 use Rattle.dl_bytes.specs.Htyp.{htyp_of, len_of, has_ecu, has_extended, has_ticks, standard_len}
 use Rattle.dl_bytes.specs.Id.{zero_id}
+use Rattle.dl_control.specs.Reply.{daemon_apid}
 use Rattle.dl_headers.specs.declared.fault.HeaderFault.{HeaderFault}
 use Rattle.dl_headers.specs.declared.fault.HeaderFault.TheVariants.{Version, Length}
 use Rattle.dl_headers.specs.declared.header.Extended.{Extended}
@@ -63,14 +64,24 @@ abbrev pub entry_in : Standard → Option Extended → (payload ecu : List ℕ) 
 entry_in standard extended payload ecu ticks =
     option_map_or (λ head. entry_by standard.session standard.mcnt head.apid head.ctid ecu ticks (calls_by head.msin head.noar head.ctid payload)) extended told.Other
 
+-- what a report of lost messages tells: with APID DA1 and CTID TRCE those were not stored, and no ring or buffer was full
+abbrev pub lost_by : (apid ctid ecu : List ℕ) → ℕ → Told
+lost_by apid ctid ecu counter =
+    if bytes_eq apid daemon_apid && bytes_eq ctid (codes "TRCE") then told.Other
+    else told.Lost (record { source = record { ecu = ecu; apid = apid }; count = counter })
+
 -- the report of lost messages, or any other message
-abbrev pub told_by : Kind → List ℕ → Told → Told
-told_by (Overflow apid counter) ecu entry = told.Lost (record { source = record { ecu = ecu; apid = apid }; count = counter })
-told_by (Log seid mcnt apid ctid len) ecu entry = entry
-told_by (Other len) ecu entry = entry
+abbrev pub told_by : Kind → (context ecu : List ℕ) → Told → Told
+told_by (Overflow apid counter) context ecu entry = lost_by apid context ecu counter
+told_by (Log seid mcnt apid ctid len) context ecu entry = entry
+told_by (Other len) context ecu entry = entry
+
+-- CTID, where HTYP says that an extended header is there
+abbrev pub context_of : List ℕ → List ℕ
+context_of message = if has_extended (htyp_of message) then ctid_of message else zero_id
 
 abbrev pub told_of : List ℕ → List ℕ → Told
-told_of ecu message = told_by (kind_of message) (ecu_of ecu message) (entry_at (ecu_of ecu message) (ticks_of message) message)
+told_of ecu message = told_by (kind_of message) (context_of message) (ecu_of ecu message) (entry_at (ecu_of ecu message) (ticks_of message) message)
 
 -- ---- where messages stand
 

@@ -71,7 +71,7 @@ pub fn gap(last: Option<Latest>, entry: &Entry) -> u8
 }
 
 /// Whether a message goes on from its context's last counter, or is the first, 0, of a new context.
-fn goes_on(last: Option<Latest>, entry: &Entry) -> bool
+pub fn goes_on(last: Option<Latest>, entry: &Entry) -> bool
     ensures { result ≡ goes_on last entry.now }
 {
     gap(last, entry) == 0 && (last.is_some() || entry.mcnt == 0)
@@ -88,7 +88,7 @@ fn turn(last: Option<Latest>, entry: &Entry) -> Turn
 }
 
 /// Whether a message goes on from its session's last counter, and not from its context's.
-fn of_session(last: Option<Latest>, in_context: bool, entry: &Entry) -> u64
+pub fn of_session(last: Option<Latest>, in_context: bool, entry: &Entry) -> u64
     ensures { result ≡ of_session last in_context entry.now }
 {
     if last.is_some() && gap(last, entry) == 0 && !in_context {
@@ -98,11 +98,11 @@ fn of_session(last: Option<Latest>, in_context: bool, entry: &Entry) -> u64
     }
 }
 
-/// Whether a message goes on from its context's last counter, and that of its session is met again or steps back.
-fn of_context(last: Option<Latest>, in_context: bool, entry: &Entry) -> u64
+/// Whether a message goes on from its context's last counter, and that of its session is met again or steps back; or whether it is an account.
+pub fn of_context(last: Option<Latest>, in_context: bool, entry: &Entry) -> u64
     ensures { result ≡ of_context last in_context entry.now }
 {
-    if gap(last, entry) >= 127 && in_context {
+    if (gap(last, entry) >= 127 && in_context) || entry.calls.are_told {
         1
     } else {
         0

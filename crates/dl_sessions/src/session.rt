@@ -3,7 +3,7 @@
 use dl_bytes::Id;
 
 /// Who sends messages: an application of an ECU.
-#[derive(Clone, Copy, Debug, PartialEq, Eq, Hash)]
+#[derive(Clone, Copy, PartialEq, Eq, Hash)]
 pub struct Source {
     /// The ECU.
     pub ecu: Id,
@@ -12,7 +12,7 @@ pub struct Source {
 }
 
 /// A session of an application: of a writer of this project's daemon, or of a process of another one's.
-#[derive(Clone, Copy, Debug, PartialEq, Eq, Hash)]
+#[derive(Clone, Copy, PartialEq, Eq, Hash)]
 pub struct Session {
     /// The ECU.
     pub ecu: Id,
@@ -23,7 +23,7 @@ pub struct Session {
 }
 
 /// A context of a session.
-#[derive(Clone, Copy, Debug, PartialEq, Eq, Hash)]
+#[derive(Clone, Copy, PartialEq, Eq, Hash)]
 pub struct Context {
     /// The ECU.
     pub ecu: Id,
@@ -36,7 +36,7 @@ pub struct Context {
 }
 
 /// A message of an application by its number among them.
-#[derive(Clone, Copy, Debug, PartialEq, Eq, Hash)]
+#[derive(Clone, Copy, PartialEq, Eq, Hash)]
 pub struct Position {
     /// The application.
     pub source: Source,
@@ -45,7 +45,7 @@ pub struct Position {
 }
 
 /// What a message tells of a context's calls since the account before: a program's library writes accounts (`dl_client`).
-#[derive(Clone, Copy, Debug, PartialEq, Eq)]
+#[derive(Clone, Copy, PartialEq, Eq)]
 pub struct Calls {
     /// Whether the message is an account; else all that follows is zero.
     pub are_told: bool,
@@ -62,7 +62,7 @@ pub struct Calls {
 }
 
 /// What came of a context since its last account.
-#[derive(Clone, Copy, Debug, PartialEq, Eq)]
+#[derive(Clone, Copy, PartialEq, Eq)]
 pub struct Since {
     /// How many accounts of it came so far.
     pub accounts: u64,
@@ -75,7 +75,7 @@ pub struct Since {
 }
 
 /// What a message of a session tells.
-#[derive(Clone, Copy, Debug, PartialEq, Eq)]
+#[derive(Clone, Copy, PartialEq, Eq)]
 pub struct Entry {
     /// Its session.
     pub session: Session,
@@ -90,7 +90,7 @@ pub struct Entry {
 }
 
 /// What the report of lost messages tells.
-#[derive(Clone, Copy, Debug, PartialEq, Eq)]
+#[derive(Clone, Copy, PartialEq, Eq)]
 pub struct Lost {
     /// Whose messages were lost.
     pub source: Source,
@@ -99,7 +99,7 @@ pub struct Lost {
 }
 
 /// What is kept of a message of a session.
-#[derive(Clone, Copy, Debug, PartialEq, Eq)]
+#[derive(Clone, Copy, PartialEq, Eq)]
 pub struct Latest {
     /// MCNT: its message counter.
     pub mcnt: u8,
@@ -108,7 +108,7 @@ pub struct Latest {
 }
 
 /// What a message tells an account.
-#[derive(Clone, Copy, Debug, PartialEq, Eq)]
+#[derive(Clone, Copy, PartialEq, Eq)]
 pub enum Told {
     /// A message of a session: a log message, or another one that takes a message counter (MSTP 1 to 3).
     Log(Entry),
@@ -119,7 +119,7 @@ pub enum Told {
 }
 
 /// What a message is to its context.
-#[derive(Clone, Copy, Debug, PartialEq, Eq)]
+#[derive(Clone, Copy, PartialEq, Eq)]
 pub struct Turn {
     /// How many are missing before it, where each context counts its own: modulo 256.
     pub missing: u8,
@@ -128,7 +128,7 @@ pub struct Turn {
 }
 
 /// What is counted of a session.
-#[derive(Clone, Copy, Debug, PartialEq, Eq)]
+#[derive(Clone, Copy, PartialEq, Eq)]
 pub struct Totals {
     /// How many messages it has.
     pub messages: u64,
@@ -149,7 +149,7 @@ pub struct Totals {
 }
 
 /// What is counted of an application.
-#[derive(Clone, Copy, Debug, PartialEq, Eq)]
+#[derive(Clone, Copy, PartialEq, Eq)]
 pub struct Tally {
     /// How many messages it has.
     pub messages: u64,
@@ -162,7 +162,7 @@ pub struct Tally {
 }
 
 /// What reports tell of lost messages of an application.
-#[derive(Clone, Copy, Debug, PartialEq, Eq)]
+#[derive(Clone, Copy, PartialEq, Eq)]
 pub struct Losses {
     /// How many messages it has.
     pub messages: u64,
@@ -177,7 +177,7 @@ pub struct Losses {
 }
 
 /// A place in the stream where messages are missing.
-#[derive(Clone, Copy, Debug, PartialEq, Eq)]
+#[derive(Clone, Copy, PartialEq, Eq)]
 pub struct Hole {
     /// The number of the message before which they are missing, from 1.
     pub place: u64,

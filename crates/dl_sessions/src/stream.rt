@@ -16,7 +16,7 @@ const STORAGE: [u8; 4] = [0x44, 0x4c, 0x54, 0x01];
 const SERIAL: [u8; 4] = [0x44, 0x4c, 0x53, 0x01];
 
 /// How a stream ends.
-#[derive(Clone, Copy, Debug, PartialEq, Eq)]
+#[derive(Clone, Copy, PartialEq, Eq)]
 pub enum End {
     /// After a whole message, or without one.
     Whole,
@@ -27,7 +27,7 @@ pub enum End {
 }
 
 /// Where a message stands at the front of a stream.
-#[derive(Clone, Copy, Debug)]
+#[derive(Clone, Copy)]
 pub struct Place {
     /// The ECU that its storage header tells; else zero.
     pub ecu: Id,

@@ -1,9 +1,11 @@
 //! What a message tells an account.
 
+ghost use Rattle.std.specs.Option.{option_map_or};
 ghost use Rattle.std.specs.Prelude.{◌≡◌, length, None};
 ghost use Rattle.dl_bytes.specs.Htyp.{len_of};
+ghost use Rattle.dl_bytes.specs.Id.{zero_id};
 ghost use Rattle.dl_headers.specs.Reading.{front_fault};
-ghost use Rattle.dl_sessions.specs.Stream.{calls_by, entry_in, is_of_account, told_by, told_of};
+ghost use Rattle.dl_sessions.specs.Stream.{calls_by, entry_in, is_of_account, lost_by, told_by, told_of};
 
 use crate::calls::{calls_of, no_calls};
 use crate::session::{Calls, Entry, Lost, Session, Source, Told};
@@ -15,6 +17,11 @@ use dl_receive::{Kind, kind_of};
 
 /// The context of accounts.
 const ACCOUNTS: [u8; 4] = *b"DLTC";
+
+/// The daemon's application, and its context of what a trace did not store.
+const DAEMON: [u8; 4] = *b"DA1\0";
+
+const UNSTORED: [u8; 4] = *b"TRCE";
 
 /// Whether an extended header may be an account's: of a log message of severity info with ten verbose arguments, of the context of accounts.
 fn is_of_account(head: &Extended) -> bool
@@ -64,15 +71,35 @@ fn entry_in(
     }
 }
 
-/// What a message of this kind tells, of this ECU: the report of lost messages, or the entry that any other one is.
-fn told_by(kind: Kind, ecu: Id, entry: Told) -> Told
-    ensures { result ≡ told_by kind ecu entry }
+/// The context that an extended header names.
+fn context_in(extended: Option<Extended>) -> Id
+    ensures { result ≡ option_map_or (λ head. head.ctid) extended zero_id }
+{
+    match extended {
+        Some(head) => head.ctid,
+        None => Id::from_bytes([0; 4]),
+    }
+}
+
+/// What a report of lost messages tells. With APID `DA1` and CTID `TRCE` those were not stored, and no ring or buffer was full.
+fn lost_by(apid: Id, ctid: Id, ecu: Id, count: u32) -> Told
+    ensures { result ≡ lost_by apid ctid ecu count }
+{
+    if apid == Id::from_bytes(DAEMON) && ctid == Id::from_bytes(UNSTORED) {
+        return Told::Other;
+    }
+    Told::Lost(Lost {
+        source: Source { ecu, apid },
+        count,
+    })
+}
+
+/// What a message of this kind tells, of this context and this ECU: the report of lost messages, or the entry that any other one is.
+fn told_by(kind: Kind, context: Id, ecu: Id, entry: Told) -> Told
+    ensures { result ≡ told_by kind context ecu entry }
 {
     match kind {
-        Kind::Overflow { apid, counter } => Told::Lost(Lost {
-            source: Source { ecu, apid },
-            count: counter,
-        }),
+        Kind::Overflow { apid, counter } => lost_by(apid, context, ecu, counter),
         Kind::Log { .. } => entry,
         Kind::Other { .. } => entry,
     }
@@ -92,5 +119,5 @@ pub fn told_of(ecu: Id, message: &[u8]) -> Told
     let ticks = standard.ticks.unwrap_or(0);
     let payload = behind(message, parts.start);
     let entry = entry_in(&standard, parts.extended, payload, own, ticks);
-    told_by(kind_of(message), own, entry)
+    told_by(kind_of(message), context_in(parts.extended), own, entry)
 }

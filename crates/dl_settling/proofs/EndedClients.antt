@@ -16,7 +16,7 @@ use Rattle.dl_model.specs.ClientStream.{stream}
 use Rattle.dl_model.specs.Setting.{Setting}
 use Rattle.dl_outside.specs.Links.{Links}
 use Rattle.dl_outside.specs.Told.{FolderTold, LinkTold}
-use Rattle.dl_laws.proofs.Rotation.{length-concat}
+use Rattle.dl_model.proofs.Rotation.{length-concat}
 use Rattle.dl_account.specs.State.{AccountState, ClosingState}
 use Rattle.dl_hub.specs.State.{Client as HubClient, Hub, client_of}
 use Rattle.dl_core.specs.Follows.{IsAfter, Run, source_of}

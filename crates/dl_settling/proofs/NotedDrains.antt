@@ -33,7 +33,7 @@ use Rattle.dl_rounds.proofs.Turned.{placed}
 use Rattle.dl_taking.specs.Drained.{GivesTook, IsDrain, IsOfDrain}
 use Rattle.dl_taking.specs.Side.{Side}
 use Rattle.dl_settling.specs.State.{clients_at}
-use Rattle.dl_settling.proofs.Ready.{replies, same_replies}
+use Rattle.dl_admission.proofs.StandingClients.{replies, same_replies}
 use Rattle.dl_settling.proofs.StandingStreams.{StandsAfter, stands_closing, stands_on}
 use Rattle.dl_lemmas.proofs.Lists.{all_first, all_second}
 use Rattle.dl_lemmas.proofs.Options.{none_of, some_of, as_some}

@@ -13,13 +13,10 @@ use Rattle.dl_registry.specs.Kept.{owed_change}
 use Rattle.dl_hub.specs.State.{Client, Hub, client_of, outbox_of, replies_of}
 use Rattle.dl_core.specs.State.{Core}
 use Rattle.dl_admission.specs.Admission.{KeepsClients}
+use Rattle.dl_admission.proofs.StandingClients.{as_many, same_replies, served_by, was_open}
 use Rattle.dl_turns.specs.Events.{HasServed, IsDeskOf}
 use Rattle.dl_rounds.specs.Ready.{AreHeard, AreLinked, open_clients}
 use Rattle.dl_rounds.specs.Seats.{Seated}
-
--- as many clients came
-pub as_many : (noted : List Event) (old new : Hub) → KeepsClients noted old new → length new.clients ≡ length old.clients
-as_many noted old new keeps = sym (length-map new.clients (λ (c : Client). c.replies)) ∙ ap (λ (ns : List ℕ). length ns) keeps.replies ∙ length-map old.clients (λ (c : Client). c.replies)
 
 pub linked_still : {L : Type 0} (noted : List Event) (links : Links L) (old new : Core) (spare spare_now : ℕ) → AreLinked links old spare → KeepsClients noted old.hub new.hub
     → owed_change new.registry ≡ None → open_clients new.hub ≤ spare_now → AreLinked links new spare_now
@@ -30,33 +27,6 @@ linked_still noted links old new spare spare_now linked keeps settled room = rec
   settled = settled;
   room = room;
 }
-
--- a client that is open was so before
-pub was_open : (noted : List Event) (old new : Hub) (number : ℕ) → KeepsClients noted old new → IsSome (outbox_of new number) → IsSome (outbox_of old number)
-was_open noted old new number keeps some = by (why_of number noted) refl where
-  by : (o : Option Why) → why_of number noted ≡ o → IsSome (outbox_of old number)
-  by None none = sym (keeps.stay number none) ∙ some
-  by (Some why) gone = (keeps.go number (ap is_some gone)).0
-
--- it was put as many replies
-abbrev pub replies : Client → ℕ
-replies c = c.replies
-
-get_map : (clients : List Client) (place : ℕ) → slice_get (map replies clients) place ≡ option_map replies (slice_get clients place)
-get_map [] place = refl
-get_map (c ∷ clients) zero = refl
-get_map (c ∷ clients) (suc place) = get_map clients place
-
-pub same_replies : (old new : Hub) (number : ℕ) → replies_of new ≡ replies_of old → option_map replies (client_of new number) ≡ option_map replies (client_of old number)
-same_replies old new number same = by (eqb number 0) where
-  by : (b : Bool) → option_map replies (cond b None (slice_get new.clients (number - 1))) ≡ option_map replies (cond b None (slice_get old.clients (number - 1)))
-  by true = refl
-  by false = sym (get_map new.clients (number - 1)) ∙ ap (λ (ns : List ℕ). slice_get ns (number - 1)) same ∙ get_map old.clients (number - 1)
-
-pub served_by : (served : ℕ) (o n : Option Client) → option_map replies n ≡ option_map replies o → IsSomeAnd o (λ c. (c.replies ≡ served) × (served ≤ request_limit)) → IsSomeAnd n (λ c. (c.replies ≡ served) × (served ≤ request_limit))
-served_by served None n same has = absurd has
-served_by served (Some c) None same has = absurd cc
-served_by served (Some c) (Some d) same has = (ap (λ (o : Option ℕ). unwrap_or o 0) same ∙ has.0, has.1)
 
 served_still : (noted : List Event) (number served : ℕ) (old new : Core) → KeepsClients noted old.hub new.hub → HasServed number served old → HasServed number served new
 served_still noted number served old new keeps has = served_by served (client_of old.hub number) (client_of new.hub number) (same_replies old.hub new.hub number keeps.replies) has

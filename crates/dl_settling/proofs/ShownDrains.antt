@@ -19,7 +19,7 @@ use Rattle.dl_rounds.specs.Shown.{AllShowWhy, ShowsWhy, WasServedAll}
 use Rattle.dl_taking.specs.Drained.{GivesTook, IsDrain}
 use Rattle.dl_taking.specs.Side.{Side}
 use Rattle.dl_settling.proofs.NotedDrains.{left_before, was_slow}
-use Rattle.dl_settling.proofs.Ready.{replies, same_replies}
+use Rattle.dl_admission.proofs.StandingClients.{replies, same_replies}
 use Rattle.dl_lemmas.proofs.Options.{as_some, none_of, some_of}
 use Rattle.dl_rounds.proofs.NotedClients.{left_of}
 

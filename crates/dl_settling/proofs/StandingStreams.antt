@@ -4,8 +4,8 @@ use Rattle.std.specs.List.{AllByRecursion}
 use Rattle.dl_events.specs.declared.event.Event.{Event}
 use Rattle.dl_events.specs.declared.event.Event.TheVariants as event
 use Rattle.dl_events.specs.declared.event.Why.{Why}
-use Rattle.dl_laws.proofs.ClientStreams.{is_open-one, same_number}
-use Rattle.dl_laws.proofs.Lists.{along-one}
+use Rattle.dl_model.proofs.ClientStreams.{is_open-one, same_number}
+use Rattle.dl_model.proofs.Lists.{along-one}
 use Rattle.dl_model.specs.ClientStream.{put, sent, stream, traffic, traffic_of}
 use Rattle.dl_model.specs.Frames.{FrameSource, frames_of}
 use Rattle.dl_model.specs.Traffic.{Traffic, Admitted, Closed, is_open}

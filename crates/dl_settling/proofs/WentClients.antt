@@ -15,7 +15,7 @@ use Rattle.dl_model.specs.ClientStream.{sent, stream, traffic}
 use Rattle.dl_outside.specs.Links.{Links}
 use Rattle.dl_outside.specs.Outside.{Stays}
 use Rattle.dl_outside.specs.Told.{FolderTold, LinkTold}
-use Rattle.dl_laws.proofs.Rotation.{length-concat}
+use Rattle.dl_model.proofs.Rotation.{length-concat}
 use Rattle.dl_account.specs.State.{AccountState, ClosingState}
 use Rattle.dl_hub.specs.State.{Client as HubClient, Hub, client_of}
 use Rattle.dl_core.specs.Follows.{IsAfter, Run, source_of}
@@ -138,9 +138,6 @@ module _ {L : Type 0} (told : L → LinkTold) (dropped : ℕ) (old : Stopping L)
       let took : closing_took settles.closed.closing ≡ closing_took settles.drained.closing = same_took settles.drained.closing settles.closed.closing settles.closes.same in
       let apps : settles.closed.closing.apps ≡ old.closing.apps = ap (λ (c : ClosingState). c.apps) settles.closes.same ∙ ap (λ (c : ClosingState). c.apps) settles.drains.same in
       subst (λ (specs : List AppSpec). GivesTook specs (closing_took settles.drained.closing) run) apps (subst (λ (t : Took). GivesTook settles.closed.closing.apps t run) took of_closed)
-
-  sent_more : ℕ → List ℕ
-  sent_more = stays.later.sent
 
   final : AreAsNoted run settles.closed.journal.events (took_all taken stays.later.sent) (clients_of told settles.closed folder_now)
   final =

@@ -13,7 +13,7 @@ use std::marker::Model;
 const CLIENTS: usize = CLIENT_LIMIT as usize;
 
 /// Room for the ends of 32 links: its memory is taken once, when it is made.
-#[derive(Debug, Drop)]
+#[derive(Drop)]
 pub struct EndRoom {
     ends: Vec<LinkEnd>,
 }

@@ -6,7 +6,7 @@ ghost use Rattle.dl_socket.specs.Ways.{way_of};
 use dl_registry::Registry;
 
 /// Whom the level of a slot is told.
-#[derive(Clone, Copy, Debug, PartialEq, Eq)]
+#[derive(Clone, Copy, PartialEq, Eq)]
 pub struct Way {
     /// The channel of the application that has the slot.
     pub channel: u16,

@@ -8,7 +8,7 @@ use dl_bytes::{Done, TraceEnd};
 use dl_events::Event;
 
 /// What went wrong in a run whose report was made.
-#[derive(Clone, Copy, Debug, PartialEq, Eq)]
+#[derive(Clone, Copy, PartialEq, Eq)]
 pub struct Failures {
     /// A net failed.
     pub net: bool,

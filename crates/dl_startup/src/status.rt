@@ -20,7 +20,7 @@ const USAGE: &[u8] = b": usage: ";
 const END: &[u8] = b"\n";
 
 /// How a program ended. Its number is the exit status. No program has them all.
-#[derive(Clone, Copy, Debug, PartialEq, Eq)]
+#[derive(Clone, Copy, PartialEq, Eq)]
 pub enum Status {
     /// The report was written whole.
     Ok,

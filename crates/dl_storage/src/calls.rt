@@ -9,7 +9,7 @@ use dl_events::{Record, RecordList};
 
 /// The records of a run. Where the calls of each writer are numbered from 1 and none is missing, as in an account, a record is
 /// found at its place.
-#[derive(Debug, Drop)]
+#[derive(Drop)]
 pub struct Calls<'r> {
     /// The records.
     pub records: &'r RecordList,

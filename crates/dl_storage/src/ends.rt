@@ -3,7 +3,7 @@
 use dl_bytes::{Sequence, TraceEnd};
 
 /// What a filter stored.
-#[derive(Clone, Copy, Debug, PartialEq, Eq)]
+#[derive(Clone, Copy, PartialEq, Eq)]
 pub struct StoreEnd {
     /// How many messages.
     pub frames: u64,
@@ -14,7 +14,7 @@ pub struct StoreEnd {
 }
 
 /// What each filter stored, in the order of the filters.
-#[derive(Debug, Drop)]
+#[derive(Drop)]
 pub struct StoreEnds {
     /// The end of each filter.
     pub filters: Sequence<StoreEnd>,

@@ -6,7 +6,7 @@ ghost use Rattle.dl_storage.specs.FilterLine.{are_sizes, is_name};
 use dl_bytes::{Bytes, Id, Severity};
 
 /// Which messages are stored, and how large their files may be.
-#[derive(Debug, Drop)]
+#[derive(Drop)]
 pub struct Filter {
     /// The name of its files' directory: 1 to 16 letters, digits or `_`.
     pub name: Bytes,

@@ -12,7 +12,7 @@ use std::marker::Model;
 pub const FILTER_LIMIT: usize = 16;
 
 /// At most 16 filters, no two of the same name.
-#[derive(Debug, Drop)]
+#[derive(Drop)]
 pub struct FilterList {
     filters: Sequence<Filter>,
 }

@@ -8,7 +8,7 @@ ghost use Rattle.dl_storage.specs.FiltersHeld.{parts_held};
 use dl_text::{is_blank, trimmed};
 
 /// The fields of a filter's line.
-#[derive(Clone, Copy, Debug)]
+#[derive(Clone, Copy)]
 pub struct LineParts<'a> {
     /// The filter's name.
     pub name: &'a [u8],

@@ -3,7 +3,7 @@
 use dl_bytes::{Id, Severity};
 
 /// A filter as its line says it; its name is a part of the text.
-#[derive(Clone, Copy, Debug)]
+#[derive(Clone, Copy)]
 pub struct LineFilter<'a> {
     /// The name of its files' directory.
     pub name: &'a [u8],

@@ -11,7 +11,7 @@ use dl_bytes::{Id, Item, Moment};
 use dl_events::{Event, Record};
 
 /// A log call that passes, and when it came.
-#[derive(Clone, Copy, Debug)]
+#[derive(Clone, Copy)]
 pub struct PassingCall<'r> {
     /// The call.
     pub item: &'r Item,

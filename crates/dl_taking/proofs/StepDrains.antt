@@ -16,7 +16,7 @@ use Rattle.dl_model.specs.Journal.{IsInTurn, IsRunning}
 use Rattle.dl_model.specs.Report.{closed_of}
 use Rattle.dl_model.specs.declared.registry.LevelChange.{LevelChange}
 use Rattle.dl_outside.specs.Told.{FolderTold}
-use Rattle.dl_laws.proofs.LongerJournals.{goes_on}
+use Rattle.dl_model.proofs.LongerJournals.{goes_on}
 use Rattle.dl_ring.specs.declared.item.RingItem.{RingItem}
 use Rattle.dl_ring.specs.declared.item.RingItem.TheVariants.{Log, Register}
 use Rattle.dl_ring.specs.Items.{calls_in}

@@ -13,7 +13,7 @@ use std::marker::Model;
 use std::sync::Wait;
 
 /// At most 64 calls. Their memory is taken once, when the batch is made, and a call is copied into it where it is to lie.
-#[derive(Debug, Drop)]
+#[derive(Drop)]
 pub struct Batch {
     // the first ones are the calls, and whatever lies in the others is no call yet
     items: Vec<Item>,

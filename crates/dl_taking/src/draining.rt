@@ -19,7 +19,7 @@ use dl_outside::{Clock, Folder};
 use std::sync::Wait;
 
 /// How many events may still be noted.
-#[derive(Clone, Copy, Debug, PartialEq, Eq)]
+#[derive(Clone, Copy, PartialEq, Eq)]
 pub struct Budget {
     /// Log and Lost events.
     pub events: u32,

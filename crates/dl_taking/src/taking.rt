@@ -20,7 +20,7 @@ use dl_outside::{Clock, Folder};
 use std::sync::Wait;
 
 /// What was taken of an application's ring.
-#[derive(Clone, Copy, Debug, PartialEq, Eq)]
+#[derive(Clone, Copy, PartialEq, Eq)]
 pub struct Got {
     /// How many calls.
     pub calls: usize,

@@ -27,7 +27,7 @@ use std::collections::HashMap;
 const DAEMON: [u8; 4] = *b"DA1\0";
 
 /// A column of a session.
-#[derive(Clone, Copy, Debug, PartialEq, Eq, Hash)]
+#[derive(Clone, Copy, PartialEq, Eq, Hash)]
 pub struct Spot {
     /// The session.
     pub session: Session,
@@ -36,7 +36,7 @@ pub struct Spot {
 }
 
 /// What is to be counted in a column of a session.
-#[derive(Clone, Copy, Debug, PartialEq, Eq)]
+#[derive(Clone, Copy, PartialEq, Eq)]
 pub struct SpotMark {
     /// Where.
     pub spot: Spot,
@@ -45,7 +45,7 @@ pub struct SpotMark {
 }
 
 /// A column of an application that reports lost messages.
-#[derive(Clone, Copy, Debug, PartialEq, Eq, Hash)]
+#[derive(Clone, Copy, PartialEq, Eq, Hash)]
 pub struct ReportSpot {
     /// The application.
     pub source: Source,
@@ -54,7 +54,7 @@ pub struct ReportSpot {
 }
 
 /// A report of lost messages.
-#[derive(Clone, Copy, Debug, PartialEq, Eq)]
+#[derive(Clone, Copy, PartialEq, Eq)]
 pub struct Report {
     /// Where it counts.
     pub spot: ReportSpot,

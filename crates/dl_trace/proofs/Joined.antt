@@ -1,5 +1,5 @@
 -- Calls one after the other, as one call.
-use Rattle.std.proofs.Common.{◌≡◌, ℕ, ◌+◌, true, false, List, [], ◌∷◌, ◌++◌, length, Option, Some, None, refl, sym, ap, subst, ◌∙◌, append_assoc}
+use Rattle.std.proofs.Common.{◌≡◌, ℕ, ◌+◌, ◌-◌, Bool, true, false, cond, leb, List, [], ◌∷◌, ◌++◌, length, Option, Some, None, refl, sym, ap, subst, ◌∙◌, append_assoc}
 use Rattle.std.specs.Prelude.{IfSome, ◌↔◌}
 use Rattle.std.specs.List.{concat}
 use Rattle.std.proofs.lemmas.List.{append-nil}
@@ -7,9 +7,9 @@ use Rattle.dl_bytes.specs.declared.outcome.TraceEnd.{TraceEnd}
 use Rattle.dl_bytes.specs.declared.outcome.TraceEnd.TheVariants.{Spent}
 use Rattle.dl_outside.specs.Folder.{Files}
 use Rattle.dl_model.specs.TraceFiles.{StoredFile, greatest, segments, trace_files, is_spent}
-use Rattle.dl_trace.specs.State.{Trace, IsAfter, IsSameTrace, files_after, number_after}
+use Rattle.dl_trace.specs.State.{Trace, IsAfter, IsSameTrace, counted, files_after, number_after}
 use Rattle.dl_trace.specs.Stands.{HasFiles, ChangesTraceFiles}
-use Rattle.dl_trace.specs.Pieces.{pieces_of, frames_in}
+use Rattle.dl_trace.specs.Pieces.{pieces, pieces_from, pieces_of, frames_in}
 use Rattle.dl_trace.specs.Storing.{IsStored, Stops, Leaves}
 
 -- what holds of one trace's directory and sizes holds of those of the same trace later
@@ -41,6 +41,7 @@ pub nothing_stored : (a : Trace) (told : Option Files) → a.state.end ≡ None 
 nothing_stored a told goes_on unspent = record {
   same = record { directory = refl; file_size = refl; max_size = refl };
   goes_on = goes_on;
+  unstored = refl;
   state = λ stood done after. subst (λ (fs : List (List ℕ)). IsAfter stood fs a) (sym (append-nil done)) after;
   unspent = λ stood done after. ap (is_spent a.file_size stood) (append-nil done) ∙ unspent stood done after;
   folder = λ stood done after. subst (λ (fs : List (List ℕ)). IfSome told (λ (folder : Files). HasFiles a.directory folder (files_after a stood done) → (now : Files) × (told ≡ Some now) × HasFiles a.directory now (files_after a stood fs))) (sym (append-nil done)) (stays (λ folder. HasFiles a.directory folder (files_after a stood done)) told);
@@ -53,6 +54,7 @@ pub joins : (xs ys : List (List ℕ)) (a b c : Trace) (told between now : Option
 joins xs ys a b c told between now first second = record {
   same = same_later a b c first.same second.same;
   goes_on = second.goes_on;
+  unstored = second.unstored ∙ first.unstored;
   state = λ stood done after. subst (λ (fs : List (List ℕ)). IsAfter stood fs c) (append_assoc done xs ys) (second.state stood (done ++ xs) (first.state stood done after));
   unspent = λ stood done after.
       by_same (λ d n m. is_spent n stood (done ++ (xs ++ ys)) ≡ false) first.same
@@ -82,6 +84,7 @@ stops_later end all rest before a b c told between now first cut stops =
       stored = pieces;
       piece = stops.piece;
       later = stops.later;
+      unstored = stops.unstored ∙ ap (λ (n : ℕ). counted (n + length (stops.piece ++ frames_in stops.later))) first.unstored;
       cut = cut ∙ ap (λ (ps : List (List (List ℕ))). before ++ ps) stops.cut ∙ sym (append_assoc before stops.stored (stops.piece ∷ stops.later));
       state = λ stood done after. subst (λ (fs : List (List ℕ)). IsAfter stood fs c) (regrouped done) (stops.state stood (done ++ frames_in before) (first.state stood done after));
       spent = λ stood done after.
@@ -99,6 +102,25 @@ stops_later end all rest before a b c told between now first cut stops =
     } where
       regrouped : (done : List (List ℕ)) → (done ++ frames_in before) ++ frames_in stops.stored ≡ done ++ frames_in (before ++ stops.stored)
       regrouped done = append_assoc done (frames_in before) (frames_in stops.stored) ∙ ap (λ (fs : List (List ℕ)). done ++ fs) (sym (frames_in-append before stops.stored))
+
+-- ---- pieces are the frames
+
+frames_in_from : (size room : ℕ) (piece frames : List (List ℕ)) → frames_in (pieces_from size room piece frames) ≡ piece ++ frames
+frames_in_from size room piece [] = refl
+frames_in_from size room piece (frame ∷ frames) =
+    by_test (leb (length frame) room) (frames_in_from size (room - length frame) (piece ++ frame ∷ []) frames) (frames_in_from size (size - length frame) (frame ∷ []) frames) where
+      by_test : (b : Bool) → frames_in (pieces_from size (room - length frame) (piece ++ frame ∷ []) frames) ≡ (piece ++ frame ∷ []) ++ frames
+          → frames_in (pieces_from size (size - length frame) (frame ∷ []) frames) ≡ frame ∷ frames
+          → frames_in (cond b (pieces_from size (room - length frame) (piece ++ frame ∷ []) frames) (piece ∷ pieces_from size (size - length frame) (frame ∷ []) frames)) ≡ piece ++ frame ∷ frames
+      by_test true goes_on begins = goes_on ∙ append_assoc piece (frame ∷ []) frames
+      by_test false goes_on begins = ap (λ (fs : List (List ℕ)). piece ++ fs) begins
+
+pub frames_in_cut : (size room : ℕ) (frames : List (List ℕ)) → frames_in (pieces size room frames) ≡ frames
+frames_in_cut size room [] = refl
+frames_in_cut size room (frame ∷ frames) = by_test (leb (length frame) room) where
+  by_test : (b : Bool) → frames_in (cond b (pieces_from size (room - length frame) (frame ∷ []) frames) (pieces_from size (size - length frame) (frame ∷ []) frames)) ≡ frame ∷ frames
+  by_test true = frames_in_from size (room - length frame) (frame ∷ []) frames
+  by_test false = frames_in_from size (size - length frame) (frame ∷ []) frames
 
 -- ---- names that are no trace files
 

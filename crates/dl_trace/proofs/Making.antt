@@ -1,15 +1,18 @@
 -- A trace that is made over files that stand.
 use Rattle.std.proofs.Common.{◌≡◌, ℕ, ◌+◌, ◌≤◌, ◌<◌, false, List, [], ◌∷◌, ◌++◌, length, take, map, get_or, Option, Some, None, refl, sym, ap, subst, ◌∙◌, arith, inl, inr}
-use Rattle.std.specs.Prelude.{◌⊎◌, IfSome, All, replicate, option_map, fold, max, codes}
+use Rattle.std.specs.Prelude.{◌⊎◌, IfSome, IsSomeAnd, All, replicate, option_map, fold, max, codes}
 use Rattle.std.specs.FinMap as map
 use Rattle.std.proofs.lemmas.List.{map-append, take_more, length-replicate}
 use Rattle.std.proofs.lemmas.List.Elements.{All-nil, All-cons}
 use Rattle.dl_bytes.specs.declared.outcome.TraceFile.{TraceFile}
 use Rattle.dl_outside.specs.Folder.{Files, names_with}
 use Rattle.dl_outside.specs.Outside.{Stays}
-use Rattle.dl_model.specs.TraceFiles.{StoredFile, number_limit, six_digits, trace_name}
+use Rattle.dl_model.specs.TraceFiles.{StoredFile, is_spent, number_limit, six_digits, trace_files, trace_name}
 use Rattle.dl_trace.specs.State.{Trace, IsAfter, listed}
 use Rattle.dl_trace.specs.Stands.{HasFiles, IsTraceName}
+use Rattle.dl_bytes.specs.declared.conf.Conf.{Conf}
+use Rattle.dl_trace.specs.Made.{HasBegun, IsMade}
+use Rattle.dl_trace.specs.Storing.{IsStored}
 use Rattle.dl_trace.specs.Found.{AreFound, Found, IsNoFile, IsSize}
 use Rattle.dl_trace.proofs.Trail.{file_of}
 use Rattle.dl_trace.proofs.Finding.{front_of, holds_found}
@@ -106,3 +109,30 @@ pub holds_made : (directory : List ℕ) (told between : Option Files) (names : L
 holds_made directory None between names files last stays all are = tt
 holds_made directory (Some folder) between names files last stays all are =
     holds_found directory folder are.stood (subst (λ (ns : List (List ℕ)). Found directory (Some folder) ns are.stood) all (subst (λ (o : Option Files). Found directory o names are.stood) stays are.found))
+
+-- ---- a trace that begins with some frames
+
+-- a trace that was made, and stored them
+pub begun_with : (conf : Conf) (made kept : Trace) (stood : List StoredFile) (head : List (List ℕ)) (told told_now : Option Files) → IsMade conf made → IsAfter stood [] made
+    → IsStored head made kept told told_now → HasBegun conf stood head kept
+begun_with conf made kept stood head told told_now is after stored = record {
+  directory = stored.same.directory ∙ is.directory;
+  file_size = stored.same.file_size ∙ is.file_size;
+  max_size = stored.same.max_size ∙ is.max_size;
+  goes_on = stored.goes_on;
+  after = stored.state stood [] after;
+  unspent = λ some. ap (λ (n : ℕ). is_spent n stood head) stored.same.file_size ∙ stored.unspent stood [] after;
+  none_missing = stored.unstored ∙ is.none_missing;
+}
+
+-- and what the folder holds then, where it told its files before
+pub begun_files : (conf : Conf) (made kept : Trace) (stood : List StoredFile) (head : List (List ℕ)) (told told_now : Option Files) → IsMade conf made → IsAfter stood [] made
+    → IsStored head made kept told told_now → IsSomeAnd told (λ files. HasFiles conf.directory files stood)
+    → IsSomeAnd told_now (λ files. HasFiles conf.directory files (trace_files conf.file_size conf.max_size stood head))
+begun_files conf made kept stood head None told_now is after stored holds = absurd holds
+begun_files conf made kept stood head (Some folder) told_now is after stored holds =
+    let left = stored.folder stood [] after (subst (λ (d : List ℕ). HasFiles d folder stood) (sym is.directory) holds) in
+    subst (λ (o : Option Files). IsSomeAnd o (λ files. HasFiles conf.directory files (trace_files conf.file_size conf.max_size stood head))) (sym left.1)
+    (subst (λ (d : List ℕ). HasFiles d left.0 (trace_files conf.file_size conf.max_size stood head)) is.directory
+    (subst (λ (n : ℕ). HasFiles made.directory left.0 (trace_files n conf.max_size stood head)) is.file_size
+    (subst (λ (n : ℕ). HasFiles made.directory left.0 (trace_files made.file_size n stood head)) is.max_size left.2)))

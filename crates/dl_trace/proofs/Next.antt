@@ -11,7 +11,7 @@ use Rattle.dl_bytes.specs.declared.outcome.TraceFile.{TraceFile}
 use Rattle.dl_outside.specs.Folder.{Files}
 use Rattle.dl_model.specs.Backlog.{size_of}
 use Rattle.dl_model.specs.TraceFiles.{number_limit}
-use Rattle.dl_laws.proofs.Rotation.{length-concat}
+use Rattle.dl_model.proofs.Rotation.{length-concat}
 use Rattle.dl_trace.specs.State.{Trace}
 use Rattle.dl_trace.specs.Batch.{parted, AreSizes, fit}
 use Rattle.dl_trace.specs.Pieces.{pieces, pieces_of, last_size, room_of, room_for}
@@ -170,26 +170,26 @@ failed_cut true trace s sizes bytes are sound way =
     )
 
 pub not_placed : (begins : Bool) (trace new : Trace) (s : ℕ) (sizes bytes : List ℕ) (told now : Option Files) (end : TraceEnd) → AreSizes (s ∷ sizes) bytes → IsSound trace → Goes begins trace s →
-    bytes_for begins trace (s ∷ sizes) ≤ room_for begins trace → Places begins trace new told now (Err end) (take (bytes_for begins trace (s ∷ sizes)) bytes) → Stops end (parted (s ∷ sizes) bytes) trace (ended_with end new) told now
+    bytes_for begins trace (s ∷ sizes) ≤ room_for begins trace → Places begins trace new told now (Err end) (take (bytes_for begins trace (s ∷ sizes)) bytes) → Stops end (parted (s ∷ sizes) bytes) trace (ended_with end (parted (s ∷ sizes) bytes) new) told now
 not_placed false trace new s sizes bytes told now end are sound way most does =
     let cut = failed_cut false trace s sizes bytes are sound way in
     let p = cut.0 in
     let least = least_size s sizes bytes are in
-    subst (λ (t : Trace). Stops end (parted (s ∷ sizes) bytes) trace (ended_with end t) told now) (sym does.0)
+    subst (λ (t : Trace). Stops end (parted (s ∷ sizes) bytes) trace (ended_with end (parted (s ∷ sizes) bytes) t) told now) (sym does.0)
     (stops_open end (parted (s ∷ sizes) bytes) (p.first ∷ p.others) (later_pieces trace.file_size (drop (fit (room_of trace) (s ∷ sizes)) (parted (s ∷ sizes) bytes))) trace told now cut.1 sound
     (room_begun trace (omega (arith, least.0, way))) (omega (arith, p.total, most)) (subst (λ (b : List ℕ). Extends told now (Err end) (last_name trace.state.files) b) (sym p.bytes_are) does.1))
 not_placed true trace new s sizes bytes told now end are sound way most (inl spent) =
     let cut = failed_cut true trace s sizes bytes are sound way in
     let p = cut.0 in
     let same : Spent ≡ end = cc in
-    subst (λ (e : TraceEnd). Stops e (parted (s ∷ sizes) bytes) trace (ended_with e new) told now) same
-    (subst (λ (t : Trace). Stops Spent (parted (s ∷ sizes) bytes) trace (ended_with Spent t) told now) (sym spent.2)
+    subst (λ (e : TraceEnd). Stops e (parted (s ∷ sizes) bytes) trace (ended_with e (parted (s ∷ sizes) bytes) new) told now) same
+    (subst (λ (t : Trace). Stops Spent (parted (s ∷ sizes) bytes) trace (ended_with Spent (parted (s ∷ sizes) bytes) t) told now) (sym spent.2)
     (stops_spent (parted (s ∷ sizes) bytes) p.first p.others (later_pieces trace.file_size (drop (fit trace.file_size (s ∷ sizes)) (parted (s ∷ sizes) bytes))) trace told now cut.1 sound
     (omega (arith, p.first_is, way)) (omega (arith, p.total, most, sum_by-cons length p.first p.others)) spent.0 spent.3))
 not_placed true trace new s sizes bytes told now end are sound way most (inr does) =
     let cut = failed_cut true trace s sizes bytes are sound way in
     let p = cut.0 in
-    subst (λ (t : Trace). Stops end (parted (s ∷ sizes) bytes) trace (ended_with end t) told now) (sym does.1.0)
+    subst (λ (t : Trace). Stops end (parted (s ∷ sizes) bytes) trace (ended_with end (parted (s ∷ sizes) bytes) t) told now) (sym does.1.0)
     (stops_new end (parted (s ∷ sizes) bytes) p.first p.others (later_pieces trace.file_size (drop (fit trace.file_size (s ∷ sizes)) (parted (s ∷ sizes) bytes))) trace told now cut.1 sound does.0
     (omega (arith, p.first_is, way)) (omega (arith, p.total, most, sum_by-cons length p.first p.others))
     (subst (λ (b : List ℕ). Begins told now (Err end) (next_name trace) b (names_of (take (going_of trace) trace.state.files))) (sym p.bytes_are) does.1.1))
@@ -210,7 +210,7 @@ placed_at begins trace new (s ∷ sizes) bytes told now room count n some are so
 
 pub not_placed_at : (begins : Bool) (trace new : Trace) (sizes bytes : List ℕ) (told now : Option Files) (end : TraceEnd) (room n : ℕ) → 0 < length sizes → AreSizes sizes bytes → IsSound trace →
     (begins ≡ true → room_of trace < slice_index sizes 0) → (begins ≡ false → slice_index sizes 0 ≤ room_of trace) → room ≡ room_for begins trace → n ≡ sum (take (fit room sizes) sizes) → n ≤ room →
-    Places begins trace new told now (Err end) (take n bytes) → Stops end (parted sizes bytes) trace (ended_with end new) told now
+    Places begins trace new told now (Err end) (take n bytes) → Stops end (parted sizes bytes) trace (ended_with end (parted sizes bytes) new) told now
 not_placed_at begins trace new [] bytes told now end room n some are sound new_way open_way room_is n_is most does = absurd (omega arith)
 not_placed_at begins trace new (s ∷ sizes) bytes told now end room n some are sound new_way open_way room_is n_is most does =
     let all : n ≡ bytes_for begins trace (s ∷ sizes) = n_is ∙ ap (λ (r : ℕ). sum (take (fit r (s ∷ sizes)) (s ∷ sizes))) room_is in

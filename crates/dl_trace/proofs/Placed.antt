@@ -13,12 +13,13 @@ use Rattle.dl_outside.specs.Folder.{Files, with_more}
 use Rattle.dl_outside.specs.Outside.{Stays}
 use Rattle.dl_model.specs.Backlog.{size_of}
 use Rattle.dl_model.specs.TraceFiles.{StoredFile, number_limit, trace_name, kept, is_spent}
-use Rattle.dl_trace.specs.State.{Trace, IsAfter, listed, files_after, number_after}
+use Rattle.dl_trace.specs.State.{Trace, IsAfter, counted, listed, files_after, number_after}
 use Rattle.dl_trace.specs.Stands.{HasFiles}
-use Rattle.dl_trace.specs.Pieces.{pieces_of, room_of}
+use Rattle.dl_trace.specs.Pieces.{frames_in, pieces_of, room_of}
 use Rattle.dl_trace.specs.Steps.{going, going_of, closed_limit, last_name, next_name, names_of, without, HasFront, StopsRemoving, Extends, Begins, with_file}
 use Rattle.dl_trace.specs.Storing.{IsStored, Stops, IsCutShort, IsUnremoved, Leaves}
 use Rattle.dl_trace.specs.Kept.{IsSound}
+use Rattle.dl_trace.proofs.Joined.{frames_in_cut}
 use Rattle.dl_trace.proofs.Trail.{file_of}
 use Rattle.dl_trace.proofs.Holding.{names_in, starts, all_go, split_at, stays_unknown}
 use Rattle.dl_trace.proofs.Placing.{kept_going, drop_listed, names_taken, small_number, IsGrown, grown_at, IsBegun, begun_at}
@@ -48,6 +49,7 @@ pub stored_new : (trace : Trace) (x : List ℕ) (piece : List (List ℕ)) (told 
 stored_new trace x piece told now sound goes_on few over room does = record {
   same = record { directory = refl; file_size = refl; max_size = refl };
   goes_on = goes_on;
+  unstored = refl;
   state = λ stood done after.
       let at = begun_at trace stood done x piece after sound over room in
       record { files = new_files trace stood done (x ∷ piece) after at; last = sym at.number; begun = sym at.some };
@@ -74,9 +76,9 @@ stored_new trace x piece told now sound goes_on few over room does = record {
 
 -- ---- a piece that could not be stored
 
--- the trace where it has ended
-abbrev pub ended_with : TraceEnd → Trace → Trace
-ended_with end trace = record trace { state = record { files = trace.state.files; end = Some end } }
+-- the trace where it has ended at the first of these frames
+abbrev pub ended_with : TraceEnd → List (List ℕ) → Trace → Trace
+ended_with end frames trace = record trace { state = record { files = trace.state.files; end = Some end }; unstored = counted (trace.unstored + length frames) }
 
 -- what stands held
 abbrev Stands : TraceEnd → Trace → List (List ℕ) → Option Files → Option Files → List StoredFile → List (List ℕ) → Type 0
@@ -87,7 +89,7 @@ Stands end trace piece told now stood done =
 stops_first : (end : TraceEnd) (frames piece : List (List ℕ)) (later : List (List (List ℕ))) (trace : Trace) (told now : Option Files) → pieces_of trace frames ≡ piece ∷ later →
     ((stood : List StoredFile) (done : List (List ℕ)) → IsAfter stood done trace → (end ≡ Spent) ↔ (is_spent trace.file_size stood (done ++ piece) ≡ true)) →
     ((stood : List StoredFile) (done : List (List ℕ)) → IsAfter stood done trace → Stands end trace piece told now stood done) →
-    Stops end frames trace (ended_with end trace) told now
+    Stops end frames trace (ended_with end frames trace) told now
 stops_first end frames piece later trace told now cut spent stands = record {
   same = record { directory = refl; file_size = refl; max_size = refl };
   ended = refl;
@@ -95,7 +97,8 @@ stops_first end frames piece later trace told now cut spent stands = record {
   piece = piece;
   later = later;
   cut = cut;
-  state = λ stood done after. subst (λ (fs : List (List ℕ)). IsAfter stood fs (ended_with end trace)) (sym (append-nil done)) (record { files = after.files; last = after.last; begun = after.begun });
+  unstored = ap (λ (fs : List (List ℕ)). counted (trace.unstored + length fs)) (sym (frames_in_cut trace.file_size (room_of trace) frames) ∙ ap frames_in cut);
+  state = λ stood done after. subst (λ (fs : List (List ℕ)). IsAfter stood fs (ended_with end frames trace)) (sym (append-nil done)) (record { files = after.files; last = after.last; begun = after.begun });
   spent = λ stood done after. subst (λ (fs : List (List ℕ)). (end ≡ Spent) ↔ (is_spent trace.file_size stood (fs ++ piece) ≡ true)) (sym (append-nil done)) (spent stood done after);
   folder = λ stood done after. subst (λ (fs : List (List ℕ)).
       IfSome told (λ (folder : Files). HasFiles trace.directory folder (files_after trace stood done) → (held : Files) × (now ≡ Some held)
@@ -123,7 +126,7 @@ leaves_front Failed directory before after number bytes held other h = h
 leaves_front NoMemory directory before after number bytes held other h = h
 
 pub stops_open : (end : TraceEnd) (frames piece : List (List ℕ)) (later : List (List (List ℕ))) (trace : Trace) (told now : Option Files) → pieces_of trace frames ≡ piece ∷ later →
-    IsSound trace → trace.begun ≡ true → size_of piece ≤ room_of trace → Extends told now (Err end) (last_name trace.state.files) (concat piece) → Stops end frames trace (ended_with end trace) told now
+    IsSound trace → trace.begun ≡ true → size_of piece ≤ room_of trace → Extends told now (Err end) (last_name trace.state.files) (concat piece) → Stops end frames trace (ended_with end frames trace) told now
 stops_open end frames piece later trace told now cut sound begun room does =
     let failed = failed_open end told now (last_name trace.state.files) (concat piece) does in
     stops_first end frames piece later trace told now cut
@@ -139,7 +142,7 @@ stops_open end frames piece later trace told now cut sound begun room does =
 
 -- no file can have the number
 pub stops_spent : (frames : List (List ℕ)) (x : List ℕ) (piece : List (List ℕ)) (later : List (List (List ℕ))) (trace : Trace) (told now : Option Files) → pieces_of trace frames ≡ (x ∷ piece) ∷ later →
-    IsSound trace → room_of trace < length x → length x + size_of piece ≤ trace.file_size → trace.last ≡ number_limit → Stays told now → Stops Spent frames trace (ended_with Spent trace) told now
+    IsSound trace → room_of trace < length x → length x + size_of piece ≤ trace.file_size → trace.last ≡ number_limit → Stays told now → Stops Spent frames trace (ended_with Spent frames trace) told now
 stops_spent frames x piece later trace told now cut sound over room most stays =
     stops_first Spent frames (x ∷ piece) later trace told now cut
     (λ stood done after. let at = begun_at trace stood done x piece after sound over room in (λ e. large (number_after trace stood (done ++ x ∷ piece)) (omega (arith, at.number, most)), λ t. refl))
@@ -196,7 +199,7 @@ unremoved trace stood done piece folder now few after at has stopped =
 
 pub stops_new : (end : TraceEnd) (frames : List (List ℕ)) (x : List ℕ) (piece : List (List ℕ)) (later : List (List (List ℕ))) (trace : Trace) (told now : Option Files) → pieces_of trace frames ≡ (x ∷ piece) ∷ later →
     IsSound trace → trace.last < number_limit → room_of trace < length x → length x + size_of piece ≤ trace.file_size →
-    Begins told now (Err end) (next_name trace) (concat (x ∷ piece)) (names_of (take (going_of trace) trace.state.files)) → Stops end frames trace (ended_with end trace) told now
+    Begins told now (Err end) (next_name trace) (concat (x ∷ piece)) (names_of (take (going_of trace) trace.state.files)) → Stops end frames trace (ended_with end frames trace) told now
 stops_new end frames x piece later trace told now cut sound few over room does =
     let failed = failed_new end told now (next_name trace) (concat (x ∷ piece)) (names_of (take (going_of trace) trace.state.files)) does in
     stops_first end frames (x ∷ piece) later trace told now cut

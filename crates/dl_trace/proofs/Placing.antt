@@ -11,7 +11,7 @@ use Rattle.dl_bytes.specs.declared.outcome.TraceFile.{TraceFile}
 use Rattle.dl_outside.specs.Folder.{Files, with_more}
 use Rattle.dl_model.specs.Backlog.{size_of}
 use Rattle.dl_model.specs.TraceFiles.{StoredFile, number_limit, trace_name, greatest, kept, total_size}
-use Rattle.dl_laws.proofs.Rotation.{newest_stands}
+use Rattle.dl_model.proofs.Rotation.{newest_stands}
 use Rattle.dl_trace.specs.State.{Trace, IsAfter, listed, files_after, number_after}
 use Rattle.dl_trace.specs.Stands.{HasFiles, AreRising}
 use Rattle.dl_trace.specs.Pieces.{last_size, room_of}
@@ -106,6 +106,7 @@ pub stored_open : (trace : Trace) (piece : List (List ℕ)) (told now : Option F
 stored_open trace piece told now sound goes_on begun room does = record {
   same = record { directory = refl; file_size = refl; max_size = refl };
   goes_on = goes_on;
+  unstored = refl;
   state = λ stood done after.
       let at = grown_at trace stood done piece after sound begun room in
       record {

@@ -6,7 +6,7 @@ use Rattle.std.proofs.lemmas.List.{append-nil}
 use Rattle.std.proofs.lemmas.List.Sums.{sum_by-cons}
 use Rattle.dl_model.specs.Backlog.{size_of}
 use Rattle.dl_model.specs.TraceFiles.{StoredFile, segments_from, segments, numbered, greatest, kept, closed, opened, rotated, trace_files, grown}
-use Rattle.dl_laws.proofs.Rotation.{begins, goes_on}
+use Rattle.dl_model.proofs.Rotation.{begins, goes_on}
 
 abbrev pub file_of : ℕ → List ℕ → StoredFile
 file_of number bytes = record { number = number; bytes = bytes }

@@ -1,11 +1,12 @@
 -- What contracts see of a trace, and what it tells after frames were stored.
-use Rattle.std.specs.Prelude.{◌≡◌, ℕ, ◌+◌, nat_lt, Bool, List, length, map}
+use Rattle.std.specs.Prelude.{◌≡◌, ℕ, ◌+◌, ◌-◌, ◌^◌, min, nat_lt, Bool, List, length, map}
 use Rattle.dl_bytes.specs.declared.outcome.TraceFile.{TraceFile}
 use Rattle.dl_bytes.specs.declared.outcome.TraceState.{TraceState}
 use Rattle.dl_model.specs.TraceFiles.{StoredFile, greatest, segments, trace_files, trace_name}
 
 -- A trace: where its files are, the most bytes of one and of all of them, what it tells of them, the number of the newest
--- (0 where there is none), and whether it has begun a file. That one, the newest, is open.
+-- (0 where there is none), and whether it has begun a file. That one, the newest, is open. And how many frames that were to be
+-- stored are not, since it has ended: at most 2^64 - 1.
 pub record Trace : Type 0 where
   pub directory : List ℕ
   pub file_size : ℕ
@@ -13,6 +14,7 @@ pub record Trace : Type 0 where
   pub state : TraceState
   pub last : ℕ
   pub begun : Bool
+  pub unstored : ℕ
 
 -- a trace file as it is told of: its name, and how many bytes it has
 abbrev pub listed : List ℕ → StoredFile → TraceFile
@@ -38,3 +40,11 @@ pub record IsSameTrace (old new : Trace) : Type 0 where
   pub directory : new.directory ≡ old.directory
   pub file_size : new.file_size ≡ old.file_size
   pub max_size : new.max_size ≡ old.max_size
+
+-- as many, at most 2^64 - 1
+abbrev pub counted : ℕ → ℕ
+counted n = min n (2 ^ 64 - 1)
+
+-- the trace where so many frames more were to be stored, and are not
+abbrev pub missing : ℕ → Trace → Trace
+missing more trace = record trace { unstored = counted (trace.unstored + more) }

@@ -1,5 +1,5 @@
 -- What a call that stores frames leaves, whether it stored all of them or stopped at a piece.
-use Rattle.std.specs.Prelude.{◌≡◌, ℕ, ◌≤◌, ◌⊎◌, ◌↔◌, true, false, List, [], ◌∷◌, ◌++◌, length, take, drop, Option, Some, None, IfSome, Result, Ok, Err}
+use Rattle.std.specs.Prelude.{◌≡◌, ℕ, ◌+◌, ◌≤◌, ◌⊎◌, ◌↔◌, true, false, List, [], ◌∷◌, ◌++◌, length, take, drop, Option, Some, None, IfSome, Result, Ok, Err}
 use Rattle.std.specs.List.{concat}
 use Rattle.dl_bytes.specs.declared.outcome.TraceEnd.{TraceEnd}
 use Rattle.dl_bytes.specs.declared.outcome.TraceEnd.TheVariants.{Failed, Spent, NoMemory}
@@ -7,7 +7,7 @@ use Rattle.dl_outside.specs.Folder.{Files, with_more}
 use Rattle.dl_outside.specs.Outside.{HasRisen}
 use Rattle.dl_outside.specs.Told.{FolderTold}
 use Rattle.dl_model.specs.TraceFiles.{StoredFile, is_spent, trace_name}
-use Rattle.dl_trace.specs.State.{Trace, IsAfter, IsSameTrace, files_after, number_after}
+use Rattle.dl_trace.specs.State.{Trace, IsAfter, IsSameTrace, counted, files_after, number_after}
 use Rattle.dl_trace.specs.Stands.{HasFiles, HasFilesBut}
 use Rattle.dl_trace.specs.Pieces.{pieces_of, frames_in}
 
@@ -25,6 +25,7 @@ HasCause before now (Err NoMemory) = now ≡ before
 pub record IsStored (frames : List (List ℕ)) (old new : Trace) (told told_now : Option Files) : Type 0 where
   pub same : IsSameTrace old new
   pub goes_on : new.state.end ≡ None
+  pub unstored : new.unstored ≡ old.unstored
   pub state : (stood : List StoredFile) (done : List (List ℕ)) → IsAfter stood done old → IsAfter stood (done ++ frames) new
   pub unspent : (stood : List StoredFile) (done : List (List ℕ)) → IsAfter stood done old → is_spent old.file_size stood (done ++ frames) ≡ false
   pub folder : (stood : List StoredFile) (done : List (List ℕ)) → IsAfter stood done old
@@ -62,8 +63,8 @@ Leaves Spent directory before after number piece now = HasFiles directory now be
 Leaves Failed directory before after number piece now = IsCutShort directory before number piece now ⊎ IsUnremoved directory before after now
 Leaves NoMemory directory before after number piece now = IsCutShort directory before number piece now ⊎ IsUnremoved directory before after now
 
--- The call stopped at a piece: the pieces before it are stored, and the trace tells of them alone. It has ended. It ended
--- as spent exactly where the piece needed a number that no file can have.
+-- The call stopped at a piece: the pieces before it are stored, and the trace tells of them alone. It has ended, and counts the
+-- frames of that piece and those behind it. It ended as spent exactly where the piece needed a number that no file can have.
 pub record Stops (end : TraceEnd) (frames : List (List ℕ)) (old new : Trace) (told told_now : Option Files) : Type 0 where
   pub same : IsSameTrace old new
   pub ended : new.state.end ≡ Some end
@@ -71,6 +72,7 @@ pub record Stops (end : TraceEnd) (frames : List (List ℕ)) (old new : Trace) (
   pub piece : List (List ℕ)
   pub later : List (List (List ℕ))
   pub cut : pieces_of old frames ≡ stored ++ piece ∷ later
+  pub unstored : new.unstored ≡ counted (old.unstored + length (piece ++ frames_in later))
   pub state : (stood : List StoredFile) (done : List (List ℕ)) → IsAfter stood done old → IsAfter stood (done ++ frames_in stored) new
   pub spent : (stood : List StoredFile) (done : List (List ℕ)) → IsAfter stood done old → (end ≡ Spent) ↔ (is_spent old.file_size stood (done ++ frames_in stored ++ piece) ≡ true)
   pub folder : (stood : List StoredFile) (done : List (List ℕ)) → IsAfter stood done old

@@ -1,15 +1,15 @@
 -- What a call leaves of the trace and of the folder.
-use Rattle.std.specs.Prelude.{◌≡◌, ℕ, List, [], ◌∷◌, Option, Some, None, IsSomeAnd, Ok, Err}
+use Rattle.std.specs.Prelude.{◌≡◌, ℕ, List, [], ◌∷◌, length, Option, Some, None, IsSomeAnd, Ok, Err}
 use Rattle.dl_bytes.specs.declared.outcome.TraceEnd.{TraceEnd}
 use Rattle.dl_outside.specs.Told.{FolderTold}
-use Rattle.dl_trace.specs.State.{Trace}
+use Rattle.dl_trace.specs.State.{Trace, missing}
 use Rattle.dl_trace.specs.Stands.{ChangesTraceFiles}
 use Rattle.dl_trace.specs.Storing.{StoresOrStops}
 
--- A trace that had ended stays as it is, and so does the folder. One that goes on has stored all frames, or it stopped at
--- one of them, for the cause that it tells.
+-- A trace that had ended counts the frames, and stays as it is else; so does the folder. One that goes on has stored all frames,
+-- or it stopped at one of them, for the cause that it tells.
 abbrev pub StoresTill : Option TraceEnd → Option TraceEnd → List (List ℕ) → Trace → Trace → FolderTold → FolderTold → Type 0
-StoresTill (Some ended) end frames old new folder folder_now = (new ≡ old) × (folder_now ≡ folder)
+StoresTill (Some ended) end frames old new folder folder_now = (new ≡ missing (length frames) old) × (folder_now ≡ folder)
 StoresTill None None frames old new folder folder_now = StoresOrStops frames (Ok tt) old new folder folder_now
 StoresTill None (Some end) frames old new folder folder_now = StoresOrStops frames (Err end) old new folder folder_now
 

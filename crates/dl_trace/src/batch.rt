@@ -15,7 +15,7 @@ use std::marker::Model;
 pub const STORED_LIMIT: usize = FRAME_LIMIT + 16;
 
 /// Frames behind their storage headers, at most 64, one behind the other. It takes all its memory when it is made.
-#[derive(Debug, Drop)]
+#[derive(Drop)]
 pub struct StoredBatch {
     bytes: Vec<u8>,
     sizes: ArrayVec<u16, BATCH_LIMIT>,

@@ -8,9 +8,10 @@ ghost use Rattle.dl_trace.specs.Found.{AreFound, IsNoFile, IsSize};
 ghost use Rattle.dl_trace.specs.Made.{HasFailed, IsMade, fault_of};
 ghost use Rattle.dl_trace.specs.Pieces.{pieces_of, room_of};
 ghost use Rattle.dl_trace.specs.Stands.{ChangesTraceFiles, HasFiles};
-ghost use Rattle.dl_trace.specs.State.{IsAfter};
+ghost use Rattle.dl_trace.specs.State.{IsAfter, missing};
 ghost use Rattle.dl_trace.specs.Steps.{BeginsFile, ExtendsTrace, Places};
 ghost use Rattle.dl_trace.specs.Storing.{HasCause, Stops, StoresNext, StoresOrStops};
+ghost use Rattle.dl_trace.specs.Written.{Stores};
 
 use crate::batch::StoredBatch;
 use crate::files::{begin_file, extend_file};
@@ -52,7 +53,7 @@ impl From<FolderFault> for TraceFault {
 }
 
 /// The trace files of a directory: what stands, and which file is open.
-#[derive(Debug, Drop)]
+#[derive(Drop)]
 pub struct Trace {
     alloc: Global,
     directory: Bytes,
@@ -61,6 +62,7 @@ pub struct Trace {
     state: TraceState,
     last: u32,
     begun: bool,
+    unstored: u64,
 }
 
 impl Model for Trace {
@@ -76,6 +78,7 @@ impl Model for Trace {
       state = t.state;
       last = t.last;
       begun = t.begun;
+      unstored = t.unstored;
     } };
 
     ghost invariant = { λ t. IsSound (record {
@@ -85,11 +88,12 @@ impl Model for Trace {
       state = t.state;
       last = t.last;
       begun = t.begun;
+      unstored = t.unstored;
     }) };
 }
 
 /// Frames that go into one file.
-#[derive(Clone, Copy, Debug)]
+#[derive(Clone, Copy)]
 struct Piece {
     /// How many they are.
     frames: usize,
@@ -139,6 +143,20 @@ impl Trace {
         ensures { result ≡ self.state }
     {
         self.state
+    }
+
+    /// How many frames that were to be stored are not, since the trace has ended: at most 2^64 - 1.
+    pub fn unstored(&self) -> u64
+        ensures { result ≡ self.now.unstored }
+    {
+        self.unstored
+    }
+
+    /// Counts so many frames that were to be stored, and are not.
+    fn miss(&mut self, frames: usize)
+        ensures { self.new ≡ missing frames self.old }
+    {
+        self.unstored = self.unstored.saturating_add(frames as u64);
     }
 
     /// How many bytes more the open file may have; none where none is open.
@@ -244,6 +262,7 @@ impl Trace {
             Ok(()) => Ok(piece),
             Err(end) => {
                 self.state.end = Some(end);
+                self.miss(sizes.len());
                 Err(end)
             }
         }
@@ -308,10 +327,22 @@ impl Trace {
         let (sizes, bytes) = batch.parts();
         self.store(folder, sizes, bytes)
     }
+
+    /// The same for who doesn't ask what became of them: frames that come behind the end are counted.
+    pub(crate) fn keep<F: Folder>(&mut self, folder: &mut F, batch: &StoredBatch)
+        ensures stored { Stores batch.now self.old self.new (F.told folder.old) (F.told folder.new) }
+        ensures others { ChangesTraceFiles self.old.directory (F.told folder.old).files (F.told folder.new).files }
+    {
+        if self.state.end.is_some() {
+            self.miss(batch.len());
+            return;
+        }
+        let _ = self.write_all(folder, batch);
+    }
 }
 
 /// Trace files that stand.
-#[derive(Debug, Drop)]
+#[derive(Drop)]
 struct OldFiles {
     /// What is told of them.
     files: Vec<TraceFile>,
@@ -409,6 +440,7 @@ impl Trace {
             },
             last: stood.last,
             begun: false,
+            unstored: 0,
         })
     }
 }

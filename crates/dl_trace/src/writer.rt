@@ -39,7 +39,8 @@ impl TraceWriter {
     }
 }
 
-/// Stores a frame behind its storage header, where a trace is kept. Why one could not be stored, the trace tells.
+/// Stores a frame behind its storage header, where a trace is kept. Why one could not be stored, and how many could not, the
+/// trace tells.
 pub fn store<F: Folder>(
     writer: &mut Option<TraceWriter>,
     ecu: Id,
@@ -87,6 +88,6 @@ pub fn store_batch<F: Folder>(writer: &mut Option<TraceWriter>, folder: &mut F)
     ensures others { ChangesTraceAlone (trace_in writer.old) (F.told folder.old) (F.told folder.new) }
 {
     if let Some(writer) = writer {
-        let _ = writer.trace.write_all(folder, &writer.batch);
+        writer.trace.keep(folder, &writer.batch);
     }
 }

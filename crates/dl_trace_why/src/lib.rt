@@ -7,6 +7,6 @@ mod status;
 mod wanted;
 mod writing;
 
-pub use status::Status;
-pub use wanted::{Wanted, Which};
+pub use status::{Status, fault_status};
+pub use wanted::{Wanted, Which, names_wanted};
 pub use writing::account;

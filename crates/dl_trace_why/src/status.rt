@@ -12,7 +12,7 @@ use itoa::Buffer;
 use std::alloc::Global;
 
 /// How an account ended. Its number is the exit status.
-#[derive(Debug, Drop)]
+#[derive(Drop)]
 pub enum Status {
     /// The account was written, and the picture where one is wanted.
     Ok,

@@ -9,7 +9,7 @@ use dl_trace_files::{alone, files_asked};
 use std::alloc::Global;
 
 /// Which files are to be read.
-#[derive(Clone, Copy, Debug)]
+#[derive(Clone, Copy)]
 pub enum Which<'a> {
     /// The trace files that these names of files and folders stand for, in their order; without a name those of the current folder.
     Traces(&'a [&'a str]),
@@ -18,7 +18,7 @@ pub enum Which<'a> {
 }
 
 /// What is wanted.
-#[derive(Clone, Copy, Debug)]
+#[derive(Clone, Copy)]
 pub struct Wanted<'a> {
     /// The files whose account it is.
     pub files: Which<'a>,

@@ -15,7 +15,7 @@ use Rattle.dl_model.specs.Registry.{Registry}
 use Rattle.dl_model.specs.Reply.{apid_of, asked, ctid_of}
 use Rattle.dl_model.specs.Setting.{Setting}
 use Rattle.dl_model.specs.declared.registry.Slot.{Slot}
-use Rattle.dl_laws.proofs.Lists.{along_from-append}
+use Rattle.dl_model.proofs.Lists.{along_from-append}
 use Rattle.dl_outside.specs.Told.{FolderTold}
 use Rattle.dl_desk.specs.Told.{PostTold, with_pushed, with_refused}
 use Rattle.dl_services.specs.Wish.{wanted}

@@ -1,14 +1,9 @@
 -- A client after its turn, open or gone, and what its link did.
-use Rattle.std.specs.Prelude.{◌≡◌, ◌<◌, ◌⊎◌, ◌++◌, ℕ, true, List, Some, None, IsSome}
-use Rattle.dl_events.specs.declared.event.Event.{Event}
+use Rattle.std.specs.Prelude.{◌≡◌, ◌<◌, ◌⊎◌, true, Some, IsSome}
 use Rattle.dl_events.specs.declared.event.Why.{Why}
 use Rattle.dl_events.specs.declared.event.Why.TheVariants.{Left, Broken, Stuck, Stopped}
-use Rattle.dl_model.specs.ClientEnds.{HasGone, LinkDid, WasTried}
+use Rattle.dl_model.specs.ClientEnds.{LinkDid, WasTried}
 use Rattle.dl_outside.specs.Told.{LinkTold}
-use Rattle.dl_hub.specs.Follows.{took_more}
-use Rattle.dl_core.specs.Follows.{Run, source_of}
-use Rattle.dl_turns.specs.Later.{IsLaterStage, IsOpenWith}
-use Rattle.dl_turns.specs.State.{Stage}
 
 -- A link tells what it did: the bytes that it gave and took, and its counts. It told what it gave before this, too.
 pub record Tells (link link_now : LinkTold) (did : LinkDid) : Type 0 where
@@ -37,16 +32,3 @@ abbrev pub ShowsCause : LinkTold → Why → Type 0
 ShowsCause link Broken = 0 < link.faults
 ShowsCause link (Stuck bytes) = 0 < link.waits
 ShowsCause link other = Unit {0}
-
--- ---- in each run in which the client was open before
-
--- it is open afterwards, with these events and these bytes more
-abbrev pub StaysOpen : (client : ℕ) (old new : Stage) → IsLaterStage client None old new → Type 0
-StaysOpen client old new later = (run : Run) (past : List Event) (taken : ℕ → List ℕ) (stream : List ℕ) → IsOpenWith client run past taken stream old
-    → IsOpenWith client run (past ++ later.side.more) (took_more taken client later.sent) (stream ++ later.given) new
-
--- it has gone, where what its link did shows the cause
-abbrev pub Goes : (client : ℕ) (why : Why) (old new : Stage) → IsLaterStage client (Some why) old new → Type 0
-Goes client why old new later = (run : Run) (past : List Event) (taken : ℕ → List ℕ) (stream : List ℕ) (did : LinkDid) → IsOpenWith client run past taken stream old
-    → did.given ≡ stream ++ later.given → did.taken ≡ taken client ++ later.sent → IsShown did why
-    → HasGone run.setting (source_of run) (past ++ later.side.more) client did

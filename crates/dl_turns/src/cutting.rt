@@ -9,7 +9,7 @@ ghost use Rattle.dl_turns.specs.Sent.{Finds};
 use dl_message::{Cut, Cutter, read_message};
 
 /// What comes next in the bytes of a client.
-#[derive(Clone, Copy, Debug, PartialEq, Eq)]
+#[derive(Clone, Copy, PartialEq, Eq)]
 pub enum Next {
     /// A request, which `Cutter::message` lends. So many bytes of the piece were fed.
     Request(usize),

@@ -1,14 +1,14 @@
 //! Laws of a client's turns: what they are to the journal, to what the client sent, and to what its link took.
 
-ghost use Rattle.std.specs.Prelude.{◌≡◌, ◌≢◌, ◌⊎◌, ℕ, true, List, [], Option, None, Some, IsSome};
+ghost use Rattle.std.specs.Prelude.{◌≡◌, ◌⊎◌, ℕ, true, Option, None, Some, IsSome};
 ghost use Rattle.dl_events.specs.declared.event.Why.{Why};
 ghost use Rattle.dl_events.specs.declared.event.Why.TheVariants.{Left};
-ghost use Rattle.dl_model.specs.ClientEnds.{LinkDid, asked_by};
+ghost use Rattle.dl_model.specs.ClientEnds.{LinkDid};
 ghost use Rattle.dl_outside.specs.Outside.{HasRisen};
-ghost use Rattle.dl_turns.specs.Gone.{Goes, IsShown, ShowsCause, StaysOpen, Tells};
-ghost use Rattle.dl_turns.specs.Later.{IsLater, IsLaterStage};
-ghost use Rattle.dl_turns.specs.State.{Side, Stage};
-ghost use Rattle.dl_turns.specs.Stopping.{HasStopCause, IsWoundUp};
+ghost use Rattle.dl_turns.specs.Gone.{IsShown, ShowsCause, Tells};
+ghost use Rattle.dl_turns.specs.Later.{IsLaterStage};
+ghost use Rattle.dl_turns.specs.State.{Stage};
+ghost use Rattle.dl_turns.specs.Stopping.{IsWoundUp};
 ghost use Rattle.dl_turns.specs.Turns.{HasGiven, IsPump, IsTurn};
 
 /// A turn is its events and the bytes that the client's link gave: the core, the folder, the level words and the queues are afterwards those of
@@ -37,26 +37,6 @@ pub fn a_stop_is_its_events()
 {
     dl_core::laws::what_links_take();
 }
-
-/// Why a client is stopped, or is stuck, at the daemon's stop.
-pub fn why_a_client_is_stopped()
-    ensures { (client : ℕ) (why : Why) (old new : Stage) → IsWoundUp client why old new → HasStopCause why old.link new.link }
-{}
-
-/// A client that is open after its turn is as it was before it: the cutter has cut just what its link gave, and its Request events are the
-/// requests of that. A turn of another client asks nothing for it.
-pub fn how_a_client_stays()
-    ensures open { (client : ℕ) (old new : Stage) (later : IsLaterStage client None old new) → StaysOpen client old new later }
-    ensures others { (client other : ℕ) (why : Option Why) (sent : List ℕ) (old new : Side) (later : IsLater client why sent old new)
-        → other ≢ client → asked_by other later.more ≡ [] }
-{}
-
-/// A client that was closed has gone as the model of a daemon's end has it: its Close stands behind all else of it, its link took the front of
-/// its stream, its Request events are the requests that its link gave, and the cause is so. What the link did shows the cause where the bytes
-/// and the journal don't.
-pub fn how_a_client_went()
-    ensures { (client : ℕ) (why : Why) (old new : Stage) (later : IsLaterStage client (Some why) old new) → Goes client why old new later }
-{}
 
 /// What a link did shows why its client went. A client left only where its link was over; a link need not tell whether it is. At the stop
 /// `close_turn` says so itself.

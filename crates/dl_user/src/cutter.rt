@@ -14,7 +14,7 @@ use std::marker::Model;
 const CAPACITY: usize = 8 + FRAME_LIMIT;
 
 /// What stands at the front of the bytes of a channel.
-#[derive(Debug, Drop)]
+#[derive(Drop)]
 pub enum UserCut {
     /// A message, which is within the limits. It is given once.
     Message(UserMsg),

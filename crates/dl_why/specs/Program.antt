@@ -20,12 +20,15 @@ use Rattle.dl_startup.specs.declared.configuration.Setup.{Setup}
 use Rattle.dl_startup.specs.declared.status.Status.{Status}
 use Rattle.dl_startup.specs.declared.status.Status.TheVariants as end
 use Rattle.dl_fates.specs.declared.stored_calls.Rotation.{Rotation}
+use Rattle.dl_find.specs.Asking.{question_of}
+use Rattle.dl_find.specs.Found.{Finds}
+use Rattle.dl_find.specs.declared.question.Question.{Question}
 use Rattle.dl_trace.specs.Stands.{HasFiles}
 use Rattle.dl_trace_files.specs.Files.{files_asked}
 use Rattle.dl_trace_why.specs.Account as trace
 use Rattle.dl_trace_why.specs.Account.{Sides, Spares, sides}
 use Rattle.dl_why_words.specs.Words as given_words
-use Rattle.dl_why_words.specs.Words.{Asked, AsksSteps, AsksTrace, AsksStream, said}
+use Rattle.dl_why_words.specs.Words.{Asked, AsksSteps, AsksTrace, AsksStream, AsksFind, said}
 use Rattle.dl_why_words.specs.declared.parse.WhyFault.{WhyFault}
 use Rattle.dl_why_words.specs.declared.parse.WhyFault.TheVariants as fault
 use Rattle.dl_why_words.specs.declared.words.WhyWords.{WhyWords}
@@ -149,7 +152,7 @@ abbrev pub program : List ℕ
 program = codes "dlt_why"
 
 abbrev pub usage : List ℕ
-usage = codes "dlt_why steps [--picture FILE] [FILE], trace [--picture FILE] [FOLDER|FILE].. or stream [--picture FILE] FILE"
+usage = codes "dlt_why steps [--picture FILE] [FILE], trace [--picture FILE] [FOLDER|FILE].., stream [--picture FILE] FILE or find APID CTID TIME|COUNTER [FOLDER|FILE].."
 
 abbrev pub line_of : Status → List ℕ
 line_of status = startup.line_of program usage status
@@ -217,19 +220,11 @@ abbrev pub RunsAccount : (Files → List (List ℕ)) → Option (List ℕ) → T
 RunsAccount names picture old new err err_now answer =
     (new.input ≡ old.input) × trace.Runs names picture (trace.sides old.folder old.out) (trace.sides new.folder new.out) err err_now answer
 
--- what a run comes to by what is asked for
-abbrev pub RunsAsked : Asked → Told → Told → SinkTold → SinkTold → ℕ → Type 0
-RunsAsked (AsksSteps None picture) old new err err_now answer = RunsSteps picture old new err err_now answer
-RunsAsked (AsksSteps (Some name) picture) old new err err_now answer =
-    (new.input ≡ old.input) × RunsFile name picture (sides old.folder old.out) (sides new.folder new.out) err err_now answer
-RunsAsked (AsksTrace names picture) old new err err_now answer = RunsAccount (λ files. files_asked files names) picture old new err err_now answer
-RunsAsked (AsksStream name picture) old new err err_now answer = RunsAccount (λ files. name ∷ []) picture old new err err_now answer
-
 -- ---- words that ask for nothing
 
 -- what the program says of itself
 unfoldable pub help : List ℕ
-help = codes "Says why messages are missing.\n\nUsage: dlt_why steps [--picture FILE] [FILE]\n       dlt_why trace [--picture FILE] [FOLDER|FILE]..\n       dlt_why stream [--picture FILE] FILE\n\nTasks:\n  steps   what became of each log call of a step script; without a name of that of standard input\n  trace   what is missing of traces; without a name of those in this folder\n  stream  what is missing of a stream as a client recorded it\n\nOptions:\n      --picture <FILE>  draws the calls or the sessions into this file, as SVG\n  -h, --help            Print help\n  -V, --version         Print version\n"
+help = codes "Says why messages are missing.\n\nUsage: dlt_why steps [--picture FILE] [FILE]\n       dlt_why trace [--picture FILE] [FOLDER|FILE]..\n       dlt_why stream [--picture FILE] FILE\n       dlt_why find APID CTID TIME|COUNTER [FOLDER|FILE]..\n\nTasks:\n  steps   what became of each log call of a step script; without a name of that of standard input\n  trace   what is missing of traces; without a name of those in this folder\n  stream  what is missing of a stream as a client recorded it\n  find    where the message of an application and a context is that has a time (12.3456) or a counter (7), in a session (SEID:) where one is named\n\nOptions:\n      --picture <FILE>  draws the calls or the sessions into this file, as SVG\n  -h, --help            Print help\n  -V, --version         Print version\n"
 
 -- and of its version
 abbrev pub version : List ℕ
@@ -253,6 +248,23 @@ pub record RunsNot (cause : WhyFault) (out out_now err err_now : SinkTold) (answ
   pub number_is : answer ≡ startup.number status
   pub ends : AnswersFault cause out out_now status
   pub said : Says status err err_now
+
+-- ---- what is asked for
+
+-- what `find` comes to: a message is searched in the files that names stand for; or the words are refused
+abbrev pub RunsFind : Option Question → List (List ℕ) → Sides → Sides → SinkTold → SinkTold → ℕ → Type 0
+RunsFind (Some q) names old new err err_now answer = Finds (λ files. files_asked files names) q old new err err_now answer
+RunsFind None names old new err err_now answer = (new.folder ≡ old.folder) × RunsNot fault.Refused old.out new.out err err_now answer
+
+-- what a run comes to by what is asked for
+abbrev pub RunsAsked : Asked → Told → Told → SinkTold → SinkTold → ℕ → Type 0
+RunsAsked (AsksSteps None picture) old new err err_now answer = RunsSteps picture old new err err_now answer
+RunsAsked (AsksSteps (Some name) picture) old new err err_now answer =
+    (new.input ≡ old.input) × RunsFile name picture (sides old.folder old.out) (sides new.folder new.out) err err_now answer
+RunsAsked (AsksTrace names picture) old new err err_now answer = RunsAccount (λ files. files_asked files names) picture old new err err_now answer
+RunsAsked (AsksStream name picture) old new err err_now answer = RunsAccount (λ files. name ∷ []) picture old new err err_now answer
+RunsAsked (AsksFind apid ctid when names) old new err err_now answer =
+    (new.input ≡ old.input) × RunsFind (question_of apid ctid when) names (sides old.folder old.out) (sides new.folder new.out) err err_now answer
 
 -- ---- the program
 

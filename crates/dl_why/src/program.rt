@@ -1,4 +1,4 @@
-//! The program: `steps` explains the script of the input, `trace` and `stream` are accounts of what was recorded.
+//! The program: `steps` explains the script of the input, `trace` and `stream` are accounts of what was recorded, `find` says where a message is.
 
 ghost use Rattle.std.specs.Prelude.{◌≡◌, ◌∷◌, [], List, Option, IfOk, map, option_map, string_bytes};
 ghost use Rattle.dl_core.specs.Settings.{setting_of};
@@ -12,7 +12,7 @@ ghost use Rattle.dl_startup.specs.Status as startup;
 ghost use Rattle.dl_trace_files.specs.Files.{files_asked};
 ghost use Rattle.dl_trace_why.specs.Account.{Runs, sides};
 ghost use Rattle.dl_why_words.specs.Words.{said};
-ghost use Rattle.dl_why.specs.Program.{AnswersFault, Begins, Ends, HasText, LooksAt, Prints, RunsAsked, RunsFile, RunsNot, RunsSteps, RunsText, Says, SaysSteps, Standing, Tells, TellsWhy, Writes, help, told};
+ghost use Rattle.dl_why.specs.Program.{AnswersFault, Begins, Ends, HasText, LooksAt, Prints, RunsAsked, RunsFile, RunsFind, RunsNot, RunsSteps, RunsText, Says, SaysSteps, Standing, Tells, TellsWhy, Writes, help, told};
 ghost use Rattle.dl_fates.specs.Written.{IsRotating};
 
 use crate::drawing::put_where_wanted;
@@ -21,6 +21,7 @@ use crate::script::{Script, read_script};
 use crate::steps_status::StepsStatus;
 use dl_bytes::{Bytes, Conf};
 use dl_fates::{Rotation, newest_number};
+use dl_find::{Question, find, question_of};
 use dl_memory::MemorySource;
 use dl_outside::{Folder, FolderFault, Sink, Source, write_text};
 use dl_pieces::ReadAt;
@@ -39,7 +40,7 @@ const PIECE: usize = 65_536;
 
 /// The words that it takes, as the line says it that refuses others.
 const USAGE: &[u8] =
-    b"dlt_why steps [--picture FILE] [FILE], trace [--picture FILE] [FOLDER|FILE].. or stream [--picture FILE] FILE";
+    b"dlt_why steps [--picture FILE] [FILE], trace [--picture FILE] [FOLDER|FILE].., stream [--picture FILE] FILE or find APID CTID TIME|COUNTER [FOLDER|FILE]..";
 
 /// What it says of its version.
 const VERSION: &[u8] = b"dlt_why 1\n";
@@ -57,11 +58,13 @@ fn help() -> &'static [u8]
 Usage: dlt_why steps [--picture FILE] [FILE]
        dlt_why trace [--picture FILE] [FOLDER|FILE]..
        dlt_why stream [--picture FILE] FILE
+       dlt_why find APID CTID TIME|COUNTER [FOLDER|FILE]..
 
 Tasks:
   steps   what became of each log call of a step script; without a name of that of standard input
   trace   what is missing of traces; without a name of those in this folder
   stream  what is missing of a stream as a client recorded it
+  find    where the message of an application and a context is that has a time (12.3456) or a counter (7), in a session (SEID:) where one is named
 
 Options:
       --picture <FILE>  draws the calls or the sessions into this file, as SVG
@@ -300,6 +303,24 @@ fn run_stream<F: ReadAt, O: Sink, E: Sink>(
     account(alloc, Wanted { files, picture }, folder, out, err)
 }
 
+/// Says where the message is that these words ask for, and how that ended.
+fn run_find<F: ReadAt, O: Sink, E: Sink>(
+    alloc: Global,
+    asked: Option<Question>,
+    names: &[&str],
+    folder: &mut F,
+    out: &mut O,
+    err: &mut E,
+) -> u8
+    ensures { RunsFind asked (map (λ name. name.now) names.now) (sides (F.told folder.old) (O.told out.old)) (sides (F.told folder.new) (O.told out.new))
+        (E.told err.old) (E.told err.new) result }
+{
+    match asked {
+        Some(question) => find(alloc, Which::Traces(names), question, folder, out, err),
+        None => answer_fault(WhyFault::Refused, out, err),
+    }
+}
+
 /// Writes what the program says of itself.
 fn write_own<O: Sink>(out: &mut O, text: &[u8]) -> Status
     ensures { Tells text.now (O.told out.old) (O.told out.new) result }
@@ -356,11 +377,20 @@ fn run_asked<F: ReadAt, I: Source, O: Sink, E: Sink>(
             run_traces(alloc, &names, picture, folder, out, err)
         }
         WhyWords::Stream { name, picture } => { run_stream(alloc, name, picture, folder, out, err) }
+        WhyWords::Find {
+            apid,
+            ctid,
+            when,
+            names,
+        } => {
+            let asked = question_of(apid, ctid, when);
+            run_find(alloc, asked, &names, folder, out, err)
+        }
     }
 }
 
 /// Tells why messages aren't there: with the word `steps` what became of each log call of the script of a file or of the input, with `trace` and
-/// `stream` what is missing of what was recorded, with `--help` what the program is for. The words are those of the command line, the program's name
+/// `stream` what is missing of what was recorded, with `find` where a message is, with `--help` what the program is for. The words are those of the command line, the program's name
 /// first. No file of the folder is changed but that of a picture. The answer is the exit status. Each but the good one is said on `err` in
 /// one line, and a fault of `err` changes nothing.
 pub fn tell_why<F: ReadAt, I: Source, O: Sink, E: Sink>(

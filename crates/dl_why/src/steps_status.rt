@@ -6,7 +6,7 @@ ghost use Rattle.dl_why.specs.StepsStatus.{number};
 use dl_startup::Status;
 
 /// How the explanation of a script ended. Its number is the exit status.
-#[derive(Clone, Copy, Debug, PartialEq, Eq)]
+#[derive(Clone, Copy, PartialEq, Eq)]
 pub enum StepsStatus {
     /// As it ends where no picture is wanted.
     Plain(Status),

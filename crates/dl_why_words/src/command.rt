@@ -3,7 +3,7 @@
 ghost use Rattle.std.specs.Prelude.{◌≡◌, IfOk, codes, false};
 ghost use Rattle.clap.specs.Words.{app_of, rule_of};
 ghost use Rattle.dl_words.specs.Command.{option};
-ghost use Rattle.dl_why_words.specs.Command.{file, file_if_any, files, steps_command, stream_command, trace_command};
+ghost use Rattle.dl_why_words.specs.Command.{file, file_if_any, files, find_command, needed, steps_command, stream_command, trace_command};
 
 use clap::{Arg, ArgAction, Command};
 use std::alloc::{AllocError, Global};
@@ -40,6 +40,14 @@ fn file_if_any<'a>(alloc: Global) -> Arg<'a>
     Arg::new(alloc, "FILE")
 }
 
+/// A word that must be there.
+fn needed<'a>(alloc: Global, name: &'a str) -> Arg<'a>
+    ensures rule { rule_of result ≡ needed name.now }
+    ensures own { result.global ≡ false }
+{
+    Arg::new(alloc, name).required(true)
+}
+
 /// The command `steps`.
 pub fn steps_command<'a>(alloc: Global) -> Result<Command<'a>, AllocError>
     ensures { IfOk result (λ command. app_of command ≡ steps_command) }
@@ -65,4 +73,15 @@ pub fn stream_command<'a>(alloc: Global) -> Result<Command<'a>, AllocError>
     Command::new(alloc, "stream")
         .arg(picture(alloc))?
         .arg(file(alloc))
+}
+
+/// The command `find`.
+pub fn find_command<'a>(alloc: Global) -> Result<Command<'a>, AllocError>
+    ensures { IfOk result (λ command. app_of command ≡ find_command) }
+{
+    Command::new(alloc, "find")
+        .arg(needed(alloc, "APID"))?
+        .arg(needed(alloc, "CTID"))?
+        .arg(needed(alloc, "WHEN"))?
+        .arg(files(alloc))
 }

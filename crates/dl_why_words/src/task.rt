@@ -4,7 +4,7 @@ ghost use Rattle.std.specs.Prelude.{◌≡◌, map, string_bytes};
 ghost use Rattle.dl_why_words.specs.Task.{task_named, task_of};
 
 /// What the first word behind the program's name asks for.
-#[derive(Clone, Copy, Debug, PartialEq, Eq)]
+#[derive(Clone, Copy, PartialEq, Eq)]
 pub enum Task {
     /// `steps`: what became of each log call of a script.
     Steps,
@@ -12,6 +12,8 @@ pub enum Task {
     Trace,
     /// `stream`: what is missing of a stream as a client recorded it.
     Stream,
+    /// `find`: where a message is.
+    Find,
     /// `--help` or `-h`.
     Help,
     /// `--version` or `-V`.
@@ -28,6 +30,7 @@ fn task_named(word: &str) -> Task
         "steps" => Task::Steps,
         "trace" => Task::Trace,
         "stream" => Task::Stream,
+        "find" => Task::Find,
         "--help" => Task::Help,
         "-h" => Task::Help,
         "--version" => Task::Version,

@@ -1,10 +1,10 @@
 //! What the words ask for.
 
 ghost use Rattle.std.specs.Prelude.{◌≡◌, drop, map, string_bytes};
-ghost use Rattle.dl_why_words.specs.Command.{steps_command, stream_command, trace_command};
-ghost use Rattle.dl_why_words.specs.Words.{Finds, Says, steps_in, stream_in, trace_in};
+ghost use Rattle.dl_why_words.specs.Command.{find_command, steps_command, stream_command, trace_command};
+ghost use Rattle.dl_why_words.specs.Words.{Finds, Says, find_in, steps_in, stream_in, trace_in};
 
-use crate::command::{steps_command, stream_command, trace_command};
+use crate::command::{find_command, steps_command, stream_command, trace_command};
 use crate::parse::{WhyFault, all_given, given, parse, required};
 use crate::task::{Task, task_of};
 use std::alloc::Global;
@@ -32,6 +32,17 @@ pub enum WhyWords<'a> {
         name: &'a str,
         /// The name of the file that a picture goes into, where one is wanted.
         picture: Option<&'a str>,
+    },
+    /// `find APID CTID TIME|COUNTER [FILE]..`: where a message is.
+    Find {
+        /// The application's id.
+        apid: &'a str,
+        /// The context's id.
+        ctid: &'a str,
+        /// The message's time, or its counter.
+        when: &'a str,
+        /// The names of files and of folders.
+        names: Vec<&'a str>,
     },
 }
 
@@ -88,6 +99,31 @@ fn stream_words<'a>(alloc: Global, words: &'a [String]) -> Result<WhyWords<'a>, 
     })
 }
 
+/// What the words from `find` on ask for.
+fn find_words<'a>(alloc: Global, words: &'a [String]) -> Result<WhyWords<'a>, WhyFault>
+    ensures { Finds find_command find_in (map string_bytes words.entry.now) result }
+{
+    let Ok(command) = find_command(alloc) else {
+        return Err(WhyFault::OutOfMemory);
+    };
+    let matches = match parse(command, words) {
+        Ok(matches) => matches,
+        Err(fault) => return Err(fault),
+    };
+    let Ok(names) = all_given(alloc, &matches, "FILE") else {
+        return Err(WhyFault::OutOfMemory);
+    };
+    let apid = required(&matches, "APID");
+    let ctid = required(&matches, "CTID");
+    let when = required(&matches, "WHEN");
+    Ok(WhyWords::Find {
+        apid,
+        ctid,
+        when,
+        names,
+    })
+}
+
 /// The words behind the program's name.
 fn behind_name(words: &[String]) -> &[String]
     ensures { map string_bytes result.now ≡ drop 1 (map string_bytes words.now) }
@@ -105,6 +141,7 @@ pub fn why_words<'a>(alloc: Global, words: &'a [String]) -> Result<WhyWords<'a>,
         Task::Steps => steps_words(alloc, words),
         Task::Trace => trace_words(alloc, words),
         Task::Stream => stream_words(alloc, words),
+        Task::Find => find_words(alloc, words),
         Task::Help => Err(WhyFault::Help),
         Task::Version => Err(WhyFault::Version),
         Task::Unknown => Err(WhyFault::Refused),

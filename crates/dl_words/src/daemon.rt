@@ -8,7 +8,7 @@ use crate::parse::{ParseFault, given_number, number, parse, text};
 use std::alloc::Global;
 
 /// What `dlt_daemon [--conf NAME] [--port N] [--users N] [--status SECONDS]` asks for.
-#[derive(Clone, Copy, Debug)]
+#[derive(Clone, Copy)]
 pub struct DaemonWords<'a> {
     /// The name of the configuration.
     pub conf: &'a str,

@@ -8,7 +8,7 @@ use crate::parse::{WordsFault, number, parse, text};
 use std::alloc::Global;
 
 /// What `dlt_run [--conf NAME] [--port N] SCENARIO` asks for.
-#[derive(Clone, Copy, Debug)]
+#[derive(Clone, Copy)]
 pub struct RunWords<'a> {
     /// The name of the configuration.
     pub conf: &'a str,

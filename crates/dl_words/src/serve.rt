@@ -8,7 +8,7 @@ use crate::parse::{WordsFault, number, parse, text};
 use std::alloc::Global;
 
 /// What `dlt_run --serve [--conf NAME] [--port N] [--users N] [--rounds N]` asks for.
-#[derive(Clone, Copy, Debug)]
+#[derive(Clone, Copy)]
 pub struct ServeWords<'a> {
     /// The name of the configuration.
     pub conf: &'a str,

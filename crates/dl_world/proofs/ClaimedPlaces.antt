@@ -12,7 +12,7 @@ use Rattle.dl_script_model.specs.declared.line.AppLine.{AppLine}
 use Rattle.dl_script.specs.Earlier.{is_on}
 use Rattle.dl_script.specs.declared.claim.PlaceName.{PlaceName}
 use Rattle.dl_model.proofs.Presence.{bytes_tell}
-use Rattle.dl_laws.proofs.Lists.{count_by-append}
+use Rattle.dl_model.proofs.Lists.{count_by-append}
 use Rattle.dl_lemmas.proofs.Lists.{all_both}
 use Rattle.dl_lemmas.proofs.Options.{place_is}
 

@@ -16,7 +16,7 @@ use Rattle.dl_model.specs.ClientStream.{traffic}
 use Rattle.dl_model.specs.Traffic as traffic
 use Rattle.dl_model.specs.Journal.{is_connect, is_close, comes_or_goes}
 use Rattle.dl_script_model.specs.Marks.{Mark, Noted, journal, fed}
-use Rattle.dl_laws.proofs.Lists.{count_by-append, last_that-one}
+use Rattle.dl_model.proofs.Lists.{count_by-append, last_that-one}
 use Rattle.dl_world_calls.proofs.Changing.{no-call-stays}
 use Rattle.dl_laws.proofs.Quiet.{open_in_journal, not_yet}
 use Rattle.dl_hub.specs.State as hub

@@ -8,7 +8,7 @@ use Rattle.dl_bytes.specs.declared.outcome.Done.{Done}
 use Rattle.dl_model.specs.Setting.{Setting}
 use Rattle.dl_script_model.specs.Marks.{Call, Mark, apps, app_of, call_of, journal}
 use Rattle.dl_script_model.specs.Steps.{Act, in_sequence}
-use Rattle.dl_laws.proofs.Lists.{count_by-append}
+use Rattle.dl_model.proofs.Lists.{count_by-append}
 use Rattle.dl_core.specs.Follows.{Run, HoldsTrace}
 use Rattle.dl_runs.proofs.KeptIds.{kept_id}
 use Rattle.dl_outside.specs.Told.{FolderTold}

@@ -2,7 +2,7 @@
 use Rattle.std.proofs.Common.{◌≡◌, ℕ, zero, suc, ◌+◌, ◌-◌, ◌<◌, ◌≤◌, Bool, true, false, cond, take, List, [], ◌∷◌, length, Option, Some, None, refl, sym, ap, ◌∙◌, arith}
 use Rattle.std.specs.Prelude.{IsSome, IsTrue, ◌↔◌, is_some, count_by, slice_get}
 use Rattle.std.specs.Option.{option_and_then}
-use Rattle.dl_laws.proofs.Lists.{count_by-append}
+use Rattle.dl_model.proofs.Lists.{count_by-append}
 use Rattle.dl_hub.specs.State.{Client, Waiting, outbox_of, is_open}
 use Rattle.dl_world.specs.Follows.{open_among}
 use Rattle.dl_world.specs.declared.world.World.{World}

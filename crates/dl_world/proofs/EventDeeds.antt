@@ -14,7 +14,7 @@ use Rattle.dl_model.specs.Setting.{Setting}
 use Rattle.dl_model.specs.Journal.{is_connect, is_close}
 use Rattle.dl_script_model.specs.Marks.{Mark, Noted, event_of, journal, is_later}
 use Rattle.dl_script_model.specs.Steps.{Act, changes, level_noted, note_levels, note_levels_now, note, close, connect}
-use Rattle.dl_laws.proofs.Lists.{count_by-append}
+use Rattle.dl_model.proofs.Lists.{count_by-append}
 use Rattle.dl_hub.specs.State.{Hub, outbox_of, is_open}
 use Rattle.dl_core.specs.Follows.{Run, source_of}
 use Rattle.dl_world.specs.Follows.{IsRunOf, IsAfter, Doing, MayConnect, answers_in, noting, open_among}

@@ -21,8 +21,8 @@ use Rattle.dl_model.specs.Traffic.{Traffic, Connected, Admitted, Reply, Closed, 
 use Rattle.dl_model.specs.Journal.{is_close}
 use Rattle.dl_script_model.specs.Marks.{Mark, Noted, journal}
 use Rattle.dl_script_model.specs.Steps as steps
-use Rattle.dl_laws.proofs.Lists.{count_by-append}
-use Rattle.dl_laws.proofs.ClientStreams.{is_open-one}
+use Rattle.dl_model.proofs.Lists.{count_by-append}
+use Rattle.dl_model.proofs.ClientStreams.{is_open-one}
 use Rattle.dl_world_calls.proofs.Changing.{no-call-stays}
 use Rattle.dl_laws.specs.FramesPut.{IsPut}
 use Rattle.dl_laws.specs.FrameLengths.{CarriesLen}

@@ -16,7 +16,7 @@ use Rattle.dl_model.specs.Backlog.{fitting, left, refused, size_of, waiting}
 use Rattle.dl_model.specs.ClientStream.{sent, traffic}
 use Rattle.dl_script_model.specs.Marks.{Mark, announced_by, claims, journal, records, records_of}
 use Rattle.dl_script_model.specs.Replay.{clients, specs_of}
-use Rattle.dl_laws.proofs.Rotation.{length-concat}
+use Rattle.dl_model.proofs.Rotation.{length-concat}
 use Rattle.dl_world_calls.specs.State.{App, Writer}
 use Rattle.dl_world_calls.specs.Follows.{no_writer, writer_at, line_of}
 use Rattle.dl_hub.specs.State as state

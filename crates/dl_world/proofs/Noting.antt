@@ -15,7 +15,7 @@ use Rattle.dl_model.specs.Traffic as traffic
 use Rattle.dl_model.specs.Traffic.{Traffic, clients}
 use Rattle.dl_model.specs.ClientStream.{traffic, stream}
 use Rattle.dl_script_model.specs.Marks.{Mark, Noted, event_of, journal, fed}
-use Rattle.dl_laws.proofs.Lists.{last_that-one, count_by-append}
+use Rattle.dl_model.proofs.Lists.{last_that-one, count_by-append}
 use Rattle.dl_world_calls.specs.Follows as calls
 use Rattle.dl_world_calls.proofs.InjectionCounts.{no-injection-stays}
 use Rattle.dl_hub.specs.State as hub

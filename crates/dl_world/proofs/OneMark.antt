@@ -9,7 +9,7 @@ use Rattle.dl_bytes.specs.declared.moment.Moment.{Moment}
 use Rattle.dl_script_model.specs.declared.line.AppLine.{AppLine}
 use Rattle.dl_model.specs.Along.{last_that}
 use Rattle.dl_script_model.specs.Marks.{Mark, Clocked, LevelsWait, app_of, apps, clocked, waits_of, moment_at, moment, is_later}
-use Rattle.dl_laws.proofs.Lists.{last_that-one}
+use Rattle.dl_model.proofs.Lists.{last_that-one}
 use Rattle.dl_world_calls.specs.Follows as calls
 use Rattle.dl_world_calls.specs.Follows.{is_no_call}
 use Rattle.dl_world_calls.specs.Injections.{AreAfter, is_no_injection}

@@ -10,7 +10,7 @@ use Rattle.dl_bytes.specs.declared.outcome.Done.{Done}
 use Rattle.dl_events.specs.declared.event.Event.{Event}
 use Rattle.dl_model.specs.Along.{last_that}
 use Rattle.dl_script_model.specs.Marks.{Mark, Clocked, LevelsWait, Answered, Injected, Handed, event_of, app_of, clocked, waits_of, fed_of, heard_of, journal, apps, moment, moment_at, is_later, fed, heard}
-use Rattle.dl_laws.proofs.Lists.{last_that-one}
+use Rattle.dl_model.proofs.Lists.{last_that-one}
 use Rattle.dl_world_calls.specs.Follows as calls
 use Rattle.dl_world_calls.specs.Injections.{AreAfter}
 use Rattle.dl_world_calls.proofs.Changing.{no-call-stays}

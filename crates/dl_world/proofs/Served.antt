@@ -18,7 +18,7 @@ use Rattle.dl_model.specs.Journal.{registry_of, slots_of, need_after}
 use Rattle.dl_model.specs.Reply.{apid_of, asked, ctid_of, Need, Folder}
 use Rattle.dl_script_model.specs.Marks.{Mark, Noted, Answered, Injected, event_of, journal, injections, is_answer}
 use Rattle.dl_script_model.specs.Steps.{request_now, served}
-use Rattle.dl_laws.proofs.Lists.{count_by-append}
+use Rattle.dl_model.proofs.Lists.{count_by-append}
 use Rattle.dl_world_calls.proofs.Changing.{no-call-stays}
 use Rattle.dl_registry.specs.Kept.{slots}
 use Rattle.dl_hub.specs.State.{Hub, Waiting, HasRoom, outbox_of}

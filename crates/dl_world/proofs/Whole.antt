@@ -101,13 +101,13 @@ count_failed (mark ∷ done) = sum_by-cons (λ (m : Mark). cond (is_failed m) 1 
 -- ---- the run of these lines
 
 module _ (conf : Conf) (kept : Stored) (handed : Option Trace) (stood : List StoredFile) (first : World)
-    (begins : (run : Run) → run.setting ≡ setting_of conf kept 0 → run.before ≡ 0 → IfSome handed (traces.IsAfter run.stood []) → IsAfter run [] first) (stood_so : IfSome handed (traces.IsAfter stood [])) where
+    (begins : (run : Run) → run.setting ≡ setting_of conf kept 0 → run.before ≡ 0 → IfSome handed (traces.IsAfter run.stood run.head) → IsAfter run [] first) (stood_so : IfSome handed (traces.IsAfter stood [])) where
   abbrev setting : Setting
   setting = setting_of conf kept 0
 
   -- the run that has the frames and the ids of these marks
   abbrev pub run_of : List Mark → Run
-  run_of done = record { setting = setting; frame = frame_of_call setting done; apid = apid_of done; stood = stood; before = 0 }
+  run_of done = record { setting = setting; frame = frame_of_call setting done; apid = apid_of done; stood = stood; before = 0; head = [] }
 
   is_run : (done : List Mark) → AllByRecursion (HasItsFrame setting done) (filter_map call_of done) → IsRunOf (run_of done) done
   is_run done frames = record { frames = frames; apids = λ app below. refl }

@@ -54,7 +54,7 @@ impl World {
         trace: Option<Trace>,
     ) -> Result<World, OutOfMemory>
         requires trace { IfSome trace (IsMade conf.now) }
-        ensures after { IfOk result (λ world. (run : Run) → run.setting ≡ setting_of conf.now stored 0 → run.before ≡ 0 → IfSome trace (traces.IsAfter run.stood []) → IsAfter run [] world) }
+        ensures after { IfOk result (λ world. (run : Run) → run.setting ≡ setting_of conf.now stored 0 → run.before ≡ 0 → IfSome trace (traces.IsAfter run.stood run.head) → IsAfter run [] world) }
         ensures trace { IfOk result (λ world. world.core.trace ≡ trace) }
     {
         // An id has four bytes.

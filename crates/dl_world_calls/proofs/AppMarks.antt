@@ -8,7 +8,7 @@ use Rattle.dl_bytes.specs.declared.moment.Moment.{Moment}
 use Rattle.dl_events.specs.declared.event.Event.{Event}
 use Rattle.dl_events.specs.declared.event.Event.TheVariants as event
 use Rattle.dl_script_model.specs.Marks.{Call, Mark, Counted, Noted, Pushed, event_of, journal, pushes, pushed_of, taken, is_taken_of, pending, is_counted_of, is_lost_of}
-use Rattle.dl_laws.proofs.Lists.{after_last-one, count_by-append}
+use Rattle.dl_model.proofs.Lists.{after_last-one, count_by-append}
 use Rattle.dl_world_calls.specs.declared.queue.Entry.{Entry}
 use Rattle.dl_world_calls.specs.State.{App, Writer, Held, held_at, as_held}
 use Rattle.dl_world_calls.specs.Follows.{as_pushed, IsAppAfter}

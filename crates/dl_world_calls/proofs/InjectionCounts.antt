@@ -4,7 +4,7 @@ use Rattle.std.specs.Prelude.{count_by, slice_index}
 use Rattle.std.proofs.lemmas.List.{length-set}
 use Rattle.std.proofs.lemmas.Bool.Decides.{eqb_tells}
 use Rattle.dl_script_model.specs.Marks.{Mark, Injected, Handed, injections, is_injected, is_handed}
-use Rattle.dl_laws.proofs.Lists.{count_by-append}
+use Rattle.dl_model.proofs.Lists.{count_by-append}
 use Rattle.dl_world_calls.specs.Injections.{AreAfter, is_no_injection}
 use Rattle.dl_world_calls.proofs.Places.{get_or-set, apart}
 

@@ -9,7 +9,7 @@ use Rattle.dl_events.specs.declared.record.Record.{Record}
 use Rattle.dl_events.specs.declared.record.Answer.TheVariants as answers
 use Rattle.dl_model.specs.Along.{last_that}
 use Rattle.dl_script_model.specs.Marks.{Call, Mark, Filtered, Passed, Queued, Refused, Counted, recorded, record_of, records_of, is_step_of, is_load, is_passed, calls_of, passed_of, passed, refused, to_push, to_count}
-use Rattle.dl_laws.proofs.Lists.{last_that-one, count_by-append, find-passes}
+use Rattle.dl_model.proofs.Lists.{last_that-one, count_by-append, find-passes}
 use Rattle.dl_runs.proofs.Founded.{last_step, passed_is, refused_is}
 use Rattle.dl_world_calls.specs.State.{Writer}
 use Rattle.dl_world_calls.specs.Follows.{IsWriterAfter}

@@ -10,7 +10,7 @@ use dl_bytes::APP_LIMIT;
 use std::marker::Model;
 
 /// How many injections wait for each of 16 applications, by their numbers.
-#[derive(Debug, Drop)]
+#[derive(Drop)]
 pub struct Injections {
     waiting: [u8; 16],
 }

@@ -7,7 +7,7 @@ use std::alloc::Global;
 use std::marker::Model;
 
 /// Where a writer keeps what it gave away: among its records or its claims.
-#[derive(Clone, Copy, Debug)]
+#[derive(Clone, Copy)]
 pub struct OwnPlace {
     /// The writer's number, from 1.
     pub writer: u8,
@@ -16,7 +16,7 @@ pub struct OwnPlace {
 }
 
 /// What a ring holds of a writer.
-#[derive(Clone, Copy, Debug)]
+#[derive(Clone, Copy)]
 pub enum Entry {
     /// A log call, by the place of its record.
     Call(OwnPlace),
@@ -25,7 +25,7 @@ pub enum Entry {
 }
 
 /// Entries in order, of which the first ones are gone. Nothing is ever moved to the front.
-#[derive(Debug, Drop)]
+#[derive(Drop)]
 pub struct Queue {
     entries: Vec<Entry>,
     gone: usize,

@@ -8,7 +8,7 @@ use std::alloc::Global;
 use std::marker::Model;
 
 /// At most 64 claims, in order: as many as an application has places. All memory for them is taken when it is made.
-#[derive(Debug, Drop)]
+#[derive(Drop)]
 pub struct ClaimRoom {
     claims: Vec<Claim>,
 }

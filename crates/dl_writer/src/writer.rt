@@ -37,7 +37,7 @@ pub struct WriterHandles {
 }
 
 /// The application that a writer is of.
-#[derive(Clone, Copy, Debug)]
+#[derive(Clone, Copy)]
 pub struct Owner {
     /// Its number, 0 to 15.
     pub app: u8,

@@ -7,7 +7,7 @@ const QUIET: u32 = 2_000;
 const PATIENCE: u32 = 50_000;
 
 /// A daemon that is to end.
-#[derive(Clone, Copy, Debug)]
+#[derive(Clone, Copy)]
 pub struct Ending {
     since: u32,
     frames: u64,

@@ -18,7 +18,8 @@ use crate::preparing::{Prepared, prepare};
 use crate::watching::Watching;
 use dl_daemon::keep;
 use dl_outside::Clock;
-use dl_real::{SystemClock, TcpNet, Writing, say_troubles};
+use dl_real::{Writing, say_troubles};
+use dl_real_daemon::{SystemClock, TcpNet};
 use dl_words::daemon_words;
 use std::process::ExitCode;
 
@@ -40,11 +41,13 @@ fn main(rt: HostRuntime) -> ExitCode {
         Err(status) => return status,
     };
     let mut net = TcpNet::make(rt, prepared.address);
-    let mut users = TcpNet::make(rt, prepared.address);
+    net.be_watchful();
+    let mut users = TcpNet::beside(rt, &net);
     let clock = SystemClock::make(rt);
     let begins = prepared.begins.take();
     let taken = prepared.folder.taken();
-    let mut watch = Watching::over(rt, &asked, begins, taken, clock.now());
+    let tidings = net.tidings();
+    let mut watch = Watching::over(rt, &asked, begins, taken, tidings.as_ref(), clock.now());
     let mut err = Writing::over(rt.stderr());
     let ended = keep(
         &rt,

@@ -4,9 +4,8 @@ use crate::answers::{answer, refused};
 use crate::aside::put_aside;
 use crate::asked::Asked;
 use crate::begin::{Begin, line, look};
-use dl_real::{
-    BIND_ADDRESS, BindFault, Directory, FolderLock, LockFault, bind_address, lock_folder,
-};
+use dl_real::Directory;
+use dl_real_daemon::{BIND_ADDRESS, BindFault, FolderLock, LockFault, bind_address, lock_folder};
 use dl_startup::Status;
 use dl_words::{DaemonWords, ParseFault};
 use std::net::IpAddr;

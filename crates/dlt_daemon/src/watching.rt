@@ -1,14 +1,16 @@
 //! Who looks on while the daemon runs: it says a line at the begin, a status line each so many seconds, syncs the trace, and ends the daemon when
 //! standard input ends.
 
+ghost use Rattle.std.specs.Prelude.{◌≡◌};
+
 use crate::asked::Asked;
 use crate::ending::Ending;
 use dl_bytes::Moment;
-use dl_daemon::{Passed, Teller, Watch};
+use dl_daemon::{Passed, Server, Teller, Watch, Watched};
 use dl_events::Unkept;
 use dl_outside::{Link, Sink};
-use dl_real::{InputEnd, PromptOutput, Taken, TraceSync};
-use dl_server::Server;
+use dl_real::Taken;
+use dl_real_daemon::{InputEnd, PromptOutput, Tidings, TraceSync};
 use std::fs::Files;
 use std::io::Eprint;
 
@@ -17,6 +19,8 @@ use std::io::Eprint;
 pub struct Watching<R, O> {
     pub rt: R,
     pub teller: Teller<O>,
+    /// What it was told and asked, and what it answered.
+    pub watched: Watched,
     /// What is said once the ports are open.
     pub begins: Option<String>,
     /// Standard input, where its end ends the daemon.
@@ -30,17 +34,18 @@ pub struct Watching<R, O> {
 }
 
 impl Watching<HostRuntime, PromptOutput> {
-    /// Looks on as it is asked for, from this moment on: status lines go to standard output.
+    /// Looks on as it is asked for, from this moment on: status lines go to standard output. The end of standard input ends rests that these tidings are of.
     pub fn over(
         rt: HostRuntime,
         asked: &Asked,
         begins: Option<String>,
         taken: Taken,
+        tidings: Option<&Tidings>,
         moment: Moment,
     ) -> Watching<HostRuntime, PromptOutput> {
         let out = PromptOutput::over(rt.alloc(), rt.stdout());
         let input = if asked.until_eof {
-            Some(InputEnd::of(rt.stdin()))
+            Some(InputEnd::of(rt.stdin(), tidings))
         } else {
             None
         };
@@ -51,6 +56,7 @@ impl Watching<HostRuntime, PromptOutput> {
         Watching {
             rt,
             teller: Teller::make(rt.alloc(), out, moment),
+            watched: Watched::nothing(),
             begins,
             input,
             ending: None,
@@ -62,7 +68,9 @@ impl Watching<HostRuntime, PromptOutput> {
 
 impl<R, O> Watching<R, O> {
     /// Whether standard input has ended, and programs were heard since.
-    fn is_over(&mut self, now: u32, frames: u64) -> bool {
+    fn is_over(&mut self, now: u32, frames: u64) -> bool
+        ensures { self.new.watched ≡ self.old.watched }
+    {
         let Some(input) = &mut self.input else {
             return false;
         };
@@ -80,7 +88,10 @@ impl<R, O> Watching<R, O> {
 }
 
 impl<R: Files + Eprint + AllocGlobal, O: Sink> Watch for Watching<R, O> {
+    ghost watched = { λ w. w.watched };
+
     fn begin(&mut self, every: Option<u32>) {
+        self.watched.tell(every);
         self.teller.begin(every);
     }
 
@@ -102,7 +113,9 @@ impl<R: Files + Eprint + AllocGlobal, O: Sink> Watch for Watching<R, O> {
             taken: self.taken.count(),
             ..passed
         };
-        let goes_on = self.teller.goes_on(server, passed, moment);
-        goes_on && !self.is_over(moment.ticks, server.core.hub().admitted())
+        let goes_on = self.teller.goes_on(server, passed, moment)
+            && !self.is_over(moment.ticks, server.core.hub().admitted());
+        self.watched.answer(goes_on);
+        goes_on
     }
 }

@@ -5,10 +5,8 @@
 #![tactic(auto)]
 
 use dl_live::{Status, run};
-use dl_real::{
-    BIND_ADDRESS, BindFault, Directory, OpenGate, SystemClock, TcpNet, Writing, bind_address,
-    say_troubles,
-};
+use dl_real::{Directory, Writing, say_troubles};
+use dl_real_daemon::{BIND_ADDRESS, BindFault, OpenGate, SystemClock, TcpNet, bind_address};
 use dl_serve::serve;
 use dl_words::asks_to_serve;
 use std::env;
@@ -74,7 +72,7 @@ fn main(rt: HostRuntime) -> ExitCode {
     let mut out = Writing::over(rt.stdout());
     let mut err = Writing::over(rt.stderr());
     if asks_to_serve(&words) {
-        let mut users = TcpNet::make(rt, address);
+        let mut users = TcpNet::beside(rt, &net);
         let served = serve(
             &rt,
             rt.alloc(),

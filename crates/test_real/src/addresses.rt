@@ -1,6 +1,6 @@
 //! The address to listen on, as the environment has it.
 
-use dl_real::{BIND_ADDRESS, BindFault, bind_address};
+use dl_real_daemon::{BIND_ADDRESS, BindFault, bind_address};
 use std::alloc::Global;
 use std::env::FillError;
 use std::net::{IpAddr, Ipv4Addr, Ipv6Addr};

@@ -2,7 +2,7 @@
 
 use dl_bytes::Moment;
 use dl_outside::Clock;
-use dl_real::SystemClock;
+use dl_real_daemon::SystemClock;
 use std::time::{Duration, Instant};
 use std::{io, thread};
 

@@ -2,7 +2,7 @@
 
 use crate::sockets::{LOOPBACK, first};
 use dl_outside::{Link, Net, Sends};
-use dl_real::TcpNet;
+use dl_real_daemon::TcpNet;
 use std::alloc::Global;
 use std::io::Read;
 use std::net::{TcpListener, TcpStream};

@@ -2,7 +2,8 @@
 
 use dl_bytes::Bytes;
 use dl_outside::{Accepted, ClientScript, Dial, Gave, Link, Net, Sends};
-use dl_real::{TcpDial, TcpNet};
+use dl_real::TcpDial;
+use dl_real_daemon::TcpNet;
 use std::alloc::Global;
 use std::io;
 use std::net::{IpAddr, Ipv4Addr, TcpListener, TcpStream};

@@ -4,7 +4,7 @@ ghost use Rattle.std.specs.Prelude.{◌≤◌, length};
 
 /// Bytes in memory that was handed in. The first `used` ones hold something.
 #[repr(C)]
-#[derive(Debug, Drop)]
+#[derive(Drop)]
 pub struct Area<'a> {
     /// The memory.
     pub bytes: &'a mut [u8],

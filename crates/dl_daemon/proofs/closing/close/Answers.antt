@@ -1,4 +1,4 @@
-use Rattle.std.proofs.Common.{refl}
+use Rattle.std.proofs.Common.{refl, false}
 use Rattle.dl_server.specs.State.{seen}
 use Rattle.dl_daemon.specs.Left.{closed_of}
 use Rattle.dl_daemon.specs.Rounds.{noted}
@@ -10,7 +10,7 @@ returns-in-Ok g c = (
   closed_of c.close.new.self,
   c.leave.ensures,
   (
-    seen g.L.Link.told noted (g.F.Folder.told c.close.new.folder) c.close.new.self,
+    seen g.L.Link.told noted false (g.F.Folder.told c.close.new.folder) c.close.new.self,
     refl,
     c.in-Ok.ensures.closed,
     is_left g.L.Link.told (g.F.Folder.told c.close.new.folder) c.close.new.self,

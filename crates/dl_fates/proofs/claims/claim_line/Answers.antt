@@ -1,6 +1,6 @@
 use Rattle.std.proofs.Common.{◌≡◌, ℕ, List, Bool, true, false, cond, Option, Some, take, refl, sym, ap, ◌∙◌}
 use Rattle.std.specs.Option.{option_map}
-use Rattle.dl_laws.proofs.Lists.{last_that-one}
+use Rattle.dl_model.proofs.Lists.{last_that-one}
 use Rattle.dl_model.specs.Along.{last_that}
 use Rattle.dl_fates.specs.declared.claim_lines.ClaimAt.{ClaimAt}
 use Rattle.dl_fates.proofs.Places.{one_more}

@@ -1,4 +1,4 @@
-use Rattle.dl_laws.proofs.LongerJournals.{was_behind, was_needed}
+use Rattle.dl_model.proofs.LongerJournals.{was_behind, was_needed}
 use Rattle.dl_laws.proofs.journals.a_slow_client_was_behind.Goals as goal
 
 pub returns-clause-behind : goal.returns-clause-behind

@@ -1,4 +1,4 @@
-use Rattle.dl_laws.proofs.LongerJournals.{turn_longer, in_turn_longer}
+use Rattle.dl_model.proofs.LongerJournals.{turn_longer, in_turn_longer}
 use Rattle.dl_laws.proofs.journals.turns_go_on.Goals as goal
 
 pub returns-clause-event : goal.returns-clause-event

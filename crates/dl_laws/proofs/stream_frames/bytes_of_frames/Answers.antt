@@ -1,4 +1,4 @@
-use Rattle.dl_laws.proofs.Rotation.{length-concat}
+use Rattle.dl_model.proofs.Rotation.{length-concat}
 use Rattle.dl_laws.proofs.stream_frames.bytes_of_frames.Goals as goal
 
 pub returns : goal.returns

@@ -1,5 +1,5 @@
 use Rattle.dl_model.specs.ClientStream.{put}
-use Rattle.dl_laws.proofs.Lists.{along-one}
+use Rattle.dl_model.proofs.Lists.{along-one}
 use Rattle.dl_laws.proofs.FramesBehind.{sent-append, traffic-append}
 use Rattle.dl_laws.proofs.stream_frames.streams_go_on.Goals as goal
 

@@ -1,4 +1,4 @@
-use Rattle.dl_laws.proofs.ClientStreams.{any_open}
+use Rattle.dl_model.proofs.ClientStreams.{any_open}
 use Rattle.dl_laws.proofs.streams.somebody_is_open.Goals as goal
 
 pub returns-clause-one : goal.returns-clause-one

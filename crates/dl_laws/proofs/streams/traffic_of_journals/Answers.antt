@@ -1,6 +1,6 @@
 use Rattle.dl_model.specs.ClientStream.{traffic_of}
-use Rattle.dl_laws.proofs.ClientStreams.{traffic_admits}
-use Rattle.dl_laws.proofs.Lists.{along-one}
+use Rattle.dl_model.proofs.ClientStreams.{traffic_admits}
+use Rattle.dl_model.proofs.Lists.{along-one}
 use Rattle.dl_laws.proofs.streams.traffic_of_journals.Goals as goal
 
 pub returns-clause-admits : goal.returns-clause-admits

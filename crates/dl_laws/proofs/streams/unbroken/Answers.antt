@@ -1,4 +1,4 @@
-use Rattle.dl_laws.proofs.ClientStreams.{unbroken}
+use Rattle.dl_model.proofs.ClientStreams.{unbroken}
 use Rattle.dl_laws.proofs.streams.unbroken.Goals as goal
 
 pub returns : goal.returns

@@ -1,4 +1,4 @@
-use Rattle.dl_laws.proofs.ClientStreams.{waiting-comes, waiting-goes, waiting-reply, waiting-admit}
+use Rattle.dl_model.proofs.ClientStreams.{waiting-comes, waiting-goes, waiting-reply, waiting-admit}
 use Rattle.dl_laws.proofs.streams.waiting_after_one_more.Goals as goal
 
 pub returns-clause-comes : goal.returns-clause-comes

@@ -1,4 +1,4 @@
-use Rattle.dl_laws.proofs.Rotation.{made_bytes, suffix, within_size}
+use Rattle.dl_model.proofs.Rotation.{made_bytes, suffix, within_size}
 use Rattle.dl_laws.proofs.traces.trace_files_are_the_newest.Goals as goal
 
 pub returns-clause-bytes : goal.returns-clause-bytes

@@ -1,4 +1,4 @@
-use Rattle.dl_laws.proofs.Rotation.{closed_longest, closed_room}
+use Rattle.dl_model.proofs.Rotation.{closed_longest, closed_room}
 use Rattle.dl_laws.proofs.traces.trace_files_have_room.Goals as goal
 
 pub returns-clause-room : goal.returns-clause-room

@@ -1,4 +1,4 @@
-use Rattle.dl_laws.proofs.Rotation.{begins, goes_on, newest_stands}
+use Rattle.dl_model.proofs.Rotation.{begins, goes_on, newest_stands}
 use Rattle.dl_laws.proofs.traces.trace_goes_on.Goals as goal
 
 pub returns-clause-first : goal.returns-clause-first

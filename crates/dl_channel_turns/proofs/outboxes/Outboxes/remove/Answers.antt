@@ -1,6 +1,6 @@
 use Rattle.std.proofs.Common.{nat_eq, sym, ap, ◌∙◌}
 use Rattle.std.specs.Map.{lookup}
-use Rattle.dl_registry.proofs.Entries.{removed_is_filter}
+use Rattle.dl_apps.proofs.Entries.{removed_is_filter}
 use Rattle.dl_channel_turns.specs.State.{without}
 use Rattle.dl_channel_turns.proofs.outboxes.Outboxes.remove.Goals as goal
 

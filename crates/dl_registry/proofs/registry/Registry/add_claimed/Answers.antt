@@ -4,7 +4,7 @@ use Rattle.std.specs.Option.{option_or}
 use Rattle.std.specs.Str.{bytes_eq}
 use Rattle.dl_model.specs.declared.context.Context.{Context}
 use Rattle.dl_model.specs.Registry.{Registry, context_of, slot_of, stored_level, with_new_context}
-use Rattle.dl_registry.specs.Change.{changed_app}
+use Rattle.dl_apps.specs.Change.{changed_app}
 use Rattle.dl_registry.specs.Kept.{Kept, CanClaim, ClaimsIn, Fits, kept_of}
 use Rattle.dl_registry.proofs.Messages.{context-room, context-done, context-fits, claimed_context}
 use Rattle.dl_registry.proofs.registry.Registry.add_claimed.Goals as goal

@@ -5,7 +5,7 @@ use Rattle.dl_model.specs.declared.registry.RegistryFault.TheVariants as fault
 use Rattle.dl_model.specs.declared.registry.Slot.{Slot}
 use Rattle.dl_bytes.specs.Limits.{last_version}
 use Rattle.dl_model.specs.Registry.{Registry, slot_of, with_new_context}
-use Rattle.dl_registry.specs.Change.{changed_app}
+use Rattle.dl_apps.specs.Change.{changed_app}
 use Rattle.dl_registry.specs.Kept.{Kept, Fits, kept_of}
 use Rattle.dl_registry.specs.Table.{held_at, wanted_at}
 use Rattle.dl_registry.proofs.Messages.{Adds, MayAdd, coming, with_coming, adds-full, adds-worn, adds-memory, adds-done, fits-coming, room_for}

@@ -3,7 +3,7 @@ use Rattle.std.specs.Map.{lookup}
 use Rattle.std.specs.Str.{bytes_eq}
 use Rattle.dl_model.specs.declared.context.Context.{Context}
 use Rattle.dl_model.specs.Registry.{Registry, context_of, slot_of}
-use Rattle.dl_registry.specs.Change.{changed_app, changed_context, placed_again}
+use Rattle.dl_apps.specs.Change.{changed_app, changed_context, placed_again}
 use Rattle.dl_registry.specs.Kept.{Kept, CanClaim, ClaimsIn, Fits, kept_of}
 use Rattle.dl_registry.proofs.Messages.{place-room, place-done, place-fits}
 use Rattle.dl_registry.proofs.registry.Registry.add_place.Goals as goal

@@ -2,7 +2,7 @@ use Rattle.std.proofs.Common.{◌≡◌, false, reverse, ap, subst, sym, ◌∙�
 use Rattle.std.specs.Map.{values_of}
 use Rattle.std.specs.Option.{option_or}
 use Rattle.dl_model.specs.Registry.{Registry, wears}
-use Rattle.dl_registry.specs.Change.{relevel_of}
+use Rattle.dl_apps.specs.Change.{relevel_of}
 use Rattle.dl_registry.specs.Kept.{Kept, Fits, slots}
 use Rattle.dl_registry.specs.Refresh.{level_in_apps}
 use Rattle.dl_registry.specs.Table.{held_at, wanted_at}

@@ -4,7 +4,7 @@ use Rattle.std.specs.Map.{keys_of, lookup}
 use Rattle.std.specs.Str.{bytes_eq}
 use Rattle.dl_model.specs.Registry.{Registry, context_of, effective, is_worn, matching, own_set, with_app, with_context}
 use Rattle.dl_registry.specs.Table.{held_at, wanted_at}
-use Rattle.dl_registry.specs.Change.{leveled}
+use Rattle.dl_apps.specs.Change.{leveled}
 use Rattle.dl_registry.specs.Kept.{Kept, Fits, slots, with_registry}
 use Rattle.dl_registry.specs.Refresh.{has_slot}
 use Rattle.dl_registry.proofs.Naming.{fits-one, no_app, no_context, one-changed, one-matches, one-set, one-worn}

@@ -7,7 +7,7 @@ use Rattle.dl_model.specs.declared.registry.RegistryFault.{RegistryFault}
 use Rattle.dl_model.specs.declared.registry.RegistryFault.TheVariants as fault
 use Rattle.dl_model.specs.Registry.{App, Registry, app_of, context_of, context_unregistered, for_app, with_app, without}
 use Rattle.dl_model.proofs.Order.{app_of_found}
-use Rattle.dl_registry.specs.Change.{without_context}
+use Rattle.dl_apps.specs.Change.{without_context}
 use Rattle.dl_registry.specs.Kept.{Kept, Applies, Fits, kept_of}
 use Rattle.dl_registry.specs.Refresh.{has_slot}
 use Rattle.dl_registry.specs.Table.{wanted_at}

@@ -14,12 +14,13 @@ returns-in-Err-clause-half g c = inl c.in-Err.ensures.some
 pub returns-then-not-make_room-clause-half : goal.returns-then-not-make_room-clause-half
 returns-then-not-make_room-clause-half g c =
     let folder = g.F.Folder.told c.close_programs.new.folder in
-    inr (seen g.L.Link.told g.J.Journal.events folder c.close_programs.new.self, c.in-Ok.ensures.closed, c.if-not-make_room.ensures.makes folder)
+    let wants = c.if-not-make_room.ensures.makes folder in
+    inr (seen g.L.Link.told g.J.Journal.events g.J.Journal.may_want folder c.close_programs.new.self, c.in-Ok.ensures.closed, wants.0, wants.1)
 
 pub returns-clause-closed : goal.returns-clause-closed
 returns-clause-closed g c =
     let folder = g.F.Folder.told c.close_programs.new.folder in
-    let s = seen g.L.Link.told g.J.Journal.events in
+    let s = seen g.L.Link.told g.J.Journal.events g.J.Journal.may_want in
     let n = c.close_clients.new in
     record {
       between = s folder c.close_programs.new.self;

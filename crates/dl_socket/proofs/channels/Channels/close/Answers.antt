@@ -1,6 +1,6 @@
 use Rattle.std.proofs.Common.{◌≡◌, nat_eq, sym, ap, subst, ◌∙◌}
 use Rattle.std.specs.Map.{lookup}
-use Rattle.dl_registry.proofs.Entries.{removed_is_filter}
+use Rattle.dl_apps.proofs.Entries.{removed_is_filter}
 use Rattle.dl_channel_turns.specs.State.{side, without}
 use Rattle.dl_socket.specs.Channels.{Channels, Fits, without_inbox}
 use Rattle.dl_socket.specs.Closing.{HasUnregistered}

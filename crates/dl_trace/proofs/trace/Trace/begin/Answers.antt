@@ -19,7 +19,7 @@ begin_file-outcome-requires-clause-name g c =
 
 pub invariant_of-self : goal.invariant_of-self
 invariant_of-self g c =
-    let trace : Trace = record { directory = c.self.inside.directory; file_size = c.self.inside.file_size; max_size = c.self.inside.max_size; state = c.self.inside.state; last = c.self.inside.last; begun = c.self.inside.begun } in
+    let trace : Trace = record { directory = c.self.inside.directory; file_size = c.self.inside.file_size; max_size = c.self.inside.max_size; state = c.self.inside.state; last = c.self.inside.last; begun = c.self.inside.begun; unstored = c.self.inside.unstored } in
     let files : c.into_vec-files.result.items ≡ c.self.inside.state.files = c.into_vec-files.ensures ∙ c.replace.ensures.value in
     let limit = c.self.inside.max_size - c.self.inside.file_size in
     let entry : TraceFile = record { name = c.over.result; bytes = length c.args.piece.now } in
@@ -29,7 +29,7 @@ invariant_of-self g c =
 
 pub invariant_of-self-2 : goal.invariant_of-self-2
 invariant_of-self-2 g c =
-    let trace : Trace = record { directory = c.self.inside.directory; file_size = c.self.inside.file_size; max_size = c.self.inside.max_size; state = c.self.inside.state; last = c.self.inside.last; begun = c.self.inside.begun } in
+    let trace : Trace = record { directory = c.self.inside.directory; file_size = c.self.inside.file_size; max_size = c.self.inside.max_size; state = c.self.inside.state; last = c.self.inside.last; begun = c.self.inside.begun; unstored = c.self.inside.unstored } in
     let same : trace ≡ c.args.self.now = c.self.view_is in
     let files : c.into_vec-files.result.items ≡ c.self.inside.state.files = c.into_vec-files.ensures ∙ c.replace.ensures.value in
     let limit = c.self.inside.max_size - c.self.inside.file_size in

@@ -15,7 +15,7 @@ extend_file-outcome-requires-clause-text g c =
 
 pub invariant_of-self : goal.invariant_of-self
 invariant_of-self g c =
-    let trace : Trace = record { directory = c.self.inside.directory; file_size = c.self.inside.file_size; max_size = c.self.inside.max_size; state = c.self.inside.state; last = c.self.inside.last; begun = c.self.inside.begun } in
+    let trace : Trace = record { directory = c.self.inside.directory; file_size = c.self.inside.file_size; max_size = c.self.inside.max_size; state = c.self.inside.state; last = c.self.inside.last; begun = c.self.inside.begun; unstored = c.self.inside.unstored } in
     let same : trace ≡ c.args.self.now = c.self.view_is in
     let files = c.into_vec-files.ensures ∙ c.replace.ensures.value in
     sound_extend trace (length c.args.piece.now) (is_ok c.extend_file-outcome.result) c.over.result

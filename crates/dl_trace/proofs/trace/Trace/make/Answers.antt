@@ -39,7 +39,7 @@ returns-clause-stood g c =
     let made : AreFound c.over.result (g.F.Folder.told c.names.new.self).files c.all-2.result.now c.over-2.result c.in_ok-stood.stood.last =
     subst (λ (fs : List TraceFile). AreFound c.over.result (g.F.Folder.told c.names.new.self).files c.all-2.result.now fs c.in_ok-stood.stood.last) (sym c.over-2.ensures)
     (subst (λ (d : List ℕ). AreFound d (g.F.Folder.told c.names.new.self).files c.all-2.result.now c.in_ok-stood.stood.files.items c.in_ok-stood.stood.last) same c.in_ok-stood.ensures.found) in
-    let trace : Trace = record { directory = c.over.result; file_size = conf.file_size; max_size = conf.max_size; state = record { files = c.over-2.result; end = None }; last = c.in_ok-stood.stood.last; begun = false } in
+    let trace : Trace = record { directory = c.over.result; file_size = conf.file_size; max_size = conf.max_size; state = record { files = c.over-2.result; end = None }; last = c.in_ok-stood.stood.last; begun = false; unstored = 0 } in
     let prefix : c.as_text.result.now ≡ front_of c.over.result =
     c.as_text.ensures ∙ c.deref-2.ensures.value ∙ c.in_ok-front.ensures ∙ ap (λ (d : List ℕ). d ++ codes "/dlt_offlinetrace.") (c.deref.ensures.value ∙ sym c.over.ensures) in
     let all : IfSome (g.F.Folder.told c.args.folder.now).files (λ (folder : Files). c.all-2.result.now ≡ names_with (front_of c.over.result) folder) =

@@ -1,9 +1,10 @@
-use Rattle.std.proofs.Common.{◌≡◌, ℕ, cond, take, ◌∙◌, sym, ap, subst, Ok, Err}
-use Rattle.dl_trace.specs.State.{Trace}
+use Rattle.std.proofs.Common.{◌≡◌, ℕ, ◌+◌, cond, length, take, ◌∙◌, sym, ap, subst, Some, Ok, Err}
+use Rattle.dl_trace.specs.State.{Trace, counted}
 use Rattle.dl_trace.specs.Kept.{IsSound}
 use Rattle.dl_trace.specs.Batch.{parted}
 use Rattle.dl_trace.specs.Pieces.{room_of, room_for}
 use Rattle.dl_trace.specs.Storing.{Stops}
+use Rattle.dl_trace.proofs.Batches.{length-parted}
 use Rattle.dl_trace.proofs.Placed.{ended_with}
 use Rattle.dl_trace.proofs.Next.{placed_at, not_placed_at, open_begun}
 use Rattle.dl_trace.proofs.Others.{places_changes}
@@ -26,8 +27,12 @@ returns-in-Err-clause-stopped g c =
     let b = c.begins-begins.result in
     let told = (g.F.Folder.told c.args.folder.now).files in
     let now = (g.F.Folder.told c.place.new.folder).files in
+    let frames = parted c.args.sizes.now c.args.bytes.now in
+    let ended : ℕ → Trace → Trace = λ n t. record t { state = record { files = t.state.files; end = Some c.in-Err.end }; unstored = counted (t.unstored + n) } in
+    let counts : c.miss.new.self ≡ ended_with c.in-Err.end frames c.place.new.self =
+    c.miss.ensures ∙ ap (ended (length c.args.sizes.now)) c.self-in-Err.view_is ∙ ap (λ (n : ℕ). ended n c.place.new.self) (sym (length-parted c.args.sizes.now c.args.bytes.now)) in
     let room : c.room_for.result ≡ room_for b c.args.self.now = c.room_for.ensures ∙ ap (λ (r : ℕ). cond b c.self.inside.file_size r) c.room.ensures.value ∙ ap (λ (t : Trace). cond b t.file_size (room_of c.args.self.now)) c.self.view_is in
-    subst (λ (t : Trace). Stops c.in-Err.end (parted c.args.sizes.now c.args.bytes.now) c.args.self.now (ended_with c.in-Err.end t) told now) (sym c.self-2.view_is)
+    subst (λ (t : Trace). Stops c.in-Err.end frames c.args.self.now t told now) (sym counts)
     (not_placed_at b c.args.self.now c.place.new.self c.args.sizes.now c.args.bytes.now told now c.in-Err.end c.room_for.result c.front_of-piece.result.bytes
     c.requires.some c.requires.sizes (subst IsSound c.self.view_is c.self.invariant) c.begins-begins.ensures.new c.begins-begins.ensures.open room c.front_of-piece.ensures.bytes c.front_of-piece.ensures.room c.in-Err.ensures.trace)
 

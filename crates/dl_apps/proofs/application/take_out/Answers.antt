@@ -1,0 +1,14 @@
+use Rattle.std.proofs.Common.{ap, sym, ◌∙◌}
+use Rattle.std.specs.Map.{lookup}
+use Rattle.std.specs.Str.{bytes_eq}
+use Rattle.dl_apps.proofs.Entries.{removed_is_filter}
+use Rattle.dl_apps.proofs.application.take_out.Goals as goal
+
+pub returns-clause-gone : goal.returns-clause-gone
+returns-clause-gone c =
+    c.shift_remove.ensures.entries
+    ∙ removed_is_filter (bytes_eq c.args.ctid) c.args.contexts.now.entries (ap (lookup (bytes_eq c.args.ctid)) (sym c.shift_remove.ensures.entries) ∙ c.shift_remove.ensures.updates.1)
+
+pub returns-clause-once : goal.returns-clause-once
+returns-clause-once c =
+    removed_is_filter (bytes_eq c.args.ctid) c.args.contexts.now.entries (ap (lookup (bytes_eq c.args.ctid)) (sym c.shift_remove.ensures.entries) ∙ c.shift_remove.ensures.updates.1)

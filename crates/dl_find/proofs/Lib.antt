@@ -1,0 +1,4 @@
+pub mod Growing
+pub mod Refills
+pub mod Searching
+pub mod Gathering

@@ -1,0 +1,5 @@
+use Rattle.std.proofs.Common.{refl}
+use Rattle.dl_find.proofs.search.Search.new.Goals as goal
+
+pub returns : goal.returns
+returns c = record { question_is = refl; finding_is = c.new.ensures c.args.question }
