@@ -115,10 +115,11 @@ EXPORT DltReturnValue dlt_user_log_write_start_w_given_buffer(DltContext *handle
 EXPORT DltReturnValue dlt_user_log_write_finish_w_given_buffer(DltContextData *log) {
     if (!log || !log->handle || !log->buffer)
         return DLT_RETURN_WRONG_PARAMETER;
-    Call call = {(uint8_t)log->log_level, log->verbose_mode != 0, (uint8_t)log->args_num, log->use_timestamp ? log->user_timestamp : ticks_now()};
     unsigned p = (unsigned)log->handle->log_level_pos;
     log->handle = NULL;
     lock();
+    // in here, so that times don't step back where counters go on
+    Call call = {(uint8_t)log->log_level, log->verbose_mode != 0, (uint8_t)log->args_num, log->use_timestamp ? log->user_timestamp : ticks_now()};
     bool is_first = client.queue.used == 0, is_there = p < PLACES && places[p].taken;
     uint8_t logged = is_there ? dl_client_c_log(&client, p, &call, log->buffer, (size_t)log->size) : NO_CALL;
     if (is_first)

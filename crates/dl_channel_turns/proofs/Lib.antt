@@ -3,4 +3,5 @@ pub mod ToldLevels
 pub mod ServedMessages
 pub mod HeardMore
 pub mod PutLevels
+pub mod AnsweredRegistrations
 pub mod LaterSides

@@ -1,15 +1,20 @@
 -- Level events, each told the program that has the context.
-use Rattle.std.specs.Prelude.{◌≡◌, ℕ, ◌/◌, List, [], ◌∷◌, Option, Some, None}
+use Rattle.std.specs.Prelude.{◌≡◌, ℕ, ◌/◌, List, [], ◌∷◌, Option, Some, None, Result, Ok, Err}
+use Rattle.std.specs.Option.{option_and_then, option_map}
 use Rattle.dl_bytes.specs.Limits.{context_limit}
+use Rattle.dl_bytes.specs.declared.user.UserMsg.{UserMsg}
+use Rattle.dl_bytes.specs.declared.user.UserMsg.TheVariants.{RegisterContext}
 use Rattle.dl_events.specs.declared.event.Event.TheVariants as event
-use Rattle.dl_model.specs.Registry.{Registry}
+use Rattle.dl_model.specs.Registry.{Registry, level_at}
 use Rattle.dl_model.specs.declared.registry.LevelChange.{LevelChange}
-use Rattle.dl_registry.specs.Kept.{channel_at, owed_change, position_at, with_change}
-use Rattle.dl_channel.specs.Levels.{with_level}
+use Rattle.dl_model.specs.declared.registry.RegistryFault.{RegistryFault}
+use Rattle.dl_registry.specs.Kept.{channel_at, owed_change, position_at, slot_named, with_change}
+use Rattle.dl_channel.specs.Levels.{level_message, with_level, with_message}
 use Rattle.dl_channel.specs.State.{Outbox}
 use Rattle.dl_core.specs.Admission.{AddsEach}
 use Rattle.dl_core.specs.Follows.{AddsAlone}
 use Rattle.dl_channel_turns.specs.State.{Side, changed}
+use Rattle.dl_channel_turns.specs.declared.registration.Registration.{Registration}
 
 -- A level is put for a channel, with the position of the context, where there is such a context.
 abbrev pub put_for : Option ℕ → Option ℕ → ℕ → List (ℕ × Outbox) → List (ℕ × Outbox)
@@ -37,3 +42,32 @@ TellsLevels (next ∷ others) old new = (between : Side) × TellsLevel next old 
 
 abbrev pub HaveToldLevels : Side → Side → Type 0
 HaveToldLevels old new = (changes : List LevelChange) × TellsLevels changes old new
+
+-- ---- the answer to a registration
+
+-- what a message registers, where it registers a context
+abbrev pub registration_of : UserMsg → Option Registration
+registration_of (RegisterContext apid ctid position level trace pid text) = Some (record { apid = apid; ctid = ctid; position = position })
+registration_of other = None
+
+-- the message that tells the level of a context that is there, for the position that it was registered with
+abbrev pub level_of : Registry → Registration → Option (List ℕ)
+level_of registry asked = option_map (λ level. level_message level asked.position) (option_and_then (level_at registry) (slot_named registry asked.apid asked.ctid))
+
+-- A registration that is accepted is answered with the context's level. Where it owes a Level event, that is the answer, and so there is none here; and
+-- none where the registration is refused.
+abbrev pub answer_to : Option Registration → Result Registry RegistryFault → Option LevelChange → Option (List ℕ)
+answer_to (Some asked) (Ok registry) None = level_of registry asked
+answer_to (Some asked) (Ok registry) (Some owed) = None
+answer_to (Some asked) (Err refusal) owed = None
+answer_to None outcome owed = None
+
+-- what was asked for, where it was not refused
+abbrev pub unless_refused : Option RegistryFault → Option Registration → Option Registration
+unless_refused None asked = asked
+unless_refused (Some refusal) asked = None
+
+-- an answer is put for the channel that asked
+abbrev pub answered : ℕ → Option (List ℕ) → List (ℕ × Outbox) → List (ℕ × Outbox)
+answered channel (Some message) outboxes = changed channel (with_message message) outboxes
+answered channel None outboxes = outboxes

@@ -5,20 +5,23 @@ use Rattle.dl_bytes.specs.declared.moment.Moment.{Moment}
 use Rattle.dl_bytes.specs.declared.user.UserMsg.{UserMsg}
 use Rattle.dl_core.specs.Admission.{IsLog, has_frames}
 use Rattle.dl_core.specs.Noting.{NotesMessage}
-use Rattle.dl_core.specs.Registering.{Registers}
+use Rattle.dl_core.specs.Registering.{Registers, applied_now}
+use Rattle.dl_registry.specs.Kept.{owed_change}
 use Rattle.dl_admission.specs.Admission.{Forwards, ForwardsAll}
-use Rattle.dl_channel_turns.specs.Levels.{HaveToldLevels}
+use Rattle.dl_channel_turns.specs.Levels.{HaveToldLevels, answer_to, answered, registration_of}
 use Rattle.dl_channel_turns.specs.State.{Side, part_of}
 
--- a message without frames was handed to the registry, and its event is noted
+-- A message without frames was handed to the registry, and its event is noted. A context that it registers is told its level at once, where it owes
+-- no Level event.
 pub record Notes (channel : ℕ) (moment : Moment) (msg : UserMsg) (old new : Side) : Type 0 where
   pub notes : NotesMessage moment channel msg old.core new.core old.folder new.folder old.events new.events
   pub registers : Registers channel msg old.core new.core.registry
-  pub outboxes : new.outboxes ≡ old.outboxes
+  pub outboxes : new.outboxes
+      ≡ answered channel (answer_to (registration_of msg) (applied_now old.core channel msg) (owed_change new.core.registry)) old.outboxes
   pub rest : new.core ≡ record old.core { registry = new.core.registry; hub = new.core.hub; trace = new.core.trace }
 
 -- A message that has frames is admitted, behind the Closes of the clients that are too slow for it, and nothing is told. Any other one is
--- noted, and the Level events that it owes follow, each told its channel.
+-- noted, and the Level events that it owes follow, each told its channel. So a context that registers is told its level in any case.
 abbrev pub Serves : Bool → ℕ → Moment → UserMsg → Side → Side → Type 0
 Serves true channel moment msg old new = Forwards moment channel msg (part_of old) (part_of new) × (new.outboxes ≡ old.outboxes)
 Serves false channel moment msg old new = (between : Side) × Notes channel moment msg old between × HaveToldLevels between new

@@ -1,15 +1,17 @@
 -- Which levels are put for a channel.
-use Rattle.std.specs.Prelude.{◌≡◌, ◌==◌, ◌/◌, ◌+◌, ◌<◌, ◌⊎◌, ℕ, true, false, List, [], ◌∷◌, ◌++◌, length, map, Option, Some, None, if◌then◌else◌}
+use Rattle.std.specs.Prelude.{◌≡◌, ◌==◌, ◌/◌, ◌+◌, ◌<◌, ◌⊎◌, ℕ, true, false, List, [], ◌∷◌, ◌++◌, length, map, Option, Some, None, Ok, if◌then◌else◌}
 use Rattle.std.specs.List.{concat, flat_map}
+use Rattle.std.specs.Option.{option_map}
 use Rattle.dl_bytes.specs.Limits.{context_limit}
 use Rattle.dl_events.specs.declared.event.Event.{Event}
 use Rattle.dl_events.specs.declared.event.Event.TheVariants as event
-use Rattle.dl_model.specs.Registry.{Registry}
+use Rattle.dl_model.specs.Registry.{Registry, context_named, effective}
 use Rattle.dl_model.specs.declared.registry.LevelChange.{LevelChange}
 use Rattle.dl_registry.specs.Kept.{channel_at, position_at}
 use Rattle.dl_channel.specs.Levels.{level_message}
 use Rattle.dl_channel.specs.State.{Outbox, waiting_limit}
 use Rattle.dl_core.specs.Admission.{AddsEach}
+use Rattle.dl_channel_turns.specs.Levels.{answer_to}
 use Rattle.dl_channel_turns.specs.State.{Side, outbox_of}
 
 -- the message of a level for this channel, where the application is the channel's and its context has a position
@@ -21,6 +23,11 @@ to_channel channel None position level = []
 -- that of a level that was set in a slot
 abbrev pub message_for : Registry → ℕ → LevelChange → List (List ℕ)
 message_for registry channel change = to_channel channel (channel_at registry (change.slot / context_limit)) (position_at registry change.slot) change.level
+
+-- that of an answer to a channel, where it is this one
+abbrev pub answer_for : ℕ → ℕ → Option (List ℕ) → List (List ℕ)
+answer_for channel other (Some message) = if other == channel then message ∷ [] else []
+answer_for channel other None = []
 
 -- the messages for a channel of levels that were set one after the other
 abbrev pub messages_for : Registry → ℕ → List LevelChange → List (List ℕ)
@@ -46,3 +53,12 @@ pub record IsPut (channel : ℕ) (changes : List LevelChange) (outbox : Outbox) 
   pub outbox_now : Outbox
   pub is_now : outbox_of new.outboxes channel ≡ Some outbox_now
   pub put : ArePut (messages_for old.core.registry.registry channel changes) outbox outbox_now
+
+-- ---- answers
+
+-- A context that was registered is answered: it has a level in what the message left, and where no Level event is owed the answer is just the one message
+-- that tells it, for the position that the message gave.
+abbrev pub IsAnswered : List ℕ → List ℕ → ℕ → Registry → Type 0
+IsAnswered apid ctid position left =
+    (level : ℕ) × (option_map (λ named. effective left.level named.1) (context_named left apid ctid) ≡ Some level)
+    × (answer_to (Some (record { apid = apid; ctid = ctid; position = position })) (Ok left) None ≡ Some (level_message level position))

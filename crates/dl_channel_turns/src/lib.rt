@@ -9,10 +9,12 @@ mod hearing;
 pub mod laws;
 mod levels;
 mod outboxes;
+mod registration;
 mod serving;
 
 pub use clients::open_clients;
 pub use gathered::Gathered;
 pub use hearing::hear;
 pub use outboxes::Outboxes;
+pub use registration::Registration;
 pub use serving::serve_one;

@@ -1,11 +1,12 @@
 //! What waits for the programs of all channels.
 
-ghost use Rattle.std.specs.Prelude.{◌≡◌, ◌<◌, ◌++◌, ◌∷◌, [], None, IsSome, OnErr, OnOk};
+ghost use Rattle.std.specs.Prelude.{◌≡◌, ◌<◌, ◌++◌, ◌∷◌, [], None, Ok, IsSome, OnErr, OnOk};
 ghost use Rattle.dl_channel.specs.Levels.{with_level};
-ghost use Rattle.dl_channel_turns.specs.Levels.{told};
+ghost use Rattle.dl_channel_turns.specs.Levels.{answer_to, answered, told};
 ghost use Rattle.dl_channel_turns.specs.Pumping.{PumpsOne};
 ghost use Rattle.dl_channel_turns.specs.State.{changed, outbox_of, without};
 
+use crate::registration::Registration;
 use dl_bytes::{Level, OutOfMemory};
 use dl_channel::{ChannelEnd, Outbox};
 use dl_outside::Link;
@@ -78,6 +79,22 @@ impl Outboxes {
             return;
         };
         self.put_level(channel, change.level, position);
+    }
+
+    /// Puts the level of a context for the channel that registered it.
+    pub fn answer(&mut self, registry: &Registry, channel: u16, registered: Option<Registration>)
+        ensures { self.new ≡ answered channel (answer_to registered (Ok registry.now.registry) None) self.old }
+    {
+        let Some(asked) = registered else {
+            return;
+        };
+        let Some(slot) = registry.find(asked.apid, asked.ctid) else {
+            return;
+        };
+        let Some(level) = registry.effective(slot) else {
+            return;
+        };
+        self.put_level(channel, level, asked.position);
     }
 
     /// Sends what waits for a channel that is open.

@@ -16,8 +16,9 @@ ghost use Rattle.dl_channel_turns.specs.State.{side};
 
 use crate::clients::open_clients;
 use crate::gathered::Gathered;
-use crate::levels::note_levels;
+use crate::levels::answer;
 use crate::outboxes::Outboxes;
+use crate::registration::{accepted, registration_in};
 use dl_admission::admit_message;
 use dl_bytes::{Moment, UserMsg};
 use dl_channel::{ChannelEnd, Inbox, Next};
@@ -33,7 +34,8 @@ fn has_frames_in(msg: &UserMsg) -> bool
 }
 
 /// Takes in a message of a channel: its frames are admitted, behind the Closes of the clients that are too slow for them, or it goes to the
-/// registry, and the Level events that it owes follow. Where memory is wanting nothing is done.
+/// registry, and the Level events that it owes follow. A context that registers is told its level in any case. Where memory is wanting nothing is
+/// done.
 pub fn serve_one<J: Journal, F: Folder>(
     core: &mut Core,
     outboxes: &mut Outboxes,
@@ -63,9 +65,11 @@ pub fn serve_one<J: Journal, F: Folder>(
         admit_message(core, journal, channel, msg, moment, folder);
         return Ok(());
     }
+    let asked = registration_in(&msg);
     match core.user(channel, msg, moment, folder, journal) {
-        Ok(_refusal) => {
-            note_levels(core, outboxes, journal);
+        Ok(refusal) => {
+            let registered = accepted(asked, refusal);
+            answer(core, outboxes, journal, channel, registered);
             Ok(())
         }
         Err(_) => Err(ChannelEnd::NoMemory),

@@ -18,7 +18,7 @@ use Rattle.dl_find.specs.Finds.{Met}
 use Rattle.dl_find.specs.Found.{Answers, Ends, Searches, Stops}
 use Rattle.dl_find.specs.Meets.{AllMeet, AreBadAt, FileMeets, IsFirst, IsSearch}
 use Rattle.dl_find.specs.Searches.{HasSearched, StopsAt, StopsFirst}
-use Rattle.dl_find.specs.declared.question.Question.{Question}
+use Rattle.dl_find_words.specs.declared.question.Question.{Question}
 use Rattle.dl_find.specs.declared.search.Search.{Search}
 use Rattle.dl_find.specs.declared.search.Stop.{Stop}
 use Rattle.dl_find.specs.declared.search.Stop.TheVariants as stop

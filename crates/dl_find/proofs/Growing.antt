@@ -1,6 +1,6 @@
 -- What one message more changes of what is found.
 use Rattle.std.proofs.Common.{◌≡◌, ℕ, ◌+◌, Bool, true, false, cond, List, [], ◌∷◌, ◌++◌, length, Option, Some, None, refl, sym, ap, ◌∙◌, append-nil, length-append, arith}
-use Rattle.std.specs.Prelude.{sum, sum_by, is_some}
+use Rattle.std.specs.Prelude.{◌||◌, sum, sum_by, is_some, unwrap_or}
 use Rattle.std.specs.List.{after_last, filter_map, find}
 use Rattle.std.specs.Option.{option_map, option_or}
 use Rattle.std.proofs.lemmas.Bool.{cond-true, cond-false}
@@ -16,19 +16,20 @@ use Rattle.dl_sessions.specs.declared.session.Lost.{Lost}
 use Rattle.dl_sessions.specs.declared.session.Told.{Told}
 use Rattle.dl_sessions.specs.declared.session.Told.TheVariants as told
 use Rattle.dl_sessions.proofs.OneMore.{goes_on, stands}
-use Rattle.dl_find.specs.Finds.{Met, any, back, behind_at, change, finding_of, goes_at, goes_of, hit_by, hits_of, hole_at, hole_by, hole_of, holes_of, is_open, last_in, list_of, met, met_again, number_in, passes, passing, reports_in, seen_if, session_goes, shown, since_in, steps, steps_at, steps_of, tells, told_of, track_of}
+use Rattle.dl_find.specs.Finds.{Met, any, back, behind_at, change, finding_of, first_in, goes_at, goes_of, hit_by, hits_of, hole_at, hole_by, hole_of, holes_of, is_open, is_record, last_in, list_of, met, met_again, number_in, passes, passing, reports_in, seen_if, session_goes, shown, since_in, steps, steps_at, steps_of, tells, told_of, track_of, unstored_in, unstored_of}
 use Rattle.dl_find.specs.Meets.{IsSearch}
-use Rattle.dl_find.specs.Questions.{is_asked, is_named, is_of_context}
-use Rattle.dl_find.specs.Steps.{goes_by, hit_if, noted, one_if, reported, track_by, with_entry, with_report}
-use Rattle.dl_find.specs.declared.finding.Finding.{Finding}
-use Rattle.dl_find.specs.declared.question.Question.{Question}
-use Rattle.dl_find.specs.declared.reports.Reports.{Reports}
-use Rattle.dl_find.specs.declared.seen.Hit.{Hit}
-use Rattle.dl_find.specs.declared.seen.Seen.{Seen}
-use Rattle.dl_find.specs.declared.seen.Spot.{Spot}
+use Rattle.dl_find.proofs.Telling.{books-log, books-quiet}
+use Rattle.dl_find_words.specs.Questions.{is_asked, is_named, is_of_context}
+use Rattle.dl_find.specs.Steps.{ended, goes_by, hit_if, noted, one_if, reported, track_by, with_ended, with_entry, with_report, with_unstored}
+use Rattle.dl_find_words.specs.declared.found.Finding.{Finding}
+use Rattle.dl_find_words.specs.declared.question.Question.{Question}
+use Rattle.dl_find_words.specs.declared.found.Reports.{Reports}
+use Rattle.dl_find_words.specs.declared.seen.Hit.{Hit}
+use Rattle.dl_find_words.specs.declared.seen.Seen.{Seen}
+use Rattle.dl_find_words.specs.declared.seen.Spot.{Spot}
 use Rattle.dl_find.specs.declared.search.Search.{Search}
-use Rattle.dl_find.specs.declared.track.Hole.{Hole}
-use Rattle.dl_find.specs.declared.track.Track.{Track}
+use Rattle.dl_find_words.specs.declared.found.Hole.{Hole}
+use Rattle.dl_find_words.specs.declared.found.Track.{Track}
 
 -- ---- lists
 
@@ -48,23 +49,38 @@ module _ (q : Question) (mets : List Met) (spot : Spot) (bytes : List ℕ) where
       (omega (arith, sum_by-append (λ (x : Met). told_of q.apid x.told) mets (m ∷ []))) in
       let buffer = one (sum_by (λ (x : Met). told_of daemon_apid x.told) mets) (told_of daemon_apid (told.Lost lost)) (sum_by (λ (x : Met). told_of daemon_apid x.told) (mets ++ m ∷ []))
       (omega (arith, sum_by-append (λ (x : Met). told_of daemon_apid x.told) mets (m ∷ []))) in
-      let last = ap (option_map (λ (x : Met). x.spot)) (last_that-one (λ (x : Met). tells q x.told) mets m) ∙ by_test (tells q (told.Lost lost)) in
-      λ i. record { ring = ring i; buffer = buffer i; last = last i }
+      let unstored : sum_by unstored_of (mets ++ m ∷ []) ≡ sum_by unstored_of mets = omega (arith, sum_by-append unstored_of mets (m ∷ [])) in
+      let last = ap (option_map (λ (x : Met). x.spot)) (last_that-one (is_record q) mets m) ∙ by_test (tells q (told.Lost lost)) in
+      λ i. record { ring = ring i; buffer = buffer i; unstored = counted (unstored i); last = last i }
     where
-      by_test : (b : Bool) → option_map (λ (x : Met). x.spot) (cond b (Some (met spot (told.Lost lost) bytes)) (last_that (λ (x : Met). tells q x.told) mets))
-          ≡ cond b (Some spot) (option_map (λ (x : Met). x.spot) (last_that (λ (x : Met). tells q x.told) mets))
+      by_test : (b : Bool) → option_map (λ (x : Met). x.spot) (cond (b || false) (Some (met spot (told.Lost lost) bytes)) (last_that (is_record q) mets))
+          ≡ cond b (Some spot) (option_map (λ (x : Met). x.spot) (last_that (is_record q) mets))
       by_test true = refl
       by_test false = refl
 
-  reports-quiet : (t : Told) → told_of q.apid t ≡ 0 → told_of daemon_apid t ≡ 0 → tells q t ≡ false → reports_in q (mets ++ met spot t bytes ∷ []) ≡ reports_in q mets
-  reports-quiet t none_of_ring none_of_buffer none =
+  reports-quiet : (t : Told) → told_of q.apid t ≡ 0 → told_of daemon_apid t ≡ 0 → unstored_of (met spot t bytes) ≡ 0 → is_record q (met spot t bytes) ≡ false → reports_in q (mets ++ met spot t bytes ∷ []) ≡ reports_in q mets
+  reports-quiet t none_of_ring none_of_buffer none_unstored none =
       let m = met spot t bytes in
       let ring : sum_by (λ (x : Met). told_of q.apid x.told) (mets ++ m ∷ []) ≡ sum_by (λ (x : Met). told_of q.apid x.told) mets
       = omega (arith, none_of_ring, sum_by-append (λ (x : Met). told_of q.apid x.told) mets (m ∷ [])) in
       let buffer : sum_by (λ (x : Met). told_of daemon_apid x.told) (mets ++ m ∷ []) ≡ sum_by (λ (x : Met). told_of daemon_apid x.told) mets
       = omega (arith, none_of_buffer, sum_by-append (λ (x : Met). told_of daemon_apid x.told) mets (m ∷ [])) in
-      let last = ap (option_map (λ (x : Met). x.spot)) (last_that-one (λ (x : Met). tells q x.told) mets m ∙ cond-false (tells q t) (Some m) (last_that (λ (x : Met). tells q x.told) mets) none) in
-      λ i. record { ring = counted (ring i); buffer = counted (buffer i); last = last i }
+      let unstored : sum_by unstored_of (mets ++ m ∷ []) ≡ sum_by unstored_of mets = omega (arith, none_unstored, sum_by-append unstored_of mets (m ∷ [])) in
+      let last = ap (option_map (λ (x : Met). x.spot)) (last_that-one (is_record q) mets m ∙ cond-false (is_record q m) (Some m) (last_that (is_record q) mets) none) in
+      λ i. record { ring = counted (ring i); buffer = counted (buffer i); unstored = counted (unstored i); last = last i }
+
+  reports-ended : (count : ℕ) → unstored_in bytes ≡ Some count → reports_in q (mets ++ met spot told.Other bytes ∷ []) ≡ with_unstored (reports_in q mets) spot count
+  reports-ended count some =
+      let m = met spot told.Other bytes in
+      let ring : sum_by (λ (x : Met). told_of q.apid x.told) (mets ++ m ∷ []) ≡ sum_by (λ (x : Met). told_of q.apid x.told) mets
+      = omega (arith, sum_by-append (λ (x : Met). told_of q.apid x.told) mets (m ∷ [])) in
+      let buffer : sum_by (λ (x : Met). told_of daemon_apid x.told) (mets ++ m ∷ []) ≡ sum_by (λ (x : Met). told_of daemon_apid x.told) mets
+      = omega (arith, sum_by-append (λ (x : Met). told_of daemon_apid x.told) mets (m ∷ [])) in
+      let tells_so : unstored_of m ≡ count = ap (λ (o : Option ℕ). unwrap_or o 0) some in
+      let unstored = one (sum_by unstored_of mets) count (sum_by unstored_of (mets ++ m ∷ [])) (omega (arith, tells_so, sum_by-append unstored_of mets (m ∷ []))) in
+      let is : is_record q m ≡ true = ap is_some some in
+      let last = ap (option_map (λ (x : Met). x.spot)) (last_that-one (is_record q) mets m ∙ cond-true (is_record q m) (Some m) (last_that (is_record q) mets) is) in
+      λ i. record { ring = counted (ring i); buffer = counted (buffer i); unstored = unstored i; last = last i }
 
 -- ---- the messages that pass a test
 
@@ -166,7 +182,7 @@ track-log q test mets spot bytes e = by_test (test e) refl where
   s = record { spot = spot; entry = e }
 
   quiet : (xs : List Met) → reports_in q (xs ++ m ∷ []) ≡ reports_in q xs
-  quiet xs = reports-quiet q xs spot bytes (told.Log e) refl refl refl
+  quiet xs = reports-quiet q xs spot bytes (told.Log e) refl refl refl refl
 
   by_test : (b : Bool) → test e ≡ b → track_of q test (mets ++ m ∷ []) ≡ track_by b q.point (track_of q test mets) s
   by_test true is = track-passes q test mets m s (cond-true (test e) (Some s) None is) is quiet
@@ -177,9 +193,15 @@ track-lost : (q : Question) (test : Entry → Bool) (mets : List Met) (spot : Sp
 track-lost q test mets spot bytes lost =
     track-other q test mets (met spot (told.Lost lost) bytes) (λ (r : Reports). with_report q r spot lost) refl refl (λ xs. reports-lost q xs spot bytes lost)
 
-track-none : (q : Question) (test : Entry → Bool) (mets : List Met) (spot : Spot) (bytes : List ℕ) → track_of q test (mets ++ met spot told.Other bytes ∷ []) ≡ track_of q test mets
-track-none q test mets spot bytes =
-    track-other q test mets (met spot told.Other bytes) (λ (r : Reports). r) refl refl (λ xs. reports-quiet q xs spot bytes told.Other refl refl refl) ∙ untold (track_of q test mets)
+track-ended : (q : Question) (test : Entry → Bool) (mets : List Met) (spot : Spot) (bytes : List ℕ) (count : ℕ) → unstored_in bytes ≡ Some count
+    → track_of q test (mets ++ met spot told.Other bytes ∷ []) ≡ ended (track_of q test mets) spot count
+track-ended q test mets spot bytes count some =
+    track-other q test mets (met spot told.Other bytes) (λ (r : Reports). with_unstored r spot count) refl refl (λ xs. reports-ended q xs spot bytes count some)
+
+track-none : (q : Question) (test : Entry → Bool) (mets : List Met) (spot : Spot) (bytes : List ℕ) → unstored_in bytes ≡ None → track_of q test (mets ++ met spot told.Other bytes ∷ []) ≡ track_of q test mets
+track-none q test mets spot bytes none =
+    track-other q test mets (met spot told.Other bytes) (λ (r : Reports). r) refl refl
+    (λ xs. reports-quiet q xs spot bytes told.Other refl refl (ap (λ (o : Option ℕ). unwrap_or o 0) none) (ap is_some none)) ∙ untold (track_of q test mets)
 
 -- ---- hits, and who counts
 
@@ -203,6 +225,15 @@ goes-log goes q mets spot bytes e = by_test (is_of_context q e) where
   by_test true = omega arith
   by_test false = refl
 
+-- ---- the first message of all
+
+start-log : (q : Question) (mets : List Met) (spot : Spot) (bytes : List ℕ) (e : Entry)
+    → first_in (passing any (mets ++ met spot (told.Log e) bytes ∷ [])) ≡ option_or (first_in (passing any mets)) (Some (record { spot = spot; entry = e }))
+start-log q mets spot bytes e = ap (find any) (passing-one q any mets (met spot (told.Log e) bytes)) ∙ find-append any (passing any mets) (record { spot = spot; entry = e } ∷ [])
+
+start-quiet : (q : Question) (mets : List Met) (m : Met) → seen_if any m ≡ None → first_in (passing any (mets ++ m ∷ [])) ≡ first_in (passing any mets)
+start-quiet q mets m none = ap (find any) (passing-one q any mets m ∙ ap (λ (o : Option Seen). passing any mets ++ list_of o) none ∙ append-nil (passing any mets))
+
 -- ---- all
 
 found-log : (q : Question) (mets : List Met) (spot : Spot) (bytes : List ℕ) (e : Entry) → finding_of q (mets ++ met spot (told.Log e) bytes ∷ []) ≡ noted q (finding_of q mets) (met spot (told.Log e) bytes)
@@ -216,7 +247,9 @@ found-log q mets spot bytes e =
     let c = track-log q (is_asked q) mets spot bytes e in
     let d = track-log q (is_of_context q) mets spot bytes e in
     let f = shown-one session_goes q mets m (goes_by session_goes q (finding_of q mets) e) (goes-log session_goes q mets spot bytes e) in
-    λ i. record { hits = a i; hit = b i; session = c i; context = d i; of_session = f i }
+    let g = start-log q mets spot bytes e in
+    let h = books-log q mets spot bytes e in
+    λ i. record { hits = a i; hit = b i; start = g i; session = c i; context = d i; of_session = f i; books = h i }
   where
     by_name : (b : Bool) → hit_by q bytes (cond b (Some (record { spot = spot; entry = e })) None) ≡ hit_if b (record { spot = spot; entry = e }) bytes
     by_name true = refl
@@ -246,14 +279,30 @@ found-one q mets spot bytes (told.Lost lost) =
     let c = track-lost q (is_asked q) mets spot bytes lost in
     let d = track-lost q (is_of_context q) mets spot bytes lost in
     let f = quiet-shown session_goes q mets m refl in
-    λ i. record { hits = counted (length (a i)); hit = find any (a i); session = c i; context = d i; of_session = f i }
-found-one q mets spot bytes told.Other =
-    let m = met spot told.Other bytes in
-    let a = quiet-hits q mets m refl in
-    let c = track-none q (is_asked q) mets spot bytes in
-    let d = track-none q (is_of_context q) mets spot bytes in
-    let f = quiet-shown session_goes q mets m refl in
-    λ i. record { hits = counted (length (a i)); hit = find any (a i); session = c i; context = d i; of_session = f i }
+    let g = start-quiet q mets m refl in
+    let h = books-quiet q mets m refl refl in
+    λ i. record { hits = counted (length (a i)); hit = find any (a i); start = g i; session = c i; context = d i; of_session = f i; books = h i }
+found-one q mets spot bytes told.Other = by_record (unstored_in bytes) refl where
+  m : Met
+  m = met spot told.Other bytes
+
+  by_record : (o : Option ℕ) → unstored_in bytes ≡ o → finding_of q (mets ++ m ∷ []) ≡ with_ended (finding_of q mets) spot o
+  by_record None none =
+      let a = quiet-hits q mets m refl in
+      let c = track-none q (is_asked q) mets spot bytes none in
+      let d = track-none q (is_of_context q) mets spot bytes none in
+      let f = quiet-shown session_goes q mets m refl in
+      let g = start-quiet q mets m refl in
+      let h = books-quiet q mets m refl refl in
+      λ i. record { hits = counted (length (a i)); hit = find any (a i); start = g i; session = c i; context = d i; of_session = f i; books = h i }
+  by_record (Some count) some =
+      let a = quiet-hits q mets m refl in
+      let c = track-ended q (is_asked q) mets spot bytes count some in
+      let d = track-ended q (is_of_context q) mets spot bytes count some in
+      let f = quiet-shown session_goes q mets m refl in
+      let g = start-quiet q mets m refl in
+      let h = books-quiet q mets m refl refl in
+      λ i. record { hits = counted (length (a i)); hit = find any (a i); start = g i; session = c i; context = d i; of_session = f i; books = h i }
 
 -- the same of a search
 pub searched : (q : Question) (mets : List Met) (old new : Search) (spot : Spot) (bytes : List ℕ) (t : Told) → IsSearch q mets old → new.question ≡ old.question → new.finding ≡ noted old.question old.finding (met spot t bytes)

@@ -17,7 +17,7 @@ use Rattle.dl_find.specs.Finds.{Met, met}
 use Rattle.dl_find.specs.Meets.{AreBadAt, FileMeets, IsSearch, Meets, met_at, next_offset}
 use Rattle.dl_find.specs.Rests.{HasFront, HasGiven, IsFront, IsKnown, IsNew, IsThere, WhereThere, left_of, rest_of}
 use Rattle.dl_find.specs.Searches.{HasSearched, StopsAt}
-use Rattle.dl_find.specs.declared.question.Question.{Question}
+use Rattle.dl_find_words.specs.declared.question.Question.{Question}
 use Rattle.dl_find.specs.declared.reader.Front.{Front}
 use Rattle.dl_find.specs.declared.reader.Front.TheVariants as front
 use Rattle.dl_find.specs.declared.reader.Reader.{Reader}

@@ -1,28 +1,35 @@
 -- What is found of a message that is asked for, in the messages of files.
-use Rattle.std.specs.Prelude.{ℕ, ◌+◌, ◌==◌, ◌&&◌, ◌||◌, not, nat_le, nat_lt, Bool, true, false, List, [], ◌∷◌, length, sum, sum_by, Option, Some, None, is_some, if◌then◌else◌}
-use Rattle.std.specs.List.{after_last, cons_option, filter_map, find}
+use Rattle.std.specs.Prelude.{ℕ, ◌+◌, ◌==◌, ◌&&◌, ◌||◌, not, nat_eq, nat_le, nat_lt, Bool, true, false, List, [], ◌∷◌, length, drop, codes, count_by, sum, sum_by, Option, Some, None, is_some, unwrap_or, if◌then◌else◌}
+use Rattle.std.specs.List.{after_last, cons_option, filter_map, find, starts_with}
 use Rattle.std.specs.Option.{option_map, option_map_or, option_or}
 use Rattle.std.specs.Str.{bytes_eq}
 use Rattle.dl_control.specs.Reply.{daemon_apid}
 use Rattle.dl_model.specs.Along.{along, last_that}
+use Rattle.dl_receive.specs.MessageKind.{behind_standard, kind_of}
 use Rattle.dl_receive.specs.Text.{passed_over}
-use Rattle.dl_sessions.specs.Gaps.{counted, entry_of, gap, goes_on, latest_of, of_session, same_session}
+use Rattle.dl_receive.specs.declared.kind.Kind.{Kind}
+use Rattle.dl_receive.specs.declared.kind.Kind.TheVariants as kind
+use Rattle.dl_sessions.specs.Gaps.{counted, entry_of, gap, goes_on, latest, latest_of, of_session, same_session}
+use Rattle.dl_sessions.specs.Ledger.{with_message}
 use Rattle.dl_sessions.specs.declared.session.Entry.{Entry}
 use Rattle.dl_sessions.specs.declared.session.Latest.{Latest}
 use Rattle.dl_sessions.specs.declared.session.Lost.{Lost}
+use Rattle.dl_sessions.specs.declared.session.Since.{Since}
 use Rattle.dl_sessions.specs.declared.session.Told.{Told}
 use Rattle.dl_sessions.specs.declared.session.Told.TheVariants as told
-use Rattle.dl_find.specs.Questions.{is_asked, is_named, is_of_context}
-use Rattle.dl_find.specs.declared.finding.Finding.{Finding}
-use Rattle.dl_find.specs.declared.question.Point.{Point}
-use Rattle.dl_find.specs.declared.question.Point.TheVariants.{Time, Counter}
-use Rattle.dl_find.specs.declared.question.Question.{Question}
-use Rattle.dl_find.specs.declared.reports.Reports.{Reports}
-use Rattle.dl_find.specs.declared.seen.Hit.{Hit}
-use Rattle.dl_find.specs.declared.seen.Seen.{Seen}
-use Rattle.dl_find.specs.declared.seen.Spot.{Spot}
-use Rattle.dl_find.specs.declared.track.Hole.{Hole}
-use Rattle.dl_find.specs.declared.track.Track.{Track}
+use Rattle.dl_find_words.specs.Questions.{is_about, is_account, is_asked, is_named, is_of_context}
+use Rattle.dl_find_words.specs.declared.found.Book.{Book}
+use Rattle.dl_find_words.specs.declared.found.Books.{Books}
+use Rattle.dl_find_words.specs.declared.found.Finding.{Finding}
+use Rattle.dl_find_words.specs.declared.question.Point.{Point}
+use Rattle.dl_find_words.specs.declared.question.Point.TheVariants.{Time, Counter}
+use Rattle.dl_find_words.specs.declared.question.Question.{Question}
+use Rattle.dl_find_words.specs.declared.found.Reports.{Reports}
+use Rattle.dl_find_words.specs.declared.seen.Hit.{Hit}
+use Rattle.dl_find_words.specs.declared.seen.Seen.{Seen}
+use Rattle.dl_find_words.specs.declared.seen.Spot.{Spot}
+use Rattle.dl_find_words.specs.declared.found.Hole.{Hole}
+use Rattle.dl_find_words.specs.declared.found.Track.{Track}
 
 -- ---- messages
 
@@ -81,15 +88,39 @@ abbrev pub told_of : List ℕ → Told → ℕ
 told_of apid (told.Lost lost) = part (bytes_eq lost.source.apid apid) lost
 told_of apid _ = 0
 
--- of the application, or of the daemon's buffer
+-- CTID is TRCE: behind MSIN, NOAR and APID
+abbrev pub is_of_trace : List ℕ → Bool
+is_of_trace message = starts_with nat_eq (drop 6 (behind_standard message)) (codes "TRCE")
+
+-- how many messages a record of the application DA1 and the context TRCE tells as not stored, while the trace had ended
+abbrev pub unstored_by : Bool → Kind → Option ℕ
+unstored_by of_trace (kind.Overflow apid counter) = if bytes_eq apid daemon_apid && of_trace then Some counter else None
+unstored_by of_trace _ = None
+
+abbrev pub unstored_in : List ℕ → Option ℕ
+unstored_in message = unstored_by (is_of_trace message) (kind_of message)
+
+-- the same of a message that tells no session
+abbrev pub unstored_at : List ℕ → Told → Option ℕ
+unstored_at message told.Other = unstored_in message
+unstored_at message _ = None
+
+abbrev pub unstored_of : Met → ℕ
+unstored_of m = unwrap_or (unstored_at m.bytes m.told) 0
+
+-- of the application, of the daemon's buffer, or of what was not stored
 abbrev pub tells : Question → Told → Bool
 tells q t = tells_of q.apid t || tells_of daemon_apid t
+
+abbrev pub is_record : Question → Met → Bool
+is_record q m = tells q m.told || is_some (unstored_at m.bytes m.told)
 
 abbrev pub reports_in : Question → List Met → Reports
 reports_in q mets = record {
   ring = counted (sum_by (λ m. told_of q.apid m.told) mets);
   buffer = counted (sum_by (λ m. told_of daemon_apid m.told) mets);
-  last = option_map (λ m. m.spot) (last_that (λ m. tells q m.told) mets);
+  unstored = counted (sum_by unstored_of mets);
+  last = option_map (λ m. m.spot) (last_that (is_record q) mets);
 }
 
 -- ---- holes
@@ -197,6 +228,66 @@ goes_at goes q before m = goes_of goes (last_in (passing (is_asked q) before)) (
 abbrev pub shown : (Option Seen → Option Seen → Entry → ℕ) → Question → List Met → ℕ
 shown goes q mets = counted (sum (along (goes_at goes q) mets))
 
+-- ---- accounts
+
+-- the messages of sessions
+abbrev pub entries_in : List Met → List Entry
+entries_in mets = filter_map (λ m. entry_of m.told) mets
+
+-- how many counters were passed over between messages of this kind
+abbrev pub gap_at : (Entry → Bool) → List Entry → Entry → List ℕ
+gap_at test before e = if test e then gap (latest test before) e ∷ [] else []
+
+abbrev pub gaps_of : (Entry → Bool) → List Entry → List ℕ
+gaps_of test es = along (gap_at test) es
+
+-- messages of this kind, which came behind so many accounts
+abbrev pub since_over : (Entry → Bool) → ℕ → List Entry → Since
+since_over test accounts es = record {
+  accounts = accounts;
+  messages = counted (count_by test es);
+  missing = counted (sum (gaps_of test es));
+  last = latest test es;
+}
+
+-- what is here of the context since the last account of it
+abbrev pub since_account : Question → List Entry → Since
+since_account q es = since_over (is_of_context q) (counted (count_by (is_about q) es)) (after_last (is_about q) es)
+
+-- the accounts of the session, which are messages of a context of their own
+abbrev pub accounts_in : Question → List Entry → Since
+accounts_in q es = since_over (is_account q) 0 es
+
+-- Two accounts of the context, one behind the other, with the moment that is asked for between them.
+abbrev pub book_between : ℕ → Option Seen → Seen → Since → Since → Option Book
+book_between ticks None s since own = None
+book_between ticks (Some last) s since own =
+    if nat_lt last.entry.ticks ticks && nat_lt ticks s.entry.ticks
+    then Some (record { before = last; behind = s; since = since; lacking = (with_message own s.entry).missing }) else None
+
+abbrev pub book_by : Point → Option Seen → Seen → Since → Since → Option Book
+book_by (Time ticks) last s since own = book_between ticks last s since own
+book_by (Counter mcnt) last s since own = None
+
+abbrev pub book_of : Question → List Met → Option Seen → List Book
+book_of q before None = []
+book_of q before (Some s) =
+    list_of (book_by q.point (last_in (passing (is_about q) before)) s (since_account q (entries_in before)) (accounts_in q (entries_in before)))
+
+abbrev pub book_at : Question → List Met → Met → List Book
+book_at q before m = book_of q before (seen_if (is_about q) m)
+
+abbrev pub books_of : Question → List Met → List Book
+books_of q mets = along (book_at q) mets
+
+abbrev pub books_in : Question → List Met → Books
+books_in q mets = record {
+  since = since_account q (entries_in mets);
+  own = accounts_in q (entries_in mets);
+  last = last_in (passing (is_about q) mets);
+  book = first_in (books_of q mets);
+}
+
 -- ---- all
 
 -- What is found in the messages of files.
@@ -204,7 +295,9 @@ abbrev pub finding_of : Question → List Met → Finding
 finding_of q mets = record {
   hits = counted (length (hits_of q mets));
   hit = first_in (hits_of q mets);
+  start = first_in (passing any mets);
   session = track_of q (is_asked q) mets;
   context = track_of q (is_of_context q) mets;
   of_session = shown session_goes q mets;
+  books = books_in q mets;
 }

@@ -13,7 +13,7 @@ use Rattle.dl_trace_why.specs.declared.status.Status.TheVariants as end
 use Rattle.dl_find.specs.Answer.{answer_text}
 use Rattle.dl_find.specs.Finds.{Met}
 use Rattle.dl_find.specs.Meets.{AllMeet, IsBadAt, IsMissing, IsSearch}
-use Rattle.dl_find.specs.declared.question.Question.{Question}
+use Rattle.dl_find_words.specs.declared.question.Question.{Question}
 use Rattle.dl_find.specs.declared.search.Search.{Search}
 
 -- These files were read, and this is so of their names and of their messages.

@@ -1,10 +1,7 @@
-pub mod Questions
 pub mod Finds
 pub mod Steps
 pub mod Rests
 pub mod Meets
 pub mod Searches
-pub mod Arguments
 pub mod Answer
 pub mod Found
-pub mod Asking

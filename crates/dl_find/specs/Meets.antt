@@ -7,7 +7,7 @@ use Rattle.dl_sessions.specs.Stream.{end_of, first_place, rest_behind, told_at}
 use Rattle.dl_sessions.specs.declared.stream.End.TheVariants.{Bad}
 use Rattle.dl_sessions.specs.declared.stream.Place.{Place}
 use Rattle.dl_find.specs.Finds.{Met, finding_of, met}
-use Rattle.dl_find.specs.declared.question.Question.{Question}
+use Rattle.dl_find_words.specs.declared.question.Question.{Question}
 use Rattle.dl_find.specs.declared.search.Search.{Search}
 
 -- the message at the front of bytes that stand at this offset of a file

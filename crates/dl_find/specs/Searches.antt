@@ -10,7 +10,7 @@ use Rattle.dl_trace_why.specs.declared.status.Status.{Status}
 use Rattle.dl_trace_why.specs.declared.status.Status.TheVariants as end
 use Rattle.dl_find.specs.Finds.{Met}
 use Rattle.dl_find.specs.Meets.{AllMeet, AreBadAt, FileMeets, IsBadAt, IsMissing, IsSearch}
-use Rattle.dl_find.specs.declared.question.Question.{Question}
+use Rattle.dl_find_words.specs.declared.question.Question.{Question}
 use Rattle.dl_find.specs.declared.search.Search.{Search}
 use Rattle.dl_find.specs.declared.search.Stop.{Stop}
 use Rattle.dl_find.specs.declared.search.Stop.TheVariants as stop

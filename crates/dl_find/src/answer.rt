@@ -1,355 +1,86 @@
-//! The answer to a question, in one line.
+//! What is said of a message that is asked for.
 
-ghost use Rattle.std.specs.Prelude.{◌≡◌, ◌++◌, OnOk, slice_get};
-ghost use Rattle.dl_find.specs.Answer.{backs_text, backs_words, before_text, before_words, behind_text, behind_words, between_text, both_text, buffer_told_words, buffer_words, cause_text, counting, counts_text, entry_line, entry_text, finding_text, fits, hit_text, hits_text, hole_text, holes_text, holes_words, lost_text, missing_text, missing_words, name_text, no_hole_text, none_text, record_text, record_words, refused_text, reports_of, ring_told_words, ring_words, sessions_text, sessions_words, several_text, several_words, span_text, spot_text, track_text, untold_text, whole_text, whole_words};
+ghost use Rattle.std.specs.Prelude.{◌≡◌, ◌++◌, ◌==◌, OnOk};
+ghost use Rattle.dl_find.specs.Answer.{before_verdict, begins_later, book_verdict, can_be, counting, file_number, finding_text, first_decided, hole_verdict, inside, is_above, is_before_all, is_lost, is_refused, is_unstored, kind_verdict, name_end, order_verdict, queued_verdict, reports_of, span_verdict, track_verdict, verdict_of};
 
-use crate::arguments::push_message;
-use crate::finding::Finding;
-use crate::question::{Point, Question};
-use crate::reports::Reports;
-use crate::seen::{Hit, Seen, Spot};
-use crate::track::{Hole, Track};
 use dl_bytes::OutOfMemory;
+use dl_find_words::{
+    Book, Finding, Hole, Point, Question, Reports, Seen, Track, Verdict, decides, fits, push_hits,
+    push_verdict,
+};
 use dl_outside::Name;
-use dl_sessions::{Entry, push_number, push_session, push_time};
-use dl_text::push_id;
+use dl_sessions::{Calls, Since, behind};
+use dl_text::{number, parted_at};
 
-/// Words of an answer.
-#[tactic(auto, unfolding(crate::specs::Answer::several_words))]
-fn several_words() -> &'static [u8]
-    ensures { result.now ≡ several_words }
-{
-    b" messages have it, the first of them is at "
-}
+/// The bytes of a trace file's name: `dlt_offlinetrace.`, six digits and `.dlt`.
+const NAME: usize = 27;
 
-/// Words of an answer.
-#[tactic(auto, unfolding(crate::specs::Answer::record_words))]
-fn record_words() -> &'static [u8]
-    ensures { result.now ≡ record_words }
-{
-    b"; told by the record at "
-}
-
-/// Words of an answer.
-#[tactic(auto, unfolding(crate::specs::Answer::ring_words))]
-fn ring_words() -> &'static [u8]
-    ensures { result.now ≡ ring_words }
-{
-    b" by the full ring of "
-}
-
-/// Words of an answer.
-#[tactic(auto, unfolding(crate::specs::Answer::buffer_words))]
-fn buffer_words() -> &'static [u8]
-    ensures { result.now ≡ buffer_words }
-{
-    b" by the full buffer"
-}
-
-/// Words of an answer.
-#[tactic(auto, unfolding(crate::specs::Answer::missing_words))]
-fn missing_words() -> &'static [u8]
-    ensures { result.now ≡ missing_words }
-{
-    b" missing, or a multiple of 256 more, "
-}
-
-/// Words of an answer.
-#[tactic(auto, unfolding(crate::specs::Answer::whole_words))]
-fn whole_words() -> &'static [u8]
-    ensures { result.now ≡ whole_words }
-{
-    b"unknown: no counter is missing there, or a multiple of 256; it may be filtered by its level, not logged, or outside of what is recorded here of "
-}
-
-/// Words of an answer.
-#[tactic(auto, unfolding(crate::specs::Answer::holes_words))]
-fn holes_words() -> &'static [u8]
-    ensures { result.now ≡ holes_words }
-{
-    b"unknown: it may be missing in each of "
-}
-
-/// Words of an answer.
-#[tactic(auto, unfolding(crate::specs::Answer::before_words))]
-fn before_words() -> &'static [u8]
-    ensures { result.now ≡ before_words }
-{
-    b"before: not recorded here, the first message is "
-}
-
-/// Words of an answer.
-#[tactic(auto, unfolding(crate::specs::Answer::behind_words))]
-fn behind_words() -> &'static [u8]
-    ensures { result.now ≡ behind_words }
-{
-    b"behind: not recorded here, the last message is "
-}
-
-/// Words of an answer.
-#[tactic(auto, unfolding(crate::specs::Answer::sessions_words))]
-fn sessions_words() -> &'static [u8]
-    ensures { result.now ≡ sessions_words }
-{
-    b" has several sessions here: ask with the session's number before it\n"
-}
-
-/// Words of an answer.
-#[tactic(auto, unfolding(crate::specs::Answer::backs_words))]
-fn backs_words() -> &'static [u8]
-    ensures { result.now ≡ backs_words }
-{
-    b"unknown: the times of its messages step back, so often: "
-}
-
-/// Words of an answer.
-#[tactic(auto, unfolding(crate::specs::Answer::ring_told_words))]
-fn ring_told_words() -> &'static [u8]
-    ensures { result.now ≡ ring_told_words }
-{
-    b" told by the ring, "
-}
-
-/// Words of an answer.
-#[tactic(auto, unfolding(crate::specs::Answer::buffer_told_words))]
-fn buffer_told_words() -> &'static [u8]
-    ensures { result.now ≡ buffer_told_words }
-{
-    b" told by the buffer"
-}
-
-/// Adds a file and an offset in it.
-#[tactic(auto, unfolding(crate::specs::Answer::spot_text))]
-fn push_spot(text: &mut Vec<u8>, names: &[Name], spot: &Spot) -> Result<(), OutOfMemory>
-    ensures { OnOk result (text.new.items ≡ text.old.items ++ spot_text names.now spot.now) }
-{
-    if let Some(name) = names.get(spot.file as usize) {
-        text.extend_from_slice(name.as_str().as_bytes())?;
-    }
-    push_number(text, b" ", spot.offset)
-}
-
-/// Adds a message by its counter and its time.
-#[tactic(auto, unfolding(crate::specs::Answer::entry_text))]
-fn push_entry(text: &mut Vec<u8>, entry: &Entry) -> Result<(), OutOfMemory>
-    ensures { OnOk result (text.new.items ≡ text.old.items ++ entry_text entry.now) }
-{
-    push_number(text, b"counter ", entry.mcnt)?;
-    text.extend_from_slice(b" at ")?;
-    push_time(text, entry.ticks as u128)
-}
-
-/// Adds the messages between which some are missing.
-#[tactic(auto, unfolding(crate::specs::Answer::between_text))]
-fn push_between(text: &mut Vec<u8>, hole: &Hole) -> Result<(), OutOfMemory>
-    ensures { OnOk result (text.new.items ≡ text.old.items ++ between_text hole.now) }
-{
-    text.extend_from_slice(b" between ")?;
-    push_entry(text, &hole.before.entry)?;
-    text.extend_from_slice(b" and ")?;
-    push_entry(text, &hole.behind.entry)
-}
-
-/// Adds what a message tells of itself.
-#[tactic(auto, unfolding(crate::specs::Answer::entry_line))]
-fn push_entry_line(text: &mut Vec<u8>, entry: &Entry) -> Result<(), OutOfMemory>
-    ensures { OnOk result (text.new.items ≡ text.old.items ++ entry_line entry.now) }
-{
-    text.extend_from_slice(b" ")?;
-    push_time(text, entry.ticks as u128)?;
-    push_session(text, &entry.session)?;
-    text.extend_from_slice(b" ")?;
-    push_id(text, &entry.ctid)?;
-    push_number(text, b" ", entry.mcnt)
-}
-
-/// Adds the line of a message that is here.
-fn push_hit(text: &mut Vec<u8>, names: &[Name], hit: &Hit) -> Result<(), OutOfMemory>
-    ensures { OnOk result (text.new.items ≡ text.old.items ++ hit_text names.now hit.now) }
-{
-    text.extend_from_slice(b"here ")?;
-    push_spot(text, names, &hit.seen.spot)?;
-    push_entry_line(text, &hit.seen.entry)?;
-    push_message(text, hit.bytes.all())?;
-    text.extend_from_slice(b"\n")
-}
-
-/// Adds the line of several messages that are here.
-fn push_several(
-    text: &mut Vec<u8>,
-    names: &[Name],
-    count: u64,
-    hit: &Hit,
-) -> Result<(), OutOfMemory>
-    ensures { OnOk result (text.new.items ≡ text.old.items ++ several_text names.now count hit.now) }
-{
-    push_number(text, b"unknown: ", count)?;
-    text.extend_from_slice(several_words())?;
-    push_spot(text, names, &hit.seen.spot)?;
-    text.extend_from_slice(b"\n")
-}
-
-/// Adds the line of what is here.
-fn push_hits(text: &mut Vec<u8>, names: &[Name], count: u64, hit: &Hit) -> Result<(), OutOfMemory>
-    ensures { OnOk result (text.new.items ≡ text.old.items ++ hits_text names.now count hit.now) }
-{
-    if count == 1 {
-        push_hit(text, names, hit)
-    } else {
-        push_several(text, names, count, hit)
-    }
-}
-
-/// What reports tell of a hole.
+/// What records tell of a hole.
 fn reports_of(hole: &Hole, behind: &Reports) -> Reports
     ensures { result ≡ reports_of hole.now behind.now }
 {
     Reports {
         ring: hole.told.ring.saturating_add(behind.ring),
         buffer: hole.told.buffer.saturating_add(behind.buffer),
+        unstored: hole.told.unstored.saturating_add(behind.unstored),
         last: behind.last.or(hole.told.last),
     }
 }
 
-/// Whether so many are as many as are missing.
-fn fits(told: u64, missing: u8) -> bool
-    ensures { result ≡ fits told missing }
+/// Whether the ring alone tells of messages, and of as many as are missing.
+fn is_lost(hole: &Hole, told: &Reports) -> bool
+    ensures { result ≡ is_lost hole.now told.now }
 {
-    told % 256 == missing as u64
+    fits(told.ring, hole.missing) && told.buffer == 0 && told.unstored == 0
 }
 
-/// Adds which record says so.
-fn push_record(text: &mut Vec<u8>, names: &[Name], last: Option<Spot>) -> Result<(), OutOfMemory>
-    ensures { OnOk result (text.new.items ≡ text.old.items ++ record_text names.now last) }
+/// Whether the buffer alone does.
+fn is_refused(hole: &Hole, told: &Reports) -> bool
+    ensures { result ≡ is_refused hole.now told.now }
 {
-    let Some(spot) = last else {
-        return text.extend_from_slice(b"\n");
-    };
-    text.extend_from_slice(record_words())?;
-    push_spot(text, names, &spot)?;
-    text.extend_from_slice(b"\n")
+    fits(told.buffer, hole.missing) && told.ring == 0 && told.unstored == 0
 }
 
-/// Adds the line of messages that the ring lost.
-fn push_lost(
-    text: &mut Vec<u8>,
-    names: &[Name],
-    question: &Question,
-    hole: &Hole,
-    told: &Reports,
-) -> Result<(), OutOfMemory>
-    ensures { OnOk result (text.new.items ≡ text.old.items ++ lost_text names.now question.now hole.now told.now) }
+/// Whether the trace alone tells of messages, and of at least as many as are missing.
+fn is_unstored(hole: &Hole, told: &Reports) -> bool
+    ensures { result ≡ is_unstored hole.now told.now }
 {
-    push_number(text, b"lost: ", told.ring)?;
-    text.extend_from_slice(ring_words())?;
-    push_id(text, &question.apid)?;
-    push_between(text, hole)?;
-    push_record(text, names, told.last)
+    hole.missing as u64 <= told.unstored && told.ring == 0 && told.buffer == 0
 }
 
-/// Adds the line of messages that the buffer refused.
-fn push_refused(
-    text: &mut Vec<u8>,
-    names: &[Name],
-    hole: &Hole,
-    told: &Reports,
-) -> Result<(), OutOfMemory>
-    ensures { OnOk result (text.new.items ≡ text.old.items ++ refused_text names.now hole.now told.now) }
+/// What is said of messages that are missing, of which records tell this.
+fn hole_verdict(hole: Hole, told: Reports) -> Verdict
+    ensures { result ≡ hole_verdict hole told }
 {
-    push_number(text, b"refused: ", told.buffer)?;
-    text.extend_from_slice(buffer_words())?;
-    push_between(text, hole)?;
-    push_record(text, names, told.last)
-}
-
-/// Adds how many are missing, and how many were told.
-fn push_counts(text: &mut Vec<u8>, missing: u8, told: &Reports) -> Result<(), OutOfMemory>
-    ensures { OnOk result (text.new.items ≡ text.old.items ++ counts_text missing told.now) }
-{
-    push_number(text, b"", missing)?;
-    push_number(text, missing_words(), told.ring)?;
-    push_number(text, ring_told_words(), told.buffer)?;
-    text.extend_from_slice(buffer_told_words())
-}
-
-/// Adds the line of a hole that the reports leave open.
-fn push_untold(text: &mut Vec<u8>, hole: &Hole, told: &Reports) -> Result<(), OutOfMemory>
-    ensures { OnOk result (text.new.items ≡ text.old.items ++ untold_text hole.now told.now) }
-{
-    text.extend_from_slice(b"unknown: ")?;
-    push_counts(text, hole.missing, told)?;
-    push_between(text, hole)?;
-    text.extend_from_slice(b"\n")
-}
-
-/// Adds the line of a hole, of which reports tell this.
-fn push_cause(
-    text: &mut Vec<u8>,
-    names: &[Name],
-    question: &Question,
-    hole: &Hole,
-    told: &Reports,
-) -> Result<(), OutOfMemory>
-    ensures { OnOk result (text.new.items ≡ text.old.items ++ cause_text names.now question.now hole.now told.now) }
-{
-    if fits(told.ring, hole.missing) && told.buffer == 0 {
-        push_lost(text, names, question, hole, told)
-    } else if fits(told.buffer, hole.missing) && told.ring == 0 {
-        push_refused(text, names, hole, told)
+    if is_lost(&hole, &told) {
+        Verdict::Lost { hole, told }
+    } else if is_refused(&hole, &told) {
+        Verdict::Refused { hole, told }
+    } else if is_unstored(&hole, &told) {
+        Verdict::Unstored { hole, told }
     } else {
-        push_untold(text, hole, told)
+        Verdict::Untold { hole, told }
     }
 }
 
-/// Adds the line where no counter was passed over.
-fn push_whole(text: &mut Vec<u8>, question: &Question) -> Result<(), OutOfMemory>
-    ensures { OnOk result (text.new.items ≡ text.old.items ++ whole_text question.now) }
-{
-    text.extend_from_slice(whole_words())?;
-    push_id(text, &question.apid)?;
-    text.extend_from_slice(b"\n")
-}
-
-/// Adds the line where there is no hole among so many messages.
-fn push_no_hole(text: &mut Vec<u8>, question: &Question, messages: u64) -> Result<(), OutOfMemory>
-    ensures { OnOk result (text.new.items ≡ text.old.items ++ no_hole_text question.now messages) }
-{
-    if messages == 0 {
-        text.extend_from_slice(
-            b"unknown: no message of its context is here, which may count its own messages\n",
-        )
-    } else {
-        push_whole(text, question)
-    }
-}
-
-/// Adds the line of several holes.
-fn push_holes(text: &mut Vec<u8>, count: u64, hole: &Hole) -> Result<(), OutOfMemory>
-    ensures { OnOk result (text.new.items ≡ text.old.items ++ holes_text count hole.now) }
-{
-    push_number(text, holes_words(), count)?;
-    text.extend_from_slice(b" holes, the first is")?;
-    push_between(text, hole)?;
-    text.extend_from_slice(b"\n")
-}
-
-/// Adds the line of what is missing, where something is.
-fn push_track(
-    text: &mut Vec<u8>,
-    names: &[Name],
-    question: &Question,
-    track: &Track,
-) -> Result<(), OutOfMemory>
-    ensures { OnOk result (text.new.items ≡ text.old.items ++ track_text names.now question.now track.now) }
+/// What is said of the messages that are counted with that which is asked for.
+fn track_verdict(track: &Track) -> Verdict
+    ensures { result ≡ track_verdict track.now }
 {
     let Some(hole) = track.hole else {
-        return push_no_hole(text, question, track.messages);
+        return if track.messages == 0 {
+            Verdict::NoContext
+        } else {
+            Verdict::Whole
+        };
     };
     if track.holes == 1 {
-        let told = reports_of(&hole, &track.behind);
-        push_cause(text, names, question, &hole, &told)
+        hole_verdict(hole, reports_of(&hole, &track.behind))
     } else {
-        push_holes(text, track.holes, &hole)
+        Verdict::Holes {
+            count: track.holes,
+            hole,
+        }
     }
 }
 
@@ -364,26 +95,135 @@ fn counting(finding: &Finding) -> Track
     }
 }
 
-/// Adds the line of what is before all messages.
-fn push_before(text: &mut Vec<u8>, names: &[Name], first: &Seen) -> Result<(), OutOfMemory>
-    ensures { OnOk result (text.new.items ≡ text.old.items ++ before_text names.now first.now) }
+/// Whether an account can be, beside what is here.
+fn can_be(calls: &Calls, since: &Since) -> bool
+    ensures { result ≡ can_be calls.now since.now }
 {
-    text.extend_from_slice(before_words())?;
-    push_entry(text, &first.entry)?;
-    text.extend_from_slice(b", at ")?;
-    push_spot(text, names, &first.spot)?;
-    text.extend_from_slice(b"\n")
+    since.messages <= calls.queued
+        && since.messages as u128 + since.missing as u128
+            <= calls.queued as u128 + calls.lost as u128
 }
 
-/// Adds the line of what is behind all messages.
-fn push_behind(text: &mut Vec<u8>, names: &[Name], last: &Seen) -> Result<(), OutOfMemory>
-    ensures { OnOk result (text.new.items ≡ text.old.items ++ behind_text names.now last.now) }
+/// What is said by an account of which each queued message is here.
+fn kind_verdict(book: &Book, none_filtered: bool, none_lost: bool) -> Verdict
+    ensures { result ≡ kind_verdict book.now none_filtered none_lost }
 {
-    text.extend_from_slice(behind_words())?;
-    push_entry(text, &last.entry)?;
-    text.extend_from_slice(b", at ")?;
-    push_spot(text, names, &last.spot)?;
-    text.extend_from_slice(b"\n")
+    match (none_filtered, none_lost) {
+        (true, true) => Verdict::Unlogged { book: *book },
+        (false, true) => Verdict::Filtered { book: *book },
+        (true, false) => Verdict::Dropped { book: *book },
+        (false, false) => Verdict::Mixed { book: *book },
+    }
+}
+
+/// What is said by an account that can be.
+fn queued_verdict(book: &Book, calls: &Calls) -> Verdict
+    ensures { result ≡ queued_verdict book.now calls.now }
+{
+    if calls.queued == book.since.messages {
+        kind_verdict(book, calls.filtered == 0, calls.lost == 0)
+    } else {
+        Verdict::Mixed { book: *book }
+    }
+}
+
+/// What is said by an account.
+fn book_verdict(book: &Book) -> Verdict
+    ensures { result ≡ book_verdict book.now }
+{
+    let calls = book.behind.entry.calls;
+    if book.lacking != 0 {
+        Verdict::Gapped { book: *book }
+    } else if can_be(&calls, &book.since) {
+        queued_verdict(book, &calls)
+    } else {
+        Verdict::Refuted { book: *book }
+    }
+}
+
+/// The first of these that decides; else the first.
+fn first_decided(own: Verdict, other: Verdict) -> Verdict
+    ensures { result ≡ first_decided own other }
+{
+    if decides(&own) {
+        own
+    } else if decides(&other) {
+        other
+    } else {
+        own
+    }
+}
+
+/// What is said of a message between those that are here.
+fn inside(finding: &Finding) -> Verdict
+    ensures { result ≡ inside finding.now }
+{
+    let told = track_verdict(&counting(finding));
+    match finding.books.book {
+        Some(book) => first_decided(book_verdict(&book), told),
+        None => told,
+    }
+}
+
+/// The end of a name that a trace file's has.
+fn name_end(name: &[u8]) -> &[u8]
+    ensures { result.now ≡ name_end name.now }
+{
+    behind(name, name.len().saturating_sub(NAME))
+}
+
+/// The number of a trace file, by its name.
+fn file_number(name: &[u8]) -> Option<u64>
+    ensures { result ≡ file_number name.now }
+{
+    let end = name_end(name);
+    let (digits, ending) = parted_at(behind(end, 17), b'.')?;
+    if end.starts_with(b"dlt_offlinetrace.") && ending == b"dlt".as_slice() {
+        number(digits)
+    } else {
+        None
+    }
+}
+
+/// Whether a trace file is not the first of its trace.
+fn is_above(number: Option<u64>) -> bool
+    ensures { result ≡ is_above number }
+{
+    match number {
+        Some(number) => 1 < number,
+        None => false,
+    }
+}
+
+/// Whether the first file here is not the first of its trace.
+fn begins_later(names: &[Name]) -> bool
+    ensures { result ≡ begins_later names.now }
+{
+    match names.get(0) {
+        Some(name) => is_above(file_number(name.as_str().as_bytes())),
+        None => false,
+    }
+}
+
+/// Whether a moment is before all messages, the first of which is this.
+fn is_before_all(ticks: u32, start: Option<Seen>) -> bool
+    ensures { result ≡ is_before_all ticks start }
+{
+    match start {
+        Some(start) => ticks < start.entry.ticks,
+        None => false,
+    }
+}
+
+/// What is said of a moment before the first message of the session.
+fn before_verdict(names: &[Name], ticks: u32, start: Option<Seen>, first: Seen) -> Verdict
+    ensures { result ≡ before_verdict names.now ticks start first }
+{
+    if is_before_all(ticks, start) && begins_later(names) {
+        Verdict::Rotated { first }
+    } else {
+        Verdict::Before { first }
+    }
 }
 
 /// The first and the last message of an application.
@@ -393,83 +233,44 @@ struct Span {
     last: Seen,
 }
 
-/// Adds the line of what is missing of the messages between these.
-fn push_span(
-    text: &mut Vec<u8>,
-    names: &[Name],
-    question: &Question,
-    finding: &Finding,
-    span: &Span,
-) -> Result<(), OutOfMemory>
-    ensures { OnOk result (text.new.items ≡ text.old.items ++ span_text names.now question.now finding.now question.now.point span.now.first span.now.last) }
+/// What is said of a message by where it stands beside the messages of its session.
+fn span_verdict(names: &[Name], finding: &Finding, point: &Point, span: Span) -> Verdict
+    ensures { result ≡ span_verdict names.now finding.now point.now span.first span.last }
 {
     let Span { first, last } = span;
-    match question.point {
-        Point::Time(ticks) if ticks < first.entry.ticks => push_before(text, names, first),
-        Point::Time(ticks) if last.entry.ticks < ticks => push_behind(text, names, last),
-        Point::Time(_) => push_track(text, names, question, &counting(finding)),
-        Point::Counter(_) => push_track(text, names, question, &counting(finding)),
+    match point {
+        Point::Time(ticks) if *ticks < first.entry.ticks => {
+            before_verdict(names, *ticks, finding.start, first)
+        }
+        Point::Time(ticks) if last.entry.ticks < *ticks => Verdict::Behind { last },
+        Point::Time(_) => inside(finding),
+        Point::Counter(_) => inside(finding),
     }
 }
 
-/// Adds the line where no message of the application is here.
-fn push_none(text: &mut Vec<u8>, question: &Question) -> Result<(), OutOfMemory>
-    ensures { OnOk result (text.new.items ≡ text.old.items ++ none_text question.now) }
-{
-    text.extend_from_slice(b"unknown: no message of ")?;
-    push_id(text, &question.apid)?;
-    text.extend_from_slice(b" is here\n")
-}
-
-/// Adds the line where several sessions are here.
-fn push_sessions(text: &mut Vec<u8>, question: &Question) -> Result<(), OutOfMemory>
-    ensures { OnOk result (text.new.items ≡ text.old.items ++ sessions_text question.now) }
-{
-    text.extend_from_slice(b"unknown: ")?;
-    push_id(text, &question.apid)?;
-    text.extend_from_slice(sessions_words())
-}
-
-/// Adds the line where times step back.
-fn push_backs(text: &mut Vec<u8>, count: u64) -> Result<(), OutOfMemory>
-    ensures { OnOk result (text.new.items ≡ text.old.items ++ backs_text count) }
-{
-    push_number(text, backs_words(), count)?;
-    text.extend_from_slice(b"\n")
-}
-
-/// Adds the line of what is missing, where this message of the application is the first and that one the last.
-fn push_missing(
-    text: &mut Vec<u8>,
-    names: &[Name],
-    question: &Question,
-    finding: &Finding,
-    span: &Span,
-) -> Result<(), OutOfMemory>
-    ensures { OnOk result (text.new.items ≡ text.old.items ++ missing_text names.now question.now finding.now span.now.first span.now.last) }
+/// What is said of a message where messages of its application are here.
+fn order_verdict(names: &[Name], question: &Question, finding: &Finding, span: Span) -> Verdict
+    ensures { result ≡ order_verdict names.now question.now finding.now span.first span.last }
 {
     if finding.session.changes != 0 {
-        return push_sessions(text, question);
+        return Verdict::Sessions;
     }
     if finding.session.backs != 0 {
-        return push_backs(text, finding.session.backs);
+        return Verdict::Backs {
+            count: finding.session.backs,
+        };
     }
-    push_span(text, names, question, finding, span)
+    span_verdict(names, finding, &question.point, span)
 }
 
-/// Adds the line of what isn't here.
-fn push_lacking(
-    text: &mut Vec<u8>,
-    names: &[Name],
-    question: &Question,
-    finding: &Finding,
-) -> Result<(), OutOfMemory>
-    ensures { OnOk result (text.new.items ≡ text.old.items ++ both_text names.now question.now finding.now finding.now.session.first finding.now.session.last) }
+/// What is said of a message that isn't here.
+fn verdict_of(names: &[Name], question: &Question, finding: &Finding) -> Verdict
+    ensures { result ≡ verdict_of names.now question.now finding.now }
 {
     let (Some(first), Some(last)) = (finding.session.first, finding.session.last) else {
-        return push_none(text, question);
+        return Verdict::Nobody;
     };
-    push_missing(text, names, question, finding, &Span { first, last })
+    order_verdict(names, question, finding, Span { first, last })
 }
 
 /// Adds the answer to a question.
@@ -483,6 +284,9 @@ pub fn push_answer(
 {
     match &finding.hit {
         Some(hit) => push_hits(text, names, finding.hits, hit),
-        None => push_lacking(text, names, question, finding),
+        None => {
+            let verdict = verdict_of(names, question, finding);
+            push_verdict(text, names, question, &verdict)
+        }
     }
 }

@@ -1,31 +1,19 @@
 //! What is found, message after message.
 
-ghost use Rattle.std.specs.Prelude.{◌≡◌, [], IfOk, OnOk};
+ghost use Rattle.std.specs.Prelude.{◌≡◌, [], OnOk, None, length};
+ghost use Rattle.dl_bytes.specs.Htyp.{len_of};
 ghost use Rattle.std.specs.Option.{option_or};
 ghost use Rattle.dl_find.specs.Finds.{finding_of, latest_in, met, session_goes};
-ghost use Rattle.dl_find.specs.Steps.{goes_by, hit_if, noted, with_lost, with_seen};
+ghost use Rattle.dl_find.specs.Steps.{goes_by, hit_if, noted, with_ended, with_lost, with_seen};
+ghost use Rattle.dl_headers.specs.Reading.{front_fault};
 
-use crate::question::{Question, is_asked, is_named, is_of_context};
-use crate::seen::{Hit, Seen, Spot};
-use crate::track::{Track, no_track, one_if, reported, track_by};
+use crate::books::{books_with, no_books};
+use crate::reports::unstored_in;
+use crate::track::{ended, no_track, one_if, reported, track_by};
 use dl_bytes::{OutOfMemory, Sequence};
+use dl_find_words::{Finding, Hit, Question, Seen, Spot, is_asked, is_named, is_of_context};
 use dl_sessions::{Entry, Latest, Lost, Told, goes_on, latest_of, of_session};
 use std::alloc::Global;
-
-/// What is found of a message that is asked for.
-#[derive(Drop)]
-pub struct Finding {
-    /// How many messages are what is asked for.
-    pub hits: u64,
-    /// The first of them.
-    pub hit: Option<Hit>,
-    /// The messages of the application, or of its session where one is named.
-    pub session: Track,
-    /// Those of the context.
-    pub context: Track,
-    /// How many messages of the context go on from the session's last counter, and not from the context's.
-    pub of_session: u64,
-}
 
 /// What is kept of a message, where there is one.
 fn latest_in(seen: Option<Seen>) -> Option<Latest>
@@ -55,85 +43,107 @@ fn keep(
     Ok(())
 }
 
-impl Finding {
-    /// What is found where no message came.
-    pub fn new() -> Finding
-        ensures { (q : Question) → result ≡ finding_of q [] }
-    {
-        Finding {
-            hits: 0,
-            hit: None,
-            session: no_track(),
-            context: no_track(),
-            of_session: 0,
+/// What is found where no message came.
+pub fn no_finding() -> Finding
+    ensures { (q : Question) → result ≡ finding_of q [] }
+{
+    Finding {
+        hits: 0,
+        hit: None,
+        start: None,
+        session: no_track(),
+        context: no_track(),
+        of_session: 0,
+        books: no_books(),
+    }
+}
+
+/// 1 where a message of the context goes on by its session alone.
+fn by_session(finding: &Finding, question: &Question, entry: &Entry) -> u64
+    ensures { result ≡ goes_by session_goes question.now finding.now entry.now }
+{
+    if !is_of_context(question, entry) {
+        return 0;
+    }
+    let in_context = goes_on(latest_in(finding.context.last), entry);
+    of_session(latest_in(finding.session.last), in_context, entry)
+}
+
+/// Notes a message of a session.
+fn add_seen(
+    finding: &mut Finding,
+    alloc: Global,
+    question: &Question,
+    seen: &Seen,
+    message: &[u8],
+) -> Result<(), OutOfMemory>
+    ensures { OnOk result (finding.new ≡ with_seen question.now finding.old seen.now message.now) }
+{
+    let entry = &seen.entry;
+    let named = is_named(question, entry);
+    keep(alloc, &mut finding.hit, named, seen, message)?;
+    finding.hits = finding.hits.saturating_add(one_if(named));
+    finding.start = finding.start.or(Some(*seen));
+    let goes = by_session(finding, question, entry);
+    finding.of_session = finding.of_session.saturating_add(goes);
+    let point = &question.point;
+    finding.session = track_by(is_asked(question, entry), &finding.session, point, seen);
+    finding.context = track_by(
+        is_of_context(question, entry),
+        &finding.context,
+        point,
+        seen,
+    );
+    finding.books = books_with(question, &finding.books, seen);
+    Ok(())
+}
+
+/// Notes a report of lost messages.
+fn add_report(finding: &mut Finding, question: &Question, spot: Spot, lost: &Lost)
+    ensures { finding.new ≡ with_lost question.now finding.old spot lost.now }
+{
+    finding.session = reported(&finding.session, question, spot, lost);
+    finding.context = reported(&finding.context, question, spot, lost);
+}
+
+/// Notes a record of messages that were not stored, where it is one.
+fn add_unstored(finding: &mut Finding, spot: Spot, count: Option<u32>)
+    ensures { finding.new ≡ with_ended finding.old spot count }
+{
+    if let Some(count) = count {
+        finding.session = ended(&finding.session, spot, count);
+        finding.context = ended(&finding.context, spot, count);
+    }
+}
+
+/// Notes the next message.
+pub fn note(
+    finding: &mut Finding,
+    alloc: Global,
+    question: &Question,
+    spot: Spot,
+    told: &Told,
+    message: &[u8],
+) -> Result<(), OutOfMemory>
+    requires front { front_fault message.now ≡ None }
+    requires len { length message.now ≡ len_of message.now }
+    ensures { OnOk result (finding.new ≡ noted question.now finding.old (met spot told.now message.now)) }
+{
+    match told {
+        Told::Log(entry) => {
+            let seen = Seen {
+                spot,
+                entry: *entry,
+            };
+            add_seen(finding, alloc, question, &seen, message)
         }
-    }
-
-    /// 1 where a message of the context goes on by its session alone.
-    fn session_goes(&self, question: &Question, entry: &Entry) -> u64
-        ensures { result ≡ goes_by session_goes question.now self.now entry.now }
-    {
-        if !is_of_context(question, entry) {
-            return 0;
+        Told::Lost(lost) => {
+            add_report(finding, question, spot, lost);
+            Ok(())
         }
-        let in_context = goes_on(latest_in(self.context.last), entry);
-        of_session(latest_in(self.session.last), in_context, entry)
-    }
-
-    /// Notes a message of a session.
-    fn add_seen(
-        &mut self,
-        alloc: Global,
-        question: &Question,
-        seen: &Seen,
-        message: &[u8],
-    ) -> Result<(), OutOfMemory>
-        ensures { OnOk result (self.new ≡ with_seen question.now self.old seen.now message.now) }
-    {
-        let entry = &seen.entry;
-        let named = is_named(question, entry);
-        keep(alloc, &mut self.hit, named, seen, message)?;
-        self.hits = self.hits.saturating_add(one_if(named));
-        let by_session = self.session_goes(question, entry);
-        self.of_session = self.of_session.saturating_add(by_session);
-        let point = &question.point;
-        self.session = track_by(is_asked(question, entry), &self.session, point, seen);
-        self.context = track_by(is_of_context(question, entry), &self.context, point, seen);
-        Ok(())
-    }
-
-    /// Notes a report of lost messages.
-    fn add_report(&mut self, question: &Question, spot: Spot, lost: &Lost)
-        ensures { self.new ≡ with_lost question.now self.old spot lost.now }
-    {
-        self.session = reported(&self.session, question, spot, lost);
-        self.context = reported(&self.context, question, spot, lost);
-    }
-
-    /// Notes the next message.
-    pub fn add(
-        &mut self,
-        alloc: Global,
-        question: &Question,
-        spot: Spot,
-        told: &Told,
-        message: &[u8],
-    ) -> Result<(), OutOfMemory>
-        ensures { OnOk result (self.new ≡ noted question.now self.old (met spot told.now message.now)) }
-    {
-        match told {
-            Told::Log(entry) => {
-                let seen = Seen {
-                    spot,
-                    entry: *entry,
-                };
-                self.add_seen(alloc, question, &seen, message)
-            }
-            Told::Lost(lost) => {
-                self.add_report(question, spot, lost);
-                Ok(())
-            }
-            Told::Other => Ok(()),
+        Told::Other => {
+            add_unstored(finding, spot, unstored_in(message));
+            Ok(())
         }
     }
 }

@@ -2,17 +2,13 @@
 #![tactic(auto)]
 
 mod answer;
-mod arguments;
-mod asking;
+mod books;
 mod finding;
+pub mod laws;
 mod program;
-mod question;
 mod reader;
 mod reports;
 mod search;
-mod seen;
 mod track;
 
-pub use asking::question_of;
 pub use program::find;
-pub use question::{Point, Question};

@@ -5,14 +5,14 @@ ghost use Rattle.dl_find.specs.Finds.{Met};
 ghost use Rattle.dl_find.specs.Found.{Answers, Ends, Finds, Searches, Stops};
 ghost use Rattle.dl_find.specs.Meets.{IsSearch};
 ghost use Rattle.dl_find.specs.Searches.{StopsFirst};
-ghost use Rattle.dl_find.specs.declared.question.Question.{Question};
+ghost use Rattle.dl_find_words.specs.declared.question.Question.{Question};
 ghost use Rattle.dl_trace_files.specs.Left.{IsLeft};
 ghost use Rattle.dl_trace_why.specs.Account.{seen};
 ghost use Rattle.dl_trace_why.specs.Wanted.{files_wanted};
 
 use crate::answer::push_answer;
-use crate::question::Question;
 use crate::search::{Search, Stop};
+use dl_find_words::Question;
 use dl_outside::{Name, Sink, write_text};
 use dl_pieces::ReadAt;
 use dl_trace_why::{Status, Which, fault_status, names_wanted};

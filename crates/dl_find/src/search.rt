@@ -1,19 +1,20 @@
 //! Files are searched, one behind the other.
 
-ghost use Rattle.std.specs.Prelude.{◌≡◌, ◌++◌, ◌∷◌, [], List, OnOk, Some};
+ghost use Rattle.std.specs.Prelude.{◌≡◌, ◌++◌, ◌∷◌, [], List, None, OnOk, Some, length};
+ghost use Rattle.dl_bytes.specs.Htyp.{len_of};
 ghost use Rattle.dl_find.specs.Finds.{Met, met};
 ghost use Rattle.dl_find.specs.Meets.{IsSearch, met_at};
 ghost use Rattle.dl_find.specs.Rests.{HasGiven, rest_of};
 ghost use Rattle.dl_find.specs.Searches.{SearchesFile, fault_stop};
-ghost use Rattle.dl_find.specs.declared.question.Question.{Question};
+ghost use Rattle.dl_find_words.specs.declared.question.Question.{Question};
+ghost use Rattle.dl_headers.specs.Reading.{front_fault};
 ghost use Rattle.dl_sessions.specs.Stream.{first_place};
 ghost use Rattle.dl_trace_files.specs.Left.{IsLeft};
 
-use crate::finding::Finding;
-use crate::question::Question;
+use crate::finding::{no_finding, note};
 use crate::reader::{Front, LIMIT, Reader};
-use crate::seen::Spot;
 use dl_bytes::OutOfMemory;
+use dl_find_words::{Finding, Question, Spot};
 use dl_outside::FolderFault;
 use dl_pieces::ReadAt;
 use dl_sessions::{Place, Told, behind, told_first};
@@ -60,17 +61,25 @@ impl Search {
         Search {
             alloc,
             question,
-            finding: Finding::new(),
+            finding: no_finding(),
         }
     }
 
     /// Notes the next message.
     fn add(&mut self, spot: Spot, told: &Told, message: &[u8]) -> Result<(), OutOfMemory>
+        requires front { front_fault message.now ≡ None }
+        requires len { length message.now ≡ len_of message.now }
         ensures { (q : Question) (mets : List Met) → IsSearch q mets self.old
             → OnOk result (IsSearch q (mets ++ met spot told.now message.now ∷ []) self.new) }
     {
-        self.finding
-            .add(self.alloc, &self.question, spot, told, message)
+        note(
+            &mut self.finding,
+            self.alloc,
+            &self.question,
+            spot,
+            told,
+            message,
+        )
     }
 
     /// Notes the message at the front of what is left of a file, which gives it.

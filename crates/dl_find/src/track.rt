@@ -2,52 +2,11 @@
 
 ghost use Rattle.std.specs.Prelude.{◌≡◌, if◌then◌else◌};
 ghost use Rattle.dl_find.specs.Finds.{back, change, covers, hole_by, is_open, met_again};
-ghost use Rattle.dl_find.specs.Steps.{no_track, one_if, reported, track_by, with_entry};
+ghost use Rattle.dl_find.specs.Steps.{ended, no_track, one_if, reported, retold, track_by, with_entry};
 
-use crate::question::{Point, Question};
-use crate::reports::{Reports, no_reports, with_report};
-use crate::seen::{Seen, Spot};
+use crate::reports::{no_reports, with_report, with_unstored};
+use dl_find_words::{Hole, Point, Question, Reports, Seen, Spot, Track};
 use dl_sessions::{Entry, Lost, gap, latest_of};
-
-/// Messages that are missing where the question points.
-#[derive(Clone, Copy, PartialEq, Eq)]
-pub struct Hole {
-    /// The message before it.
-    pub before: Seen,
-    /// The message behind it.
-    pub behind: Seen,
-    /// How many counters were passed over: modulo 256.
-    pub missing: u8,
-    /// The number of the message behind it, from 1.
-    pub number: u64,
-    /// What reports between the two tell.
-    pub told: Reports,
-}
-
-/// The messages that pass a test.
-#[derive(Clone, Copy, PartialEq, Eq)]
-pub struct Track {
-    /// How many there are.
-    pub messages: u64,
-    /// The first.
-    pub first: Option<Seen>,
-    /// The last.
-    pub last: Option<Seen>,
-    /// How often the session changes.
-    pub changes: u64,
-    /// How often the time steps back.
-    pub backs: u64,
-    /// How often the counter is met again or steps back.
-    pub returns: u64,
-    /// How many holes there are where the question points.
-    pub holes: u64,
-    /// The first of them.
-    pub hole: Option<Hole>,
-    /// What reports tell since the last message.
-    pub since: Reports,
-    /// What reports tell right behind that hole's last message, before the next one.
-    pub behind: Reports,
-}
 
 /// No message yet.
 pub fn no_track() -> Track
@@ -168,19 +127,33 @@ fn is_open(track: &Track) -> bool
     }
 }
 
+/// With this told since the last message, and behind the hole where that is there.
+fn retold(track: &Track, since: Reports, behind: Reports) -> Track
+    ensures { result ≡ retold track.now since behind }
+{
+    Track {
+        since,
+        behind: if is_open(track) { behind } else { track.behind },
+        ..*track
+    }
+}
+
 /// With one report more, which stands there.
 pub fn reported(track: &Track, question: &Question, spot: Spot, lost: &Lost) -> Track
     ensures { result ≡ reported question.now track.now spot lost.now }
 {
-    Track {
-        since: with_report(&track.since, question, spot, lost),
-        behind: if is_open(track) {
-            with_report(&track.behind, question, spot, lost)
-        } else {
-            track.behind
-        },
-        ..*track
-    }
+    let since = with_report(&track.since, question, spot, lost);
+    let behind = with_report(&track.behind, question, spot, lost);
+    retold(track, since, behind)
+}
+
+/// With one record more, which stands there and tells of so many messages that were not stored.
+pub fn ended(track: &Track, spot: Spot, count: u32) -> Track
+    ensures { result ≡ ended track.now spot count }
+{
+    let since = with_unstored(&track.since, spot, count);
+    let behind = with_unstored(&track.behind, spot, count);
+    retold(track, since, behind)
 }
 
 /// With one message more, where it passes.

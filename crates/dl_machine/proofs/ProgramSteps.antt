@@ -119,7 +119,7 @@ module _ (IsTold : LinkTold → Type 0) (base : State) (idle : AreIdle base.clie
         let notes : Notes number moment msg old serves.0 = serves.1 in
         both _ (on serves.0 channels now) _
         (goes_one IsTold (OfProgram number (Noted moment msg)) (on old channels was) (on serves.0 channels now)
-        (low, ((was, rest, refl, changes was now), notes, λ i. record channels { outboxes = notes.outboxes i }), refl))
+        (low, ((was, rest, refl, changes was now), notes, refl), refl))
         (levels_go serves.2.0 serves.0 new channels now serves.2.1)
 
     group_goes : (group : Group) (rest : List UserMsg) (old new : Side) (channels : Channels) (program : Program) → ServesGroup number moment group old new

@@ -85,7 +85,7 @@ programs_stand number (Said ends link inbox msgs) old new step = (
 programs_stand number (Forwarded moment msgs) old new step =
     (same_sizes old.core.hub new.core.hub step.1.clients.same step.1.clients.replies, room_same old.channels new.channels step.2, changed_length number _ _ old.programs new.programs step.0.3)
 programs_stand number (Noted moment msg) old new step =
-    (same_sizes old.core.hub new.core.hub step.1.notes.same step.1.notes.replies, room_same old.channels new.channels step.2, changed_length number _ _ old.programs new.programs step.0.3)
+    (same_sizes old.core.hub new.core.hub step.1.notes.same step.1.notes.replies, room_by old.channels new.channels _ step.2 (record { at_once = refl; in_all = refl; opened = refl; fewer = omega arith }), changed_length number _ _ old.programs new.programs step.0.3)
 programs_stand number (Unregistered moment apid) old new step =
     (same_sizes old.core.hub new.core.hub step.1.notes.same step.1.notes.replies, room_same old.channels new.channels step.2, ap (λ (ps : List Program). length ps) step.3)
 programs_stand number (TookLevels ends link) old new step = (

@@ -91,7 +91,7 @@ pub data ProgramKind : Type 0 where
   Said : Option ChannelEnd → LinkTold → cutter.Channel → List UserMsg → ProgramKind
   -- messages with frames were admitted, each behind the Closes of clients that are too slow for it
   Forwarded : Moment → List UserMsg → ProgramKind
-  -- another message was noted
+  -- another message was noted, and the channel is told the level of a context that it registers, where that owes no Level event
   Noted : Moment → UserMsg → ProgramKind
   -- an application of a channel that ends was unregistered
   Unregistered : Moment → List ℕ → ProgramKind
@@ -237,7 +237,8 @@ IsProgramStep number (Forwarded moment msgs) old new =
     TakesIn number msgs old new × ForwardsAll moment number msgs (part_of old) (part_of new) × (new.channels ≡ old.channels)
     × AllByRecursion (λ msg. has_frames msg ≡ true) msgs × AreIdle old.clients
 IsProgramStep number (Noted moment msg) old new =
-    TakesIn number (msg ∷ []) old new × Notes number moment msg (program_side old) (program_side new) × (new.channels ≡ old.channels)
+    TakesIn number (msg ∷ []) old new × Notes number moment msg (program_side old) (program_side new)
+    × (new.channels ≡ record old.channels { outboxes = new.channels.outboxes })
 IsProgramStep number (Unregistered moment apid) old new =
     (first_app old.core.registry.registry number ≡ Some apid) × Notes number moment (UnregisterApp apid 0) (program_side old) (program_side new)
     × (new.channels ≡ old.channels) × (new.programs ≡ old.programs) × MayPart number old

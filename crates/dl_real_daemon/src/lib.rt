@@ -11,6 +11,7 @@ mod clock;
 mod folder_lock;
 mod input_end;
 mod known;
+mod newcomer;
 mod presence;
 mod prompt;
 mod resting;

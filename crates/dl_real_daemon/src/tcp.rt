@@ -9,6 +9,7 @@ use crate::answers::{came, is_pause};
 use crate::attendance::Attendance;
 use crate::client::attend;
 use crate::known::Known;
+use crate::newcomer::{Newcomer, Shows};
 use crate::presence::Presence;
 use crate::resting::{Resting, sleep};
 use crate::streams::{pass_on, receive};
@@ -172,7 +173,8 @@ impl<R: Clock> Link for TcpLink<R> {
 /// loopback where it stands for every address of the machine. No call waits but `rest`, which ends when anything comes: a client, bytes of one, or room for
 /// what it is to be sent. Where nothing comes it takes about a millisecond, up to five once a hundred rounds in a row have rested, and up to twenty once
 /// some five seconds of them have, while no connection of it is open: nobody is kept waiting then. A net that is watchful rests a second at most
-/// in place of these, and so serves where all that comes comes over sockets.
+/// in place of these, and so serves where all that comes comes over sockets. It looks at a connection that comes while no other is open for a twentieth of a
+/// second, or until that sends something: who is gone again by then, as a port scan or a health check, is no client, and takes nothing of what waits for one.
 #[derive(Drop)]
 pub struct TcpNet<R> {
     rt: R,
@@ -190,6 +192,8 @@ pub struct TcpNet<R> {
     tidings: Option<Tidings>,
     // what is known of its listener
     known: Known,
+    // the connection that came last, while it isn't known whether it stays
+    newcomer: Option<Newcomer>,
     is_watchful: bool,
     resting: Resting,
     troubles: Troubles,
@@ -241,6 +245,7 @@ impl<R: AllocGlobal> TcpNet<R> {
             waiter,
             tidings,
             known: Known::nothing(),
+            newcomer: None,
             is_watchful: false,
             resting: Resting::none(),
             troubles,
@@ -276,7 +281,8 @@ fn tidings_of(waiter: &Option<Waiter>) -> Option<Tidings> {
 }
 
 impl<R> TcpNet<R> {
-    /// From now on it rests until something comes over a socket, a second at most.
+    /// From now on it rests until something comes over a socket, a second at most; and while no connection is open, one that comes is handed on once it has
+    /// sent something, or has stayed for a twentieth of a second.
     pub fn be_watchful(&mut self)
         ensures { self.new ≡ record self.old { is_watchful = true } }
     {
@@ -307,6 +313,7 @@ impl<R: Threads + AllocGlobal> TcpNet<R> {
             waiter: _,
             tidings: _,
             known: _,
+            newcomer: _,
             is_watchful: _,
             resting: _,
             troubles: _,
@@ -364,6 +371,64 @@ impl<R> TcpNet<R> {
             Some(listener) if !self.known.has_no_input() => waiting(listener, &mut self.known),
             _ => Ok(None),
         }
+    }
+
+    /// Has one more connection looked at that comes.
+    fn look_at(&mut self, stream: TcpStream)
+    where
+        R: Clock,
+        ensures { self.new.faults ≡ self.old.faults }
+    {
+        let known = Known::of(self.tidings.as_ref(), stream.as_raw_fd());
+        self.newcomer = Some(Newcomer::over(&self.rt, stream, known));
+    }
+
+    /// What the connection shows that came last: that it stays, where nothing would be lost with it or nobody looks.
+    fn shown(&self, newcomer: &Newcomer) -> Shows
+    where
+        R: Clock,
+    {
+        if self.is_watchful && self.is_alone() {
+            newcomer.shows(&self.rt)
+        } else {
+            Shows::Stays
+        }
+    }
+
+    /// The connection that came last, where it stays. One that is gone again is let go.
+    fn settled(&mut self) -> Option<Newcomer>
+    where
+        R: Clock,
+        ensures { self.new.faults ≡ self.old.faults }
+    {
+        let newcomer = self.newcomer.take()?;
+        match self.shown(&newcomer) {
+            Shows::Stays => Some(newcomer),
+            Shows::Gone => {
+                // others may wait behind it
+                self.known.note_input(true);
+                None
+            }
+            Shows::Nothing => {
+                self.known.ask_soon();
+                self.newcomer = Some(newcomer);
+                None
+            }
+        }
+    }
+
+    /// The client that waited longest, once it stays.
+    fn next_to_stay(&mut self) -> io::Result<Option<Newcomer>>
+    where
+        R: Clock,
+        ensures { self.new.faults ≡ self.old.faults }
+    {
+        if self.newcomer.is_none() {
+            if let Some(stream) = self.next_client()? {
+                self.look_at(stream);
+            }
+        }
+        Ok(self.settled())
     }
 
     /// Rests until something comes, for so many milliseconds at most. Answers false where nothing would tell of it.
@@ -484,13 +549,13 @@ where
 
     fn accept(&mut self) -> Accepted<TcpLink<R>> {
         self.begin_round();
-        match self.next_client() {
-            Ok(Some(stream)) => {
+        match self.next_to_stay() {
+            Ok(Some(newcomer)) => {
                 self.resting.end();
                 Accepted::Link(TcpLink {
                     rt: self.rt,
-                    known: Known::of(self.tidings.as_ref(), stream.as_raw_fd()),
-                    stream: Some(stream),
+                    known: newcomer.known,
+                    stream: Some(newcomer.stream),
                     presence: self.come(),
                     resting: Resting::none(),
                     faults: 0,

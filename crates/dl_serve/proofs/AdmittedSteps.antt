@@ -284,8 +284,9 @@ program_keeps number low (Forwarded moment msgs) old new step k =
     changed number low old new msgs step.0.0 _ step.0.3 (program_says number (Forwarded moment msgs) old new step) (ap (λ (c : Channels). c.opened) step.2) (λ other apart. inboxes_same old.channels new.channels step.2 other)
     (noted_heard (told_of old.events number) msgs step.0.1 _ _ old.stops step.0.0 step.0.2 (inboxes_same old.channels new.channels step.2 number)) k
 program_keeps number low (Noted moment msg) old new step k =
-    changed number low old new (msg ∷ []) step.0.0 _ step.0.3 (program_says number (Noted moment msg) old new step) (ap (λ (c : Channels). c.opened) step.2) (λ other apart. inboxes_same old.channels new.channels step.2 other)
-    (noted_heard (told_of old.events number) (msg ∷ []) step.0.1 _ _ old.stops step.0.0 step.0.2 (inboxes_same old.channels new.channels step.2 number)) k
+    changed number low old new (msg ∷ []) step.0.0 _ step.0.3 (program_says number (Noted moment msg) old new step) (ap (λ (c : Channels). c.opened) step.2)
+    (λ other apart. ap (λ (c : Channels). inbox_of c.inboxes other) step.2)
+    (noted_heard (told_of old.events number) (msg ∷ []) step.0.1 _ _ old.stops step.0.0 step.0.2 (ap (λ (c : Channels). inbox_of c.inboxes number) step.2)) k
 program_keeps number low (Unregistered moment apid) old new step k =
     let may = step.4 in
     let c : Changes number may.0 may.0 old.programs new.programs = record { there = may.1; is = step.3 ∙ sym (set_again old.programs (number - 1) may.0 may.1) } in

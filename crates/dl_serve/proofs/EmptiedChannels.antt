@@ -34,7 +34,7 @@ use Rattle.dl_serving.specs.Visits.{Ends, EndsFor, Pumps, side_of}
 use Rattle.dl_socket.specs.Channels.{Channels, IsOpen, open_in}
 use Rattle.dl_socket.specs.Closing.{UnregistersEach}
 use Rattle.dl_socket.specs.Turns.{Sight}
-use Rattle.dl_serve.proofs.NotedSteps.{Follows, IsQuiet, message_follows}
+use Rattle.dl_serve.proofs.NotedSteps.{Follows, IsSilent, message_follows}
 use Rattle.dl_serve.proofs.OtherEntries.{gone_apart, set_apart, set_here, value_apart, value_here}
 
 -- it is one of these
@@ -73,11 +73,11 @@ none_owed kept all none = by (owed_change kept) refl where
   by (Some change) is = absurd (let fewer = one_fewer_waits kept change all is in omega (arith, none, fewer))
 
 module _ (setting : Setting) (channel : ℕ) (moment : Moment) where
-  -- Messages of this channel were noted and nothing else, no level is owed, and what waits for the others stands.
+  -- Nothing was noted that puts a message, no level is owed, and what waits for the others stands.
   pub record Quietly (past : List Event) (old new : Side) : Type 0 where
     pub more : List Event
     pub events : AddsEach old.events new.events more
-    pub quiet : AllByRecursion (IsQuiet channel) more
+    pub silent : AllByRecursion IsSilent more
     pub follows : Follows setting (past ++ more) new.core
     pub settled : owed_change new.core.registry ≡ None
     pub others : (other : ℕ) → other ≢ channel → outbox_of new.outboxes other ≡ outbox_of old.outboxes other
@@ -89,7 +89,7 @@ module _ (setting : Setting) (channel : ℕ) (moment : Moment) where
   same_led past old new same = subst (Led past old) (sym same) (λ follows settled. record {
     more = [];
     events = adds_each_none old.events;
-    quiet = tt;
+    silent = tt;
     follows = subst (λ (es : List Event). Follows setting es old.core) (sym (append-nil past)) follows;
     settled = settled;
     others = λ other apart. refl;
@@ -101,7 +101,7 @@ module _ (setting : Setting) (channel : ℕ) (moment : Moment) where
       let second = two (past ++ first.more) first.follows first.settled in record {
         more = first.more ++ second.more;
         events = adds_each_both old.events between.events new.events first.more second.more first.events second.events;
-        quiet = all_both (IsQuiet channel) first.more second.more first.quiet second.quiet;
+        silent = all_both IsSilent first.more second.more first.silent second.silent;
         follows = subst (λ (es : List Event). Follows setting es new.core) (append_assoc past first.more second.more) second.follows;
         settled = second.settled;
         others = λ other apart. second.others other apart ∙ first.others other apart;
@@ -112,7 +112,7 @@ module _ (setting : Setting) (channel : ℕ) (moment : Moment) where
       → Led past old (record new { outboxes = outboxes })
   with_led past old new outboxes same led = λ follows settled.
       let q = led follows settled in
-      record { more = q.more; events = q.events; quiet = q.quiet; follows = q.follows; settled = q.settled; others = λ other apart. same other apart ∙ q.others other apart }
+      record { more = q.more; events = q.events; silent = q.silent; follows = q.follows; settled = q.settled; others = λ other apart. same other apart ∙ q.others other apart }
 
   one_led : (past : List Event) (apid : List ℕ) (old new : Side) → Serves false channel moment (UnregisterApp apid 0) old new → Led past old new
   one_led past apid old new serves = λ follows settled.
@@ -127,7 +127,7 @@ module _ (setting : Setting) (channel : ℕ) (moment : Moment) where
       let waits : waiting noted.core.registry ≤ 0 = message_waits channel (UnregisterApp apid 0) old.core.registry noted.core.registry (applied_now old.core channel (UnregisterApp apid 0)) order settled notes.registers in
       let none : owed_change noted.core.registry ≡ None = none_owed noted.core.registry then.registry.all waits in
       subst (Quietly past old) (sym (told_none serves.2.0 noted new none serves.2.1))
-      (record { more = user ∷ []; events = notes.notes.event; quiet = (refl, tt); follows = then; settled = none; others = λ other apart. ap (λ (es : List (ℕ × Outbox)). outbox_of es other) notes.outboxes })
+      (record { more = user ∷ []; events = notes.notes.event; silent = (tt, tt); follows = then; settled = none; others = λ other apart. ap (λ (es : List (ℕ × Outbox)). outbox_of es other) notes.outboxes })
 
   each_led : (past : List Event) (apids : List (List ℕ)) (old new : Side) → UnregistersEach channel moment apids old new → Led past old new
   each_led past [] old new each = same_led past old new each

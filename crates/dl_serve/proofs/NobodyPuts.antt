@@ -11,7 +11,7 @@ use Rattle.dl_bytes.specs.Limits.{context_limit}
 use Rattle.dl_bytes.specs.declared.user.UserMsg.{UserMsg}
 use Rattle.dl_bytes.specs.declared.user.UserMsg.TheVariants as user
 use Rattle.dl_channel.specs.Levels.{level_message}
-use Rattle.dl_channel_turns.specs.Put.{to_channel}
+use Rattle.dl_channel_turns.specs.Put.{answer_for, to_channel}
 use Rattle.dl_events.specs.declared.event.Event.{Event}
 use Rattle.dl_events.specs.declared.event.Event.TheVariants as event
 use Rattle.dl_model.proofs.Changes.{app_registers, app_unregisters, context_registers, context_unregisters}
@@ -104,15 +104,21 @@ module _ (channel : ℕ) where
   not_to (Some c) None level apart = refl
   not_to (Some c) (Some position) level apart = ap (λ (b : Bool). cond b (level_message level position ∷ []) []) (ne_eqb c channel apart)
 
-  pub none_at : (setting : Setting) (past : List Event) (e : Event) → AreApart channel (registry_of setting past).apps → message_at setting channel past e ≡ []
-  none_at setting past (event.Level slot level) all =
+  -- an answer to another channel
+  pub answer_apart : (other : ℕ) (answer : Option (List ℕ)) → other ≢ channel → answer_for channel other answer ≡ []
+  answer_apart other None apart = refl
+  answer_apart other (Some message) apart = ap (λ (b : Bool). cond b (message ∷ []) []) (ne_eqb other channel apart)
+
+  pub none_at : (setting : Setting) (past : List Event) (e : Event) → IsNotOf channel e → AreApart channel (registry_of setting past).apps → message_at setting channel past e ≡ []
+  none_at setting past (event.Level slot level) not_of all =
       not_to (channel_at (registry_of setting past) (slot / context_limit)) (position_at (registry_of setting past) slot) level (named_apart (registry_of setting past).apps (slot / context_limit) all)
-  none_at setting past _ all = refl
+  none_at setting past (event.User other msg moment) not_of all = answer_apart other _ not_of
+  none_at setting past _ not_of all = refl
 
   pub none_put : (setting : Setting) (past more : List Event) → AreApart channel (registry_of setting past).apps → AllByRecursion (IsNotOf channel) more → along_from (message_at setting channel) past more ≡ []
   none_put setting past [] all other = refl
   none_put setting past (e ∷ more) all other =
-      ap (λ (ms : List (List ℕ)). ms ++ along_from (message_at setting channel) (past ++ e ∷ []) more) (none_at setting past e all)
+      ap (λ (ms : List (List ℕ)). ms ++ along_from (message_at setting channel) (past ++ e ∷ []) more) (none_at setting past e other.0 all)
       ∙ none_put setting (past ++ e ∷ []) more
       (subst (λ (r : Registry). AreApart channel r.apps) (sym (registry-one setting past e)) (step_apart setting (slots_of setting past) (registry_of setting past) e other.0 all)) other.1
 

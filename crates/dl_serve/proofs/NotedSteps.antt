@@ -42,6 +42,16 @@ IsQuiet from (event.Level slot level) = ⊥
 IsQuiet from (event.Claim claim moment) = ⊥
 IsQuiet from other = Unit {0}
 
+-- nothing that puts a message for a channel: no level, and no context that registers
+abbrev RegistersNone : UserMsg → Type 0
+RegistersNone (user.RegisterContext apid ctid position level trace pid text) = ⊥
+RegistersNone other = Unit {0}
+
+abbrev pub IsSilent : Event → Type 0
+IsSilent (event.User other msg moment) = RegistersNone msg
+IsSilent (event.Level slot level) = ⊥
+IsSilent other = Unit {0}
+
 -- and nothing that concerns the registry
 abbrev IsAside : ℕ → Event → Type 0
 IsAside from (event.User other msg moment) = (other ≡ from) × (has_frames msg ≡ true)
@@ -59,12 +69,29 @@ asides_quiet from (e ∷ events) all = (by e all.0, asides_quiet from events all
   by (event.Claim claim moment) aside = absurd aside
   by _ aside = tt
 
+asides_silent : (from : ℕ) (events : List Event) → AllByRecursion (IsAside from) events → AllByRecursion IsSilent events
+asides_silent from [] all = tt
+asides_silent from (e ∷ events) all = (by e all.0, asides_silent from events all.1) where
+  of_frames : (msg : UserMsg) → has_frames msg ≡ true → RegistersNone msg
+  of_frames (user.RegisterContext apid ctid position level trace pid text) has = absurd (cc has)
+  of_frames _ has = tt
+
+  by : (e : Event) → IsAside from e → IsSilent e
+  by (event.User other msg moment) aside = of_frames msg aside.1
+  by (event.Level slot level) aside = absurd aside
+  by _ aside = tt
+
 -- Such events were noted, and the registry goes on to be that of the events.
 pub record Noting (from : ℕ) (old new : State) : Type 0 where
   pub more : List Event
   pub events : AddsEach old.events new.events more
   pub quiet : AllByRecursion (IsQuiet from) more
   pub follows : (setting : Setting) (past : List Event) → Follows setting past old.core → Follows setting (past ++ more) new.core
+
+-- The same, and nothing was put for a channel.
+pub record Silently (from : ℕ) (old new : State) : Type 0 where
+  pub notes : Noting from old new
+  pub silent : AllByRecursion IsSilent notes.more
 
 -- ---- the registry behind one event more
 
@@ -105,46 +132,57 @@ request_follows setting past client frame answer old kept serves f =
 
 -- ---- what is noted
 
-pub notes_none : (from : ℕ) (old new : State) → new.events ≡ old.events → new.core.registry ≡ old.core.registry → new.core.level ≡ old.core.level → Noting from old new
+pub notes_none : (from : ℕ) (old new : State) → new.events ≡ old.events → new.core.registry ≡ old.core.registry → new.core.level ≡ old.core.level → Silently from old new
 notes_none from old new events kept level = record {
-  more = [];
-  events = subst (λ (o : Option (List Event)). AddsEach old.events o []) (sym events) (adds_each_none old.events);
-  quiet = tt;
-  follows = λ setting past f. record {
-    registry = subst (λ (es : List Event). registry.IsAfter setting es new.core.registry) (sym (append-nil past)) (subst (registry.IsAfter setting past) (sym kept) f.registry);
-    level = level ∙ f.level;
+  notes = record {
+    more = [];
+    events = subst (λ (o : Option (List Event)). AddsEach old.events o []) (sym events) (adds_each_none old.events);
+    quiet = tt;
+    follows = λ setting past f. record {
+      registry = subst (λ (es : List Event). registry.IsAfter setting es new.core.registry) (sym (append-nil past)) (subst (registry.IsAfter setting past) (sym kept) f.registry);
+      level = level ∙ f.level;
+    };
   };
+  silent = tt;
 }
 
-same_part : (from : ℕ) (old new : State) → part_of new ≡ part_of old → Noting from old new
+same_part : (from : ℕ) (old new : State) → part_of new ≡ part_of old → Silently from old new
 same_part from old new same = notes_none from old new (ap (λ (p : Part). p.events) same) (ap (λ (p : Part). p.core.registry) same) (ap (λ (p : Part). p.core.level) same)
 
 pub notes_aside : (from : ℕ) (old new : State) (more : List Event) → AddsEach old.events new.events more → AllByRecursion (IsAside from) more → new.core.registry ≡ old.core.registry
-    → new.core.level ≡ old.core.level → Noting from old new
+    → new.core.level ≡ old.core.level → Silently from old new
 notes_aside from old new more events aside kept level = record {
-  more = more;
-  events = events;
-  quiet = asides_quiet from more aside;
-  follows = λ setting past f. record {
-    registry = subst (registry.IsAfter setting (past ++ more)) (sym kept) (asides_follow setting old.core.registry from past more aside f.registry);
-    level = level ∙ f.level;
+  notes = record {
+    more = more;
+    events = events;
+    quiet = asides_quiet from more aside;
+    follows = λ setting past f. record {
+      registry = subst (registry.IsAfter setting (past ++ more)) (sym kept) (asides_follow setting old.core.registry from past more aside f.registry);
+      level = level ∙ f.level;
+    };
   };
+  silent = asides_silent from more aside;
 }
 
 notes_one : (from : ℕ) (old new : State) (e : Event) → AddsEach old.events new.events (e ∷ []) → IsQuiet from e → new.core.level ≡ old.core.level
-    → ((setting : Setting) (past : List Event) → Follows setting past old.core → registry.IsAfter setting (past ++ e ∷ []) new.core.registry) → Noting from old new
-notes_one from old new e events quiet level after =
-    record { more = e ∷ []; events = events; quiet = (quiet, tt); follows = λ setting past f. record { registry = after setting past f; level = level ∙ f.level } }
+    → ((setting : Setting) (past : List Event) → Follows setting past old.core → registry.IsAfter setting (past ++ e ∷ []) new.core.registry) → (notes : Noting from old new) × (notes.more ≡ e ∷ [])
+notes_one from old new e events quiet level after = (
+  record { more = e ∷ []; events = events; quiet = (quiet, tt); follows = λ setting past f. record { registry = after setting past f; level = level ∙ f.level } },
+  refl,
+)
+
+one_silent : (from : ℕ) (old new : State) (e : Event) → IsSilent e → (notes : Noting from old new) × (notes.more ≡ e ∷ []) → Silently from old new
+one_silent from old new e is notes = record { notes = notes.0; silent = subst (AllByRecursion IsSilent) (sym notes.1) (is, tt) }
 
 -- ---- each kind
 
-pub client_notes : (number : ℕ) (kind : ClientKind) (old new : State) → IsClientStep number kind old new → Noting 0 old new
+pub client_notes : (number : ℕ) (kind : ClientKind) (old new : State) → IsClientStep number kind old new → Silently 0 old new
 client_notes number (Gave due link cut) old new step = same_part 0 old new step.9
 client_notes number (Asked frame) old new step =
     let asks = step.2 in
     let e : Event = event.Request asks.ready.client asks.ready.frame asks.serves.answer in
-    notes_one 0 old new e (added_one old.events new.events e e refl asks.serves.notes) tt (ap (λ (c : Core). c.level) asks.rest)
-    (λ setting past f. request_follows setting past asks.ready.client asks.ready.frame asks.serves.answer old.core new.core.registry asks.serves.registry f)
+    one_silent 0 old new e tt (notes_one 0 old new e (added_one old.events new.events e e refl asks.serves.notes) tt (ap (λ (c : Core). c.level) asks.rest)
+    (λ setting past f. request_follows setting past asks.ready.client asks.ready.frame asks.serves.answer old.core new.core.registry asks.serves.registry f))
 client_notes number (Sent due link) old new step =
     notes_none 0 old new (ap (λ (p : Part). p.events) step.6) (ap (λ (p : Part). p.core.registry) step.6) (ap (λ (p : Part). p.core.level) step.6)
 client_notes number (Closed cause) old new step = notes_aside 0 old new _ step.4.events (tt, tt) (ap (λ (c : Core). c.registry) step.4.core) (ap (λ (c : Core). c.level) step.4.core)
@@ -155,17 +193,28 @@ frames_aside : (ecu : List ℕ) (moment : Moment) (number : ℕ) (msgs : List Us
 frames_aside ecu moment number [] all = tt
 frames_aside ecu moment number (msg ∷ msgs) all = ((refl, all.0), frames_aside ecu moment number msgs all.1)
 
-pub program_notes : (number : ℕ) (kind : ProgramKind) (old new : State) → IsProgramStep number kind old new → Noting number old new
-program_notes number (Said ends link inbox msgs) old new step = same_part number old new step.11
-program_notes number (Forwarded moment msgs) old new step =
-    notes_aside number old new step.1.more step.1.events (all_noted (IsAside number) (λ need slow. tt) _ step.1.more (frames_aside old.core.ecu moment number msgs step.3) step.1.noted)
-    (ap (λ (c : Core). c.registry) step.1.rest) (ap (λ (c : Core). c.level) step.1.rest)
-program_notes number (Noted moment msg) old new step =
+-- a message that was noted
+pub message_notes : (number : ℕ) (moment : Moment) (msg : UserMsg) (old new : State) → IsProgramStep number (Noted moment msg) old new
+    → (notes : Noting number old new) × (notes.more ≡ event.User number msg moment ∷ [])
+message_notes number moment msg old new step =
     notes_one number old new (event.User number msg moment) step.1.notes.event refl (ap (λ (c : Core). c.level) step.1.rest)
     (λ setting past f. message_follows setting past number msg moment old.core new.core.registry step.1.registers f.registry)
-program_notes number (Unregistered moment apid) old new step =
-    notes_one number old new (event.User number (user.UnregisterApp apid 0) moment) step.1.notes.event refl (ap (λ (c : Core). c.level) step.1.rest)
-    (λ setting past f. message_follows setting past number (user.UnregisterApp apid 0) moment old.core new.core.registry step.1.registers f.registry)
-program_notes number (TookLevels ends link) old new step = same_part number old new step.5
-program_notes number (ShutOff link) old new step = same_part number old new step.4
-program_notes number Ended old new step = same_part number old new step.3
+
+-- all others
+abbrev pub IsOther : ProgramKind → Type 0
+IsOther (Noted moment msg) = ⊥
+IsOther other = Unit {0}
+
+pub program_notes : (number : ℕ) (kind : ProgramKind) (old new : State) → IsOther kind → IsProgramStep number kind old new → Silently number old new
+program_notes number (Said ends link inbox msgs) old new other step = same_part number old new step.11
+program_notes number (Forwarded moment msgs) old new other step =
+    notes_aside number old new step.1.more step.1.events (all_noted (IsAside number) (λ need slow. tt) _ step.1.more (frames_aside old.core.ecu moment number msgs step.3) step.1.noted)
+    (ap (λ (c : Core). c.registry) step.1.rest) (ap (λ (c : Core). c.level) step.1.rest)
+program_notes number (Noted moment msg) old new other step = absurd other
+program_notes number (Unregistered moment apid) old new other step =
+    one_silent number old new (event.User number (user.UnregisterApp apid 0) moment) tt
+    (notes_one number old new (event.User number (user.UnregisterApp apid 0) moment) step.1.notes.event refl (ap (λ (c : Core). c.level) step.1.rest)
+    (λ setting past f. message_follows setting past number (user.UnregisterApp apid 0) moment old.core new.core.registry step.1.registers f.registry))
+program_notes number (TookLevels ends link) old new other step = same_part number old new step.5
+program_notes number (ShutOff link) old new other step = same_part number old new step.4
+program_notes number Ended old new other step = same_part number old new step.3

@@ -1,18 +1,19 @@
 -- What the link of a channel took of the levels that were put for it, and what events put.
 use Rattle.std.proofs.Common.{Bool, List, None, Option, Some, [], ap, append-nil, append_assoc, arith, cond, drop, false, inl, inr, length, length-append, refl, subst, sym, take, take-append-drop, true, ℕ, ◌++◌, ◌+◌, ◌<◌, ◌∙◌, ◌∷◌, ◌≡◌, ◌≤◌}
-use Rattle.std.specs.Prelude.{nat_eq, nat_le, ◌/◌, ◌==◌, ◌⊎◌}
+use Rattle.std.specs.Prelude.{nat_eq, nat_le, ◌/◌, ◌==◌, ◌⊎◌, ◌≢◌}
 use Rattle.std.specs.List.{AllByRecursion, concat}
 use Rattle.std.specs.Map.{set_value}
 use Rattle.std.specs.Option.{option_map, option_map_or}
 use Rattle.std.proofs.lemmas.Bool.Decides.{eqb_tells, leb_tells}
 use Rattle.dl_bytes.specs.Limits.{context_limit}
+use Rattle.dl_bytes.specs.declared.user.UserMsg.TheVariants as user
 use Rattle.dl_channel.specs.Levels.{level_message, with_level, with_message}
 use Rattle.dl_channel.specs.Pumping.{EndsSending, PumpsBy}
 use Rattle.dl_channel.specs.State.{Outbox, empty, waiting_limit}
 use Rattle.dl_channel.specs.declared.outcome.ChannelEnd.{ChannelEnd}
 use Rattle.dl_channel.specs.declared.outcome.ChannelEnd.TheVariants.{Slow}
-use Rattle.dl_channel_turns.specs.Levels.{put_for, told}
-use Rattle.dl_channel_turns.specs.Put.{message_for, to_channel}
+use Rattle.dl_channel_turns.specs.Levels.{answered, put_for, told}
+use Rattle.dl_channel_turns.specs.Put.{answer_for, message_for, to_channel}
 use Rattle.dl_channel_turns.specs.State.{outbox_of}
 use Rattle.dl_events.specs.declared.event.Event.{Event}
 use Rattle.dl_model.proofs.Lists.{along_from-append}
@@ -25,7 +26,8 @@ use Rattle.dl_outside.specs.Told.{LinkTold}
 use Rattle.dl_registry.specs.Kept.{channel_at, position_at}
 use Rattle.dl_serve.proofs.OtherEntries.{value_apart, value_here}
 use Rattle.dl_serve.specs.Levels.{levels_put, message_at}
-use Rattle.dl_serve.proofs.NotedSteps.{IsQuiet}
+use Rattle.dl_serve.proofs.NobodyPuts.{answer_apart}
+use Rattle.dl_serve.proofs.NotedSteps.{IsQuiet, IsSilent}
 use Rattle.dl_events.specs.declared.event.Event.TheVariants as event
 
 -- ---- what waits
@@ -105,20 +107,30 @@ module _ (channel : ℕ) (outboxes : List (ℕ × Outbox)) where
         ∙ sym (ap (λ (b : Bool). option_map (λ (y : Outbox). cond b (change y) y) (outbox_of outboxes channel)) apart.0)
   ]
 
-  put_is : (b : Bool) (level position : ℕ) (o : Option Outbox) → option_map (λ (x : Outbox). cond b (with_level level position x) x) o ≡ option_map (put_all (cond b (level_message level position ∷ []) [])) o
-  put_is b level position None = refl
-  put_is true level position (Some x) = refl
-  put_is false level position (Some x) = refl
+  put_is : (b : Bool) (message : List ℕ) (o : Option Outbox) → option_map (λ (x : Outbox). cond b (with_message message x) x) o ≡ option_map (put_all (cond b (message ∷ []) [])) o
+  put_is b message None = refl
+  put_is true message (Some x) = refl
+  put_is false message (Some x) = refl
 
   put_one : (app place : Option ℕ) (level : ℕ) → outbox_of (put_for app place level outboxes) channel ≡ option_map (put_all (to_channel channel app place level)) (outbox_of outboxes channel)
   put_one None place level = same_map (outbox_of outboxes channel)
   put_one (Some other) None level = same_map (outbox_of outboxes channel)
   put_one (Some other) (Some position) level =
-      changed_one other (with_level level position) (outbox_of outboxes other) refl ∙ put_is (other == channel) level position (outbox_of outboxes channel)
+      changed_one other (with_level level position) (outbox_of outboxes other) refl ∙ put_is (other == channel) (level_message level position) (outbox_of outboxes channel)
 
   -- a level that is told
   pub told_one : (registry : Registry) (change : LevelChange) → outbox_of (told registry change outboxes) channel ≡ option_map (put_all (message_for registry channel change)) (outbox_of outboxes channel)
   told_one registry change = put_one (channel_at registry (change.slot / context_limit)) (position_at registry change.slot) change.level
+
+  -- an answer
+  pub answered_one : (other : ℕ) (answer : Option (List ℕ)) → outbox_of (answered other answer outboxes) channel ≡ option_map (put_all (answer_for channel other answer)) (outbox_of outboxes channel)
+  answered_one other None = same_map (outbox_of outboxes channel)
+  answered_one other (Some message) = changed_one other (with_message message) (outbox_of outboxes other) refl ∙ put_is (other == channel) message (outbox_of outboxes channel)
+
+  -- to another channel
+  pub answered_apart : (other : ℕ) (answer : Option (List ℕ)) → other ≢ channel → outbox_of (answered other answer outboxes) channel ≡ outbox_of outboxes channel
+  answered_apart other answer apart =
+      answered_one other answer ∙ ap (λ (ms : List (List ℕ)). option_map (put_all ms) (outbox_of outboxes channel)) (answer_apart channel other answer apart) ∙ sym (same_map (outbox_of outboxes channel))
 
 -- ---- the bytes that events put
 
@@ -140,15 +152,32 @@ pub levels_same : (setting : Setting) (channel : ℕ) (past more : List Event) �
 levels_same setting channel past more none =
     sym (levels_more setting channel past more) ∙ ap (λ (ms : List (List ℕ)). levels_put setting channel past ++ concat ms) none ∙ append-nil (levels_put setting channel past)
 
--- an event that is no level puts nothing
-pub quiet_puts : (setting : Setting) (from channel : ℕ) (past more : List Event) → AllByRecursion (IsQuiet from) more → put_on setting channel past more ≡ []
-quiet_puts setting from channel past [] all = refl
-quiet_puts setting from channel past (e ∷ more) all =
-    ap (λ (ms : List (List ℕ)). ms ++ put_on setting channel (past ++ e ∷ []) more) (by e all.0) ∙ quiet_puts setting from channel (past ++ e ∷ []) more all.1
+-- an event that is no level puts nothing for other channels than its own
+pub quiet_puts : (setting : Setting) (from channel : ℕ) (past more : List Event) → channel ≢ from → AllByRecursion (IsQuiet from) more → put_on setting channel past more ≡ []
+quiet_puts setting from channel past [] apart all = refl
+quiet_puts setting from channel past (e ∷ more) apart all =
+    ap (λ (ms : List (List ℕ)). ms ++ put_on setting channel (past ++ e ∷ []) more) (by e all.0) ∙ quiet_puts setting from channel (past ++ e ∷ []) more apart all.1
   where
     by : (e : Event) → IsQuiet from e → message_at setting channel past e ≡ []
     by (event.Level slot level) quiet = absurd quiet
+    by (event.User other msg moment) quiet = answer_apart channel other _ (λ same. apart (sym same ∙ quiet))
     by _ quiet = refl
+
+-- and where no context registers either, for none
+pub silent_puts : (setting : Setting) (channel : ℕ) (past more : List Event) → AllByRecursion IsSilent more → put_on setting channel past more ≡ []
+silent_puts setting channel past [] all = refl
+silent_puts setting channel past (e ∷ more) all =
+    ap (λ (ms : List (List ℕ)). ms ++ put_on setting channel (past ++ e ∷ []) more) (by e all.0) ∙ silent_puts setting channel (past ++ e ∷ []) more all.1
+  where
+    by : (e : Event) → IsSilent e → message_at setting channel past e ≡ []
+    by (event.Level slot level) silent = absurd silent
+    by (event.User other (user.RegisterContext apid ctid position level trace pid text) moment) silent = absurd silent
+    by (event.User other _ moment) silent = refl
+    by _ silent = refl
+
+-- so the bytes are as they were
+pub silent_bytes : (setting : Setting) (channel : ℕ) (past more : List Event) (bytes : List ℕ) → AllByRecursion IsSilent more → bytes ++ concat (put_on setting channel past more) ≡ bytes
+silent_bytes setting channel past more bytes all = ap (λ (ms : List (List ℕ)). bytes ++ concat ms) (silent_puts setting channel past more all) ∙ append-nil bytes
 
 -- ---- one channel
 

@@ -9,20 +9,22 @@ use Rattle.dl_admission.specs.Part.{Part}
 use Rattle.dl_channel.specs.State.{Outbox, empty}
 use Rattle.dl_channel.specs.declared.outcome.ChannelEnd.{ChannelEnd}
 use Rattle.dl_channel.specs.declared.outcome.ChannelEnd.TheVariants.{Slow}
-use Rattle.dl_channel_turns.specs.Levels.{TellsLevel}
-use Rattle.dl_channel_turns.specs.Put.{message_for}
+use Rattle.dl_channel_turns.specs.Levels.{TellsLevel, answer_to, registration_of}
+use Rattle.dl_channel_turns.specs.Put.{answer_for, message_for}
 use Rattle.dl_channel_turns.specs.State.{outbox_of}
 use Rattle.dl_channel_turns.specs.Turns.{StopsAt}
 use Rattle.dl_core.proofs.Noted.{added_one}
 use Rattle.dl_core.specs.Admission.{AddsEach}
+use Rattle.dl_core.specs.Registering.{applied_now}
 use Rattle.dl_core.specs.State.{Core}
+use Rattle.dl_bytes.specs.declared.moment.Moment.{Moment}
 use Rattle.dl_bytes.specs.declared.user.UserMsg.{UserMsg}
 use Rattle.dl_events.specs.declared.event.Event.{Event}
 use Rattle.dl_events.specs.declared.event.Event.TheVariants as event
 use Rattle.dl_lemmas.proofs.Lists.{get_end, set_again}
 use Rattle.dl_lemmas.proofs.Options.{not_some, nothing_taken}
-use Rattle.dl_model.specs.Journal.{registry_of}
-use Rattle.dl_model.specs.Registry.{App, Registry}
+use Rattle.dl_model.specs.Journal.{owed, registry_of, slots_of}
+use Rattle.dl_model.specs.Registry.{App, Registry, applied}
 use Rattle.dl_model.specs.Setting.{Setting}
 use Rattle.dl_model.specs.declared.registry.LevelChange.{LevelChange}
 use Rattle.dl_outside.proofs.Staying.{stays_same}
@@ -30,9 +32,9 @@ use Rattle.dl_outside.specs.Outside.{Stays}
 use Rattle.dl_outside.specs.Told.{LinkTold}
 use Rattle.dl_outside.specs.declared.link.Gave.{Gave as Answer}
 use Rattle.dl_outside.specs.declared.link.Gave.TheVariants as gave
-use Rattle.dl_registry.proofs.Following.{change_follows}
+use Rattle.dl_registry.proofs.Following.{change_follows, change_is_owed}
 use Rattle.dl_registry.specs.Kept as registry
-use Rattle.dl_registry.specs.Kept.{Kept}
+use Rattle.dl_registry.specs.Kept.{Kept, owed_change}
 use Rattle.dl_socket.specs.Channels.{Channels, IsOpen, Opens, inbox_of, none_opened}
 use Rattle.dl_user.specs.Channel as cutter
 use Rattle.dl_user.specs.Channel.{unfed}
@@ -40,11 +42,11 @@ use Rattle.dl_machine.specs.State.{Changes, Program, State, new_program}
 use Rattle.dl_machine.specs.Steps.{BeginsOrStays, Came, Ended, Entered, Forwarded, IsProgramStep, IsStep, Kind, LetGo, Levelled, MayPart, Noted, OfClient, OfProgram, OfRings, PartedAll, ProgramKind, Renewed, Said, Says, ShutOff, Stopping, TookLevels, Unregistered, Wanted, program_side}
 use Rattle.dl_machine.proofs.NamedSlots.{AreApart}
 use Rattle.dl_machine.proofs.Standing.{changed_length}
-use Rattle.dl_serve.specs.Levels.{levels_put}
+use Rattle.dl_serve.specs.Levels.{levels_put, message_at}
 use Rattle.dl_serve.proofs.NobodyPuts.{IsNotOf, apart_on, none_at}
-use Rattle.dl_serve.proofs.NotedSteps.{Follows, IsQuiet, Noting, client_notes, notes_aside, notes_none, program_notes}
+use Rattle.dl_serve.proofs.NotedSteps.{Follows, IsQuiet, Noting, Silently, client_notes, message_follows, message_notes, notes_aside, notes_none, program_notes}
 use Rattle.dl_serve.proofs.OtherEntries.{added_apart, added_here, added_some, gone_apart, gone_here, set_apart, set_here, value_apart, value_here}
-use Rattle.dl_serve.proofs.TakenLevels.{Takes, levels_more, levels_same, new_takes, pump_takes, put_all, put_takes, quiet_puts, stays_takes, told_one}
+use Rattle.dl_serve.proofs.TakenLevels.{Takes, answered_apart, answered_one, levels_more, levels_same, new_takes, pump_takes, put_all, put_on, put_takes, quiet_puts, silent_bytes, stays_takes, told_one}
 
 -- ---- small facts
 
@@ -153,9 +155,9 @@ module _ (Tells : Type 0) (setting : Setting) where
     by None so = so.3
     by (Some p) so = elim so.1 [ inl is ↦ absurd (not_some (inbox_of s.channels.inboxes number) none is) | inr ended ↦ ended.1 ]
 
-  -- What a step notes beside levels changes nothing but for its own channel.
-  step_on : (room number : ℕ) (old new : State) → Noting number old new → Beside number old new → ((p : Program) → HasEnded old.stops p → HasEnded new.stops p) → length new.programs ≤ room
-      → (1 ≤ number → (bytes : List ℕ) → So bytes old number → So bytes new number) → Keeps room old → Keeps room new
+  -- What a step notes beside levels puts nothing and changes nothing but for its own channel.
+  step_on : (room number : ℕ) (old new : State) (notes : Noting number old new) → Beside number old new → ((p : Program) → HasEnded old.stops p → HasEnded new.stops p) → length new.programs ≤ room
+      → (1 ≤ number → (past : List Event) → Follows setting past old.core → (bytes : List ℕ) → So bytes old number → So (bytes ++ concat (put_on setting number past notes.more)) new number) → Keeps room old → Keeps room new
   step_on room number old new notes beside ended few its k = (
     beside.in_all ∙ k.0,
     few,
@@ -163,8 +165,8 @@ module _ (Tells : Type 0) (setting : Setting) where
         let known = k.2 some in
         let past : List Event = known.0 in
         let follows = notes.follows setting past known.2 in
-        let same : (other : ℕ) → levels_put setting other (past ++ notes.more) ≡ levels_put setting other past =
-        (λ other. levels_same setting other past notes.more (quiet_puts setting number other past notes.more notes.quiet)) in
+        let same : (other : ℕ) → other ≢ number → levels_put setting other (past ++ notes.more) ≡ levels_put setting other past =
+        (λ other differs. levels_same setting other past notes.more (quiet_puts setting number other past notes.more differs notes.quiet)) in
         let apart : (other : ℕ) → other ≢ number → AreApart other (apps_in old) → AreApart other (apps_in new) =
         (λ other differs all. subst (λ (r : Registry). AreApart other r.apps) (sym follows.registry.registry) (apart_on other setting past notes.more
         (subst (λ (r : Registry). AreApart other r.apps) known.2.registry.registry all) (quiet_not other number notes.more differs notes.quiet))) in
@@ -175,14 +177,16 @@ module _ (Tells : Type 0) (setting : Setting) where
           follows,
           beside.many known.3,
           λ other low.
-              subst (λ (bs : List ℕ). So bs new other) (sym (same other)) (elim (eqb_tells other number) [
+              elim (eqb_tells other number) [
                 | inl it ↦
-                    subst (λ (n : ℕ). So (levels_put setting other past) new n) (sym it.1)
-                    (its (omega (arith, low, it.1)) (levels_put setting other past) (subst (λ (n : ℕ). So (levels_put setting other past) old n) it.1 (known.4 other low)))
+                    subst (λ (n : ℕ). So (levels_put setting n (past ++ notes.more)) new n) (sym it.1)
+                    (subst (λ (bs : List ℕ). So bs new number) (levels_more setting number past notes.more)
+                    (its (omega (arith, low, it.1)) past known.2 (levels_put setting number past) (subst (λ (n : ℕ). So (levels_put setting n past) old n) it.1 (known.4 other low))))
                 | inr differs ↦
-                    subst (λ (x : Seen). IsSo new.stops other (apps_in new) (levels_put setting other past) x.outbox x.inbox x.program) (sym (beside.others other low differs.1))
-                    (on other differs.1 (levels_put setting other past) (outbox_of old.channels.outboxes other) (inbox_of old.channels.inboxes other) (slice_get old.programs (other - 1)) (known.4 other low))
-              ]),
+                    subst (λ (bs : List ℕ). So bs new other) (sym (same other differs.1))
+                    (subst (λ (x : Seen). IsSo new.stops other (apps_in new) (levels_put setting other past) x.outbox x.inbox x.program) (sym (beside.others other low differs.1))
+                    (on other differs.1 (levels_put setting other past) (outbox_of old.channels.outboxes other) (inbox_of old.channels.inboxes other) (slice_get old.programs (other - 1)) (known.4 other low)))
+              ],
         ),
   )
     where
@@ -191,10 +195,17 @@ module _ (Tells : Type 0) (setting : Setting) where
       more_on stop stop_now ended n apps apps_now apart bytes o i None so = (so.0, so.1, so.2, apart so.3)
       more_on stop stop_now ended n apps apps_now apart bytes o i (Some p) so = (so.0, elim so.1 [ inl is ↦ inl is | inr e ↦ inr (ended p e.0, apart e.1) ])
 
+  -- where nothing is put for that one either
+  still_on : (room number : ℕ) (old new : State) → Silently number old new → Beside number old new → ((p : Program) → HasEnded old.stops p → HasEnded new.stops p) → length new.programs ≤ room
+      → (1 ≤ number → (bytes : List ℕ) → So bytes old number → So bytes new number) → Keeps room old → Keeps room new
+  still_on room number old new silently beside ended few its k =
+      step_on room number old new silently.notes beside ended few
+      (λ low past follows bytes so. subst (λ (bs : List ℕ). So bs new number) (sym (silent_bytes setting number past silently.notes.more bytes silently.silent)) (its low bytes so)) k
+
   -- programs and channels stand
-  aside : (room : ℕ) (old new : State) → Noting 0 old new → new.channels ≡ old.channels → new.programs ≡ old.programs → ((p : Program) → HasEnded old.stops p → HasEnded new.stops p) → Keeps room old → Keeps room new
+  aside : (room : ℕ) (old new : State) → Silently 0 old new → new.channels ≡ old.channels → new.programs ≡ old.programs → ((p : Program) → HasEnded old.stops p → HasEnded new.stops p) → Keeps room old → Keeps room new
   aside room old new notes channels programs ended k =
-      step_on room 0 old new notes (record {
+      still_on room 0 old new notes (record {
         in_all = ap (λ (c : Channels). c.in_all) channels;
         many = λ many. ap (λ (c : Channels). c.opened) channels ∙ many ∙ ap (λ (ps : List Program). length ps) (sym programs);
         others = λ other low differs i. record {
@@ -224,10 +235,11 @@ module _ (Tells : Type 0) (setting : Setting) where
     abbrev Goes : State → Program → Type 0
     Goes s p = IsOpen number s.channels ⊎ (HasEnded old.stops p × AreApart number (apps_in s))
 
-    changed : (was now : Program) → Changes number was now old.programs new.programs → Noting number old new → Others number old.channels new.channels
-        → ((bytes : List ℕ) → Takes Tells bytes was.link was.end (outbox_of old.channels.outboxes number) → Takes Tells bytes now.link now.end (outbox_of new.channels.outboxes number))
+    changed_by : (was now : Program) → Changes number was now old.programs new.programs → (notes : Noting number old new) → Others number old.channels new.channels
+        → ((past : List Event) → Follows setting past old.core → (bytes : List ℕ) → Takes Tells bytes was.link was.end (outbox_of old.channels.outboxes number)
+        → Takes Tells (bytes ++ concat (put_on setting number past notes.more)) now.link now.end (outbox_of new.channels.outboxes number))
         → (Goes old was → Goes new now) → Keeps room old → Keeps room (turned old new)
-    changed was now c notes others takes goes k =
+    changed_by was now c notes others takes goes k =
         let long : length new.programs ≡ length old.programs = changed_length number was now old.programs new.programs c in
         let here : slice_get new.programs (number - 1) ≡ Some now = ap (λ (ps : List Program). slice_get ps (number - 1)) c.is ∙ set_here old.programs (number - 1) now was c.there in
         step_on room number old (turned old new) (record { more = notes.more; events = notes.events; quiet = notes.quiet; follows = notes.follows }) (record {
@@ -238,9 +250,20 @@ module _ (Tells : Type 0) (setting : Setting) where
               ap (λ (ps : List Program). slice_get ps (other - 1)) c.is ∙ set_apart old.programs (number - 1) (other - 1) now (λ same. differs (omega (arith, same, first, low))) in
               λ i. record { program = at i; outbox = others.outboxes other differs i; inbox = others.inboxes other differs i };
         }) (λ p done. done) (omega (arith, long, k.1))
-        (λ first bytes so.
+        (λ first past follows bytes so.
         let before = subst (λ (o : Option Program). IsSo old.stops number (apps_in old) bytes (outbox_of old.channels.outboxes number) (inbox_of old.channels.inboxes number) o) c.there so in
-        subst (λ (o : Option Program). IsSo old.stops number (apps_in new) bytes (outbox_of new.channels.outboxes number) (inbox_of new.channels.inboxes number) o) (sym here) (takes bytes before.0, goes before.1)) k
+        subst
+        (λ (o : Option Program). IsSo old.stops number (apps_in new) (bytes ++ concat (put_on setting number past notes.more)) (outbox_of new.channels.outboxes number) (inbox_of new.channels.inboxes number) o)
+        (sym here) (takes past follows bytes before.0, goes before.1)) k
+
+    -- where nothing is put
+    changed : (was now : Program) → Changes number was now old.programs new.programs → Silently number old new → Others number old.channels new.channels
+        → ((bytes : List ℕ) → Takes Tells bytes was.link was.end (outbox_of old.channels.outboxes number) → Takes Tells bytes now.link now.end (outbox_of new.channels.outboxes number))
+        → (Goes old was → Goes new now) → Keeps room old → Keeps room (turned old new)
+    changed was now c silently others takes goes k =
+        changed_by was now c silently.notes others
+        (λ past follows bytes t.
+        subst (λ (bs : List ℕ). Takes Tells bs now.link now.end (outbox_of new.channels.outboxes number)) (sym (silent_bytes setting number past silently.notes.more bytes silently.silent)) (takes bytes t)) goes k
 
     -- it is open as before; and where it had ended, it has
     goes_so : (was now : Program) → is_some (inbox_of new.channels.inboxes number) ≡ is_some (inbox_of old.channels.inboxes number) → new.core.registry ≡ old.core.registry → (HasEnded old.stops was → HasEnded old.stops now)
@@ -249,12 +272,12 @@ module _ (Tells : Type 0) (setting : Setting) where
     goes_so was now same kept ends (inr e) = inr (ends e.0, subst (λ (k : Kept). AreApart number k.registry.apps) (sym kept) e.1)
 
     -- it is open as before, and it had not ended
-    goes_open : (was now : Program) → new.channels ≡ old.channels → (HasEnded old.stops was → AreApart number (apps_in old) → ⊥) → Goes old was → Goes new now
-    goes_open was now same none (inl is) = inl (ap (λ (c : Channels). is_some (inbox_of c.inboxes number)) same ∙ is)
+    goes_open : (was now : Program) → new.channels.inboxes ≡ old.channels.inboxes → (HasEnded old.stops was → AreApart number (apps_in old) → ⊥) → Goes old was → Goes new now
+    goes_open was now same none (inl is) = inl (ap (λ (is : List (ℕ × cutter.Channel)). is_some (inbox_of is number)) same ∙ is)
     goes_open was now same none (inr e) = absurd (none e.0 e.1)
 
     -- channels stand, and the link took nothing
-    untaken : (was : Program) (link : LinkTold) (msgs : List UserMsg) → Changes number was (record was { link = link; said = msgs }) old.programs new.programs → Noting number old new → new.channels ≡ old.channels
+    untaken : (was : Program) (link : LinkTold) (msgs : List UserMsg) → Changes number was (record was { link = link; said = msgs }) old.programs new.programs → Silently number old new → new.channels ≡ old.channels
         → Stays was.link.taken link.taken → (Goes old was → Goes new (record was { link = link; said = msgs })) → Keeps room old → Keeps room (turned old new)
     untaken was link msgs c notes same stays goes k =
         changed was (record was { link = link; said = msgs }) c notes (others_same number old.channels new.channels same)
@@ -268,7 +291,7 @@ module _ (Tells : Type 0) (setting : Setting) where
 
     said_keeps : (ends : Option ChannelEnd) (link : LinkTold) (inbox : cutter.Channel) (msgs : List UserMsg) → IsProgramStep number (Said ends link inbox msgs) old new → Keeps room old → Keeps room (turned old new)
     said_keeps ends link inbox msgs step k =
-        changed step.0 (record { link = link; end = ends; said = msgs }) step.2 (program_notes number (Said ends link inbox msgs) old new step)
+        changed step.0 (record { link = link; end = ends; said = msgs }) step.2 (program_notes number (Said ends link inbox msgs) old new tt step)
         (subst (Others number old.channels) (sym step.10)
         (record { opened = refl; in_all = refl; outboxes = λ other apart. refl; inboxes = λ other apart. value_apart number other old.channels.inboxes inbox apart }))
         (λ bytes t.
@@ -284,7 +307,7 @@ module _ (Tells : Type 0) (setting : Setting) where
         p.is ∙ ap (λ (o : Option Outbox). option_map_or (λ (x : Outbox). set_value (nat_eq number) old.channels.outboxes p.outbox_now) o old.channels.outboxes) p.was in
         let here : outbox_of new.channels.outboxes number ≡ Some p.outbox_now =
         ap (λ (es : List (ℕ × Outbox)). outbox_of es number) set ∙ value_here number old.channels.outboxes p.outbox_now p.outbox p.was in
-        changed was (record was { link = link; end = ends }) step.2 (program_notes number (TookLevels ends link) old new step)
+        changed was (record was { link = link; end = ends }) step.2 (program_notes number (TookLevels ends link) old new tt step)
         (subst (Others number old.channels) (sym step.4) (record {
           opened = refl;
           in_all = refl;
@@ -302,7 +325,7 @@ module _ (Tells : Type 0) (setting : Setting) where
     ended_keeps step k =
         let was : Program = step.4.0 in
         let gone : outbox_of new.channels.outboxes number ≡ None = ap (λ (c : Channels). outbox_of c.outboxes number) step.1 ∙ gone_here number old.channels.outboxes in
-        changed was was (may_part step.4 step.2) (program_notes number Ended old new step)
+        changed was was (may_part step.4 step.2) (program_notes number Ended old new tt step)
         (subst (Others number old.channels) (sym step.1) (record {
           opened = refl;
           in_all = refl;
@@ -314,25 +337,49 @@ module _ (Tells : Type 0) (setting : Setting) where
         (λ x there. absurd (let bad : None ≡ Some x = sym gone ∙ there in cc bad)) t)
         (λ goes. inr ((step.4.2, step.4.3), subst (λ (p : Part). AreApart number p.core.registry.registry.apps) (sym step.3) ((first_tells number (apps_in old)).0 step.0))) k
 
+    -- a message was noted, and where it registers a context, that is answered
+    noted_keeps : (moment : Moment) (msg : UserMsg) → IsProgramStep number (Noted moment msg) old new → Keeps room old → Keeps room (turned old new)
+    noted_keeps moment msg step k =
+        let was : Program = step.0.0 in
+        let now : Program = record was { said = step.0.1 } in
+        let user : Event = event.User number msg moment in
+        let notes = message_notes number moment msg old new step in
+        changed_by was now step.0.3 notes.0
+        (subst (Others number old.channels) (sym step.2) (record {
+          opened = refl;
+          in_all = refl;
+          outboxes = λ other apart. ap (λ (es : List (ℕ × Outbox)). outbox_of es other) step.1.outboxes ∙ answered_apart other old.channels.outboxes number _ (λ same. apart (sym same));
+          inboxes = λ other apart. refl;
+        }))
+        (λ past follows bytes t.
+        let after : registry.IsAfter setting (past ++ user ∷ []) new.core.registry = message_follows setting past number msg moment old.core new.core.registry step.1.registers follows.registry in
+        let asked : Option (List ℕ) = answer_to (registration_of msg) (applied_now old.core number msg) (owed_change new.core.registry) in
+        let messages : List (List ℕ) = answer_for number number asked in
+        let answer : asked ≡ answer_to (registration_of msg) (applied (slots_of setting past) (registry_of setting past) number msg) (owed setting (past ++ user ∷ [])) =
+        (λ i. answer_to (registration_of msg) (applied (follows.registry.slots i) (follows.registry.registry i) number msg) (change_is_owed setting (past ++ user ∷ []) new.core.registry after i)) in
+        let put : put_on setting number past notes.0.more ≡ messages =
+        ap (put_on setting number past) notes.1 ∙ append-nil (message_at setting number past user) ∙ ap (answer_for number number) (sym answer) in
+        subst (λ (ms : List (List ℕ)). Takes Tells (bytes ++ concat ms) was.link was.end (outbox_of new.channels.outboxes number)) (sym put)
+        (put_takes Tells messages bytes was.link was.end (outbox_of old.channels.outboxes number) (outbox_of new.channels.outboxes number)
+        (ap (λ (es : List (ℕ × Outbox)). outbox_of es number) step.1.outboxes ∙ answered_one number old.channels.outboxes number asked) t))
+        (goes_open was now (ap (λ (c : Channels). c.inboxes) step.2) (λ done all. let bad : msg ∷ step.0.1 ≡ [] = sym step.0.2 ∙ done.0 in absurd (cc bad))) k
+
     program_keeps : (kind : ProgramKind) → IsProgramStep number kind old new → Keeps room old → Keeps room (turned old new)
     program_keeps (Said ends link inbox msgs) step k = said_keeps ends link inbox msgs step k
     program_keeps (Forwarded moment msgs) step k =
         let was : Program = step.0.0 in
-        untaken was was.link step.0.1 step.0.3 (program_notes number (Forwarded moment msgs) old new step) step.2 (stays_same was.link.taken)
+        untaken was was.link step.0.1 step.0.3 (program_notes number (Forwarded moment msgs) old new tt step) step.2 (stays_same was.link.taken)
         (goes_so was (record was { said = step.0.1 }) (ap (λ (c : Channels). is_some (inbox_of c.inboxes number)) step.2) (ap (λ (c : Core). c.registry) step.1.rest)
         (λ done. (right_nil msgs step.0.1 (sym step.0.2 ∙ done.0), done.1))) k
-    program_keeps (Noted moment msg) step k =
-        let was : Program = step.0.0 in
-        untaken was was.link step.0.1 step.0.3 (program_notes number (Noted moment msg) old new step) step.2 (stays_same was.link.taken)
-        (goes_open was (record was { said = step.0.1 }) step.2 (λ done all. let bad : msg ∷ step.0.1 ≡ [] = sym step.0.2 ∙ done.0 in absurd (cc bad))) k
+    program_keeps (Noted moment msg) step k = noted_keeps moment msg step k
     program_keeps (Unregistered moment apid) step k =
         let was : Program = step.4.0 in
-        untaken was was.link was.said (may_part step.4 step.3) (program_notes number (Unregistered moment apid) old new step) step.2 (stays_same was.link.taken)
-        (goes_open was was step.2 (λ done all. let gone : None ≡ Some apid = sym ((first_tells number (apps_in old)).1 all) ∙ step.0 in absurd (cc gone))) k
+        untaken was was.link was.said (may_part step.4 step.3) (program_notes number (Unregistered moment apid) old new tt step) step.2 (stays_same was.link.taken)
+        (goes_open was was (ap (λ (c : Channels). c.inboxes) step.2) (λ done all. let gone : None ≡ Some apid = sym ((first_tells number (apps_in old)).1 all) ∙ step.0 in absurd (cc gone))) k
     program_keeps (TookLevels ends link) step k = took_keeps ends link step k
     program_keeps (ShutOff link) step k =
         let was : Program = step.0 in
-        untaken was link was.said step.1 (program_notes number (ShutOff link) old new step) step.3 step.2.taken
+        untaken was link was.said step.1 (program_notes number (ShutOff link) old new tt step) step.3 step.2.taken
         (goes_so was (record was { link = link }) (ap (λ (c : Channels). is_some (inbox_of c.inboxes number)) step.3) (ap (λ (p : Part). p.core.registry) step.4) (λ done. done)) k
     program_keeps Ended step k = ended_keeps step k
 
@@ -364,7 +411,7 @@ module _ (Tells : Type 0) (setting : Setting) where
               ap (λ (ms : List (List ℕ)). levels_put setting number past ++ concat ms) (sym (append-nil messages)) ∙ levels_more setting number past (e ∷ []) in
               subst (λ (bs : List ℕ). IsSo old.stops number (apps_in new) bs (outbox_of new.channels.outboxes number) (inbox_of old.channels.inboxes number) (slice_get old.programs (number - 1))) bytes
               (by number messages (levels_put setting number past) (outbox_of old.channels.outboxes number) (outbox_of new.channels.outboxes number) (inbox_of old.channels.inboxes number) (slice_get old.programs (number - 1)) put
-              (λ all. subst (AreApart number) (sym apps) all) (λ all. none_at number setting past e (subst (λ (r : Registry). AreApart number r.apps) is.registry all)) (known.4 number low)),
+              (λ all. subst (AreApart number) (sym apps) all) (λ all. none_at number setting past e tt (subst (λ (r : Registry). AreApart number r.apps) is.registry all)) (known.4 number low)),
         ),
   )
     where
@@ -385,7 +432,7 @@ module _ (Tells : Type 0) (setting : Setting) where
       let long : length (old.programs ++ new_program link ∷ []) ≡ length old.programs + 1 = length-append old.programs (new_program link ∷ []) in
       let outboxes : new.channels.outboxes ≡ old.channels.outboxes ++ (number, empty) ∷ [] = ap (λ (c : Channels). c.outboxes) opens.3 in
       let inboxes : new.channels.inboxes ≡ old.channels.inboxes ++ (number, unfed) ∷ [] = ap (λ (c : Channels). c.inboxes) opens.3 in
-      step_on room number old as_now (notes_none number old as_now refl refl refl) (record {
+      still_on room number old as_now (notes_none number old as_now refl refl refl) (record {
         in_all = ap (λ (c : Channels). c.in_all) opens.3;
         many = λ many. ap (λ (c : Channels). c.opened) opens.3 ∙ next ∙ sym long;
         others = λ other first differs.
@@ -407,11 +454,11 @@ module _ (Tells : Type 0) (setting : Setting) where
 
   module _ (IsTold : LinkTold → Type 0) (tells : (link : LinkTold) → IsTold link → Tells → IsSome link.taken) (room : ℕ) where
     -- nothing is noted
-    still_noted : (old new mid : State) → new ≡ mid → mid.core.registry ≡ old.core.registry → mid.core.level ≡ old.core.level → mid.events ≡ old.events → Noting 0 old new
+    still_noted : (old new mid : State) → new ≡ mid → mid.core.registry ≡ old.core.registry → mid.core.level ≡ old.core.level → mid.events ≡ old.events → Silently 0 old new
     still_noted old new mid is kept level events =
         notes_none 0 old new (ap (λ (s : State). s.events) is ∙ events) (ap (λ (s : State). s.core.registry) is ∙ kept) (ap (λ (s : State). s.core.level) is ∙ level)
 
-    beside : (old new mid : State) → new ≡ mid → mid.channels ≡ old.channels → mid.programs ≡ old.programs → mid.stops ≡ old.stops → Noting 0 old new → Keeps room old → Keeps room new
+    beside : (old new mid : State) → new ≡ mid → mid.channels ≡ old.channels → mid.programs ≡ old.programs → mid.stops ≡ old.stops → Silently 0 old new → Keeps room old → Keeps room new
     beside old new mid is channels programs stops notes k =
         aside room old new notes (ap (λ (s : State). s.channels) is ∙ channels) (ap (λ (s : State). s.programs) is ∙ programs)
         (λ p done. subst (λ (b : Bool). HasEnded b p) (sym (ap (λ (s : State). s.stops) is ∙ stops)) done) k

@@ -25,7 +25,7 @@ use Rattle.dl_serve.specs.Levels.{levels_put}
 use Rattle.dl_serve.proofs.EmptiedChannels.{EachOpen, ends_led}
 use Rattle.dl_serve.proofs.NobodyPuts.{IsNotOf, none_put}
 use Rattle.dl_serve.proofs.NotedSteps.{Follows}
-use Rattle.dl_serve.proofs.TakenLevels.{levels_same, put_on, quiet_puts, stays_so}
+use Rattle.dl_serve.proofs.TakenLevels.{levels_same, put_on, silent_puts, stays_so}
 use Rattle.dl_serve.proofs.TookSteps.{noted_so}
 
 -- clients send no message of a program
@@ -73,7 +73,7 @@ module _ (Tells : Type 0) (setting : Setting) where
             follows = quiet.follows;
             settled = quiet.settled;
             whole = λ place link there slot.
-                let none : put_on setting (place + 1) past more ≡ [] = quiet_puts setting channel (place + 1) past more quiet.quiet in
+                let none : put_on setting (place + 1) past more ≡ [] = silent_puts setting (place + 1) past more quiet.silent in
                 set_cases (TookAll (past ++ more) place) old.links (channel - 1) place visited.link visited.link_now link visited.was
                 (λ same. none_more past more place visited.link visited.link_now none stops.shut.waits stops.shut.taken (all.whole place visited.link (ap (λ (n : ℕ). slice_get old.links n) same ∙ visited.was) slot))
                 (λ apart was. none_more past more place link link none refl (stays_same link.taken) (all.whole place link was slot)) (sym (ap (λ (ls : List LinkTold). slice_get ls place) visited.links) ∙ there);

@@ -1,20 +1,27 @@
 -- What the links of programs took: the levels that these were told.
-use Rattle.std.specs.Prelude.{◌≡◌, ◌<◌, ◌+◌, ◌++◌, ℕ, List, [], length, slice_get, Option, Some, None}
+use Rattle.std.specs.Prelude.{◌≡◌, ◌<◌, ◌+◌, ◌++◌, ◌∷◌, ℕ, List, [], length, slice_get, Option, Some, None}
 use Rattle.std.specs.List.{concat}
 use Rattle.dl_channel.specs.State.{waiting_limit}
 use Rattle.dl_channel.specs.declared.outcome.ChannelEnd.{ChannelEnd}
 use Rattle.dl_channel.specs.declared.outcome.ChannelEnd.TheVariants.{Slow}
-use Rattle.dl_channel_turns.specs.Put.{message_for}
+use Rattle.dl_channel_turns.specs.Levels.{answer_to, registration_of}
+use Rattle.dl_channel_turns.specs.Put.{answer_for, message_for}
 use Rattle.dl_events.specs.declared.event.Event.{Event}
 use Rattle.dl_events.specs.declared.event.Event.TheVariants as event
 use Rattle.dl_model.specs.Along.{along}
-use Rattle.dl_model.specs.Journal.{registry_of}
+use Rattle.dl_model.specs.Journal.{owed, registry_of, slots_of}
+use Rattle.dl_model.specs.Registry.{applied}
 use Rattle.dl_model.specs.Setting.{Setting}
 use Rattle.dl_outside.specs.Told.{LinkTold}
 
--- the message that an event puts for a channel, after the events before it: that of a level, where its slot is of an application of the channel
+-- The message that an event puts for a channel, after the events before it: that of a level, where its slot is of an application of the channel; and the
+-- answer to a registration of its own, which tells the context's level where no Level event is owed for it.
 abbrev pub message_at : Setting → ℕ → List Event → Event → List (List ℕ)
 message_at setting channel before (event.Level slot level) = message_for (registry_of setting before) channel (record { slot = slot; level = level })
+message_at setting channel before (event.User other msg moment) =
+    answer_for channel other
+    (answer_to (registration_of msg) (applied (slots_of setting before) (registry_of setting before) other msg)
+    (owed setting (before ++ event.User other msg moment ∷ [])))
 message_at setting channel before other = []
 
 -- the bytes of all of them, in the journal's order

@@ -57,8 +57,8 @@ pub fn how_clients_went<L: Link>()
 }
 
 /// Where links tell what they took, that of each program outside took the front of the messages that tell the levels of its applications' contexts, one for
-/// each of their Level events, in the journal's order, and all of them where the channel is open at the end and the link never had to wait. A channel ended
-/// as slow only where these messages have more bytes than may wait.
+/// each of their Level events, and one for each accepted registration of a context that owes none, in the journal's order; and all of them where the channel
+/// is open at the end and the link never had to wait. A channel ended as slow only where these messages have more bytes than may wait.
 pub fn what_programs_took<L: Link>()
     ensures { (begun : Begun) (old new : Told L) (full : Bool) (closed : Closed L) (first : FolderTold) → IsBegun begun.conf first.files begun.trace
         → HasOpened L.told begun full old new closed

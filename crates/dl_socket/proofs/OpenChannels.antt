@@ -8,18 +8,19 @@ use Rattle.std.proofs.lemmas.Bool.Decides.{eqb_tells}
 use Rattle.std.proofs.lemmas.Map.Entries.{lookup-filter-keys}
 use Rattle.dl_bytes.specs.declared.moment.Moment.{Moment}
 use Rattle.dl_bytes.specs.declared.user.UserMsg.{UserMsg}
-use Rattle.dl_channel.specs.Levels.{with_level}
+use Rattle.dl_channel.specs.Levels.{with_level, with_message}
 use Rattle.dl_channel.specs.State.{Outbox, empty}
 use Rattle.dl_channel.specs.declared.outcome.ChannelEnd.{ChannelEnd}
-use Rattle.dl_channel_turns.specs.Levels.{TellsLevels, put_for}
+use Rattle.dl_channel_turns.specs.Levels.{TellsLevels, answer_to, answered, put_for, registration_of}
 use Rattle.dl_channel_turns.specs.Messages.{Alone, Group, Serves, ServesGroup, Together}
 use Rattle.dl_channel_turns.specs.State.{Side, Stage, changed, outbox_of, without}
 use Rattle.dl_channel_turns.specs.Turns.{Heeds, IsTurn, ServesEach}
 use Rattle.dl_core.specs.Admission.{has_frames}
+use Rattle.dl_core.specs.Registering.{applied_now}
 use Rattle.dl_model.specs.declared.registry.LevelChange.{LevelChange}
 use Rattle.dl_outside.specs.declared.link.Gave.{Gave}
 use Rattle.dl_outside.specs.declared.link.Gave.TheVariants as gave
-use Rattle.dl_registry.specs.Kept.{channel_at, position_at}
+use Rattle.dl_registry.specs.Kept.{channel_at, owed_change, position_at}
 use Rattle.dl_user.specs.Channel as cutter
 use Rattle.dl_user.specs.Channel.{unfed}
 use Rattle.dl_cells.specs.declared.level_history.Change.{Change}
@@ -89,6 +90,10 @@ put_open (Some channel) (Some position) level outboxes other = changed_open chan
 put_open (Some channel) None level outboxes other = refl
 put_open None position level outboxes other = refl
 
+answered_open : (channel : ℕ) (answer : Option (List ℕ)) (outboxes : List (ℕ × Outbox)) → AreOpenAs outboxes (answered channel answer outboxes)
+answered_open channel (Some message) outboxes other = changed_open channel (with_message message) outboxes other
+answered_open channel None outboxes other = refl
+
 pub same_open : (old new : List (ℕ × Outbox)) → new ≡ old → AreOpenAs old new
 same_open old new same other = ap (λ (o : List (ℕ × Outbox)). is_some (outbox_of o other)) same
 
@@ -100,7 +105,8 @@ levels_open (next ∷ others) old new levels other = levels_open others levels.0
 module _ (channel : ℕ) (moment : Moment) where
   pub one_open : (b : Bool) (msg : UserMsg) (old new : Side) → Serves b channel moment msg old new → AreOpenAs old.outboxes new.outboxes
   one_open true msg old new serves other = same_open old.outboxes new.outboxes serves.1 other
-  one_open false msg old new serves other = levels_open serves.2.0 serves.0 new serves.2.1 other ∙ same_open old.outboxes serves.0.outboxes serves.1.outboxes other
+  one_open false msg old new serves other = levels_open serves.2.0 serves.0 new serves.2.1 other ∙ same_open _ serves.0.outboxes serves.1.outboxes other
+      ∙ answered_open channel (answer_to (registration_of msg) (applied_now old.core channel msg) (owed_change serves.0.core.registry)) old.outboxes other
 
   group_open : (group : Group) (old new : Side) → ServesGroup channel moment group old new → AreOpenAs old.outboxes new.outboxes
   group_open (Together msgs) old new serves other = same_open old.outboxes new.outboxes serves.2 other

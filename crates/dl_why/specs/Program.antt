@@ -20,9 +20,9 @@ use Rattle.dl_startup.specs.declared.configuration.Setup.{Setup}
 use Rattle.dl_startup.specs.declared.status.Status.{Status}
 use Rattle.dl_startup.specs.declared.status.Status.TheVariants as end
 use Rattle.dl_fates.specs.declared.stored_calls.Rotation.{Rotation}
-use Rattle.dl_find.specs.Asking.{question_of}
+use Rattle.dl_find_words.specs.Asking.{question_of}
 use Rattle.dl_find.specs.Found.{Finds}
-use Rattle.dl_find.specs.declared.question.Question.{Question}
+use Rattle.dl_find_words.specs.declared.question.Question.{Question}
 use Rattle.dl_trace.specs.Stands.{HasFiles}
 use Rattle.dl_trace_files.specs.Files.{files_asked}
 use Rattle.dl_trace_why.specs.Account as trace

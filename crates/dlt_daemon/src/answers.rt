@@ -10,20 +10,22 @@ use std::rt::Env;
 
 /// The words that the program takes.
 const USAGE: &str =
-    "usage: dlt_daemon [--conf NAME] [--port N] [--users N] [--status SECONDS] [--sync SECONDS] [--until-eof]";
+    "usage: dlt_daemon [--conf NAME] [--port N] [--users N] [--status SECONDS] [--status-file NAME] [--sync SECONDS] [--until-eof] [--verbose]";
 
 /// What help says besides.
 const HELP: &str = "
 Serves clients and programs of DLT version 1 in the current folder, until it is killed.
 
-  --conf NAME       the configuration; dlt.conf where none is named
-  --port N          where clients dial in; 3490
-  --users N         where programs dial in that log; 3491
-  --status SECONDS  says what is counted, each so many seconds
-  --sync SECONDS    brings the trace files to the disk, each so many seconds
-  --until-eof       ends in order when standard input ends
-  --help            this
-  --version         which version it is
+  --conf NAME         the configuration; dlt.conf where none is named
+  --port N            where clients dial in; 3490
+  --users N           where programs dial in that log; 3491
+  --status SECONDS    says what is counted, each so many seconds
+  --status-file NAME  has the last of these lines in this file, too
+  --sync SECONDS      brings the trace files to the disk, each so many seconds
+  --until-eof         ends in order when standard input ends
+  --verbose           says on standard error which clients and programs come and go
+  --help              this
+  --version           which version it is
 
 DLT_BIND_ADDRESS of the environment is the address to listen on; 127.0.0.1 where it is not set.";
 

@@ -9,7 +9,9 @@ mod aside;
 mod asked;
 mod begin;
 mod ending;
+mod news;
 mod preparing;
+mod status_output;
 mod watching;
 
 use crate::answers::{answer, asked};

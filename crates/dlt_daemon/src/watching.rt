@@ -5,6 +5,8 @@ ghost use Rattle.std.specs.Prelude.{◌≡◌};
 
 use crate::asked::Asked;
 use crate::ending::Ending;
+use crate::news::News;
+use crate::status_output::{StatusFile, StatusOutput};
 use dl_bytes::Moment;
 use dl_daemon::{Passed, Server, Teller, Watch, Watched};
 use dl_events::Unkept;
@@ -31,9 +33,11 @@ pub struct Watching<R, O> {
     pub sync: Option<TraceSync>,
     /// How often a trace file was taken away.
     pub taken: Taken,
+    /// What was said of the trace, and of clients and programs.
+    pub news: News,
 }
 
-impl Watching<HostRuntime, PromptOutput> {
+impl Watching<HostRuntime, StatusOutput<HostRuntime, PromptOutput>> {
     /// Looks on as it is asked for, from this moment on: status lines go to standard output. The end of standard input ends rests that these tidings are of.
     pub fn over(
         rt: HostRuntime,
@@ -42,8 +46,12 @@ impl Watching<HostRuntime, PromptOutput> {
         taken: Taken,
         tidings: Option<&Tidings>,
         moment: Moment,
-    ) -> Watching<HostRuntime, PromptOutput> {
-        let out = PromptOutput::over(rt.alloc(), rt.stdout());
+    ) -> Watching<HostRuntime, StatusOutput<HostRuntime, PromptOutput>> {
+        let file = match &asked.status_file {
+            Some(name) => StatusFile::named(rt.alloc(), name.as_str()),
+            None => None,
+        };
+        let out = StatusOutput::over(rt, PromptOutput::over(rt.alloc(), rt.stdout()), file);
         let input = if asked.until_eof {
             Some(InputEnd::of(rt.stdin(), tidings))
         } else {
@@ -62,6 +70,7 @@ impl Watching<HostRuntime, PromptOutput> {
             ending: None,
             sync,
             taken,
+            news: News::none(asked.is_verbose),
         }
     }
 }
@@ -113,6 +122,7 @@ impl<R: Files + Eprint + AllocGlobal, O: Sink> Watch for Watching<R, O> {
             taken: self.taken.count(),
             ..passed
         };
+        self.news.tell(&self.rt, server, &passed, moment);
         let goes_on = self.teller.goes_on(server, passed, moment)
             && !self.is_over(moment.ticks, server.core.hub().admitted());
         self.watched.answer(goes_on);
