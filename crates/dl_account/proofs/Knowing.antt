@@ -14,7 +14,7 @@ use Rattle.dl_cells.specs.Views.{bit, times, total}
 use Rattle.dl_cells.proofs.Totals.{total-snoc}
 use Rattle.dl_writer.specs.State.{BookState, numbers}
 use Rattle.dl_desk.specs.declared.app_handles.AppHandles.{AppHandles}
-use Rattle.dl_desk.specs.Posting.{pushed_of}
+use Rattle.dl_desk.specs.QueuedInjections.{pushed_of}
 use Rattle.dl_desk.proofs.Making.{is_there}
 use Rattle.dl_account.specs.Books.{books_of, given_by, injected_of}
 use Rattle.dl_account.specs.ClosingInside.{HaveHandles, IsClosing}

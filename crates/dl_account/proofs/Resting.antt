@@ -6,7 +6,7 @@ use Rattle.dl_bytes.specs.declared.item.Injection.{Injection}
 use Rattle.dl_ring.specs.declared.item.RingItem.{RingItem}
 use Rattle.dl_desk.specs.declared.app_handles.AppHandles.{AppHandles}
 use Rattle.dl_desk.specs.Handles.{HandlesState, with_injected, with_refusal}
-use Rattle.dl_desk.specs.Posting.{rest_of, without_pushes}
+use Rattle.dl_desk.specs.QueuedInjections.{rest_of, without_pushes}
 use Rattle.dl_desk.proofs.Posts.{pushed_rest, refused_rest}
 use Rattle.dl_account.specs.Known.{IsDrained, taken_of}
 use Rattle.dl_account.specs.State.{ClosingState}

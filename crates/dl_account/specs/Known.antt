@@ -12,7 +12,7 @@ use Rattle.dl_ring.specs.declared.item.RingItem.TheVariants.{Log, Register}
 use Rattle.dl_ring.specs.Order.{of}
 use Rattle.dl_cells.specs.Views.{bit, times}
 use Rattle.dl_desk.specs.Handles.{HandlesState}
-use Rattle.dl_desk.specs.Posting.{pushed_of}
+use Rattle.dl_desk.specs.QueuedInjections.{pushed_of}
 use Rattle.dl_writer.specs.Records.{TellAll}
 use Rattle.dl_writer.specs.State.{BookState, IsWhole, numbers}
 use Rattle.dl_account.specs.Books.{books_of, claimed_of, items_pushed_of, lost_of, injected_of, registers_of}

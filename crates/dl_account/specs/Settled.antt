@@ -13,7 +13,7 @@ use Rattle.dl_model.specs.Report.{reported}
 use Rattle.dl_ring.specs.Items.{calls_in, claims_in}
 use Rattle.dl_ring.specs.Order.{of}
 use Rattle.dl_cells.specs.Views.{times}
-use Rattle.dl_desk.specs.Posting.{pushed_of}
+use Rattle.dl_desk.specs.QueuedInjections.{pushed_of}
 use Rattle.dl_writer.specs.Records.{TellAll}
 use Rattle.dl_writer.specs.State.{IsWhole, BookState, numbers}
 use Rattle.dl_account.specs.Books.{books_of, lost_of, records_of}

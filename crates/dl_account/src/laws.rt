@@ -9,7 +9,7 @@ ghost use Rattle.dl_events.specs.declared.record.Record.{Record};
 ghost use Rattle.dl_cells.specs.declared.level_history.Read.{Read};
 ghost use Rattle.dl_model.specs.WholeAccounts.{IsAccounted};
 ghost use Rattle.dl_desk.specs.Made.{IsLater, IsMadeWith, MakesWriter};
-ghost use Rattle.dl_desk.specs.Posting.{rest_of};
+ghost use Rattle.dl_desk.specs.QueuedInjections.{rest_of};
 ghost use Rattle.dl_desk.specs.State.{DeskState};
 ghost use Rattle.dl_writer.specs.Calls.{after, with_empty, with_injection, with_read};
 ghost use Rattle.dl_writer.specs.Claiming.{Announces, IsTableFull, Registers};

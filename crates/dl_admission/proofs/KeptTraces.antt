@@ -7,7 +7,7 @@ use Rattle.dl_bytes.specs.declared.outcome.TraceEnd.TheVariants.{Failed, Spent, 
 use Rattle.dl_outside.specs.Folder.{Files}
 use Rattle.dl_outside.specs.Outside.{HasRisen}
 use Rattle.dl_outside.specs.Told.{FolderTold}
-use Rattle.dl_trace.specs.Stands.{ChangesTraceFiles}
+use Rattle.dl_trace.specs.InFolder.{ChangesTraceFiles}
 use Rattle.dl_trace.specs.State.{Trace}
 use Rattle.dl_trace.specs.Written.{ChangesTraceAlone, StoresEach, StoresIn, StoresTill}
 use Rattle.dl_admission.specs.Kept.{KeepsTrace, end_of}

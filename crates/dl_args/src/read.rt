@@ -59,7 +59,7 @@ impl<'a> ArgReader<'a> {
         }
     }
 
-    /// The next argument, or why it can't be read; nothing where all are read. A fault is never want of memory.
+    /// The next argument, or why it can't be read; nothing where all are read. A fault is never out of memory.
     #[inline(always)]
     #[tactic(auto, unfolding(crate::specs::Coming::coming))]
     pub fn next_arg(&mut self) -> Option<Result<ArgRef<'a>, ArgFault>>
@@ -82,7 +82,7 @@ impl<'a> ArgReader<'a> {
 }
 
 /// Copies of the first `count` arguments of a payload, the field NOAR. Bytes after them are ignored. They are read once;
-/// where memory runs out the rest is read too, so that want of memory never hides a fault.
+/// where memory runs out the rest is read too, so that out of memory never hides a fault.
 #[tactic(auto, using(crate::proofs::ArgLoop::coming_is, crate::proofs::ArgLoop::is_found, crate::proofs::ArgLoop::only_these, crate::proofs::ArgLoop::only_fault, crate::proofs::ArgLoop::is_no_want, crate::proofs::Places::fault_is, crate::proofs::Places::fault_found))]
 pub fn read_args(
     alloc: Global,

@@ -1,4 +1,12 @@
 //! The plain types that every other crate names: ids, levels, payloads, frames, and bytes.
+//!
+//! Proved: what each type may hold (`Level` and `OwnLevel` in their ranges, `Payload` up to 1390 bytes, `Frame` up to a stored message's size) is its
+//! invariant; `Cursor` reads numbers in either byte order, and where it refuses it stays where it was; `Buffer` never holds more than its limit; one
+//! theorem on cutters (a stream is cut the same in any pieces) serves those of `dl_message` and `dl_user`.
+//!
+//! Chosen: out of memory has one name in all crates, `OutOfMemory`, which is std's `AllocError`. Contracts see an `OwnLevel` as an optional level,
+//! nothing for the number -1. `Bytes` and all list types are one generic `Sequence<T>`, whose `len` asks for fewer than 2^32 entries. This crate is
+//! longer than others are to be, since all of them name these types and a crate below it would only be handed on.
 #![tactic(auto)]
 
 mod buffer;

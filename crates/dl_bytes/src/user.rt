@@ -1,4 +1,4 @@
-//! What a program outside the daemon tells it: user messages.
+//! What an external application tells the daemon: user messages.
 
 ghost use Rattle.std.specs.Prelude.{◌≡◌, ◌↔◌, IfOk, IsTrue};
 ghost use Rattle.dl_bytes.specs.UserMessage.{IsFit, HoldsMessage};

@@ -34,7 +34,7 @@ fn has_frames_in(msg: &UserMsg) -> bool
 }
 
 /// Takes in a message of a channel: its frames are admitted, behind the Closes of the clients that are too slow for them, or it goes to the
-/// registry, and the Level events that it owes follow. A context that registers is told its level in any case. Where memory is wanting nothing is
+/// registry, and the Level events that it owes follow. A context that registers is told its level in any case. Where memory runs out nothing is
 /// done.
 pub fn serve_one<J: Journal, F: Folder>(
     core: &mut Core,
@@ -76,7 +76,7 @@ pub fn serve_one<J: Journal, F: Folder>(
     }
 }
 
-/// Admits the log messages that are gathered. Where memory is wanting nothing is done.
+/// Admits the log messages that are gathered. Where memory runs out nothing is done.
 fn serve_gathered<J: Journal, F: Folder>(
     core: &mut Core,
     journal: &mut J,

@@ -1,5 +1,11 @@
 //! What C programs call of the library `dl_client`. Each function says what the one that it calls says. Answers are numbers: of a
 //! log call 0 filtered, 1 queued, 2 lost, 3 refused; of all else 0 done, 1 it has to wait for room in the queue, 2 refused.
+//!
+//! Proved: each exported function says the clauses of the one that it calls, with no condition on its caller but what its types say: of an area no
+//! more bytes are used than it has.
+//!
+//! Rests on tests: the C around it, `clib/`, by `tests/clib/run`: threads, forks, levels, injections, daemons that are away, and one call of each
+//! kind beside libdlt 2.18.
 #![tactic(auto)]
 
 ghost use Rattle.std.specs.Prelude.{◌≡◌, ◌<◌, ◌≤◌, ◌++◌, ℕ, List, length, true, false, take, Option, Some};

@@ -13,7 +13,7 @@ use std::alloc::Global;
 pub struct Reply {
     /// The service id of the request.
     pub service: u32,
-    /// The status: 0 where it is done, 1 where it is not supported, 2 where it failed, 10 where memory was wanted. Of
+    /// The status: 0 where it is done, 1 where it is not supported, 2 where it failed, 10 where memory ran out. Of
     /// service 0x03 it is 6 or 7 as the options are, 8 where no context matches, 9 where the reply would be too long.
     pub status: u8,
     /// What the service tells besides.

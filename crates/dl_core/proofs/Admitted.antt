@@ -15,7 +15,7 @@ use Rattle.dl_hub.specs.State.{Hub, Waiting, IsSameHub, EachHasRoom, is_open, ou
 use Rattle.dl_hub.specs.Follows.{Adds, IsAfter}
 use Rattle.dl_hub.proofs.Overflow.{frames-step}
 use Rattle.dl_trace.specs.State.{Trace}
-use Rattle.dl_trace.specs.Stands.{ChangesTraceFiles}
+use Rattle.dl_trace.specs.InFolder.{ChangesTraceFiles}
 use Rattle.dl_trace.proofs.Joined.{changes_later, unchanged}
 use Rattle.dl_core.specs.Admission.{Admits, lost_frames}
 use Rattle.dl_core.specs.Noting.{TakesIn}

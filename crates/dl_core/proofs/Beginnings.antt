@@ -19,7 +19,7 @@ use Rattle.dl_hub.specs.State.{fresh}
 use Rattle.dl_trace.specs.State as traces
 use Rattle.dl_trace.specs.State.{Trace}
 use Rattle.dl_trace.specs.Made.{HasBegun, IsMade}
-use Rattle.dl_trace.specs.Stands.{HasFiles}
+use Rattle.dl_trace.specs.InFolder.{HasFiles}
 use Rattle.dl_core.specs.Settings.{HasSizes, setting_for, begun_for}
 use Rattle.dl_core.specs.State.{Core}
 use Rattle.dl_core.specs.Follows.{Run, GoesOnWith, HoldsFiles, HoldsTrace, IsTraceAfter, IsAfter, begun_anew, source_of, stored_by}

@@ -30,7 +30,7 @@ use Rattle.dl_hub.specs.Follows as hub
 use Rattle.dl_services.specs.declared.wish.Want.{Want}
 use Rattle.dl_services.specs.declared.wish.Want.TheVariants as want
 use Rattle.dl_trace.specs.State.{Trace}
-use Rattle.dl_trace.specs.Stands.{HasFiles}
+use Rattle.dl_trace.specs.InFolder.{HasFiles}
 use Rattle.dl_trace.proofs.Holding.{gone_other, put_other}
 use Rattle.dl_core.specs.State.{Core}
 use Rattle.dl_core.specs.Settings.{IsSetTo, seen}

@@ -12,7 +12,7 @@ use Rattle.dl_model.specs.TraceFiles.{greatest, segments, trace_files, trace_nam
 use Rattle.dl_outside.specs.Folder.{Files}
 use Rattle.dl_outside.specs.Told.{FolderTold}
 use Rattle.dl_trace.specs.State.{IsAfter, Trace, missing}
-use Rattle.dl_trace.specs.Stands.{HasFiles}
+use Rattle.dl_trace.specs.InFolder.{HasFiles}
 use Rattle.dl_trace.specs.Pieces.{frames_in, pieces, pieces_from, pieces_of, room_of}
 use Rattle.dl_trace.specs.Storing.{IsStored, Leaves, Stops}
 use Rattle.dl_trace.proofs.Joined.{frames_in-append, frames_in_cut}

@@ -4,7 +4,7 @@ use Rattle.dl_model.specs.TraceFiles.{six_digits}
 use Rattle.dl_outside.specs.Folder.{Files}
 use Rattle.dl_outside.specs.Told.{FolderTold}
 use Rattle.dl_trace.specs.State.{Trace}
-use Rattle.dl_trace.specs.Stands.{ChangesTraceFiles, IsTraceName}
+use Rattle.dl_trace.specs.InFolder.{ChangesTraceFiles, IsTraceName}
 use Rattle.dl_core.specs.Serving.{stored_name}
 use Rattle.dl_trace.specs.Written.{ChangesTraceAlone}
 use Rattle.dl_core.proofs.Requested.{name_length}

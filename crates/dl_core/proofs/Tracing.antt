@@ -8,7 +8,7 @@ use Rattle.dl_outside.specs.Folder.{Files}
 use Rattle.dl_outside.specs.Told.{FolderTold}
 use Rattle.dl_model.specs.TraceFiles.{trace_files, is_spent}
 use Rattle.dl_trace.specs.State.{Trace, IsAfter, counted, listed, missing}
-use Rattle.dl_trace.specs.Stands.{HasFiles}
+use Rattle.dl_trace.specs.InFolder.{HasFiles}
 use Rattle.dl_trace.specs.Pieces.{frames_in, room_of}
 use Rattle.dl_trace.specs.Storing.{IsStored, Stops}
 use Rattle.dl_trace.proofs.Spent.{spent_later}

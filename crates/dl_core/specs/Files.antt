@@ -4,7 +4,7 @@ use Rattle.std.specs.Option.{option_map}
 use Rattle.std.specs.FinMap as map
 use Rattle.dl_outside.specs.Folder.{Files}
 use Rattle.dl_outside.specs.Told.{FolderTold}
-use Rattle.dl_trace.specs.Stands.{IsTraceName}
+use Rattle.dl_trace.specs.InFolder.{IsTraceName}
 use Rattle.dl_trace.specs.State.{Trace}
 use Rattle.dl_core.specs.Serving.{stored_name}
 use Rattle.dl_core.specs.State.{Core}

@@ -19,7 +19,7 @@ use Rattle.dl_hub.specs.Follows as hub
 use Rattle.dl_trace.specs.State as trace
 use Rattle.dl_trace.specs.Made.{HasBegun}
 use Rattle.dl_trace.specs.State.{Trace, counted}
-use Rattle.dl_trace.specs.Stands.{HasFiles}
+use Rattle.dl_trace.specs.InFolder.{HasFiles}
 use Rattle.dl_trace.specs.Storing.{StoresOrStops}
 use Rattle.dl_core.specs.State.{Core}
 use Rattle.dl_core.specs.Settings.{HasSizes, IsSetTo}

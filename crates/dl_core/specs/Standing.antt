@@ -10,7 +10,7 @@ use Rattle.dl_model.specs.TraceFiles.{StoredFile, greatest, segments, trace_file
 use Rattle.dl_outside.specs.Folder.{Files}
 use Rattle.dl_outside.specs.Told.{FolderTold}
 use Rattle.dl_trace.specs.State.{IsAfter, Trace}
-use Rattle.dl_trace.specs.Stands.{HasFiles}
+use Rattle.dl_trace.specs.InFolder.{HasFiles}
 use Rattle.dl_trace.specs.Storing as storing
 use Rattle.dl_core.specs.Follows.{Run, stored_by}
 use Rattle.dl_core.specs.State.{Core}

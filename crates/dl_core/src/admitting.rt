@@ -69,7 +69,7 @@ pub fn admit<F: Folder>(
     frame: &[u8],
     folder: &mut F,
 )
-    requires some { 0 < length frame.now }
+    requires some { 4 ≤ length frame.now }
     requires size { length frame.now ≤ frame_limit }
     requires room { EachHasRoom (length frame.now) hub.old }
     requires few { hub.old.admitted < admitted_limit }
@@ -148,7 +148,7 @@ pub fn admit_each<J: Journal>(
 fn frame_of(msg: &UserMsg) -> &[u8]
     requires log { IsLog msg.now }
     ensures frame { (ecu : List ℕ) → user_frames ecu msg.now ≡ result.now ∷ [] }
-    ensures some { 0 < length result.now }
+    ensures some { 4 ≤ length result.now }
     ensures size { length result.now ≤ frame_limit }
 {
     match msg {

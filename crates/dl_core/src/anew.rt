@@ -1,7 +1,7 @@
 //! A new trace in the place of one that has ended: it begins with records of how many frames that one did not store.
 
 ghost use Rattle.std.specs.Prelude.{◌≡◌, ◌<◌, Ok, length, true, false};
-ghost use Rattle.dl_trace.specs.Stands.{ChangesTraceFiles};
+ghost use Rattle.dl_trace.specs.InFolder.{ChangesTraceFiles};
 ghost use Rattle.dl_trace.specs.Storing.{StoresOrStops};
 ghost use Rattle.dl_trace.specs.Writer.{trace_in};
 ghost use Rattle.dl_core.specs.Follows.{RefusesRecords, TakesPlace, unstored_records};

@@ -1,4 +1,4 @@
-//! User messages: applications that come, tell themselves, and go, and messages of programs outside this process.
+//! User messages: applications that come, tell themselves, and go, and messages of external applications.
 
 ghost use Rattle.std.specs.Prelude.{◌≡◌, ◌≢◌, ◌≤◌, ◌<◌, ◌+◌, ◌∷◌, [], ℕ, List, true, false, Ok, Some, None, length, option_copied, option_to_list, IfOk, IfSome, OnOk, OnErr};
 ghost use Rattle.std.specs.List.{AllByRecursion};
@@ -27,7 +27,7 @@ use dl_trace::{begin_batch, store_batch};
 
 impl Core {
     /// Notes a user message, which is fit, and admits the frames of a log message or of a report of lost ones. Any other message
-    /// goes to the registry, which may refuse it; it is noted all the same. Where memory was wanting nothing is noted.
+    /// goes to the registry, which may refuse it; it is noted all the same. Where memory ran out nothing is noted.
     pub fn user<F: Folder, J: Journal>(
         &mut self,
         channel: u16,
@@ -204,7 +204,7 @@ impl Core {
 
     /// Admits a message as it is, at most 1984 bytes.
     fn admit_bytes<F: Folder>(&mut self, message: &[u8], moment: Moment, folder: &mut F)
-        requires some { 0 < length message.now }
+        requires some { 4 ≤ length message.now }
         requires size { length message.now ≤ frame_limit }
         requires room { EachHasRoom (length message.now) self.old.hub }
         requires few { self.old.hub.admitted < admitted_limit }

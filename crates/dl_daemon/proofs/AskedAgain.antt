@@ -4,7 +4,7 @@ use Rattle.dl_bytes.specs.declared.conf.Conf.{Conf}
 use Rattle.dl_bytes.specs.declared.moment.Moment.{Moment}
 use Rattle.dl_core.specs.State.{Core}
 use Rattle.dl_outside.specs.Told.{FolderTold, LinkTold}
-use Rattle.dl_rounds.specs.Seats.{Seated}
+use Rattle.dl_rounds.specs.ListenerPool.{Seated}
 use Rattle.dl_server.specs.Server.{IsServer}
 use Rattle.dl_server.specs.declared.server.Server.{Server}
 use Rattle.dl_socket.specs.Listening.{HaveListeners}

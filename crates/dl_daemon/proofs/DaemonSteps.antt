@@ -1,5 +1,5 @@
 -- A daemon that was opened, ran and closed, as steps; and what its links of programs show in the end.
-use Rattle.std.proofs.Common.{◌≡◌, ◌⊎◌, ℕ, zero, suc, true, inl, inr, List, [], length, map, Option, Some, None, refl, ap, ◌∙◌, arith, false}
+use Rattle.std.proofs.Common.{◌≡◌, ◌⊎◌, ℕ, zero, suc, true, inl, inr, List, length, map, Option, Some, None, refl, ap, ◌∙◌, arith, false}
 use Rattle.dl_bytes.specs.declared.conf.Conf.{Conf}
 use Rattle.dl_bytes.specs.declared.moment.Moment.{Moment}
 use Rattle.dl_core.specs.Follows.{unstored_records}
@@ -22,7 +22,7 @@ use Rattle.dl_serve.specs.Admitted.{AllAdmitted, TellGiven}
 use Rattle.dl_serve.specs.Comes.{run_in}
 use Rattle.dl_serve.specs.Dropped.{HasDropped}
 use Rattle.dl_serve.specs.Shown.{AllShowEnds, TellLeft}
-use Rattle.dl_serve.specs.Went.{AllWent}
+use Rattle.dl_serve.specs.Went.{EachCloseHasCause}
 use Rattle.dl_serve.proofs.AdmittedSteps.{left_admitted}
 use Rattle.dl_serve.proofs.CameTo.{what_stood}
 use Rattle.dl_serve.proofs.DroppedLinks.{first_kept, left_dropped}
@@ -91,7 +91,7 @@ module _ {L : Type 0} (told : L → LinkTold) where
         left_admitted told tells first has.run.closes.0 closed keeping_goes (ap (λ (j : JournalTold). Some j.events) made.journal_is) (ap (λ (ls : Links L). map told ls.links) made.no_program)
         (ap (λ (c : Channels). c.opened) made.channels_are) (ap (λ (c : Channels). c.inboxes) made.channels_are) has.run.closes.3
 
-    pub went : WhatLinksTake → (begin : FolderTold) → IsBegun begun.conf begin.files begun.trace → AllWent told (setting most begun) closed
+    pub went : WhatLinksTake → (begin : FolderTold) → IsBegun begun.conf begin.files begun.trace → EachCloseHasCause told (setting most begun) closed
     went takes begin begins =
         let opened = has.is_opened in
         let made = opened.made in

@@ -18,16 +18,16 @@ use Rattle.dl_outside.specs.Links.{Links}
 use Rattle.dl_outside.specs.Outside.{Stays}
 use Rattle.dl_outside.specs.Told.{FolderTold, LinkTold, NetTold}
 use Rattle.dl_server.specs.Closing.{IsClosed}
-use Rattle.dl_server.specs.Holds.{GoesOn, GoesOut, Holds}
+use Rattle.dl_server.specs.Holds.{GoesOn, GoesOnUntilClosed, Holds}
 use Rattle.dl_server.specs.Round.{IsRound}
 use Rattle.dl_server.specs.State.{State, seen}
 use Rattle.dl_server.proofs.HeldStates.{goes_aside, goes_both}
 use Rattle.dl_startup.specs.Setup.{IsBegun}
 use Rattle.dl_startup.specs.Unchanged.{IsQuiet}
 use Rattle.dl_trace.specs.Made.{HasBegun}
-use Rattle.dl_trace.specs.Stands.{HasFiles}
+use Rattle.dl_trace.specs.InFolder.{HasFiles}
 use Rattle.dl_trace.specs.State.{Trace}
-use Rattle.dl_turns.specs.Gone.{TellOver}
+use Rattle.dl_turns.specs.Gone.{TellTheEnd}
 use Rattle.dl_events.specs.Told.{Told}
 use Rattle.dl_serve.specs.declared.beginning.Begun.{Begun}
 use Rattle.dl_serve.specs.declared.closed.Closed.{Closed}
@@ -139,7 +139,7 @@ begins_anew Tell set begun sizes stood before events s moment so core folder new
 
 module _ {L : Type 0} (link_told : L → LinkTold)
     (round : (held : Bool) (net net_now users users_now : NetTold L) (old new : State) → IsRound link_told net net_now users users_now old new → GoesOn (TellTaken link_told) (held ≡ true) old new)
-    (close : (held : Bool) (moment : Moment) (old new : State) → IsClosed (TellOver link_told) moment old new → GoesOut (TellTaken link_told) (held ≡ true) old new)
+    (close : (held : Bool) (moment : Moment) (old new : State) → IsClosed (TellTheEnd link_told) moment old new → GoesOnUntilClosed (TellTaken link_told) (held ≡ true) old new)
     (outbox : (run : Run) (events : List Event) (taken : ℕ → List ℕ) (core : Core) (client : ℕ) → IsAfter run events taken core → IsSome (outbox_of core.hub client) ↔ IsOpen client events)
     (most : Limits) (begun : Begun) (first : FolderTold) (begins : IsBegun begun.conf first.files begun.trace) where
   abbrev Tell : Type 0
@@ -175,7 +175,7 @@ module _ {L : Type 0} (link_told : L → LinkTold)
         holds = subst (λ (es : List Event). Holds Tell (IsSome anew.folder.files) (Unit {0}) run es now) (append_assoc known.past known.later one.0) one.1;
       }
 
-  goes_out : (anew : Option Anew) (was now : State) → ((held : Bool) → GoesOut Tell (held ≡ true) was now) → Known (Unit {0}) anew was → Known ⊥ anew now
+  goes_out : (anew : Option Anew) (was now : State) → ((held : Bool) → GoesOnUntilClosed Tell (held ≡ true) was now) → Known (Unit {0}) anew was → Known ⊥ anew now
   goes_out None was now goes known =
       let one = goes (is_some first.files) (run_in set stood) known.0 known.1 in (known.0 ++ one.0, one.1)
   goes_out (Some anew) was now goes known =

@@ -1,5 +1,5 @@
 -- Round after round of a daemon, who is there is served.
-use Rattle.std.proofs.Common.{◌≡◌, ◌⊎◌, inl, inr, ℕ, zero, suc, Bool, true, false, List, [], map, Option, Some, None, refl, sym, ap, subst, ◌∙◌, arith}
+use Rattle.std.proofs.Common.{◌≡◌, ◌⊎◌, inl, inr, ℕ, zero, suc, Bool, false, List, [], map, Option, Some, None, refl, sym, ap, subst, ◌∙◌, arith}
 use Rattle.std.proofs.lemmas.List.{length-map}
 use Rattle.dl_bytes.specs.declared.conf.Conf.{Conf}
 use Rattle.dl_bytes.specs.declared.moment.Moment.{Moment}
@@ -23,8 +23,7 @@ use Rattle.dl_rounds.specs.Visits.{ClosesAll, HearsAll, Pumped}
 use Rattle.dl_server.specs.Holds.{Holds}
 use Rattle.dl_server.specs.State.{State, seen}
 use Rattle.dl_startup.specs.Setup.{IsBegun}
-use Rattle.dl_trace.specs.State.{Trace}
-use Rattle.dl_turns.specs.Gone.{TellOver}
+use Rattle.dl_turns.specs.Gone.{TellTheEnd}
 use Rattle.dl_serve.proofs.ServerSteps.{TellsOvers, state_of}
 use Rattle.dl_serve.specs.Service.{Rounds, ServesRound, frames_in}
 use Rattle.dl_serve.specs.declared.beginning.Begun.{Begun}
@@ -59,10 +58,10 @@ abbrev pub between : {L : Type 0} → NetTold L → NetTold L → List Event →
 between net users events renewed s = record { standing = standing net users events s; trace = s.core.trace; folder = s.folder; renewed = renewed }
 
 module _ {L : Type 0} (told : L → LinkTold) (heard : (moved : Bool) (old new : Clients) → HearsAll moved old new → AreLater old new)
-    (pumped : (moved : Bool) (old new : Clients) → VisitsAll Pumped moved old new → AreLater old new) (closed_so : (old new : Clients) → ClosesAll (TellOver told) old new → AreLater old new)
+    (pumped : (moved : Bool) (old new : Clients) → VisitsAll Pumped moved old new → AreLater old new) (closed_so : (old new : Clients) → ClosesAll (TellTheEnd told) old new → AreLater old new)
     (pump : PumpsAreEvents) (read : (moved : Bool) (old new : Clients) → HearsAll moved old new → EachOpen WasRead old new)
     (sends : (moved : Bool) (old new : Clients) → VisitsAll Pumped moved old new → EachOpen WasSent old new) (parted : (hub : Hub) (old new : List LinkTold) → ShutsGone hub old new → AreShut hub new)
-    (shuts : (old new : Clients) → ClosesAll (TellOver told) old new → AreShut old.side.core.hub old.links → AreShut new.side.core.hub new.links) where
+    (shuts : (old new : Clients) → ClosesAll (TellTheEnd told) old new → AreShut old.side.core.hub old.links → AreShut new.side.core.hub new.links) where
   module _ (conf : Conf) (set : Setting) (sizes : HasSizes conf set) where
     abbrev KeepsIn : List StoredFile → ℕ × List (List ℕ) → List Event → State → Type 0
     KeepsIn stood before events s = Keeps told heard pumped pump read sends parted set stood before events s
@@ -155,7 +154,7 @@ module _ {L : Type 0} (told : L → LinkTold) (heard : (moved : Bool) (old new :
         folder = r.folder;
         renews = subst (λ (ecu : List ℕ). Renews conf ecu r.moment r.begun kept.tries kept_now.tries old.core.trace r.core.trace old.folder r.folder) known.2.holds.after.set_to.ecu r.renews;
         anew = r.anew ∙ ap (λ (past : Option (List Event)). last_anew r.begun r.moment old.folder past kept.anew) known.2.holds.kept;
-        serves = subst (λ (may : Bool). ServesRound told may set net.faults users.faults (standing net users events again) (standing net_now users_now events_now new)) (ap (λ (s : State). s.may_want) r.seen_so.is)
+        serves = subst (λ (may : Bool). ServesRound told may set net.faults users.faults (standing net users events again) (standing net_now users_now events_now new)) (ap (λ (s : State). s.may_run_out) r.seen_so.is)
             (served told heard pumped pump read sends parted set held.0 held.1 net.faults users.faults net net_now users users_now again new events r.round tell_overs stands);
       }
 

@@ -1,5 +1,5 @@
 -- Rounds of a daemon, one after the other.
-use Rattle.std.proofs.Common.{◌≡◌, ℕ, suc, true, Option, Some, None, refl, sym, ap, subst, ◌∙◌, false}
+use Rattle.std.proofs.Common.{◌≡◌, ℕ, suc, true, Option, None, refl, sym, ap, subst, ◌∙◌, false}
 use Rattle.dl_bytes.specs.declared.conf.Conf.{Conf}
 use Rattle.dl_bytes.specs.declared.moment.Moment.{Moment}
 use Rattle.dl_outside.specs.Told.{FolderTold, LinkTold, NetTold}

@@ -4,7 +4,6 @@ use Rattle.std.specs.Prelude.{◌&&◌, IfSome, IsSome, IsSomeAnd, IfOk, Result,
 use Rattle.std.proofs.lemmas.Bool.{false≢true}
 use Rattle.dl_bytes.specs.declared.conf.Conf.{Conf}
 use Rattle.dl_bytes.specs.declared.moment.Moment.{Moment}
-use Rattle.dl_bytes.specs.declared.outcome.TraceEnd.{TraceEnd}
 use Rattle.dl_core.specs.Follows.{TakesPlace, unstored_records}
 use Rattle.dl_core.specs.State.{Core}
 use Rattle.dl_model.specs.TraceFiles.{StoredFile, trace_files}
@@ -14,7 +13,7 @@ use Rattle.dl_outside.specs.Told.{FolderTold}
 use Rattle.dl_startup.specs.Setup.{IsBegun}
 use Rattle.dl_startup.specs.Unchanged.{IsUnchanged}
 use Rattle.dl_trace.specs.Made.{HasBegun}
-use Rattle.dl_trace.specs.Stands.{HasFiles}
+use Rattle.dl_trace.specs.InFolder.{HasFiles}
 use Rattle.dl_trace.specs.State.{Trace}
 use Rattle.dl_trace.specs.declared.trace.TraceFault.{TraceFault}
 use Rattle.dl_trace.proofs.Making.{begun_files, begun_with}

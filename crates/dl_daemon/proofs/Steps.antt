@@ -22,7 +22,7 @@ use Rattle.dl_serve.specs.Dropped.{HasDropped}
 use Rattle.dl_serve.specs.Levels.{AllTookLevels}
 use Rattle.dl_serve.specs.Open.{IsHeard, Listen}
 use Rattle.dl_serve.specs.Shown.{AllShowEnds, TellLeft}
-use Rattle.dl_serve.specs.Went.{AllWent}
+use Rattle.dl_serve.specs.Went.{EachCloseHasCause}
 use Rattle.dl_serve.proofs.HeardNets.{still_listens}
 use Rattle.dl_daemon.specs.declared.left.Left.{Left}
 use Rattle.dl_daemon.specs.declared.limits.Limits.{Limits}
@@ -222,7 +222,7 @@ module _ {L : Type 0} (link_told : L → LinkTold) where
       → ((why : Stop) (closed : Closed L) → HasOpened link_told most begun why (record old { folder = between; watch = told_of asked.status old.watch }) new closed → TellGiven link_told
       → AllAdmitted closed.events.events (map link_told closed.users.links) closed.ends)
       → ((why : Stop) (closed : Closed L) → HasOpened link_told most begun why (record old { folder = between; watch = told_of asked.status old.watch }) new closed → AllShowEnds (TellLeft link_told) (map link_told closed.users.links) closed.ends)
-      → ((why : Stop) (closed : Closed L) → HasOpened link_told most begun why (record old { folder = between; watch = told_of asked.status old.watch }) new closed → AllWent link_told (setting most begun) closed)
+      → ((why : Stop) (closed : Closed L) → HasOpened link_told most begun why (record old { folder = between; watch = told_of asked.status old.watch }) new closed → EachCloseHasCause link_told (setting most begun) closed)
       → ((why : Stop) (closed : Closed L) → HasOpened link_told most begun why (record old { folder = between; watch = told_of asked.status old.watch }) new closed
       → AllTookLevels (TellTaken link_told) (setting most begun) closed.events.events (map link_told closed.users.links) closed.ends)
       → ((why : Stop) (closed : Closed L) → (has : HasOpened link_told most begun why (record old { folder = between; watch = told_of asked.status old.watch }) new closed) → (last : Between L) × (last.renewed ≡ has.run.served.kept)
@@ -247,7 +247,7 @@ module _ {L : Type 0} (link_told : L → LinkTold) where
           comes = kept.2;
           admits = admits ends.0 ends.2 opens;
           shows = shows ends.0 ends.2 opens;
-          went = subst (λ (m : Limits). AllWent link_told (setting m begun) ends.2) is_most (went ends.0 ends.2 opens);
+          went = subst (λ (m : Limits). EachCloseHasCause link_told (setting m begun) ends.2) is_most (went ends.0 ends.2 opens);
           took = subst (λ (m : Limits). AllTookLevels (TellTaken link_told) (setting m begun) ends.2.events.events (map link_told ends.2.users.links) ends.2.ends) is_most (took ends.0 ends.2 opens);
           dropped = dropped ends.0 ends.2 (subst (λ (m : Limits). HasOpened link_told m begun ends.0 (record old { folder = between; watch = told_of asked.status old.watch }) new ends.2) is_most opens);
         },

@@ -13,7 +13,7 @@ use Rattle.dl_rounds.specs.Passing.{AreLater}
 use Rattle.dl_rounds.specs.Visits.{ClosesAll}
 use Rattle.dl_server.specs.State.{State, seen}
 use Rattle.dl_startup.specs.Setup.{IsBegun}
-use Rattle.dl_turns.specs.Gone.{TellOver}
+use Rattle.dl_turns.specs.Gone.{TellTheEnd}
 use Rattle.dl_serve.proofs.ServerSteps.{state_of}
 use Rattle.dl_serve.specs.declared.beginning.Begun.{Begun}
 use Rattle.dl_serve.specs.declared.closed.Closed.{Closed}
@@ -58,7 +58,7 @@ module _ {L : Type 0} (told : L → LinkTold) (conf : Conf) (set : Setting) (roo
   rounds_stand (suc many) kept kept_now net net_now users users_now old new rounds stands =
       one_stands rounds.0 kept_now rounds.1 net_now rounds.2 users_now rounds.3 new rounds.5 (rounds_stand many kept rounds.0 net rounds.1 users rounds.2 old rounds.3 rounds.4 stands)
 
-module _ {L : Type 0} (told : L → LinkTold) (closed_so : (old new : Clients) → ClosesAll (TellOver told) old new → AreLater old new) (most : Limits) (begun : Begun) (old new : Outside L) (why : Stop) (closed : Closed L)
+module _ {L : Type 0} (told : L → LinkTold) (closed_so : (old new : Clients) → ClosesAll (TellTheEnd told) old new → AreLater old new) (most : Limits) (begun : Begun) (old new : Outside L) (why : Stop) (closed : Closed L)
     (first : FolderTold) (begins : IsBegun begun.conf first.files begun.trace) (has : HasOpened told most begun why old new closed) where
   pub took_so : AllTookLevels (TellTaken told) (setting most begun) closed.events.events (map told closed.users.links) closed.ends
   took_so =

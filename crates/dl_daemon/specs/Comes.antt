@@ -8,12 +8,12 @@ use Rattle.dl_outside.specs.Told.{FolderTold, LinkTold}
 use Rattle.dl_serve.specs.Comes.{HasCome, IsComeTo, run_in}
 use Rattle.dl_serve.specs.declared.beginning.Begun.{Begun}
 use Rattle.dl_serve.specs.declared.closed.Closed.{Closed}
-use Rattle.dl_trace.specs.Stands.{HasFiles}
+use Rattle.dl_trace.specs.InFolder.{HasFiles}
 use Rattle.dl_daemon.specs.Renewing.{Anew}
 
 -- It came to this, and its trace was begun anew for the last time behind these first events, over the trace files that stood then: what was admitted before
 -- is none of the frames that it stores; it begins with the records of how many of those were not stored.
-pub record HasComeAnew {L : Type 0} (link_told : L → LinkTold) (setting : Setting) (begun : Begun) (anew : Anew) (new : FolderTold) (closed : Closed L) : Type 0 where
+pub record HasRestartedTrace {L : Type 0} (link_told : L → LinkTold) (setting : Setting) (begun : Begun) (anew : Anew) (new : FolderTold) (closed : Closed L) : Type 0 where
   pub past : List Event
   pub noted : anew.past ≡ Some past
   pub later : List Event
@@ -25,4 +25,4 @@ pub record HasComeAnew {L : Type 0} (link_told : L → LinkTold) (setting : Sett
 -- What a daemon came to: what serving comes to, where its trace was not begun anew; else the same, but that its trace files are those of the last beginning.
 abbrev pub IsKeptTo : {L : Type 0} → (L → LinkTold) → Setting → Begun → Option Anew → FolderTold → FolderTold → Closed L → Type 0
 IsKeptTo link_told setting begun None old new closed = IsComeTo link_told setting begun old new closed
-IsKeptTo link_told setting begun (Some anew) old new closed = HasComeAnew link_told setting begun anew new closed
+IsKeptTo link_told setting begun (Some anew) old new closed = HasRestartedTrace link_told setting begun anew new closed

@@ -5,7 +5,7 @@ use Rattle.dl_bytes.specs.declared.outcome.TraceFile.{TraceFile}
 use Rattle.dl_channel.specs.declared.outcome.ChannelEnd.{ChannelEnd}
 use Rattle.dl_channel.specs.declared.outcome.ChannelEnd.TheVariants as end
 use Rattle.dl_events.specs.Closes.{closes_in}
-use Rattle.dl_hub.specs.State.{left_by}
+use Rattle.dl_hub.specs.State.{messages_left_by}
 use Rattle.dl_rounds.specs.Ready.{open_clients}
 use Rattle.dl_server.specs.declared.server.Server.{Server}
 use Rattle.dl_trace.specs.State.{Trace, counted}
@@ -73,7 +73,7 @@ figures_of s passed = record {
   clients = length s.clients.links;
   open_clients = open_clients s.core.hub;
   closes = closes_in s.journal.events;
-  untaken = left_by s.core.hub.clients;
+  untaken = messages_left_by s.core.hub.clients;
   channels = length s.programs.links;
   open_channels = length s.channels.inboxes;
   ends = ends_in s.ends.items;

@@ -8,21 +8,9 @@ use Rattle.dl_server.specs.State.{State}
 use Rattle.dl_server.specs.declared.server.Server.{Server}
 use Rattle.dl_settling.specs.Ends.{ends_of}
 use Rattle.dl_events.specs.Told.{Told}
+use Rattle.dl_daemon.specs.declared.figures.Passed.{Passed}
 use Rattle.dl_daemon.specs.declared.left.Left.{Left}
-
--- What is left is that of a server that closed: the events that were noted, the trace, the links, and why each channel has ended.
-pub record IsOf {L : Type 0} (closed : Closed L) (left : Left L) : Type 0 where
-  pub events : closed.events.events ≡ left.journal.events
-  pub trace : closed.state.trace ≡ left.trace
-  pub clients : closed.clients ≡ left.clients
-  pub users : closed.users ≡ left.users
-  pub ends : closed.ends ≡ left.ends
-
--- it closed, and this is left, beside what the folder tells then
-abbrev pub ClosesTo : {L : Type 0} → (L → LinkTold) → Moment → State → FolderTold → Left L → Type 0
-ClosesTo {L} told moment old folder left = (closed : Closed L) × IsOf closed left × HasClosedTo told moment old folder closed
-
--- ---- for inner functions
+use Rattle.dl_daemon.specs.Figures.{figures_of}
 
 -- what a server that closed leaves, were its events kept
 abbrev pub closed_of : {L : Type 0} → Server Told L → Closed L
@@ -35,3 +23,19 @@ closed_of s = record {
   ends = take (length s.programs.links) s.ends.items;
   memory = s.wanted;
 }
+
+-- What is left is that of a server that closed: the events that were noted, the trace, the links, why each channel has ended, and what the server counted.
+pub record IsOf {L : Type 0} (closed : Closed L) (left : Left L) : Type 0 where
+  pub server : Server Told L
+  pub its : closed ≡ closed_of server
+  pub passed : Passed
+  pub figures : left.figures ≡ figures_of server passed
+  pub events : closed.events.events ≡ left.journal.events
+  pub trace : closed.state.trace ≡ left.trace
+  pub clients : closed.clients ≡ left.clients
+  pub users : closed.users ≡ left.users
+  pub ends : closed.ends ≡ left.ends
+
+-- it closed, and this is left, beside what the folder tells then
+abbrev pub ClosesTo : {L : Type 0} → (L → LinkTold) → Moment → State → FolderTold → Left L → Type 0
+ClosesTo {L} told moment old folder left = (closed : Closed L) × IsOf closed left × HasClosedTo told moment old folder closed

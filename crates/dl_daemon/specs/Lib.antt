@@ -11,5 +11,7 @@ pub mod Left
 pub mod Comes
 pub mod Program
 pub mod Figures
+pub mod Sums
+pub mod Session
 pub mod Line
 pub mod Aside

@@ -12,7 +12,7 @@ use Rattle.dl_serve.specs.Dropped.{HasDropped}
 use Rattle.dl_serve.specs.Levels.{AllTookLevels}
 use Rattle.dl_serve.specs.Open.{HasNotListened, IsHeard, Listens}
 use Rattle.dl_serve.specs.Shown.{AllShowEnds, TellLeft}
-use Rattle.dl_serve.specs.Went.{AllWent}
+use Rattle.dl_serve.specs.Went.{EachCloseHasCause}
 use Rattle.dl_serve.specs.declared.beginning.Begun.{Begun}
 use Rattle.dl_serve.specs.declared.closed.Closed.{Closed}
 use Rattle.dl_server.specs.State.{State, seen}
@@ -58,7 +58,7 @@ pub record HasClosed {L : Type 0} (link_told : L → LinkTold) (said : List (Lis
   pub comes : IsKeptTo link_told (setting limits it.begun) it.begun last.renewed.anew old.folder new.folder closed
   pub admits : TellGiven link_told → AllAdmitted closed.events.events (map link_told closed.users.links) closed.ends
   pub shows : AllShowEnds (TellLeft link_told) (map link_told closed.users.links) closed.ends
-  pub went : AllWent link_told (setting limits it.begun) closed
+  pub went : EachCloseHasCause link_told (setting limits it.begun) closed
   pub took : AllTookLevels (TellTaken link_told) (setting limits it.begun) closed.events.events (map link_told closed.users.links) closed.ends
   pub dropped : HasDropped closed
 

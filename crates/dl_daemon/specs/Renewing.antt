@@ -11,7 +11,7 @@ use Rattle.dl_outside.specs.Told.{FolderTold}
 use Rattle.dl_startup.specs.Setup.{IsBegun}
 use Rattle.dl_startup.specs.Unchanged.{IsUnchanged}
 use Rattle.dl_trace.specs.Made.{HasFailed}
-use Rattle.dl_trace.specs.Stands.{ChangesTraceFiles}
+use Rattle.dl_trace.specs.InFolder.{ChangesTraceFiles}
 use Rattle.dl_trace.specs.State.{Trace, counted}
 use Rattle.dl_trace.specs.declared.trace.TraceFault.{TraceFault}
 use Rattle.dl_daemon.specs.declared.renewing.Tries.{Tries}

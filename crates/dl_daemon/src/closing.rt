@@ -6,6 +6,8 @@ ghost use Rattle.dl_server.specs.State.{seen};
 ghost use Rattle.dl_daemon.specs.Left.{ClosesTo, IsOf, closed_of};
 ghost use Rattle.dl_daemon.specs.Rounds.{noted};
 
+use crate::counting::figures_of;
+use crate::figures::Passed;
 use crate::left::Left;
 use dl_bytes::{Moment, OutOfMemory, Sequence};
 use dl_events::Unkept;
@@ -16,11 +18,12 @@ use std::alloc::Global;
 use std::sync::Wait;
 
 /// What is left of a server that has closed.
-fn leave<L: Link>(alloc: Global, server: Server<Unkept, L>) -> Left<L>
+fn leave<L: Link>(alloc: Global, server: Server<Unkept, L>, passed: Passed) -> Left<L>
 where
     L: Drop,
     ensures { IsOf (closed_of server) result }
 {
+    let figures = figures_of(&server, passed);
     let Server {
         core,
         journal,
@@ -36,14 +39,16 @@ where
         clients,
         users: programs,
         ends: Sequence::over(ends),
+        figures,
     }
 }
 
-/// The closing of a daemon, and what is left of it; where memory was wanting for it, nothing.
+/// The closing of a daemon behind all that has passed, and what is left of it; where memory ran out for it, nothing.
 pub fn close<R: Wait, L: Link, F: Folder>(
     rt: &R,
     alloc: Global,
     server: Server<Unkept, L>,
+    passed: Passed,
     moment: Moment,
     folder: &mut F,
 ) -> Result<Left<L>, OutOfMemory>
@@ -54,7 +59,7 @@ where
 {
     let mut server = server;
     match server.close(rt, moment, folder) {
-        Ok(()) => Ok(leave(alloc, server)),
+        Ok(()) => Ok(leave(alloc, server, passed)),
         Err(error) => Err(error),
     }
 }

@@ -15,7 +15,7 @@ use dl_server::Server;
 use dl_socket::Channels;
 
 /// How many channels are open.
-fn open_channels(channels: &Channels) -> usize
+pub(crate) fn open_channels(channels: &Channels) -> usize
     ensures { result ≡ length channels.now.inboxes }
 {
     channels.are_apart();
@@ -89,7 +89,7 @@ fn files_of(core: &Core) -> &[TraceFile]
 }
 
 /// Whether nothing more is stored.
-fn has_ended(core: &Core) -> bool
+pub(crate) fn has_ended(core: &Core) -> bool
     ensures { result ≡ has_ended core.now.trace }
 {
     match core.trace_state() {
@@ -106,17 +106,17 @@ pub fn figures_of<L: Link>(server: &Server<Unkept, L>, passed: Passed) -> Figure
     let backlog = hub.backlog();
     let files = files_of(&server.core);
     Figures {
-        clients: server.clients.len(),
+        clients: u64::from(server.clients.len()),
         open_clients: open_clients(hub),
         closes: server.journal.closes(),
-        untaken: hub.untaken(),
-        channels: server.programs.len(),
+        untaken: hub.untaken_messages(),
+        channels: u64::from(server.programs.len()),
         open_channels: open_channels(&server.channels) as u64,
         ends: ends_in(&server.ends),
         frames: hub.admitted(),
         waiting: backlog.bytes,
         refused: backlog.refused,
-        dropped: server.dropped,
+        dropped: u64::from(server.dropped),
         client_faults: passed.client_faults,
         program_faults: passed.program_faults,
         files: files.len() as u64,

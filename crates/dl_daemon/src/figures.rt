@@ -36,15 +36,15 @@ pub struct ChannelEnds {
 #[derive(Clone, Copy)]
 pub struct Figures {
     /// Clients that came.
-    pub clients: u32,
+    pub clients: u64,
     /// Clients that are open.
     pub open_clients: u64,
     /// How clients were closed.
     pub closes: Closes,
-    /// Bytes that were put into the streams of clients that are gone, and that their links had not taken, at most 2^64 - 1.
+    /// Messages that were put into the streams of clients that are gone, and that their links had not taken to their last byte, at most 2^64 - 1.
     pub untaken: u64,
     /// Programs that came.
-    pub channels: u32,
+    pub channels: u64,
     /// Programs whose channel is open.
     pub open_channels: u64,
     /// How channels ended.
@@ -56,7 +56,7 @@ pub struct Figures {
     /// Frames that found no place among them.
     pub refused: u64,
     /// Links that were dropped, since no more may come, or be open at once.
-    pub dropped: u32,
+    pub dropped: u64,
     /// Faults of the net of the clients.
     pub client_faults: u64,
     /// Faults of the net of the programs.

@@ -7,7 +7,7 @@ ghost use Rattle.dl_serve.specs.Admitted.{AllAdmitted, TellGiven};
 ghost use Rattle.dl_serve.specs.Dropped.{HasDropped};
 ghost use Rattle.dl_serve.specs.Levels.{AllTookLevels};
 ghost use Rattle.dl_serve.specs.Shown.{AllShowEnds, TellLeft};
-ghost use Rattle.dl_serve.specs.Went.{AllWent};
+ghost use Rattle.dl_serve.specs.Went.{EachCloseHasCause};
 ghost use Rattle.dl_serve.specs.declared.beginning.Begun.{Begun};
 ghost use Rattle.dl_serve.specs.declared.closed.Closed.{Closed};
 ghost use Rattle.dl_startup.specs.Setup.{IsBegun};
@@ -38,8 +38,8 @@ pub fn what_was_kept_is_its_journal<L: Link>()
     dl_core::client_turns::who_has_an_outbox();
 }
 
-/// The User events of each program outside are all messages of what its link gave, in their order, each once, however the bytes came; and behind them
-/// those of its applications that were there at its end. Where memory was wanting for it they are the first of the messages.
+/// The User events of each external application are all messages of what its link gave, in their order, each once, however the bytes came; and behind
+/// them those of its applications that were there at its end. Where memory ran out for it they are the first of the messages.
 pub fn what_programs_sent_is_admitted<L: Link>()
     ensures { (most : Limits) (begun : Begun) (old new : Outside L) (why : Stop) (closed : Closed L) → HasOpened L.told most begun why old new closed
         → TellGiven L.told → AllAdmitted closed.events.events (map L.told closed.users.links) closed.ends }
@@ -55,14 +55,14 @@ pub fn how_programs_ended<L: Link>()
 /// are those of what its link gave, as the cause says.
 pub fn how_clients_went<L: Link>()
     ensures { (most : Limits) (begun : Begun) (old new : Outside L) (why : Stop) (closed : Closed L) (first : FolderTold)
-        → IsBegun begun.conf first.files begun.trace → HasOpened L.told most begun why old new closed → AllWent L.told (setting most begun) closed }
+        → IsBegun begun.conf first.files begun.trace → HasOpened L.told most begun why old new closed → EachCloseHasCause L.told (setting most begun) closed }
 {
     dl_core::laws::what_links_take();
 }
 
-/// Where links tell what they took, that of each program outside took the front of the messages that tell the levels of its applications' contexts, one for
-/// each of their Level events, in the journal's order, and all of them where the channel is open at the end and the link never had to wait. A channel ended
-/// as slow only where these messages have more bytes than may wait.
+/// Where links tell what they took, that of each external application took the front of the messages that tell the levels of its applications'
+/// contexts, one for each of their Level events, in the journal's order, and all of them where the channel is open at the end and the link never had
+/// to wait. A channel ended as slow only where these messages have more bytes than may wait.
 pub fn what_programs_took<L: Link>()
     ensures { (most : Limits) (begun : Begun) (old new : Outside L) (why : Stop) (closed : Closed L) (first : FolderTold)
         → IsBegun begun.conf first.files begun.trace → HasOpened L.told most begun why old new closed
@@ -71,7 +71,7 @@ pub fn what_programs_took<L: Link>()
     dl_rounds::laws::a_round_is_its_events::<L>();
 }
 
-/// Links were dropped only where as many clients had come as may be open at once, or as many channels, or memory was wanting.
+/// Links were dropped only where as many clients had come as may be open at once, or as many channels, or memory ran out.
 pub fn why_links_were_dropped<L: Link>()
     ensures { (begun : Begun) (old new : Outside L) (why : Stop) (closed : Closed L) → HasOpened L.told limits begun why old new closed → HasDropped closed }
 {}
@@ -91,7 +91,7 @@ pub fn how_each_round_serves<L: Link>()
 }
 
 /// What a status says of the daemon is what is promised of the whole: the words decide first, and where all is of the form and nothing fails, the watch
-/// ended it, no more frames may be admitted, or memory was wanting.
+/// ended it, no more frames may be admitted, or memory ran out.
 pub fn an_end_is_a_keeping<L: Link>()
     ensures { (said : List (List ℕ)) (old new : Outside L) (err err_now : SinkTold) (status : Status) (left : Option (Left L))
         → Ended L.told said old new status left → Says status err err_now → IsKeeping L.told said old new err err_now status left }

@@ -1,5 +1,6 @@
 //! What is left of a daemon that closed.
 
+use crate::figures::Figures;
 use dl_bytes::{Sequence, TraceState};
 use dl_channel::ChannelEnd;
 use dl_events::Unkept;
@@ -18,4 +19,6 @@ pub struct Left<L> {
     pub users: LinkList<L>,
     /// Why each channel that came has ended, where it ended before the closing.
     pub ends: Sequence<Option<ChannelEnd>>,
+    /// What it had counted when it had closed.
+    pub figures: Figures,
 }

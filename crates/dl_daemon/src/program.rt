@@ -18,7 +18,7 @@ use crate::limits::Limits;
 use crate::opened::Opened;
 use crate::opening::open;
 use crate::outcome::Outcome;
-use crate::rounds::{Stop, go_round};
+use crate::rounds::{Stop, go_round, passed};
 use crate::watch::Watch;
 use dl_outside::{Clock, Folder, Net, Sink};
 use dl_serve::{Begun, listen};
@@ -81,7 +81,8 @@ where
         folder,
         watch,
     );
-    match close(rt, alloc, server, clock.now(), folder) {
+    let passed = passed(net, users, &renewal);
+    match close(rt, alloc, server, passed, clock.now(), folder) {
         Ok(left) => Outcome {
             status: status_of(why),
             left: Some(left),
@@ -162,8 +163,8 @@ where
     }
 }
 
-/// Keeps a daemon running for clients and programs outside, as the words ask, until its watch ends it, or until 2^40 - 4,096 frames and more were
-/// admitted; then it closes. Answers how it ended. It may wait.
+/// Keeps a daemon running for clients and external applications, as the words ask, until its watch ends it, or until 2^40 - 4,096 frames and more
+/// were admitted; then it closes. Answers how it ended. It may wait.
 ///
 /// What passes does not end it. After a failed accept the net is asked again in the next round, and counts its faults. A trace that has ended is begun anew,
 /// over the trace files that then stand, at most once a minute and as often as that is wanted; but where its last number was used up, it stays ended.

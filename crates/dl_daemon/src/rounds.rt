@@ -52,7 +52,7 @@ fn ask_again<L>(server: &mut Server<Unkept, L>)
 }
 
 /// What has passed so far.
-fn passed<N: Net>(net: &N, users: &N, renewal: &Renewal) -> Passed
+pub(crate) fn passed<N: Net>(net: &N, users: &N, renewal: &Renewal) -> Passed
     ensures { result ≡ record {
       client_faults = (N.told net.now).faults;
       program_faults = (N.told users.now).faults;

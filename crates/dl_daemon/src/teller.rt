@@ -1,9 +1,10 @@
-//! The watch of the program: it says a status line each so many seconds, and never ends the daemon.
+//! The watch of the program: it says a status line each so many seconds, with what was counted in the sessions before, and never ends the daemon.
 
 ghost use Rattle.std.specs.Prelude.{◌≡◌, ◌⊎◌, false, true, if◌then◌else◌};
 ghost use Rattle.dl_outside.specs.Written.{Wrote, WroteNothing};
 ghost use Rattle.dl_daemon.specs.Figures.{figures_of};
 ghost use Rattle.dl_daemon.specs.Line.{is_due, status_line};
+ghost use Rattle.dl_daemon.specs.Sums.{behind};
 ghost use Rattle.dl_daemon.specs.Watching.{answered, told_of};
 
 use crate::counting::figures_of;
@@ -26,6 +27,8 @@ pub struct Teller<O> {
     pub every: Option<u32>,
     /// What it was told and asked, and what it answered.
     pub watched: Watched,
+    /// What was counted in the sessions before this one.
+    pub before: Figures,
     /// When the last line was said, in seconds since the beginning of 1970; at first when the teller was made.
     pub last: u32,
 }
@@ -38,6 +41,7 @@ impl<O: Sink> Teller<O> {
             out,
             every: None,
             watched: Watched::nothing(),
+            before: Figures::nothing(),
             last: begins.secs,
         }
     }
@@ -88,15 +92,18 @@ impl<O: Sink> Watch for Teller<O> {
         ensures watched { self.new.watched ≡ answered true self.old.watched }
         ensures last { self.new.last ≡ (if is_due self.old.every self.old.last moment.secs then moment.secs else self.old.last) }
         ensures every { self.new.every ≡ self.old.every }
+        ensures before { self.new.before ≡ self.old.before }
         ensures silent { is_due self.old.every self.old.last moment.secs ≡ false → WroteNothing (O.told self.old.out) (O.told self.new.out) }
         // Where there is no memory for the line, nothing is said.
         ensures said { WroteNothing (O.told self.old.out) (O.told self.new.out)
-            ⊎ Wrote (O.told self.old.out) (O.told self.new.out) (status_line (figures_of server.now passed)) }
+            ⊎ Wrote (O.told self.old.out) (O.told self.new.out) (status_line (behind self.old.before (figures_of server.now passed))) }
     {
         self.watched.answer(true);
         if self.is_due(moment.secs) {
             self.last = moment.secs;
-            self.say(&figures_of(server, passed));
+            let before = self.before;
+            let now = figures_of(server, passed);
+            self.say(&now.behind(&before));
         }
         true
     }

@@ -7,7 +7,7 @@ use Rattle.dl_bytes.specs.declared.item.Injection.{Injection}
 use Rattle.dl_desk.specs.declared.app_handles.AppHandles.{AppHandles}
 use Rattle.dl_desk.specs.Handles.{HandlesState, with_injected, with_refusal}
 use Rattle.dl_desk.specs.Lists.{At, changed_at}
-use Rattle.dl_desk.specs.Posting.{pushed_of, refusals_of, rest_of, without_pushes}
+use Rattle.dl_desk.specs.QueuedInjections.{pushed_of, refusals_of, rest_of, without_pushes}
 use Rattle.dl_desk.specs.State.{DeskState}
 use Rattle.dl_desk.specs.Told.{told_by, with_pushed, with_refused}
 use Rattle.dl_desk.proofs.Making.{is_there}

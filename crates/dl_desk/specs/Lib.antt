@@ -5,7 +5,7 @@ pub mod Handles
 pub mod HandlesInside
 pub mod State
 pub mod Lending
-pub mod Posting
+pub mod QueuedInjections
 pub mod Told
 pub mod Made
 pub mod Assembly

@@ -19,6 +19,15 @@
 //!
 //! The daemon takes the calls and claims of each ring from the desk, and takes and tells the losses. Once the threads have ended, whoever
 //! gathers them takes the desk apart (`Desk::into_parts`) and joins the writers' handles with the daemon's (`DaemonHandles`).
+//!
+//! Proved: `App::context` declares at most 64 contexts, each of an id of its own, with the exact refusal (`context_fault`); `hello` tells them in
+//! order; `App::writer` gives the next of at most 32 numbers and ends of the desk's own rings, words and queues, and it stays so (`made_stays`).
+//! `Desk::take`, `losses`, `set` and `inject` change nothing else; `DaemonHandles` take back what the writers had.
+//!
+//! Chosen: an application of which a writer was made declares no context more (`AppFault::Started`): the places behind are for those that writers
+//! claim. The one memory that a writer takes, that of its waiting claims, is taken before anything is split off, so that a refusal leaves desk and
+//! application as they were. A logged payload is filled where it lies in its item, since to move one costs all that it has room for. That ids differ
+//! or aren't zero is not asked here: no promise of the desk rests on it.
 #![tactic(auto)]
 
 mod app;
@@ -29,7 +38,7 @@ mod fault;
 mod handles;
 pub mod laws;
 mod parts;
-mod post;
+mod writer_control;
 
 pub use app::{App, AppList};
 pub use app_handles::{AppHandles, FirstHandles};
@@ -44,4 +53,4 @@ pub use dl_writer::{
 };
 pub use fault::{AppFault, WriterFault};
 pub use handles::DaemonHandles;
-pub use post::Post;
+pub use writer_control::WriterControl;

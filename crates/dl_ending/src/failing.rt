@@ -30,7 +30,7 @@ fn unheard(events: &[Event]) -> bool
     events.iter().any(|event| is_unheard(event))
 }
 
-/// What went wrong in a run, with what its account tells: memory was wanted for a Store, for a Reset or for a client's request, or
+/// What went wrong in a run, with what its account tells: memory ran out for a Store, for a Reset or for a client's request, or
 /// the trace ended.
 pub fn failures_with(account: &Account, failures: Failures) -> Failures
     ensures { result ≡ failures_with account.now failures }
@@ -55,7 +55,7 @@ fn is_spent(end: &StoreEnd) -> bool
     matches!(end.end, Some(TraceEnd::Spent))
 }
 
-/// Whether a filter ended since memory was wanted.
+/// Whether a filter ended since memory ran out.
 fn has_no_memory(end: &StoreEnd) -> bool
     ensures { result ≡ has_no_memory end.now.end }
 {
@@ -76,7 +76,7 @@ fn some_spent(ends: &[StoreEnd]) -> bool
     ends.iter().any(|end| is_spent(end))
 }
 
-/// Whether some filter wanted memory.
+/// Whether some filter ran out of memory.
 fn some_wanted(ends: &[StoreEnd]) -> bool
     ensures { result ≡ some_end has_no_memory ends.now }
 {

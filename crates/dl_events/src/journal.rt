@@ -21,7 +21,7 @@ pub trait Journal {
     ghost spare: { Self → ℕ };
 
     /// Whether memory may be wanting for room.
-    ghost may_want: { Bool };
+    ghost may_run_out: { Bool };
 
     /// Makes room for this many events.
     fn reserve(&mut self, more: u64) -> Result<(), OutOfMemory>
@@ -30,7 +30,7 @@ pub trait Journal {
         ensures room { OnOk result (more ≤ spare self.new) }
         ensures later { spare self.old ≤ spare self.new }
         ensures refused { OnErr result (spare self.new ≡ spare self.old) }
-        ensures wanted { OnErr result (may_want ≡ true) };
+        ensures wanted { OnErr result (may_run_out ≡ true) };
 
     /// Adds an event at the end.
     fn note(&mut self, event: Event)
@@ -88,7 +88,7 @@ impl Journal for Kept {
 
     ghost spare = { λ k. k.spare };
 
-    ghost may_want = { true };
+    ghost may_run_out = { true };
 
     fn reserve(&mut self, more: u64) -> Result<(), OutOfMemory> {
         if self.spare < more {
@@ -108,7 +108,7 @@ impl Journal for Kept {
     }
 }
 
-/// A journal that keeps the number of its events alone, and never wants memory.
+/// A journal that keeps the number of its events alone, and never runs out of memory.
 #[derive(Drop)]
 pub struct Counted {
     /// How many events were noted.
@@ -147,7 +147,7 @@ impl Journal for Counted {
 
     ghost spare = { λ c. c.spare };
 
-    ghost may_want = { false };
+    ghost may_run_out = { false };
 
     fn reserve(&mut self, more: u64) -> Result<(), OutOfMemory>
         ensures noted { self.new.noted ≡ self.old.noted }

@@ -10,7 +10,7 @@ use crate::{Event, Journal};
 use dl_bytes::OutOfMemory;
 use std::marker::Model;
 
-/// A journal that keeps no event, but how many there were and how clients went. It never wants memory, and tells its events in proofs.
+/// A journal that keeps no event, but how many there were and how clients went. It never runs out of memory, and tells its events in proofs.
 #[derive(Drop)]
 pub struct Unkept {
     /// How many events were noted.
@@ -69,7 +69,7 @@ impl Journal for Unkept {
 
     ghost spare = { λ u. u.spare };
 
-    ghost may_want = { false };
+    ghost may_run_out = { false };
 
     fn reserve(&mut self, more: u64) -> Result<(), OutOfMemory>
         ensures events { self.new.events ≡ self.old.events }

@@ -25,7 +25,7 @@ use std::alloc::Global;
 /// No client has this number.
 pub const NOBODY: u32 = 0;
 
-/// How many clients came; more than 32 bits count are refused for want of memory.
+/// How many clients came; more than 32 bits count are refused as out of memory.
 fn came(events: &[Event]) -> Result<u32, OutOfMemory>
     ensures { IfOk result (λ count. count ≡ count_by is_connect events.now) }
 {

@@ -104,7 +104,7 @@ impl Follower {
         }
     }
 
-    /// Notes an event. More frames than 64 bits count are refused for want of memory.
+    /// Notes an event. More frames than 64 bits count are refused as out of memory.
     pub fn note(&mut self, sources: &Sources<'_, '_>, event: &Event) -> Result<(), OutOfMemory>
         requires numbered { (number : ℕ) → AreNumbered (records_by number sources.now.records.now) }
         requires few { counted self.old.waiting.backlog < 2 ^ 64 }

@@ -16,7 +16,7 @@ use Rattle.dl_sessions.specs.declared.session.Lost.{Lost}
 use Rattle.dl_sessions.specs.declared.session.Told.{Told}
 use Rattle.dl_sessions.specs.declared.session.Told.TheVariants as told
 use Rattle.dl_sessions.proofs.OneMore.{goes_on, stands}
-use Rattle.dl_find.specs.Finds.{Met, any, back, behind_at, change, finding_of, first_in, goes_at, goes_of, hit_by, hits_of, hole_at, hole_by, hole_of, holes_of, is_open, is_record, last_in, list_of, met, met_again, number_in, passes, passing, reports_in, seen_if, session_goes, shown, since_in, steps, steps_at, steps_of, tells, told_of, track_of, unstored_in, unstored_of}
+use Rattle.dl_find.specs.Finds.{Met, any, back, behind_at, change, finding_of, first_in, goes_at, goes_of, hit_by, hits_of, hole_at, hole_by, hole_of, holes_of, is_open, is_record, last_in, list_of, met, met_again, number_in, passes, passing, reports_in, seen_if, session_goes, shown, since_in, steps, steps_at, steps_of, tells, told_of, track_of, unstored_of}
 use Rattle.dl_find.specs.Meets.{IsSearch}
 use Rattle.dl_find.proofs.Telling.{books-log, books-quiet}
 use Rattle.dl_find_words.specs.Questions.{is_asked, is_named, is_of_context}
@@ -69,17 +69,15 @@ module _ (q : Question) (mets : List Met) (spot : Spot) (bytes : List ℕ) where
       let last = ap (option_map (λ (x : Met). x.spot)) (last_that-one (is_record q) mets m ∙ cond-false (is_record q m) (Some m) (last_that (is_record q) mets) none) in
       λ i. record { ring = counted (ring i); buffer = counted (buffer i); unstored = counted (unstored i); last = last i }
 
-  reports-ended : (count : ℕ) → unstored_in bytes ≡ Some count → reports_in q (mets ++ met spot told.Other bytes ∷ []) ≡ with_unstored (reports_in q mets) spot count
-  reports-ended count some =
-      let m = met spot told.Other bytes in
+  reports-ended : (count : ℕ) → reports_in q (mets ++ met spot (told.Unstored count) bytes ∷ []) ≡ with_unstored (reports_in q mets) spot count
+  reports-ended count =
+      let m = met spot (told.Unstored count) bytes in
       let ring : sum_by (λ (x : Met). told_of q.apid x.told) (mets ++ m ∷ []) ≡ sum_by (λ (x : Met). told_of q.apid x.told) mets
       = omega (arith, sum_by-append (λ (x : Met). told_of q.apid x.told) mets (m ∷ [])) in
       let buffer : sum_by (λ (x : Met). told_of daemon_apid x.told) (mets ++ m ∷ []) ≡ sum_by (λ (x : Met). told_of daemon_apid x.told) mets
       = omega (arith, sum_by-append (λ (x : Met). told_of daemon_apid x.told) mets (m ∷ [])) in
-      let tells_so : unstored_of m ≡ count = ap (λ (o : Option ℕ). unwrap_or o 0) some in
-      let unstored = one (sum_by unstored_of mets) count (sum_by unstored_of (mets ++ m ∷ [])) (omega (arith, tells_so, sum_by-append unstored_of mets (m ∷ []))) in
-      let is : is_record q m ≡ true = ap is_some some in
-      let last = ap (option_map (λ (x : Met). x.spot)) (last_that-one (is_record q) mets m ∙ cond-true (is_record q m) (Some m) (last_that (is_record q) mets) is) in
+      let unstored = one (sum_by unstored_of mets) count (sum_by unstored_of (mets ++ m ∷ [])) (omega (arith, sum_by-append unstored_of mets (m ∷ []))) in
+      let last = ap (option_map (λ (x : Met). x.spot)) (last_that-one (is_record q) mets m ∙ cond-true (is_record q m) (Some m) (last_that (is_record q) mets) refl) in
       λ i. record { ring = counted (ring i); buffer = counted (buffer i); unstored = unstored i; last = last i }
 
 -- ---- the messages that pass a test
@@ -193,15 +191,15 @@ track-lost : (q : Question) (test : Entry → Bool) (mets : List Met) (spot : Sp
 track-lost q test mets spot bytes lost =
     track-other q test mets (met spot (told.Lost lost) bytes) (λ (r : Reports). with_report q r spot lost) refl refl (λ xs. reports-lost q xs spot bytes lost)
 
-track-ended : (q : Question) (test : Entry → Bool) (mets : List Met) (spot : Spot) (bytes : List ℕ) (count : ℕ) → unstored_in bytes ≡ Some count
-    → track_of q test (mets ++ met spot told.Other bytes ∷ []) ≡ ended (track_of q test mets) spot count
-track-ended q test mets spot bytes count some =
-    track-other q test mets (met spot told.Other bytes) (λ (r : Reports). with_unstored r spot count) refl refl (λ xs. reports-ended q xs spot bytes count some)
+track-ended : (q : Question) (test : Entry → Bool) (mets : List Met) (spot : Spot) (bytes : List ℕ) (count : ℕ)
+    → track_of q test (mets ++ met spot (told.Unstored count) bytes ∷ []) ≡ ended (track_of q test mets) spot count
+track-ended q test mets spot bytes count =
+    track-other q test mets (met spot (told.Unstored count) bytes) (λ (r : Reports). with_unstored r spot count) refl refl (λ xs. reports-ended q xs spot bytes count)
 
-track-none : (q : Question) (test : Entry → Bool) (mets : List Met) (spot : Spot) (bytes : List ℕ) → unstored_in bytes ≡ None → track_of q test (mets ++ met spot told.Other bytes ∷ []) ≡ track_of q test mets
-track-none q test mets spot bytes none =
+track-none : (q : Question) (test : Entry → Bool) (mets : List Met) (spot : Spot) (bytes : List ℕ) → track_of q test (mets ++ met spot told.Other bytes ∷ []) ≡ track_of q test mets
+track-none q test mets spot bytes =
     track-other q test mets (met spot told.Other bytes) (λ (r : Reports). r) refl refl
-    (λ xs. reports-quiet q xs spot bytes told.Other refl refl (ap (λ (o : Option ℕ). unwrap_or o 0) none) (ap is_some none)) ∙ untold (track_of q test mets)
+    (λ xs. reports-quiet q xs spot bytes told.Other refl refl refl refl) ∙ untold (track_of q test mets)
 
 -- ---- hits, and who counts
 
@@ -282,27 +280,24 @@ found-one q mets spot bytes (told.Lost lost) =
     let g = start-quiet q mets m refl in
     let h = books-quiet q mets m refl refl in
     λ i. record { hits = counted (length (a i)); hit = find any (a i); start = g i; session = c i; context = d i; of_session = f i; books = h i }
-found-one q mets spot bytes told.Other = by_record (unstored_in bytes) refl where
-  m : Met
-  m = met spot told.Other bytes
-
-  by_record : (o : Option ℕ) → unstored_in bytes ≡ o → finding_of q (mets ++ m ∷ []) ≡ with_ended (finding_of q mets) spot o
-  by_record None none =
-      let a = quiet-hits q mets m refl in
-      let c = track-none q (is_asked q) mets spot bytes none in
-      let d = track-none q (is_of_context q) mets spot bytes none in
-      let f = quiet-shown session_goes q mets m refl in
-      let g = start-quiet q mets m refl in
-      let h = books-quiet q mets m refl refl in
-      λ i. record { hits = counted (length (a i)); hit = find any (a i); start = g i; session = c i; context = d i; of_session = f i; books = h i }
-  by_record (Some count) some =
-      let a = quiet-hits q mets m refl in
-      let c = track-ended q (is_asked q) mets spot bytes count some in
-      let d = track-ended q (is_of_context q) mets spot bytes count some in
-      let f = quiet-shown session_goes q mets m refl in
-      let g = start-quiet q mets m refl in
-      let h = books-quiet q mets m refl refl in
-      λ i. record { hits = counted (length (a i)); hit = find any (a i); start = g i; session = c i; context = d i; of_session = f i; books = h i }
+found-one q mets spot bytes (told.Unstored count) =
+    let m = met spot (told.Unstored count) bytes in
+    let a = quiet-hits q mets m refl in
+    let c = track-ended q (is_asked q) mets spot bytes count in
+    let d = track-ended q (is_of_context q) mets spot bytes count in
+    let f = quiet-shown session_goes q mets m refl in
+    let g = start-quiet q mets m refl in
+    let h = books-quiet q mets m refl refl in
+    λ i. record { hits = counted (length (a i)); hit = find any (a i); start = g i; session = c i; context = d i; of_session = f i; books = h i }
+found-one q mets spot bytes told.Other =
+    let m = met spot told.Other bytes in
+    let a = quiet-hits q mets m refl in
+    let c = track-none q (is_asked q) mets spot bytes in
+    let d = track-none q (is_of_context q) mets spot bytes in
+    let f = quiet-shown session_goes q mets m refl in
+    let g = start-quiet q mets m refl in
+    let h = books-quiet q mets m refl refl in
+    λ i. record { hits = counted (length (a i)); hit = find any (a i); start = g i; session = c i; context = d i; of_session = f i; books = h i }
 
 -- the same of a search
 pub searched : (q : Question) (mets : List Met) (old new : Search) (spot : Spot) (bytes : List ℕ) (t : Told) → IsSearch q mets old → new.question ≡ old.question → new.finding ≡ noted old.question old.finding (met spot t bytes)

@@ -14,8 +14,8 @@ use Rattle.dl_sessions.specs.declared.session.Entry.{Entry}
 use Rattle.dl_sessions.specs.declared.session.Since.{Since}
 use Rattle.dl_sessions.specs.declared.session.Told.TheVariants as told
 use Rattle.dl_sessions.proofs.OneMore.{goes_on, latest-one, stands}
-use Rattle.dl_find.specs.Finds.{Met, accounts_in, any, book_at, book_by, book_of, books_in, books_of, entries_in, first_in, gap_at, gaps_of, last_in, list_of, met, passing, seen_if, since_account, since_over}
-use Rattle.dl_find.specs.Steps.{book_with, books_with, since_with}
+use Rattle.dl_find.specs.Finds.{Met, accounts_in, any, book_at, book_by, book_of, books_in, books_of, entries_in, first_in, gap_at, gaps_of, holes_of, is_behind, last_in, list_of, met, passing, seen_if, since_account, since_over}
+use Rattle.dl_find.specs.Steps.{book_with, books_with, next_with, since_with}
 use Rattle.dl_find_words.specs.Questions.{is_about, is_account, is_of_context}
 use Rattle.dl_find_words.specs.declared.found.Book.{Book}
 use Rattle.dl_find_words.specs.declared.question.Question.{Question}
@@ -93,7 +93,7 @@ books-one q mets m = along-one (book_at q) mets m
 
 -- What is found of accounts with one message of a session more.
 pub books-log : (q : Question) (mets : List Met) (spot : Spot) (bytes : List ℕ) (e : Entry)
-    → books_in q (mets ++ met spot (told.Log e) bytes ∷ []) ≡ books_with q (books_in q mets) (record { spot = spot; entry = e })
+    → books_in q (mets ++ met spot (told.Log e) bytes ∷ []) ≡ books_with q (first_in (holes_of q (is_of_context q) mets)) (books_in q mets) (record { spot = spot; entry = e })
 books-log q mets spot bytes e =
     let m = met spot (told.Log e) bytes in
     let entries = entries-log mets spot bytes e in
@@ -101,7 +101,8 @@ books-log q mets spot bytes e =
     let b = ap (accounts_in q) entries ∙ over-one (is_account q) 0 (entries_in mets) e in
     let c = ap last_in (about-one q mets m) ∙ last_by (is_about q e) in
     let d = ap first_in (books-one q mets m) ∙ book_now (is_about q e) in
-    λ i. record { since = a i; own = b i; last = c i; book = d i }
+    let f = ap (find (is_behind q.point)) (about-one q mets m) ∙ next_now (is_about q e) in
+    λ i. record { since = a i; own = b i; last = c i; book = d i; next = f i }
   where
     last_by : (b : Bool) → last_in (passing (is_about q) mets ++ list_of (cond b (Some (record { spot = spot; entry = e })) None)) ≡ cond b (Some (record { spot = spot; entry = e })) (last_in (passing (is_about q) mets))
     last_by true = last_that-one any (passing (is_about q) mets) (record { spot = spot; entry = e })
@@ -115,11 +116,22 @@ books-log q mets spot bytes e =
     none_more None = refl
     none_more (Some x) = refl
 
-    book_now : (b : Bool) → first_in (books_of q mets ++ book_of q mets (cond b (Some (record { spot = spot; entry = e })) None)) ≡ option_or (first_in (books_of q mets)) (book_with b q.point (books_in q mets) (record { spot = spot; entry = e }))
+    book_now : (b : Bool) → first_in (books_of q mets ++ book_of q mets (cond b (Some (record { spot = spot; entry = e })) None)) ≡ option_or (first_in (books_of q mets)) (book_with b q.point (first_in (holes_of q (is_of_context q) mets)) (books_in q mets) (record { spot = spot; entry = e }))
     book_now true =
-        let here = book_by q.point (last_in (passing (is_about q) mets)) (record { spot = spot; entry = e }) (since_account q (entries_in mets)) (accounts_in q (entries_in mets)) in
+        let here = book_by q.point (first_in (holes_of q (is_of_context q) mets)) (last_in (passing (is_about q) mets)) (record { spot = spot; entry = e }) (since_account q (entries_in mets)) (accounts_in q (entries_in mets)) in
         find-append any (books_of q mets) (list_of here) ∙ ap (option_or (first_in (books_of q mets))) (head here)
     book_now false = ap first_in (append-nil (books_of q mets)) ∙ none_more (first_in (books_of q mets))
+
+    old : Option Seen
+    old = find (is_behind q.point) (passing (is_about q) mets)
+
+    none_later : (o : Option Seen) → o ≡ option_or o None
+    none_later None = refl
+    none_later (Some x) = refl
+
+    next_now : (b : Bool) → find (is_behind q.point) (passing (is_about q) mets ++ list_of (cond b (Some (record { spot = spot; entry = e })) None)) ≡ option_or old (next_with b q.point (record { spot = spot; entry = e }))
+    next_now true = find-append (is_behind q.point) (passing (is_about q) mets) (record { spot = spot; entry = e } ∷ [])
+    next_now false = ap (find (is_behind q.point)) (append-nil (passing (is_about q) mets)) ∙ none_later old
 
 -- And with a message that tells no session.
 pub books-quiet : (q : Question) (mets : List Met) (m : Met) → filter_map (λ (x : Met). entry_of x.told) (m ∷ []) ≡ [] → seen_if (is_about q) m ≡ None → books_in q (mets ++ m ∷ []) ≡ books_in q mets
@@ -127,4 +139,4 @@ books-quiet q mets m none unseen =
     let entries = entries-quiet mets m none in
     let abouts = about-one q mets m ∙ ap (λ (o : Option Seen). passing (is_about q) mets ++ list_of o) unseen ∙ append-nil (passing (is_about q) mets) in
     let books = books-one q mets m ∙ ap (λ (o : Option Seen). books_of q mets ++ book_of q mets o) unseen ∙ append-nil (books_of q mets) in
-    λ i. record { since = since_account q (entries i); own = accounts_in q (entries i); last = last_in (abouts i); book = first_in (books i) }
+    λ i. record { since = since_account q (entries i); own = accounts_in q (entries i); last = last_in (abouts i); book = first_in (books i); next = find (is_behind q.point) (abouts i) }

@@ -1,14 +1,11 @@
 -- What is found of a message that is asked for, in the messages of files.
-use Rattle.std.specs.Prelude.{ℕ, ◌+◌, ◌==◌, ◌&&◌, ◌||◌, not, nat_eq, nat_le, nat_lt, Bool, true, false, List, [], ◌∷◌, length, drop, codes, count_by, sum, sum_by, Option, Some, None, is_some, unwrap_or, if◌then◌else◌}
-use Rattle.std.specs.List.{after_last, cons_option, filter_map, find, starts_with}
+use Rattle.std.specs.Prelude.{ℕ, ◌+◌, ◌==◌, ◌&&◌, ◌||◌, not, nat_le, nat_lt, Bool, true, false, List, [], ◌∷◌, length, count_by, sum, sum_by, Option, Some, None, is_some, unwrap_or, if◌then◌else◌}
+use Rattle.std.specs.List.{after_last, cons_option, filter_map, find}
 use Rattle.std.specs.Option.{option_map, option_map_or, option_or}
 use Rattle.std.specs.Str.{bytes_eq}
 use Rattle.dl_control.specs.Reply.{daemon_apid}
 use Rattle.dl_model.specs.Along.{along, last_that}
-use Rattle.dl_receive.specs.MessageKind.{behind_standard, kind_of}
 use Rattle.dl_receive.specs.Text.{passed_over}
-use Rattle.dl_receive.specs.declared.kind.Kind.{Kind}
-use Rattle.dl_receive.specs.declared.kind.Kind.TheVariants as kind
 use Rattle.dl_sessions.specs.Gaps.{counted, entry_of, gap, goes_on, latest, latest_of, of_session, same_session}
 use Rattle.dl_sessions.specs.Ledger.{with_message}
 use Rattle.dl_sessions.specs.declared.session.Entry.{Entry}
@@ -88,32 +85,20 @@ abbrev pub told_of : List ℕ → Told → ℕ
 told_of apid (told.Lost lost) = part (bytes_eq lost.source.apid apid) lost
 told_of apid _ = 0
 
--- CTID is TRCE: behind MSIN, NOAR and APID
-abbrev pub is_of_trace : List ℕ → Bool
-is_of_trace message = starts_with nat_eq (drop 6 (behind_standard message)) (codes "TRCE")
-
--- how many messages a record of the application DA1 and the context TRCE tells as not stored, while the trace had ended
-abbrev pub unstored_by : Bool → Kind → Option ℕ
-unstored_by of_trace (kind.Overflow apid counter) = if bytes_eq apid daemon_apid && of_trace then Some counter else None
-unstored_by of_trace _ = None
-
-abbrev pub unstored_in : List ℕ → Option ℕ
-unstored_in message = unstored_by (is_of_trace message) (kind_of message)
-
--- the same of a message that tells no session
-abbrev pub unstored_at : List ℕ → Told → Option ℕ
-unstored_at message told.Other = unstored_in message
-unstored_at message _ = None
+-- how many messages a record tells as not stored, while the trace had ended
+abbrev pub unstored_at : Told → Option ℕ
+unstored_at (told.Unstored count) = Some count
+unstored_at _ = None
 
 abbrev pub unstored_of : Met → ℕ
-unstored_of m = unwrap_or (unstored_at m.bytes m.told) 0
+unstored_of m = unwrap_or (unstored_at m.told) 0
 
 -- of the application, of the daemon's buffer, or of what was not stored
 abbrev pub tells : Question → Told → Bool
 tells q t = tells_of q.apid t || tells_of daemon_apid t
 
 abbrev pub is_record : Question → Met → Bool
-is_record q m = tells q m.told || is_some (unstored_at m.bytes m.told)
+is_record q m = tells q m.told || is_some (unstored_at m.told)
 
 abbrev pub reports_in : Question → List Met → Reports
 reports_in q mets = record {
@@ -181,9 +166,9 @@ change last e = option_map_or (λ l. if same_session l.entry.session e.session t
 abbrev pub back : Option Seen → Entry → ℕ
 back last e = option_map_or (λ l. if nat_lt e.ticks l.entry.ticks then 1 else 0) last 0
 
--- 1 where the session's counter is met again or steps back: at least 127 of 256 counters would be passed over
+-- 1 where the session's counter is met again or steps back with another context: at least 127 of 256 counters would be passed over
 abbrev pub met_again : Option Seen → Entry → ℕ
-met_again last e = option_map_or (λ l. if nat_le 127 (gap (Some (latest_of l.entry)) e) then 1 else 0) last 0
+met_again last e = option_map_or (λ l. if not (bytes_eq l.entry.ctid e.ctid) && nat_le 127 (gap (Some (latest_of l.entry)) e) then 1 else 0) last 0
 
 abbrev pub steps_of : (Option Seen → Entry → ℕ) → Option Seen → Option Seen → List ℕ
 steps_of step last None = []
@@ -258,21 +243,30 @@ since_account q es = since_over (is_of_context q) (counted (count_by (is_about q
 abbrev pub accounts_in : Question → List Entry → Since
 accounts_in q es = since_over (is_account q) 0 es
 
--- Two accounts of the context, one behind the other, with the moment that is asked for between them.
-abbrev pub book_between : ℕ → Option Seen → Seen → Since → Since → Option Book
-book_between ticks None s since own = None
-book_between ticks (Some last) s since own =
-    if nat_lt last.entry.ticks ticks && nat_lt ticks s.entry.ticks
-    then Some (record { before = last; behind = s; since = since; lacking = (with_message own s.entry).missing }) else None
+-- one message stands before another one
+abbrev pub is_ahead : Spot → Spot → Bool
+is_ahead a b = nat_lt a.file b.file || ((a.file == b.file) && nat_lt a.offset b.offset)
 
-abbrev pub book_by : Point → Option Seen → Seen → Since → Since → Option Book
-book_by (Time ticks) last s since own = book_between ticks last s since own
-book_by (Counter mcnt) last s since own = None
+-- Two accounts with the moment that is asked for between them; or with the hole that the counter points to, whose last message came between them too.
+abbrev pub holds : Point → Option Hole → Seen → Seen → Bool
+holds (Time ticks) hole last s = nat_lt last.entry.ticks ticks && nat_lt ticks s.entry.ticks
+holds (Counter mcnt) hole last s = option_map_or (λ h. is_ahead last.spot h.before.spot) hole false
+
+-- Two accounts of the context, one behind the other.
+abbrev pub book_by : Point → Option Hole → Option Seen → Seen → Since → Since → Option Book
+book_by point hole None s since own = None
+book_by point hole (Some last) s since own =
+    if holds point hole last s then Some (record { before = last; behind = s; since = since; lacking = (with_message own s.entry).missing }) else None
+
+-- an account at or behind the time that is asked for
+abbrev pub is_behind : Point → Seen → Bool
+is_behind (Time ticks) s = nat_le ticks s.entry.ticks
+is_behind (Counter mcnt) s = false
 
 abbrev pub book_of : Question → List Met → Option Seen → List Book
 book_of q before None = []
 book_of q before (Some s) =
-    list_of (book_by q.point (last_in (passing (is_about q) before)) s (since_account q (entries_in before)) (accounts_in q (entries_in before)))
+    list_of (book_by q.point (first_in (holes_of q (is_of_context q) before)) (last_in (passing (is_about q) before)) s (since_account q (entries_in before)) (accounts_in q (entries_in before)))
 
 abbrev pub book_at : Question → List Met → Met → List Book
 book_at q before m = book_of q before (seen_if (is_about q) m)
@@ -286,6 +280,7 @@ books_in q mets = record {
   own = accounts_in q (entries_in mets);
   last = last_in (passing (is_about q) mets);
   book = first_in (books_of q mets);
+  next = find (is_behind q.point) (passing (is_about q) mets);
 }
 
 -- ---- all

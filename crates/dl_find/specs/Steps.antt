@@ -1,5 +1,5 @@
 -- What one message more changes of what is found. (Of the code alone.)
-use Rattle.std.specs.Prelude.{ℕ, ◌+◌, Bool, false, List, Option, Some, None, is_some, if◌then◌else◌}
+use Rattle.std.specs.Prelude.{ℕ, ◌+◌, ◌&&◌, Bool, false, List, Option, Some, None, is_some, if◌then◌else◌}
 use Rattle.std.specs.Option.{option_or}
 use Rattle.dl_control.specs.Reply.{daemon_apid}
 use Rattle.dl_sessions.specs.Gaps.{counted}
@@ -9,11 +9,12 @@ use Rattle.dl_sessions.specs.declared.session.Lost.{Lost}
 use Rattle.dl_sessions.specs.declared.session.Since.{Since}
 use Rattle.dl_sessions.specs.declared.session.Told.{Told}
 use Rattle.dl_sessions.specs.declared.session.Told.TheVariants as told
-use Rattle.dl_find.specs.Finds.{Met, back, book_by, change, hole_by, is_open, met_again, session_goes, tells, told_of, unstored_in}
+use Rattle.dl_find.specs.Finds.{Met, back, book_by, change, hole_by, is_behind, is_open, met_again, session_goes, tells, told_of}
 use Rattle.dl_find_words.specs.Questions.{is_about, is_account, is_asked, is_named, is_of_context}
 use Rattle.dl_find_words.specs.declared.found.Book.{Book}
 use Rattle.dl_find_words.specs.declared.found.Books.{Books}
 use Rattle.dl_find_words.specs.declared.found.Finding.{Finding}
+use Rattle.dl_find_words.specs.declared.found.Hole.{Hole}
 use Rattle.dl_find_words.specs.declared.question.Point.{Point}
 use Rattle.dl_find_words.specs.declared.question.Question.{Question}
 use Rattle.dl_find_words.specs.declared.found.Reports.{Reports}
@@ -78,21 +79,26 @@ hit_if named s bytes = if named then Some (record { seen = s; bytes = bytes }) e
 -- ---- accounts
 
 abbrev pub no_books : Books
-no_books = record { since = no_since; own = no_since; last = None; book = None }
+no_books = record { since = no_since; own = no_since; last = None; book = None; next = None }
 
 -- what came of the context, with an account of it more or with another message
 abbrev pub since_with : Bool → Bool → Since → Entry → Since
 since_with about own since e = if about then with_account since else if own then with_message since e else since
 
-abbrev pub book_with : Bool → Point → Books → Seen → Option Book
-book_with about point books s = if about then book_by point books.last s books.since books.own else None
+abbrev pub book_with : Bool → Point → Option Hole → Books → Seen → Option Book
+book_with about point hole books s = if about then book_by point hole books.last s books.since books.own else None
 
-abbrev pub books_with : Question → Books → Seen → Books
-books_with q books s = record {
+abbrev pub next_with : Bool → Point → Seen → Option Seen
+next_with about point s = if about && is_behind point s then Some s else None
+
+-- the hole of the context is where the question points
+abbrev pub books_with : Question → Option Hole → Books → Seen → Books
+books_with q hole books s = record {
   since = since_with (is_about q s.entry) (is_of_context q s.entry) books.since s.entry;
   own = since_with false (is_account q s.entry) books.own s.entry;
   last = if is_about q s.entry then Some s else books.last;
-  book = option_or books.book (book_with (is_about q s.entry) q.point books s);
+  book = option_or books.book (book_with (is_about q s.entry) q.point hole books s);
+  next = option_or books.next (next_with (is_about q s.entry) q.point s);
 }
 
 -- ---- all
@@ -105,20 +111,20 @@ with_seen q f s bytes = record {
   session = track_by (is_asked q s.entry) q.point f.session s;
   context = track_by (is_of_context q s.entry) q.point f.context s;
   of_session = counted (f.of_session + goes_by session_goes q f s.entry);
-  books = books_with q f.books s;
+  books = books_with q f.context.hole f.books s;
 }
 
 abbrev pub with_lost : Question → Finding → Spot → Lost → Finding
 with_lost q f spot lost = record f { session = reported q f.session spot lost; context = reported q f.context spot lost }
 
-abbrev pub with_ended : Finding → Spot → Option ℕ → Finding
-with_ended f spot None = f
-with_ended f spot (Some count) = record f { session = ended f.session spot count; context = ended f.context spot count }
+abbrev pub with_ended : Finding → Spot → ℕ → Finding
+with_ended f spot count = record f { session = ended f.session spot count; context = ended f.context spot count }
 
 abbrev pub noted_by : Question → Finding → Spot → List ℕ → Told → Finding
 noted_by q f spot bytes (told.Log e) = with_seen q f (record { spot = spot; entry = e }) bytes
 noted_by q f spot bytes (told.Lost lost) = with_lost q f spot lost
-noted_by q f spot bytes told.Other = with_ended f spot (unstored_in bytes)
+noted_by q f spot bytes (told.Unstored count) = with_ended f spot count
+noted_by q f spot bytes told.Other = f
 
 abbrev pub noted : Question → Finding → Met → Finding
 noted q f m = noted_by q f m.spot m.bytes m.told

@@ -1,11 +1,13 @@
 //! The accounts that a program gave of the context's calls, message after message.
 
 ghost use Rattle.std.specs.Prelude.{◌≡◌};
-ghost use Rattle.dl_find.specs.Finds.{book_between, book_by};
-ghost use Rattle.dl_find.specs.Steps.{book_with, books_with, no_books, since_with};
+ghost use Rattle.dl_find.specs.Finds.{book_by, holds, is_ahead, is_behind};
+ghost use Rattle.dl_find.specs.Steps.{book_with, books_with, next_with, no_books, since_with};
 ghost use Rattle.dl_sessions.specs.Ledger.{no_since, with_account, with_message};
 
-use dl_find_words::{Book, Books, Point, Question, Seen, is_about, is_account, is_of_context};
+use dl_find_words::{
+    Book, Books, Hole, Point, Question, Seen, Spot, is_about, is_account, is_of_context,
+};
 use dl_sessions::{Entry, Since, gap, latest_of};
 
 /// What came of a context where nothing came.
@@ -53,15 +55,36 @@ pub fn no_books() -> Books
         own: no_since(),
         last: None,
         book: None,
+        next: None,
     }
 }
 
-/// Two accounts, one behind the other, with this moment between them.
-fn book_between(ticks: u32, books: &Books, seen: &Seen) -> Option<Book>
-    ensures { result ≡ book_between ticks books.now.last seen.now books.now.since books.now.own }
+/// Whether one message stands before another one.
+fn is_ahead(a: &Spot, b: &Spot) -> bool
+    ensures { result ≡ is_ahead a.now b.now }
+{
+    a.file < b.file || (a.file == b.file && a.offset < b.offset)
+}
+
+/// Whether the question points between two accounts.
+fn holds(point: &Point, hole: Option<Hole>, last: &Seen, seen: &Seen) -> bool
+    ensures { result ≡ holds point.now hole last.now seen.now }
+{
+    match point {
+        Point::Time(ticks) => last.entry.ticks < *ticks && *ticks < seen.entry.ticks,
+        Point::Counter(_) => match hole {
+            Some(hole) => is_ahead(&last.spot, &hole.before.spot),
+            None => false,
+        },
+    }
+}
+
+/// Two accounts, one behind the other, where the question points between them.
+fn book_by(point: &Point, hole: Option<Hole>, books: &Books, seen: &Seen) -> Option<Book>
+    ensures { result ≡ book_by point.now hole books.now.last seen.now books.now.since books.now.own }
 {
     let last = books.last?;
-    if last.entry.ticks < ticks && ticks < seen.entry.ticks {
+    if holds(point, hole, &last, seen) {
         let own = with_message(&books.own, &seen.entry);
         Some(Book {
             before: last,
@@ -74,22 +97,39 @@ fn book_between(ticks: u32, books: &Books, seen: &Seen) -> Option<Book>
     }
 }
 
-/// The same with the moment that is asked for.
-fn book_by(point: &Point, books: &Books, seen: &Seen) -> Option<Book>
-    ensures { result ≡ book_by point.now books.now.last seen.now books.now.since books.now.own }
+/// The same where the message is an account of the context.
+fn book_with(
+    about: bool,
+    point: &Point,
+    hole: Option<Hole>,
+    books: &Books,
+    seen: &Seen,
+) -> Option<Book>
+    ensures { result ≡ book_with about point.now hole books.now seen.now }
+{
+    if about {
+        book_by(point, hole, books, seen)
+    } else {
+        None
+    }
+}
+
+/// Whether an account is at or behind the time that is asked for.
+fn is_behind(point: &Point, seen: &Seen) -> bool
+    ensures { result ≡ is_behind point.now seen.now }
 {
     match point {
-        Point::Time(ticks) => book_between(*ticks, books, seen),
-        Point::Counter(_) => None,
+        Point::Time(ticks) => *ticks <= seen.entry.ticks,
+        Point::Counter(_) => false,
     }
 }
 
 /// The same where the message is an account of the context.
-fn book_with(about: bool, point: &Point, books: &Books, seen: &Seen) -> Option<Book>
-    ensures { result ≡ book_with about point.now books.now seen.now }
+fn next_with(about: bool, point: &Point, seen: &Seen) -> Option<Seen>
+    ensures { result ≡ next_with about point.now seen.now }
 {
-    if about {
-        book_by(point, books, seen)
+    if about && is_behind(point, seen) {
+        Some(*seen)
     } else {
         None
     }
@@ -108,17 +148,19 @@ fn since_with(about: bool, own: bool, since: &Since, entry: &Entry) -> Since
     }
 }
 
-/// With one message more.
-pub fn books_with(question: &Question, books: &Books, seen: &Seen) -> Books
-    ensures { result ≡ books_with question.now books.now seen.now }
+/// With one message more. The hole of the context is where the question points.
+pub fn books_with(question: &Question, hole: Option<Hole>, books: &Books, seen: &Seen) -> Books
+    ensures { result ≡ books_with question.now hole books.now seen.now }
 {
     let entry = &seen.entry;
     let about = is_about(question, entry);
-    let book = book_with(about, &question.point, books, seen);
+    let book = book_with(about, &question.point, hole, books, seen);
+    let next = next_with(about, &question.point, seen);
     Books {
         since: since_with(about, is_of_context(question, entry), &books.since, entry),
         own: since_with(false, is_account(question, entry), &books.own, entry),
         last: if about { Some(*seen) } else { books.last },
         book: books.book.or(book),
+        next: books.next.or(next),
     }
 }

@@ -8,7 +8,6 @@ ghost use Rattle.dl_find.specs.Steps.{goes_by, hit_if, noted, with_ended, with_l
 ghost use Rattle.dl_headers.specs.Reading.{front_fault};
 
 use crate::books::{books_with, no_books};
-use crate::reports::unstored_in;
 use crate::track::{ended, no_track, one_if, reported, track_by};
 use dl_bytes::{OutOfMemory, Sequence};
 use dl_find_words::{Finding, Hit, Question, Seen, Spot, is_asked, is_named, is_of_context};
@@ -87,6 +86,7 @@ fn add_seen(
     let goes = by_session(finding, question, entry);
     finding.of_session = finding.of_session.saturating_add(goes);
     let point = &question.point;
+    finding.books = books_with(question, finding.context.hole, &finding.books, seen);
     finding.session = track_by(is_asked(question, entry), &finding.session, point, seen);
     finding.context = track_by(
         is_of_context(question, entry),
@@ -94,7 +94,6 @@ fn add_seen(
         point,
         seen,
     );
-    finding.books = books_with(question, &finding.books, seen);
     Ok(())
 }
 
@@ -106,14 +105,12 @@ fn add_report(finding: &mut Finding, question: &Question, spot: Spot, lost: &Los
     finding.context = reported(&finding.context, question, spot, lost);
 }
 
-/// Notes a record of messages that were not stored, where it is one.
-fn add_unstored(finding: &mut Finding, spot: Spot, count: Option<u32>)
+/// Notes a record of messages that were not stored.
+fn add_unstored(finding: &mut Finding, spot: Spot, count: u32)
     ensures { finding.new ≡ with_ended finding.old spot count }
 {
-    if let Some(count) = count {
-        finding.session = ended(&finding.session, spot, count);
-        finding.context = ended(&finding.context, spot, count);
-    }
+    finding.session = ended(&finding.session, spot, count);
+    finding.context = ended(&finding.context, spot, count);
 }
 
 /// Notes the next message.
@@ -141,9 +138,10 @@ pub fn note(
             add_report(finding, question, spot, lost);
             Ok(())
         }
-        Told::Other => {
-            add_unstored(finding, spot, unstored_in(message));
+        Told::Unstored(count) => {
+            add_unstored(finding, spot, *count);
             Ok(())
         }
+        Told::Other => Ok(()),
     }
 }

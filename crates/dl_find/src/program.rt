@@ -15,7 +15,7 @@ use crate::search::{Search, Stop};
 use dl_find_words::Question;
 use dl_outside::{Name, Sink, write_text};
 use dl_pieces::ReadAt;
-use dl_trace_why::{Status, Which, fault_status, names_wanted};
+use dl_trace_why::{FilesWanted, Status, fault_status, names_wanted};
 use std::alloc::Global;
 
 /// The status of a search that stopped at the file of this name.
@@ -93,7 +93,7 @@ fn find_in<F: ReadAt, O: Sink>(
 /// Searches the files that are asked for, and writes the answer.
 fn find_asked<F: ReadAt, O: Sink>(
     alloc: Global,
-    files: Which<'_>,
+    files: FilesWanted<'_>,
     question: Question,
     folder: &mut F,
     out: &mut O,
@@ -111,7 +111,7 @@ fn find_asked<F: ReadAt, O: Sink>(
 /// `err` changes nothing.
 pub fn find<F: ReadAt, O: Sink, E: Sink>(
     alloc: Global,
-    files: Which<'_>,
+    files: FilesWanted<'_>,
     question: Question,
     folder: &mut F,
     out: &mut O,

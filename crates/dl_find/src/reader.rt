@@ -3,7 +3,7 @@
 ghost use Rattle.std.specs.Prelude.{◌≡◌, ◌<◌, ◌++◌, ◌^◌, OnOk, Some, length};
 ghost use Rattle.dl_find.specs.Rests.{Fronts, HasGiven, HasMore, IsNew, ReadsMore, StandsHere, at_end, rest_of};
 ghost use Rattle.dl_sessions.specs.Stream.{end_of, first_place};
-ghost use Rattle.dl_trace_files.specs.Left.{IsLeft, Looks};
+ghost use Rattle.dl_trace_files.specs.Left.{IsLeft, ReadsFolder};
 
 use dl_bytes::OutOfMemory;
 use dl_outside::FolderFault;
@@ -122,7 +122,7 @@ impl Reader {
     ) -> Result<Option<usize>, FolderFault>
         requires { self.old.read < 2 ^ 62 }
         ensures reads { ReadsMore name.now (F.told folder.old).files self.old self.new result }
-        ensures looks { Looks (F.told folder.old) (F.told folder.new) result }
+        ensures looks { ReadsFolder (F.told folder.old) (F.told folder.new) result }
     {
         let mut piece = [0; PIECE];
         let count = match folder.read_at(name, self.read, &mut piece) {
@@ -139,7 +139,7 @@ impl Reader {
     /// What stands at the front of what is left of the file of this name: more of it is read where that is needed, and nothing is given.
     pub fn front<F: ReadAt>(&mut self, folder: &mut F, name: &str) -> Result<Front, FolderFault>
         ensures fronts { Fronts name.now (F.told folder.old).files self.old self.new result }
-        ensures looks { Looks (F.told folder.old) (F.told folder.new) result }
+        ensures looks { ReadsFolder (F.told folder.old) (F.told folder.new) result }
     {
         while self.read < LIMIT {
             if let Some(front) = front_of(self.rest()) {

@@ -1,17 +1,13 @@
 //! What records tell of messages that are not here.
 
-ghost use Rattle.std.specs.Prelude.{◌≡◌, None, length};
-ghost use Rattle.dl_bytes.specs.Htyp.{len_of};
-ghost use Rattle.dl_find.specs.Finds.{is_of_trace, part, tells_of, unstored_by, unstored_in};
-ghost use Rattle.dl_receive.specs.declared.kind.Kind.TheVariants as kind;
+ghost use Rattle.std.specs.Prelude.{◌≡◌};
+ghost use Rattle.dl_find.specs.Finds.{part, tells_of};
 ghost use Rattle.dl_find.specs.Steps.{no_reports, with_report, with_unstored};
-ghost use Rattle.dl_headers.specs.Reading.{front_fault};
 ghost use Rattle.dl_sessions.specs.declared.session.Told.TheVariants as told;
 
 use dl_bytes::Id;
-use dl_find_words::{Question, Reports, Spot, behind_standard};
-use dl_receive::{Kind, kind_of};
-use dl_sessions::{Lost, behind};
+use dl_find_words::{Question, Reports, Spot};
+use dl_sessions::Lost;
 
 /// The daemon's own APID, `DA1`: its buffer's losses are reported in its name.
 const DAEMON: [u8; 4] = *b"DA1\0";
@@ -69,36 +65,5 @@ pub fn with_unstored(reports: &Reports, spot: Spot, count: u32) -> Reports
         buffer: reports.buffer,
         unstored: reports.unstored.saturating_add(count as u64),
         last: Some(spot),
-    }
-}
-
-/// Whether a message with an extended header is of the context `TRCE`.
-fn is_of_trace(message: &[u8]) -> bool
-    ensures { result ≡ is_of_trace message.now }
-{
-    behind(behind_standard(message), 6).starts_with(b"TRCE")
-}
-
-/// How many messages a record of this application tells as not stored, where its context is that of the trace.
-fn counted_in(apid: Id, of_trace: bool, counter: u32) -> Option<u32>
-    ensures { result ≡ unstored_by of_trace (kind.Overflow apid counter) }
-{
-    if apid == Id::from_bytes(DAEMON) && of_trace {
-        Some(counter)
-    } else {
-        None
-    }
-}
-
-/// How many messages a whole message tells as not stored while the trace had ended, where it is such a record.
-pub fn unstored_in(message: &[u8]) -> Option<u32>
-    requires front { front_fault message.now ≡ None }
-    requires len { length message.now ≡ len_of message.now }
-    ensures { result ≡ unstored_in message.now }
-{
-    match kind_of(message) {
-        Kind::Overflow { apid, counter } => counted_in(apid, is_of_trace(message), counter),
-        Kind::Log { .. } => None,
-        Kind::Other { .. } => None,
     }
 }

@@ -76,12 +76,15 @@ fn back(last: Option<Seen>, entry: &Entry) -> u64
     }
 }
 
-/// 1 where the counter is met again or steps back: at least 127 of 256 counters would be passed over.
+/// 1 where the counter is met again or steps back with another context: at least 127 of 256 counters would be passed over.
 fn met_again(last: Option<Seen>, entry: &Entry) -> u64
     ensures { result ≡ met_again last entry.now }
 {
     match last {
-        Some(last) if gap(Some(latest_of(&last.entry)), entry) >= 127 => 1,
+        Some(last)
+            if last.entry.ctid != entry.ctid && gap(Some(latest_of(&last.entry)), entry) >= 127 => {
+            1
+        }
         Some(_) => 0,
         None => 0,
     }

@@ -1,5 +1,5 @@
 -- The answer to a question, in one line.
-use Rattle.std.specs.Prelude.{ℕ, ◌-◌, ◌%◌, ◌==◌, Bool, List, [], ◌++◌, codes, slice_get, Option, Some, None, if◌then◌else◌}
+use Rattle.std.specs.Prelude.{ℕ, ◌+◌, ◌-◌, ◌%◌, ◌==◌, nat_lt, Bool, List, [], ◌++◌, codes, slice_get, Option, Some, None, if◌then◌else◌}
 use Rattle.std.specs.Fmt.{decimal}
 use Rattle.std.specs.Option.{option_map_or}
 use Rattle.dl_text.specs.IdText.{id_text}
@@ -18,6 +18,7 @@ use Rattle.dl_find_words.specs.declared.verdict.Word.{Word}
 use Rattle.dl_find_words.specs.declared.verdict.Word.TheVariants as word
 use Rattle.dl_find_words.specs.Verdict.{word_of}
 use Rattle.dl_find_words.specs.declared.found.Book.{Book}
+use Rattle.dl_find_words.specs.declared.found.Gone.{Gone}
 use Rattle.dl_find_words.specs.declared.found.Hole.{Hole}
 
 -- ---- words
@@ -35,7 +36,37 @@ unfoldable pub buffer_words : List ℕ
 buffer_words = codes " by the full buffer"
 
 unfoldable pub missing_words : List ℕ
-missing_words = codes " missing, or a multiple of 256 more, "
+missing_words = codes " missing, or "
+
+unfoldable pub multiple_words : List ℕ
+multiple_words = codes " and a multiple of 256"
+
+unfoldable pub anew_words : List ℕ
+anew_words = codes "none missing, if it began anew with counter 0; else "
+
+unfoldable pub level_words : List ℕ
+level_words = codes ", if its level passed it,"
+
+unfoldable pub filtered_words : List ℕ
+filtered_words = codes " filtered by level "
+
+unfoldable pub doubt_words : List ℕ
+doubt_words = codes "; or it is one of "
+
+unfoldable pub early_words : List ℕ
+early_words = codes "it may be before the first message here, "
+
+unfoldable pub each_words : List ℕ
+each_words = codes ", or missing in each of "
+
+unfoldable pub session_words : List ℕ
+session_words = codes "if its session counts its messages, "
+
+unfoldable pub context_words : List ℕ
+context_words = codes "; if each context counts its own, "
+
+unfoldable pub none_words : List ℕ
+none_words = codes "none is missing there, or a multiple of 256"
 
 unfoldable pub whole_words : List ℕ
 whole_words = codes "no counter is missing there, or a multiple of 256; it may be filtered by its level, not logged, or outside of what is recorded here of "
@@ -58,11 +89,8 @@ rotated_words = codes ", and no file before that is here; the first message is "
 unfoldable pub ended_words : List ℕ
 ended_words = codes " while the trace had ended"
 
-unfoldable pub more_words : List ℕ
-more_words = codes " missing, or a multiple of 256 more,"
-
 unfoldable pub all_words : List ℕ
-all_words = codes " of all applications while the trace had ended, "
+all_words = codes " of all applications"
 
 unfoldable pub sessions_words : List ℕ
 sessions_words = codes " has several sessions here: ask with the session's number before it\n"
@@ -151,35 +179,83 @@ hits_text names n hit = if n == 1 then hit_text names hit else several_text name
 abbrev pub fits : ℕ → ℕ → Bool
 fits told missing = told % 256 == missing
 
+-- how many are missing, as far as counters of one byte tell
+abbrev pub multiple_text : ℕ → List ℕ
+multiple_text missing = decimal missing ++ multiple_words
+
+abbrev pub missing_text : ℕ → List ℕ
+missing_text missing = decimal missing ++ missing_words ++ multiple_text missing
+
+-- Before counter 0 none need be missing: a program that is started again counts from 0.
+abbrev pub count_text : Hole → List ℕ
+count_text hole = if hole.behind.entry.mcnt == 0 then anew_words ++ decimal hole.missing ++ codes ", or " ++ multiple_text hole.missing else missing_text hole.missing
+
+-- So many of those that records tell of: they tell of others too. Where they tell of fewer than 256 more, they are no more than are missing modulo 256.
+abbrev pub of_text : ℕ → ℕ → List ℕ
+of_text missing told = if nat_lt told (missing + 256) then decimal missing ++ codes " of " else decimal missing ++ codes ", or " ++ multiple_text missing ++ codes ", of "
+
+abbrev pub part_text : ℕ → ℕ → List ℕ
+part_text missing told = if told == missing then decimal told else of_text missing told ++ decimal told
+
+-- records that tell of no other messages tell how many are missing
+abbrev pub own_part_text : Bool → ℕ → ℕ → List ℕ
+own_part_text own missing told = if own then decimal told else part_text missing told
+
+-- the same of records that tell of all applications
+abbrev pub all_part_text : ℕ → ℕ → List ℕ
+all_part_text missing told = if told == missing then decimal told else of_text missing told ++ decimal told ++ all_words
+
+-- what a level filtered is not missing
+abbrev pub passed_text : Bool → List ℕ
+passed_text passed = if passed then [] else level_words
+
 abbrev pub record_text : List (List ℕ) → Option Spot → List ℕ
 record_text names None = codes "\n"
 record_text names (Some spot) = record_words ++ spot_text names spot ++ codes "\n"
 
-abbrev pub lost_text : List (List ℕ) → Question → Hole → Reports → List ℕ
-lost_text names q hole told = decimal told.ring ++ ring_words ++ id_text q.apid ++ between_text hole ++ record_text names told.last
+-- where they are missing, and which record says so
+abbrev pub place_text : List (List ℕ) → Gone → List ℕ
+place_text names gone = passed_text gone.has_passed ++ between_text gone.hole ++ record_text names gone.told.last
 
-abbrev pub refused_text : List (List ℕ) → Hole → Reports → List ℕ
-refused_text names hole told = decimal told.buffer ++ buffer_words ++ between_text hole ++ record_text names told.last
+abbrev pub lost_text : List (List ℕ) → Question → Gone → List ℕ
+lost_text names q gone = own_part_text gone.is_own gone.hole.missing gone.told.ring ++ ring_words ++ id_text q.apid ++ place_text names gone
 
--- how many were not stored: as many as are missing, or of all applications
-abbrev pub ended_text : ℕ → ℕ → List ℕ
-ended_text unstored missing = if fits unstored missing then ended_words else all_words ++ decimal missing ++ more_words
+abbrev pub refused_text : List (List ℕ) → Gone → List ℕ
+refused_text names gone = all_part_text gone.hole.missing gone.told.buffer ++ buffer_words ++ place_text names gone
 
-abbrev pub unstored_text : List (List ℕ) → Hole → Reports → List ℕ
-unstored_text names hole told = decimal told.unstored ++ ended_text told.unstored hole.missing ++ between_text hole ++ record_text names told.last
+abbrev pub unstored_text : List (List ℕ) → Gone → List ℕ
+unstored_text names gone = all_part_text gone.hole.missing gone.told.unstored ++ ended_words ++ place_text names gone
 
-abbrev pub counts_text : ℕ → Reports → List ℕ
-counts_text missing told = decimal missing ++ missing_words ++ decimal told.ring ++ ring_told_words ++ decimal told.buffer ++ buffer_told_words ++ decimal told.unstored ++ stored_words
+abbrev pub told_text : Reports → List ℕ
+told_text told = codes ", " ++ decimal told.ring ++ ring_told_words ++ decimal told.buffer ++ buffer_told_words ++ decimal told.unstored ++ stored_words
 
-abbrev pub untold_text : Hole → Reports → List ℕ
-untold_text hole told = counts_text hole.missing told ++ between_text hole ++ codes "\n"
+abbrev pub counts_text : Gone → List ℕ
+counts_text gone = count_text gone.hole ++ told_text gone.told ++ between_text gone.hole
+
+abbrev pub untold_text : List (List ℕ) → Gone → List ℕ
+untold_text names gone = counts_text gone ++ record_text names gone.told.last
 
 -- no counter was passed over where the question points
 abbrev pub whole_text : Question → List ℕ
 whole_text q = whole_words ++ id_text q.apid ++ codes "\n"
 
+abbrev pub several_holes_text : ℕ → Hole → List ℕ
+several_holes_text n hole = decimal n ++ codes " holes, the first is" ++ between_text hole ++ codes "\n"
+
 abbrev pub holes_text : ℕ → Hole → List ℕ
-holes_text n hole = holes_words ++ decimal n ++ codes " holes, the first is" ++ between_text hole ++ codes "\n"
+holes_text n hole = holes_words ++ several_holes_text n hole
+
+-- its counter may be of a message before the first one here, too
+abbrev pub early_text : Seen → ℕ → Hole → List ℕ
+early_text first n hole = early_words ++ entry_text first.entry ++ each_words ++ several_holes_text n hole
+
+-- who counts is open
+abbrev pub by_text : Option Hole → List ℕ
+by_text None = none_words
+by_text (Some hole) = count_text hole ++ between_text hole
+
+abbrev pub counting_text : Option Hole → Option Hole → List ℕ
+counting_text session context = session_words ++ by_text session ++ context_words ++ by_text context ++ codes "\n"
 
 -- ---- outside of what is recorded
 
@@ -210,7 +286,7 @@ accounts_text b = accounts_words ++ time_text b.before.entry.ticks ++ codes " an
 
 -- the second one of them
 unfoldable pub own_text : List (List ℕ) → Spot → List ℕ
-own_text names spot = own_words ++ spot_text names spot ++ codes "\n"
+own_text names spot = own_words ++ spot_text names spot
 
 abbrev pub book_text : List (List ℕ) → Book → List ℕ
 book_text names b = accounts_text b ++ own_text names b.behind.spot
@@ -220,13 +296,20 @@ abbrev pub level_text : Calls → List ℕ
 level_text calls = decimal calls.filtered ++ codes " by level " ++ decimal calls.level
 
 abbrev pub filtered_text : List (List ℕ) → Book → List ℕ
-filtered_text names b = level_text b.behind.entry.calls ++ book_text names b
+filtered_text names b = level_text b.behind.entry.calls ++ book_text names b ++ codes "; it is one of them, or nobody logged it\n"
+
+-- an account that tells of filtered calls at that time, where records tell of others
+abbrev pub filtered_part_text : Calls → List ℕ
+filtered_part_text calls = decimal calls.filtered ++ filtered_words ++ decimal calls.level
+
+abbrev pub doubted_text : List (List ℕ) → Gone → Seen → List ℕ
+doubted_text names gone account = counts_text gone ++ doubt_words ++ filtered_part_text account.entry.calls ++ own_text names account.spot ++ codes "\n"
 
 abbrev pub dropped_text : List (List ℕ) → Question → Book → List ℕ
-dropped_text names q b = decimal b.behind.entry.calls.lost ++ queue_words ++ id_text q.apid ++ book_text names b
+dropped_text names q b = decimal b.behind.entry.calls.lost ++ queue_words ++ id_text q.apid ++ book_text names b ++ codes "\n"
 
 abbrev pub unlogged_text : List (List ℕ) → Book → List ℕ
-unlogged_text names b = decimal b.behind.entry.calls.queued ++ calls_words ++ book_text names b
+unlogged_text names b = decimal b.behind.entry.calls.queued ++ calls_words ++ book_text names b ++ codes "\n"
 
 abbrev pub gapped_text : List (List ℕ) → Book → List ℕ
 gapped_text names b = gapped_words ++ spot_text names b.behind.spot ++ codes "\n"
@@ -235,12 +318,22 @@ gapped_text names b = gapped_words ++ spot_text names b.behind.spot ++ codes "\n
 abbrev pub queued_text : Book → List ℕ
 queued_text b = decimal b.behind.entry.calls.queued ++ queued_words ++ decimal b.behind.entry.calls.lost ++ codes " lost, "
 
-abbrev pub refuted_text : List (List ℕ) → Book → List ℕ
-refuted_text names b = refuted_words ++ queued_text b ++ decimal b.since.messages ++ codes " here and " ++ decimal b.since.missing ++ codes " missing" ++ book_text names b
+abbrev pub here_text : Book → List ℕ
+here_text b = decimal b.since.messages ++ codes " here and " ++ decimal b.since.missing ++ codes " missing"
 
-abbrev pub mixed_text : List (List ℕ) → Book → List ℕ
-mixed_text names b =
-    level_text b.behind.entry.calls ++ codes ", " ++ decimal b.behind.entry.calls.lost ++ codes " lost, " ++ decimal (b.behind.entry.calls.queued - b.since.messages) ++ program_words ++ book_text names b
+abbrev pub refuted_text : List (List ℕ) → Book → List ℕ
+refuted_text names b = refuted_words ++ queued_text b ++ here_text b ++ book_text names b ++ codes "\n"
+
+-- calls of several kinds, and the hole where the question points
+abbrev pub kinds_text : Book → List ℕ
+kinds_text b = filtered_part_text b.behind.entry.calls ++ codes ", " ++ decimal b.behind.entry.calls.lost ++ codes " lost, " ++ decimal (b.behind.entry.calls.queued - b.since.messages) ++ program_words
+
+abbrev pub hole_text : Option Hole → List ℕ
+hole_text None = codes "\n"
+hole_text (Some hole) = codes "; " ++ count_text hole ++ between_text hole ++ codes "\n"
+
+abbrev pub mixed_text : List (List ℕ) → Book → Option Hole → List ℕ
+mixed_text names b hole = kinds_text b ++ book_text names b ++ hole_text hole
 
 -- ---- what leaves it open
 
@@ -264,14 +357,17 @@ abbrev pub said_text : List (List ℕ) → Question → Verdict → List ℕ
 said_text names q (verdict.Filtered book) = filtered_text names book
 said_text names q (verdict.Dropped book) = dropped_text names q book
 said_text names q (verdict.Unlogged book) = unlogged_text names book
-said_text names q (verdict.Lost hole told) = lost_text names q hole told
-said_text names q (verdict.Refused hole told) = refused_text names hole told
-said_text names q (verdict.Unstored hole told) = unstored_text names hole told
+said_text names q (verdict.Lost gone) = lost_text names q gone
+said_text names q (verdict.Refused gone) = refused_text names gone
+said_text names q (verdict.Unstored gone) = unstored_text names gone
+said_text names q (verdict.Doubted gone account) = doubted_text names gone account
 said_text names q (verdict.Rotated first) = rotated_text names first
 said_text names q (verdict.Before first) = before_text names first
 said_text names q (verdict.Behind last) = behind_text names last
-said_text names q (verdict.Untold hole told) = untold_text hole told
+said_text names q (verdict.Untold gone) = untold_text names gone
 said_text names q (verdict.Holes count hole) = holes_text count hole
+said_text names q (verdict.Early first count hole) = early_text first count hole
+said_text names q (verdict.Counting session context) = counting_text session context
 said_text names q verdict.Whole = whole_text q
 said_text names q verdict.NoContext = no_context_text
 said_text names q verdict.Nobody = none_text q
@@ -279,7 +375,7 @@ said_text names q verdict.Sessions = sessions_text q
 said_text names q (verdict.Backs count) = backs_text count
 said_text names q (verdict.Gapped book) = gapped_text names book
 said_text names q (verdict.Refuted book) = refuted_text names book
-said_text names q (verdict.Mixed book) = mixed_text names book
+said_text names q (verdict.Mixed book hole) = mixed_text names book hole
 
 -- The line of a message that isn't here begins with the word of what is said of it.
 abbrev pub verdict_text : List (List ℕ) → Question → Verdict → List ℕ

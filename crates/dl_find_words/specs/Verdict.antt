@@ -10,9 +10,9 @@ abbrev pub word_of : Verdict → Word
 word_of (verdict.Filtered book) = word.Filtered
 word_of (verdict.Dropped book) = word.Lost
 word_of (verdict.Unlogged book) = word.Unlogged
-word_of (verdict.Lost hole told) = word.Lost
-word_of (verdict.Refused hole told) = word.Refused
-word_of (verdict.Unstored hole told) = word.Unstored
+word_of (verdict.Lost gone) = word.Lost
+word_of (verdict.Refused gone) = word.Refused
+word_of (verdict.Unstored gone) = word.Unstored
 word_of (verdict.Rotated first) = word.Rotated
 word_of (verdict.Before first) = word.Before
 word_of (verdict.Behind last) = word.Behind

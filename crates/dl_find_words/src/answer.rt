@@ -1,10 +1,10 @@
 //! The answer to a question, in one line.
 
 ghost use Rattle.std.specs.Prelude.{◌≡◌, ◌++◌, OnOk};
-ghost use Rattle.dl_find_words.specs.Answer.{accounts_text, accounts_words, all_words, backs_text, backs_words, before_text, before_words, behind_text, behind_words, between_text, book_text, buffer_told_words, buffer_words, calls_words, counts_text, dropped_text, ended_text, ended_words, entry_line, entry_text, filtered_text, first_name, first_text, first_words, fits, gapped_text, gapped_words, hit_text, hits_text, holes_text, holes_words, level_text, lost_text, missing_words, mixed_text, more_words, no_context_text, none_text, own_text, own_words, program_words, queue_words, queued_text, queued_words, record_text, record_words, refused_text, refuted_text, refuted_words, ring_told_words, ring_words, rotated_text, rotated_words, said_text, seen_text, sessions_text, sessions_words, several_text, several_words, spot_text, stored_words, unlogged_text, unstored_text, untold_text, verdict_text, whole_text, whole_words, word_text};
+ghost use Rattle.dl_find_words.specs.Answer.{accounts_text, accounts_words, all_part_text, all_words, anew_words, backs_text, backs_words, before_text, before_words, behind_text, behind_words, between_text, book_text, buffer_told_words, buffer_words, by_text, calls_words, context_words, count_text, counting_text, counts_text, doubt_words, doubted_text, dropped_text, each_words, early_text, early_words, ended_words, entry_line, entry_text, filtered_part_text, filtered_text, filtered_words, first_name, first_text, first_words, fits, gapped_text, gapped_words, here_text, hit_text, hits_text, hole_text, holes_text, holes_words, kinds_text, level_text, level_words, lost_text, missing_text, missing_words, mixed_text, multiple_text, multiple_words, no_context_text, none_text, none_words, of_text, own_part_text, own_text, own_words, part_text, passed_text, place_text, program_words, queue_words, queued_text, queued_words, record_text, record_words, refused_text, refuted_text, refuted_words, ring_told_words, ring_words, rotated_text, rotated_words, said_text, seen_text, session_words, sessions_text, sessions_words, several_holes_text, several_text, several_words, spot_text, stored_words, told_text, unlogged_text, unstored_text, untold_text, verdict_text, whole_text, whole_words, word_text};
 
 use crate::arguments::push_message;
-use crate::found::{Book, Hole, Reports};
+use crate::found::{Book, Gone, Hole, Reports};
 use crate::question::Question;
 use crate::seen::{Hit, Seen, Spot};
 use crate::verdict::{Verdict, Word, word_of};
@@ -50,7 +50,87 @@ fn buffer_words() -> &'static [u8]
 fn missing_words() -> &'static [u8]
     ensures { result.now ≡ missing_words }
 {
-    b" missing, or a multiple of 256 more, "
+    b" missing, or "
+}
+
+/// Words of an answer.
+#[tactic(auto, unfolding(crate::specs::Answer::multiple_words))]
+fn multiple_words() -> &'static [u8]
+    ensures { result.now ≡ multiple_words }
+{
+    b" and a multiple of 256"
+}
+
+/// Words of an answer.
+#[tactic(auto, unfolding(crate::specs::Answer::anew_words))]
+fn anew_words() -> &'static [u8]
+    ensures { result.now ≡ anew_words }
+{
+    b"none missing, if it began anew with counter 0; else "
+}
+
+/// Words of an answer.
+#[tactic(auto, unfolding(crate::specs::Answer::level_words))]
+fn level_words() -> &'static [u8]
+    ensures { result.now ≡ level_words }
+{
+    b", if its level passed it,"
+}
+
+/// Words of an answer.
+#[tactic(auto, unfolding(crate::specs::Answer::filtered_words))]
+fn filtered_words() -> &'static [u8]
+    ensures { result.now ≡ filtered_words }
+{
+    b" filtered by level "
+}
+
+/// Words of an answer.
+#[tactic(auto, unfolding(crate::specs::Answer::doubt_words))]
+fn doubt_words() -> &'static [u8]
+    ensures { result.now ≡ doubt_words }
+{
+    b"; or it is one of "
+}
+
+/// Words of an answer.
+#[tactic(auto, unfolding(crate::specs::Answer::early_words))]
+fn early_words() -> &'static [u8]
+    ensures { result.now ≡ early_words }
+{
+    b"it may be before the first message here, "
+}
+
+/// Words of an answer.
+#[tactic(auto, unfolding(crate::specs::Answer::each_words))]
+fn each_words() -> &'static [u8]
+    ensures { result.now ≡ each_words }
+{
+    b", or missing in each of "
+}
+
+/// Words of an answer.
+#[tactic(auto, unfolding(crate::specs::Answer::session_words))]
+fn session_words() -> &'static [u8]
+    ensures { result.now ≡ session_words }
+{
+    b"if its session counts its messages, "
+}
+
+/// Words of an answer.
+#[tactic(auto, unfolding(crate::specs::Answer::context_words))]
+fn context_words() -> &'static [u8]
+    ensures { result.now ≡ context_words }
+{
+    b"; if each context counts its own, "
+}
+
+/// Words of an answer.
+#[tactic(auto, unfolding(crate::specs::Answer::none_words))]
+fn none_words() -> &'static [u8]
+    ensures { result.now ≡ none_words }
+{
+    b"none is missing there, or a multiple of 256"
 }
 
 /// Words of an answer.
@@ -110,19 +190,11 @@ fn ended_words() -> &'static [u8]
 }
 
 /// Words of an answer.
-#[tactic(auto, unfolding(crate::specs::Answer::more_words))]
-fn more_words() -> &'static [u8]
-    ensures { result.now ≡ more_words }
-{
-    b" missing, or a multiple of 256 more,"
-}
-
-/// Words of an answer.
 #[tactic(auto, unfolding(crate::specs::Answer::all_words))]
 fn all_words() -> &'static [u8]
     ensures { result.now ≡ all_words }
 {
-    b" of all applications while the trace had ended, "
+    b" of all applications"
 }
 
 /// Words of an answer.
@@ -342,6 +414,92 @@ pub fn fits(told: u64, missing: u8) -> bool
     told % 256 == missing as u64
 }
 
+/// Adds how many are missing, or that and a multiple of 256.
+fn push_multiple(text: &mut Vec<u8>, missing: u8) -> Result<(), OutOfMemory>
+    ensures { OnOk result (text.new.items ≡ text.old.items ++ multiple_text missing) }
+{
+    push_number(text, b"", missing)?;
+    text.extend_from_slice(multiple_words())
+}
+
+/// Adds how many are missing, as far as counters tell.
+fn push_missing(text: &mut Vec<u8>, missing: u8) -> Result<(), OutOfMemory>
+    ensures { OnOk result (text.new.items ≡ text.old.items ++ missing_text missing) }
+{
+    push_number(text, b"", missing)?;
+    text.extend_from_slice(missing_words())?;
+    push_multiple(text, missing)
+}
+
+/// Adds how many are missing in a hole.
+fn push_count(text: &mut Vec<u8>, hole: &Hole) -> Result<(), OutOfMemory>
+    ensures { OnOk result (text.new.items ≡ text.old.items ++ count_text hole.now) }
+{
+    if hole.behind.entry.mcnt != 0 {
+        return push_missing(text, hole.missing);
+    }
+    push_number(text, anew_words(), hole.missing)?;
+    text.extend_from_slice(b", or ")?;
+    push_multiple(text, hole.missing)
+}
+
+/// Adds that so many are some of those that records tell of.
+fn push_of(text: &mut Vec<u8>, missing: u8, told: u64) -> Result<(), OutOfMemory>
+    ensures { OnOk result (text.new.items ≡ text.old.items ++ of_text missing told) }
+{
+    push_number(text, b"", missing)?;
+    if told < missing as u64 + 256 {
+        return text.extend_from_slice(b" of ");
+    }
+    text.extend_from_slice(b", or ")?;
+    push_multiple(text, missing)?;
+    text.extend_from_slice(b", of ")
+}
+
+/// Adds how many of those that records tell of.
+fn push_part(text: &mut Vec<u8>, missing: u8, told: u64) -> Result<(), OutOfMemory>
+    ensures { OnOk result (text.new.items ≡ text.old.items ++ part_text missing told) }
+{
+    if told != missing as u64 {
+        push_of(text, missing, told)?;
+    }
+    push_number(text, b"", told)
+}
+
+/// Adds the same, where records may tell of no others.
+fn push_own_part(text: &mut Vec<u8>, own: bool, missing: u8, told: u64) -> Result<(), OutOfMemory>
+    ensures { OnOk result (text.new.items ≡ text.old.items ++ own_part_text own missing told) }
+{
+    if own {
+        push_number(text, b"", told)
+    } else {
+        push_part(text, missing, told)
+    }
+}
+
+/// Adds the same of records that tell of all applications.
+fn push_all_part(text: &mut Vec<u8>, missing: u8, told: u64) -> Result<(), OutOfMemory>
+    ensures { OnOk result (text.new.items ≡ text.old.items ++ all_part_text missing told) }
+{
+    if told == missing as u64 {
+        return push_number(text, b"", told);
+    }
+    push_of(text, missing, told)?;
+    push_number(text, b"", told)?;
+    text.extend_from_slice(all_words())
+}
+
+/// Adds that it is missing if its level passed it, where that isn't known.
+fn push_passed(text: &mut Vec<u8>, passed: bool) -> Result<(), OutOfMemory>
+    ensures { OnOk result (text.new.items ≡ text.old.items ++ passed_text passed) }
+{
+    if passed {
+        Ok(())
+    } else {
+        text.extend_from_slice(level_words())
+    }
+}
+
 /// Adds which record says so.
 fn push_record(text: &mut Vec<u8>, names: &[Name], last: Option<Spot>) -> Result<(), OutOfMemory>
     ensures { OnOk result (text.new.items ≡ text.old.items ++ record_text names.now last) }
@@ -354,82 +512,73 @@ fn push_record(text: &mut Vec<u8>, names: &[Name], last: Option<Spot>) -> Result
     text.extend_from_slice(b"\n")
 }
 
+/// Adds where messages are missing, and which record says so.
+fn push_place(text: &mut Vec<u8>, names: &[Name], gone: &Gone) -> Result<(), OutOfMemory>
+    ensures { OnOk result (text.new.items ≡ text.old.items ++ place_text names.now gone.now) }
+{
+    push_passed(text, gone.has_passed)?;
+    push_between(text, &gone.hole)?;
+    push_record(text, names, gone.told.last)
+}
+
 /// Adds the words of messages that the ring lost.
 fn push_lost(
     text: &mut Vec<u8>,
     names: &[Name],
     question: &Question,
-    hole: &Hole,
-    told: &Reports,
+    gone: &Gone,
 ) -> Result<(), OutOfMemory>
-    ensures { OnOk result (text.new.items ≡ text.old.items ++ lost_text names.now question.now hole.now told.now) }
+    ensures { OnOk result (text.new.items ≡ text.old.items ++ lost_text names.now question.now gone.now) }
 {
-    push_number(text, b"", told.ring)?;
+    push_own_part(text, gone.is_own, gone.hole.missing, gone.told.ring)?;
     text.extend_from_slice(ring_words())?;
     push_id(text, &question.apid)?;
-    push_between(text, hole)?;
-    push_record(text, names, told.last)
+    push_place(text, names, gone)
 }
 
 /// Adds the words of messages that the buffer refused.
-fn push_refused(
-    text: &mut Vec<u8>,
-    names: &[Name],
-    hole: &Hole,
-    told: &Reports,
-) -> Result<(), OutOfMemory>
-    ensures { OnOk result (text.new.items ≡ text.old.items ++ refused_text names.now hole.now told.now) }
+fn push_refused(text: &mut Vec<u8>, names: &[Name], gone: &Gone) -> Result<(), OutOfMemory>
+    ensures { OnOk result (text.new.items ≡ text.old.items ++ refused_text names.now gone.now) }
 {
-    push_number(text, b"", told.buffer)?;
+    push_all_part(text, gone.hole.missing, gone.told.buffer)?;
     text.extend_from_slice(buffer_words())?;
-    push_between(text, hole)?;
-    push_record(text, names, told.last)
-}
-
-/// Adds whose messages were not stored, where so many were not.
-fn push_ended(text: &mut Vec<u8>, unstored: u64, missing: u8) -> Result<(), OutOfMemory>
-    ensures { OnOk result (text.new.items ≡ text.old.items ++ ended_text unstored missing) }
-{
-    if fits(unstored, missing) {
-        return text.extend_from_slice(ended_words());
-    }
-    push_number(text, all_words(), missing)?;
-    text.extend_from_slice(more_words())
+    push_place(text, names, gone)
 }
 
 /// Adds the words of messages that were not stored.
-fn push_unstored(
-    text: &mut Vec<u8>,
-    names: &[Name],
-    hole: &Hole,
-    told: &Reports,
-) -> Result<(), OutOfMemory>
-    ensures { OnOk result (text.new.items ≡ text.old.items ++ unstored_text names.now hole.now told.now) }
+fn push_unstored(text: &mut Vec<u8>, names: &[Name], gone: &Gone) -> Result<(), OutOfMemory>
+    ensures { OnOk result (text.new.items ≡ text.old.items ++ unstored_text names.now gone.now) }
 {
-    push_number(text, b"", told.unstored)?;
-    push_ended(text, told.unstored, hole.missing)?;
-    push_between(text, hole)?;
-    push_record(text, names, told.last)
+    push_all_part(text, gone.hole.missing, gone.told.unstored)?;
+    text.extend_from_slice(ended_words())?;
+    push_place(text, names, gone)
 }
 
-/// Adds how many are missing, and how many were told.
-fn push_counts(text: &mut Vec<u8>, missing: u8, told: &Reports) -> Result<(), OutOfMemory>
-    ensures { OnOk result (text.new.items ≡ text.old.items ++ counts_text missing told.now) }
+/// Adds how many were told.
+fn push_told(text: &mut Vec<u8>, told: &Reports) -> Result<(), OutOfMemory>
+    ensures { OnOk result (text.new.items ≡ text.old.items ++ told_text told.now) }
 {
-    push_number(text, b"", missing)?;
-    push_number(text, missing_words(), told.ring)?;
+    push_number(text, b", ", told.ring)?;
     push_number(text, ring_told_words(), told.buffer)?;
     push_number(text, buffer_told_words(), told.unstored)?;
     text.extend_from_slice(stored_words())
 }
 
-/// Adds the words of a hole that the reports leave open.
-fn push_untold(text: &mut Vec<u8>, hole: &Hole, told: &Reports) -> Result<(), OutOfMemory>
-    ensures { OnOk result (text.new.items ≡ text.old.items ++ untold_text hole.now told.now) }
+/// Adds how many are missing, how many were told, and where.
+fn push_counts(text: &mut Vec<u8>, gone: &Gone) -> Result<(), OutOfMemory>
+    ensures { OnOk result (text.new.items ≡ text.old.items ++ counts_text gone.now) }
 {
-    push_counts(text, hole.missing, told)?;
-    push_between(text, hole)?;
-    text.extend_from_slice(b"\n")
+    push_count(text, &gone.hole)?;
+    push_told(text, &gone.told)?;
+    push_between(text, &gone.hole)
+}
+
+/// Adds the words of a hole that the records leave open.
+fn push_untold(text: &mut Vec<u8>, names: &[Name], gone: &Gone) -> Result<(), OutOfMemory>
+    ensures { OnOk result (text.new.items ≡ text.old.items ++ untold_text names.now gone.now) }
+{
+    push_counts(text, gone)?;
+    push_record(text, names, gone.told.last)
 }
 
 /// Adds the words where no counter was passed over.
@@ -441,13 +590,57 @@ fn push_whole(text: &mut Vec<u8>, question: &Question) -> Result<(), OutOfMemory
     text.extend_from_slice(b"\n")
 }
 
+/// Adds how many holes there are, and the first.
+fn push_several_holes(text: &mut Vec<u8>, count: u64, hole: &Hole) -> Result<(), OutOfMemory>
+    ensures { OnOk result (text.new.items ≡ text.old.items ++ several_holes_text count hole.now) }
+{
+    push_number(text, b"", count)?;
+    text.extend_from_slice(b" holes, the first is")?;
+    push_between(text, hole)?;
+    text.extend_from_slice(b"\n")
+}
+
 /// Adds the words of several holes.
 fn push_holes(text: &mut Vec<u8>, count: u64, hole: &Hole) -> Result<(), OutOfMemory>
     ensures { OnOk result (text.new.items ≡ text.old.items ++ holes_text count hole.now) }
 {
-    push_number(text, holes_words(), count)?;
-    text.extend_from_slice(b" holes, the first is")?;
-    push_between(text, hole)?;
+    text.extend_from_slice(holes_words())?;
+    push_several_holes(text, count, hole)
+}
+
+/// Adds the words of a counter that may be before the first message, or in holes.
+fn push_early(text: &mut Vec<u8>, first: &Seen, count: u64, hole: &Hole) -> Result<(), OutOfMemory>
+    ensures { OnOk result (text.new.items ≡ text.old.items ++ early_text first.now count hole.now) }
+{
+    text.extend_from_slice(early_words())?;
+    push_entry(text, &first.entry)?;
+    text.extend_from_slice(each_words())?;
+    push_several_holes(text, count, hole)
+}
+
+/// Adds what is missing by one of the countings.
+fn push_by(text: &mut Vec<u8>, hole: Option<Hole>) -> Result<(), OutOfMemory>
+    ensures { OnOk result (text.new.items ≡ text.old.items ++ by_text hole) }
+{
+    let Some(hole) = hole else {
+        return text.extend_from_slice(none_words());
+    };
+    push_count(text, &hole)?;
+    push_between(text, &hole)
+}
+
+/// Adds the words where nothing tells who counts.
+fn push_counting(
+    text: &mut Vec<u8>,
+    session: Option<Hole>,
+    context: Option<Hole>,
+) -> Result<(), OutOfMemory>
+    ensures { OnOk result (text.new.items ≡ text.old.items ++ counting_text session context) }
+{
+    text.extend_from_slice(session_words())?;
+    push_by(text, session)?;
+    text.extend_from_slice(context_words())?;
+    push_by(text, context)?;
     text.extend_from_slice(b"\n")
 }
 
@@ -523,8 +716,7 @@ fn push_own(text: &mut Vec<u8>, names: &[Name], spot: &Spot) -> Result<(), OutOf
     ensures { OnOk result (text.new.items ≡ text.old.items ++ own_text names.now spot.now) }
 {
     text.extend_from_slice(own_words())?;
-    push_spot(text, names, spot)?;
-    text.extend_from_slice(b"\n")
+    push_spot(text, names, spot)
 }
 
 /// Adds between which accounts, and the second one of them.
@@ -548,7 +740,32 @@ fn push_filtered(text: &mut Vec<u8>, names: &[Name], book: &Book) -> Result<(), 
     ensures { OnOk result (text.new.items ≡ text.old.items ++ filtered_text names.now book.now) }
 {
     push_level(text, &book.behind.entry.calls)?;
-    push_book(text, names, book)
+    push_book(text, names, book)?;
+    text.extend_from_slice(b"; it is one of them, or nobody logged it\n")
+}
+
+/// Adds an account's filtered calls, as some of others.
+fn push_filtered_part(text: &mut Vec<u8>, calls: &Calls) -> Result<(), OutOfMemory>
+    ensures { OnOk result (text.new.items ≡ text.old.items ++ filtered_part_text calls.now) }
+{
+    push_number(text, b"", calls.filtered)?;
+    push_number(text, filtered_words(), calls.level)
+}
+
+/// Adds the words of messages that are missing, where calls were filtered too.
+fn push_doubted(
+    text: &mut Vec<u8>,
+    names: &[Name],
+    gone: &Gone,
+    account: &Seen,
+) -> Result<(), OutOfMemory>
+    ensures { OnOk result (text.new.items ≡ text.old.items ++ doubted_text names.now gone.now account.now) }
+{
+    push_counts(text, gone)?;
+    text.extend_from_slice(doubt_words())?;
+    push_filtered_part(text, &account.entry.calls)?;
+    push_own(text, names, &account.spot)?;
+    text.extend_from_slice(b"\n")
 }
 
 /// Adds the words of calls that the program's queue lost.
@@ -563,7 +780,8 @@ fn push_dropped(
     push_number(text, b"", book.behind.entry.calls.lost)?;
     text.extend_from_slice(queue_words())?;
     push_id(text, &question.apid)?;
-    push_book(text, names, book)
+    push_book(text, names, book)?;
+    text.extend_from_slice(b"\n")
 }
 
 /// Adds the words where each call is here.
@@ -572,7 +790,8 @@ fn push_unlogged(text: &mut Vec<u8>, names: &[Name], book: &Book) -> Result<(), 
 {
     push_number(text, b"", book.behind.entry.calls.queued)?;
     text.extend_from_slice(calls_words())?;
-    push_book(text, names, book)
+    push_book(text, names, book)?;
+    text.extend_from_slice(b"\n")
 }
 
 /// Adds the words where an account is missing.
@@ -593,29 +812,63 @@ fn push_queued(text: &mut Vec<u8>, book: &Book) -> Result<(), OutOfMemory>
     text.extend_from_slice(b" lost, ")
 }
 
+/// Adds what is here of an account's messages.
+fn push_here(text: &mut Vec<u8>, book: &Book) -> Result<(), OutOfMemory>
+    ensures { OnOk result (text.new.items ≡ text.old.items ++ here_text book.now) }
+{
+    push_number(text, b"", book.since.messages)?;
+    push_number(text, b" here and ", book.since.missing)?;
+    text.extend_from_slice(b" missing")
+}
+
 /// Adds the words of an account that can't be.
 fn push_refuted(text: &mut Vec<u8>, names: &[Name], book: &Book) -> Result<(), OutOfMemory>
     ensures { OnOk result (text.new.items ≡ text.old.items ++ refuted_text names.now book.now) }
 {
     text.extend_from_slice(refuted_words())?;
     push_queued(text, book)?;
-    push_number(text, b"", book.since.messages)?;
-    push_number(text, b" here and ", book.since.missing)?;
-    text.extend_from_slice(b" missing")?;
-    push_book(text, names, book)
+    push_here(text, book)?;
+    push_book(text, names, book)?;
+    text.extend_from_slice(b"\n")
 }
 
-/// Adds the words of calls of several kinds.
-fn push_mixed(text: &mut Vec<u8>, names: &[Name], book: &Book) -> Result<(), OutOfMemory>
-    ensures { OnOk result (text.new.items ≡ text.old.items ++ mixed_text names.now book.now) }
+/// Adds how many calls there were of each kind.
+fn push_kinds(text: &mut Vec<u8>, book: &Book) -> Result<(), OutOfMemory>
+    ensures { OnOk result (text.new.items ≡ text.old.items ++ kinds_text book.now) }
 {
     let calls = &book.behind.entry.calls;
-    push_level(text, calls)?;
+    push_filtered_part(text, calls)?;
     push_number(text, b", ", calls.lost)?;
     let missing = calls.queued.saturating_sub(book.since.messages);
     push_number(text, b" lost, ", missing)?;
-    text.extend_from_slice(program_words())?;
-    push_book(text, names, book)
+    text.extend_from_slice(program_words())
+}
+
+/// Adds the hole where the question points, and ends the line.
+fn push_hole(text: &mut Vec<u8>, hole: Option<Hole>) -> Result<(), OutOfMemory>
+    ensures { OnOk result (text.new.items ≡ text.old.items ++ hole_text hole) }
+{
+    let Some(hole) = hole else {
+        return text.extend_from_slice(b"\n");
+    };
+    text.extend_from_slice(b"; ")?;
+    push_count(text, &hole)?;
+    push_between(text, &hole)?;
+    text.extend_from_slice(b"\n")
+}
+
+/// Adds the words of calls of several kinds.
+fn push_mixed(
+    text: &mut Vec<u8>,
+    names: &[Name],
+    book: &Book,
+    hole: Option<Hole>,
+) -> Result<(), OutOfMemory>
+    ensures { OnOk result (text.new.items ≡ text.old.items ++ mixed_text names.now book.now hole) }
+{
+    push_kinds(text, book)?;
+    push_book(text, names, book)?;
+    push_hole(text, hole)
 }
 
 /// Adds the words where no message of the context is here.
@@ -663,14 +916,17 @@ fn push_said(
         Verdict::Filtered { book } => push_filtered(text, names, book),
         Verdict::Dropped { book } => push_dropped(text, names, question, book),
         Verdict::Unlogged { book } => push_unlogged(text, names, book),
-        Verdict::Lost { hole, told } => push_lost(text, names, question, hole, told),
-        Verdict::Refused { hole, told } => push_refused(text, names, hole, told),
-        Verdict::Unstored { hole, told } => push_unstored(text, names, hole, told),
+        Verdict::Lost { gone } => push_lost(text, names, question, gone),
+        Verdict::Refused { gone } => push_refused(text, names, gone),
+        Verdict::Unstored { gone } => push_unstored(text, names, gone),
+        Verdict::Doubted { gone, account } => push_doubted(text, names, gone, account),
         Verdict::Rotated { first } => push_rotated(text, names, first),
         Verdict::Before { first } => push_before(text, names, first),
         Verdict::Behind { last } => push_behind(text, names, last),
-        Verdict::Untold { hole, told } => push_untold(text, hole, told),
+        Verdict::Untold { gone } => push_untold(text, names, gone),
         Verdict::Holes { count, hole } => push_holes(text, *count, hole),
+        Verdict::Early { first, count, hole } => push_early(text, first, *count, hole),
+        Verdict::Counting { session, context } => push_counting(text, *session, *context),
         Verdict::Whole => push_whole(text, question),
         Verdict::NoContext => push_no_context(text),
         Verdict::Nobody => push_none(text, question),
@@ -678,7 +934,7 @@ fn push_said(
         Verdict::Backs { count } => push_backs(text, *count),
         Verdict::Gapped { book } => push_gapped(text, names, book),
         Verdict::Refuted { book } => push_refuted(text, names, book),
-        Verdict::Mixed { book } => push_mixed(text, names, book),
+        Verdict::Mixed { book, hole } => push_mixed(text, names, book, *hole),
     }
 }
 

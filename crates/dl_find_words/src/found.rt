@@ -31,6 +31,19 @@ pub struct Hole {
     pub told: Reports,
 }
 
+/// Messages that are missing, and what records tell of them.
+#[derive(Clone, Copy, PartialEq, Eq)]
+pub struct Gone {
+    /// The messages round them.
+    pub hole: Hole,
+    /// What records tell.
+    pub told: Reports,
+    /// Whether records of the application tell of no other messages: its session counts them all.
+    pub is_own: bool,
+    /// Whether the one that is asked for passed its level, as far as it was logged.
+    pub has_passed: bool,
+}
+
 /// The messages that pass a test.
 #[derive(Clone, Copy, PartialEq, Eq)]
 pub struct Track {
@@ -44,7 +57,7 @@ pub struct Track {
     pub changes: u64,
     /// How often the time steps back.
     pub backs: u64,
-    /// How often the counter is met again or steps back.
+    /// How often the counter is met again or steps back where the context changes.
     pub returns: u64,
     /// How many holes there are where the question points.
     pub holes: u64,
@@ -80,6 +93,8 @@ pub struct Books {
     pub last: Option<Seen>,
     /// The first two between which the question points.
     pub book: Option<Book>,
+    /// The first one at or behind the time that is asked for.
+    pub next: Option<Seen>,
 }
 
 /// What is found of a message that is asked for.

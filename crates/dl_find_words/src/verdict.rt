@@ -3,7 +3,7 @@
 ghost use Rattle.std.specs.Prelude.{◌≡◌};
 ghost use Rattle.dl_find_words.specs.Verdict.{decides, word_of};
 
-use crate::found::{Book, Hole, Reports};
+use crate::found::{Book, Gone, Hole};
 use crate::seen::Seen;
 
 /// The word that an answer begins with. None is `cut` yet: no record tells that a message was cut.
@@ -51,24 +51,25 @@ pub enum Verdict {
     },
     /// The ring of its application lost it.
     Lost {
-        /// The messages round it.
-        hole: Hole,
-        /// What records tell.
-        told: Reports,
+        /// What is missing.
+        gone: Gone,
     },
     /// The daemon's buffer refused it.
     Refused {
-        /// The messages round it.
-        hole: Hole,
-        /// What records tell.
-        told: Reports,
+        /// What is missing.
+        gone: Gone,
     },
     /// It was not stored.
     Unstored {
-        /// The messages round it.
-        hole: Hole,
-        /// What records tell.
-        told: Reports,
+        /// What is missing.
+        gone: Gone,
+    },
+    /// Records tell of it, or a level filtered it.
+    Doubted {
+        /// What is missing.
+        gone: Gone,
+        /// The account of filtered calls.
+        account: Seen,
     },
     /// It is before what was recorded, and files before the first are not here.
     Rotated {
@@ -87,10 +88,8 @@ pub enum Verdict {
     },
     /// The records do not tell of as many as are missing.
     Untold {
-        /// The messages round it.
-        hole: Hole,
-        /// What records tell.
-        told: Reports,
+        /// What is missing.
+        gone: Gone,
     },
     /// Messages are missing at several places that it may be of.
     Holes {
@@ -98,6 +97,22 @@ pub enum Verdict {
         count: u64,
         /// The first.
         hole: Hole,
+    },
+    /// Its counter may be of a message before the first one here, or messages are missing that it may be of.
+    Early {
+        /// The first message here.
+        first: Seen,
+        /// At how many places messages are missing that it may be of.
+        count: u64,
+        /// The first of them.
+        hole: Hole,
+    },
+    /// Nothing tells whether its session counts its messages or each context its own, and these differ.
+    Counting {
+        /// What is missing where the session counts.
+        session: Option<Hole>,
+        /// What is missing where the context counts.
+        context: Option<Hole>,
     },
     /// No counter is missing there.
     Whole,
@@ -126,6 +141,8 @@ pub enum Verdict {
     Mixed {
         /// The accounts.
         book: Book,
+        /// What is missing where the question points.
+        hole: Option<Hole>,
     },
 }
 
@@ -143,8 +160,11 @@ pub fn word_of(verdict: &Verdict) -> Word
         Verdict::Rotated { .. } => Word::Rotated,
         Verdict::Before { .. } => Word::Before,
         Verdict::Behind { .. } => Word::Behind,
+        Verdict::Doubted { .. } => Word::Unknown,
         Verdict::Untold { .. } => Word::Unknown,
         Verdict::Holes { .. } => Word::Unknown,
+        Verdict::Early { .. } => Word::Unknown,
+        Verdict::Counting { .. } => Word::Unknown,
         Verdict::Whole => Word::Unknown,
         Verdict::NoContext => Word::Unknown,
         Verdict::Nobody => Word::Unknown,

@@ -1,4 +1,7 @@
 //! The headers of a message: the standard header that each has, and the extended header of a log or control message.
+//!
+//! Proved: a standard or an extended header is read to its exact value or to the exact refusal, and is written in one spelling; so are the storage
+//! header and the headers of replies.
 #![tactic(auto)]
 
 mod fault;

@@ -2,7 +2,7 @@
 use Rattle.std.proofs.Common.{◌≡◌, ℕ, ◌+◌, ◌-◌, ◌*◌, ◌/◌, ◌%◌, ◌≤◌, ◌<◌, ◌^◌, Bool, true, false, cond, eqb, get_or, take, drop, List, [], ◌∷◌, ◌++◌, length, map, Option, Some, None, refl, sym, ap, ◌∙◌, length-append, replicate, subst, arith}
 use Rattle.std.specs.Prelude.{not, count_by, slice_get, slice_set, IfSome, IsSome, IsSomeAnd, nat_lt}
 use Rattle.std.specs.List.{All, list_any, concat}
-use Rattle.std.proofs.lemmas.List.{append-nil, take_all, length-replicate, length-map}
+use Rattle.std.proofs.lemmas.List.{append-nil, map-append, take_all, length-replicate, length-map}
 use Rattle.std.proofs.Math.Seq.{drop-length}
 use Rattle.std.specs.Option.{option_map, option_and_then}
 use Rattle.std.proofs.lemmas.Option.{get_or_from_slice_get, slice_get-map}
@@ -23,6 +23,9 @@ use Rattle.std.proofs.lemmas.List.Elements.{All-append, All-cons}
 use Rattle.dl_hub.specs.Follows.{Adds, IsAfter}
 use Rattle.dl_hub.proofs.Keeping.{any_counts, found, changed_at, fits-change, fits-close, bounded-at, bounded-reply, bounded-took, fits-admit-open, fits-admit-waits, open_by_free, one_is_open, all_room}
 use Rattle.dl_hub.proofs.Places.{all_at, count_places, map-same, slice_get_or}
+use Rattle.dl_hub.specs.Untaken.{Outgoing, all_due, one_message, refusals_told}
+use Rattle.dl_hub.proofs.Untaken.{records_are}
+use Rattle.dl_hub.proofs.Overflow.{record_size}
 use Rattle.dl_hub.proofs.Following.{admit-open, admit-waits, reply-follows, goes-follows, comes-follows, nothing_waits}
 
 pub is_some_of : {A : Type 0} (P : A → Type 0) (o : Option A) → IsSomeAnd o P → IsSome o
@@ -54,7 +57,7 @@ written n xs ys is same =
 module _ (ecu : List ℕ) (store : Stored) (limit : ℕ) (clients : List Client) (n : ℕ) (free : List Waiting) (fits : Fits (hub_of ecu store limit clients n) free) where
   -- ---- a reply
   pub reply-all : (now : Hub) (number : ℕ) (frame : List ℕ) (c d : Client) → hub_of ecu store limit clients n ≡ now → c ≡ get_or clients (number - 1) d
-      → HasRoom (length frame) now number → length frame ≤ 65535 → IsSomeAnd (client_of now number) (λ x. x.replies < 1000)
+      → HasRoom (length frame) now number → (4 ≤ length frame) × (length frame ≤ 65535) → IsSomeAnd (client_of now number) (λ x. x.replies < 1000)
       → Fits (hub_of ecu store limit (slice_set clients (number - 1) (with_reply frame c)) n) free
       × (hub_of ecu store limit (slice_set clients (number - 1) (with_reply frame c)) n ≡ changed number (with_reply frame) now)
       × Adds (Reply number frame) now (hub_of ecu store limit (slice_set clients (number - 1) (with_reply frame c)) n)
@@ -80,7 +83,7 @@ module _ (ecu : List ℕ) (store : Stored) (limit : ℕ) (clients : List Client)
             let few_replies = some_and (λ x. x.replies < 1000) (client_of hub number) it.0 (client_some hub number it.0 it.4 it.2) few in
             let was_open : is_open it.0 ≡ true = rw it.3 refl in
             rw same (
-              fits-change ecu store limit clients n free (number - 1) it.0 (with_reply frame it.0) fits it.2 (bounded-reply store.ring.capacity n frame it.0 it.1 bounded it.3 fits_room size few_replies) (rw it.3 refl),
+              fits-change ecu store limit clients n free (number - 1) it.0 (with_reply frame it.0) fits it.2 (bounded-reply store.ring.capacity n frame it.0 it.1 bounded it.3 fits_room size.1 few_replies) (rw it.3 refl),
               sym (changed_at hub number (with_reply frame) it.0 it.4 it.2),
               λ ts taken after. subst (λ k. IsAfter (ts ++ Reply k frame ∷ []) taken (hub_of ecu store limit (slice_set clients (number - 1) (with_reply frame it.0)) n)) (number_is number it.4)
                   (reply-follows frame (number - 1) it.0 ts taken hub after it.2 was_open),
@@ -153,7 +156,7 @@ module _ (ecu : List ℕ) (store : Stored) (limit : ℕ) (clients : List Client)
       → IfSome (outbox_of (hub_of ecu store limit clients n) number) (λ w. length w.bytes + (length frame + more) ≤ w.capacity)
       → IfSome (outbox_of (hub_of ecu store limit (map (with_frame frame) clients) (n + 1)) number) (λ w. length w.bytes + more ≤ w.capacity)
   more_room frame more number h = by_number (eqb number 0) h where
-    of_outbox : (o : Option Waiting) → IfSome o (λ w. length w.bytes + (length frame + more) ≤ w.capacity) → IfSome (option_map (added frame) o) (λ w. length w.bytes + more ≤ w.capacity)
+    of_outbox : (o : Option Waiting) → IfSome o (λ w. length w.bytes + (length frame + more) ≤ w.capacity) → IfSome (option_map (added frame ((length frame, 1) ∷ [])) o) (λ w. length w.bytes + more ≤ w.capacity)
     of_outbox None h = tt {0}
     of_outbox (Some w) h = rw (length-append w.bytes frame) (omega (arith, h))
 
@@ -167,7 +170,7 @@ module _ (ecu : List ℕ) (store : Stored) (limit : ℕ) (clients : List Client)
     by_number true h = tt {0}
     by_number false h = rw (slice_get-map (with_frame frame) clients (number - 1)) (of_client (slice_get clients (number - 1)) h)
 
-  pub open-all : (now : Hub) (frame : List ℕ) → hub_of ecu store limit clients n ≡ now → is_any_open now ≡ true → EachHasRoom (length frame) now → length frame ≤ 1984 → now.admitted < 2 ^ 40
+  pub open-all : (now : Hub) (frame : List ℕ) → hub_of ecu store limit clients n ≡ now → is_any_open now ≡ true → EachHasRoom (length frame) now → (4 ≤ length frame) × (length frame ≤ 1984) → now.admitted < 2 ^ 40
       → Fits (hub_of ecu store limit (map (with_frame frame) clients) (n + 1)) free
       × Adds (Admitted frame) now (hub_of ecu store limit (map (with_frame frame) clients) (n + 1))
       × ((more : ℕ) → EachHasRoom (length frame + more) now → EachHasRoom more (hub_of ecu store limit (map (with_frame frame) clients) (n + 1)))
@@ -190,14 +193,14 @@ module _ (ecu : List ℕ) (store : Stored) (limit : ℕ) (clients : List Client)
             × All (λ c. (c.frames < 2 ^ 63) × (c.bytes + length frame < 2 ^ 63)) clients
         all any room few =
             let rooms = all_room (length frame) hub room in (
-              fits-admit-open ecu store limit clients n free frame fits rooms size few,
+              fits-admit-open ecu store limit clients n free frame fits rooms size.1 few,
               λ ts taken after. admit-open frame ts taken hub after any,
               λ more room number. more_room frame more number (room number),
               rooms,
-              λ k d below. let b = fits.each k d below in (omega (arith, b.frames, b.replies, fits.admissions), omega (arith, b.frames, b.replies, b.bytes, fits.admissions, size)),
+              λ k d below. let b = fits.each k d below in (omega (arith, b.frames, b.replies, fits.admissions), omega (arith, b.frames, b.replies, b.bytes, fits.admissions, size.1)),
             )
 
-  pub waits-all : (now : Hub) (frame : List ℕ) → hub_of ecu store limit clients n ≡ now → is_any_open now ≡ false → length frame ≤ 1984 → now.admitted < 2 ^ 40
+  pub waits-all : (now : Hub) (frame : List ℕ) → hub_of ecu store limit clients n ≡ now → is_any_open now ≡ false → (4 ≤ length frame) × (length frame ≤ 1984) → now.admitted < 2 ^ 40
       → Fits (hub_of ecu (stored frame store) limit clients (n + 1)) free
       × Adds (Admitted frame) now (hub_of ecu (stored frame store) limit clients (n + 1))
       × ((more : ℕ) → EachHasRoom (length frame + more) now → EachHasRoom more (hub_of ecu (stored frame store) limit clients (n + 1)))
@@ -214,22 +217,14 @@ module _ (ecu : List ℕ) (store : Stored) (limit : ℕ) (clients : List Client)
             × Adds (Admitted frame) (hub_of ecu store limit clients n) (hub_of ecu (stored frame store) limit clients (n + 1))
             × ((more : ℕ) → EachHasRoom (length frame + more) (hub_of ecu store limit clients n) → EachHasRoom more (hub_of ecu (stored frame store) limit clients (n + 1)))
         all none few = (
-          fits-admit-waits ecu store limit clients n free frame fits size few,
+          fits-admit-waits ecu store limit clients n free frame fits size.1 few,
           λ ts taken after. admit-waits frame ts taken ecu store limit clients n after none,
           λ more room number. less (outbox_of (hub_of ecu store limit clients n) number) more (room number),
         )
 
 -- ---- a client comes
 
--- one record has 28 bytes, and there are at most 257
-record_size : (ecu : List ℕ) (n : ℕ) → length ecu ≡ 4 → length (overflow_record ecu daemon_apid daemon_ctid n) ≡ 28
-record_size [] n four = absurd (omega (arith, four))
-record_size (a ∷ []) n four = absurd (omega (arith, four))
-record_size (a ∷ b ∷ []) n four = absurd (omega (arith, four))
-record_size (a ∷ b ∷ c ∷ []) n four = absurd (omega (arith, four))
-record_size (a ∷ b ∷ c ∷ d ∷ []) n four = refl
-record_size (a ∷ b ∷ c ∷ d ∷ e ∷ more) n four = absurd (omega (arith, four))
-
+-- there are at most 257
 counters_few : (n : ℕ) → n ≤ 2 ^ 40 → length (counters n) ≤ 257
 counters_few n few = by_rest (eqb (n % 4294967295) 0) where
   whole : n / 4294967295 ≤ 256
@@ -335,6 +330,9 @@ module _ (ecu : List ℕ) (store : Stored) (limit : ℕ) (clients : List Client)
       let due : due_backlog ecu store.ring.capacity (waiting ts) ≡ fitting store.ring.capacity (waiting ts) ++ told = rw after.waits.refusals refl in
       comes-follows (came true ecu w.capacity store) (length clients + 1) ts taken (hub_of ecu store limit clients n) after refl
       (ap concat due ∙ concat-append (fitting store.ring.capacity (waiting ts)) told ∙ rw after.waits.bytes refl)
+      (rw after.waits.refusals (map-append (λ (x : Outgoing). (length x.frame, x.messages)) (map one_message (fitting store.ring.capacity (waiting ts))) (map (refusals_told ecu) (counters store.refused))
+      ∙ ap (λ ds. ds ++ all_due (map (refusals_told ecu) (counters store.refused))) after.waits.due ∙ ap (λ ds. store.ring.due ++ ds) (records_are ecu (counters store.refused))))
+      refl
       (ap length due ∙ length-append (fitting store.ring.capacity (waiting ts)) told ∙ rw after.waits.frames_kept refl)
       (ap size_of due ∙ sum_by-append length (fitting store.ring.capacity (waiting ts)) told
       ∙ rw (sym (length-concat (fitting store.ring.capacity (waiting ts))), after.waits.bytes) refl)
@@ -344,9 +342,10 @@ module _ (ecu : List ℕ) (store : Stored) (limit : ℕ) (clients : List Client)
       let bytes : store.ring.bytes ≡ [] = sym after.waits.bytes ∙ ap (λ fs. concat (fitting store.ring.capacity fs)) nothing in
       let frames : store.frames ≡ 0 = sym after.waits.frames_kept ∙ ap (λ fs. length (fitting store.ring.capacity fs)) nothing in
       let none : store.refused ≡ 0 = sym after.waits.refusals ∙ ap (refused store.ring.capacity) nothing in
-      rw (bytes, frames, none)
+      let due_none : store.ring.due ≡ [] = sym after.waits.due ∙ ap (λ fs. all_due (map one_message (fitting store.ring.capacity fs))) nothing in
+      rw (bytes, frames, none, due_none)
       (comes-follows (came false ecu w.capacity store) (length clients + 1) ts taken (hub_of ecu store limit clients n) after refl
-      (rw nothing refl) (rw nothing refl) (rw nothing refl) refl)
+      (rw nothing refl) (rw nothing refl) refl (rw nothing refl) (rw nothing refl) refl)
 
   pub comes-all : (now : Hub) (b : Bool) → hub_of ecu store limit clients n ≡ now → eqb (length free) 8 ≡ b → length clients < limit
       → Fits (hub_of ecu (left_over b store) limit (clients ++ came b ecu w.capacity store ∷ []) n) rest

@@ -1,9 +1,9 @@
 -- What each entry of traffic does to a hub that stands as the traffic before it has it.
-use Rattle.std.proofs.Common.{◌≡◌, ◌≢◌, ℕ, ◌+◌, ◌-◌, ◌≤◌, ◌<◌, ◌⊎◌, inl, inr, Bool, true, false, cond, eqb, leb, take, drop, List, [], ◌∷◌, ◌++◌, length, map, Option, Some, None, refl, sym, ap, ◌∙◌, append_assoc, length-append, subst, suc, zero, arith}
+use Rattle.std.proofs.Common.{◌≡◌, ◌≢◌, ℕ, ◌+◌, ◌-◌, ◌≤◌, ◌<◌, ◌⊎◌, inl, inr, Bool, true, false, cond, eqb, leb, take, drop, List, [], ◌∷◌, ◌++◌, length, map, Option, Some, None, refl, sym, ap, ◌∙◌, append_assoc, length-append, length-drop, subst, suc, zero, arith}
 use Rattle.std.specs.Prelude.{count_by, slice_get, slice_set, option_map, is_some, IfSome, IsSomeAnd}
 use Rattle.std.specs.List.{concat, list_any, range_with_len, after_last}
 use Rattle.std.specs.Option.{option_map_or}
-use Rattle.std.proofs.lemmas.List.{append-nil, length-map, length-set, take-append-drop}
+use Rattle.std.proofs.lemmas.List.{append-nil, length-map, length-set, length-take, map-append, take-append-drop}
 use Rattle.std.proofs.lemmas.List.Elements.{filter_map-append}
 use Rattle.std.proofs.lemmas.List.Folds.{concat-append}
 use Rattle.std.proofs.lemmas.List.Sums.{sum_by-append, sum_by-cons}
@@ -17,12 +17,15 @@ use Rattle.dl_lemmas.proofs.Bools.{cond_same, neither}
 use Rattle.dl_model.specs.Along.{along_from}
 use Rattle.dl_model.specs.Traffic as traffic
 use Rattle.dl_model.specs.Traffic.{Traffic, Connected, Admitted, Reply, Closed, comer_of, frame_of, comes_or_goes, is_coming, is_going, clients, admitted_in}
+use Rattle.dl_model.specs.Overflow.{counters}
 use Rattle.dl_model.specs.Backlog.{size_of, waiting, fitting, refused, due_backlog}
 use Rattle.dl_model.specs.ClientStream.{put, sent}
 use Rattle.dl_model.proofs.Lists.{along-one}
 use Rattle.std.proofs.Math.Nat.{eq-zero-or-pos}
 use Rattle.dl_model.proofs.ClientStreams.{fitting-one, is_open-one, same_number, waiting-comes, waiting-goes, waiting-admit, waiting-reply}
 use Rattle.dl_model.proofs.Rotation.{length-concat}
+use Rattle.dl_hub.specs.Untaken.{Outgoing, all_due, begun_by, bytes_due, in_front, messages_in, no_message, one_message, outgoing, outgoing_at, past, refusals_told, untaken}
+use Rattle.dl_hub.proofs.Untaken.{begun_stream, due_one, drop_nothing, front-append, front-past, front_within, nothing_outgoing, past-append, past-past, size_outgoing}
 use Rattle.dl_hub.specs.State as state
 use Rattle.dl_hub.specs.State.{Client, Waiting, Stored, Hub, stored, keeps, added, with_frame, with_reply, without, consumed, bytes_before, shut}
 use Rattle.dl_hub.specs.Follows.{IsAfter, IsStream, IsBacklog, is_reply_to, took_more}
@@ -50,6 +53,12 @@ one_more_number first (suc count) = ap (λ xs. first ∷ xs) (ap (λ n. range_wi
 
 -- ---- one stream
 
+-- the frames of a stream, and their messages, have the bytes of the stream
+taken_within : (ecu : List ℕ) (buffer number : ℕ) (ts : List Traffic) (taken rest : List ℕ) → concat (sent ecu buffer number ts) ≡ taken ++ rest → length taken ≤ bytes_due (all_due (outgoing ecu buffer number ts))
+taken_within ecu buffer number ts taken rest is =
+    let long : length taken + length rest ≡ size_of (sent ecu buffer number ts) = sym (length-append taken rest) ∙ ap length (sym is) ∙ length-concat (sent ecu buffer number ts) in
+    omega (arith, long, size_outgoing ecu buffer number ts)
+
 stream-of : {ecu : List ℕ} {buffer : ℕ} {ts : List Traffic} {taken : List ℕ} {number : ℕ} {client : Client} (t : Traffic) (frames : List (List ℕ)) (now : Client)
     → IsStream ecu buffer ts taken number client
     → put ecu buffer number ts t ≡ frames
@@ -59,9 +68,14 @@ stream-of : {ecu : List ℕ} {buffer : ℕ} {ts : List Traffic} {taken : List �
     → count_by (is_reply_to number) (ts ++ t ∷ []) ≡ now.replies
     → IfSome now.outbox (λ new. IsSomeAnd client.outbox (λ old. old.bytes ++ concat frames ≡ new.bytes))
     → (now.outbox ≡ None → (rest : List ℕ) × (concat (sent ecu buffer number ts ++ frames) ≡ taken ++ rest) × (length rest ≡ now.left))
+    → (items : List Outgoing) → outgoing_at ecu buffer number ts t ≡ items
+    → IfSome now.outbox (λ new. IsSomeAnd client.outbox (λ old. old.begun ≡ new.begun))
+    → IfSome now.outbox (λ new. IsSomeAnd client.outbox (λ old. old.due ++ all_due items ≡ new.due))
+    → (now.outbox ≡ None → messages_in (past (length taken) (all_due (outgoing ecu buffer number ts ++ items))) ≡ now.messages)
     → IsStream ecu buffer (ts ++ t ∷ []) taken number now
-stream-of {ecu} {buffer} {ts} {taken} {number} {client} t frames now is puts there more_frames more_bytes replies left gone =
+stream-of {ecu} {buffer} {ts} {taken} {number} {client} t frames now is puts there more_frames more_bytes replies left gone items goes begun due lost =
     let all : sent ecu buffer number (ts ++ t ∷ []) ≡ sent ecu buffer number ts ++ frames = along-one (put ecu buffer number) ts t ∙ ap (λ fs. sent ecu buffer number ts ++ fs) puts in
+    let all_items : outgoing ecu buffer number (ts ++ t ∷ []) ≡ outgoing ecu buffer number ts ++ items = along-one (outgoing_at ecu buffer number) ts t ∙ ap (λ os. outgoing ecu buffer number ts ++ os) goes in
     record {
       is_there = there;
       frames = rw (all, length-append (sent ecu buffer number ts) frames, is.frames) more_frames;
@@ -69,7 +83,33 @@ stream-of {ecu} {buffer} {ts} {taken} {number} {client} t frames now is puts the
       replies = replies;
       left = rw all (joined now.outbox client.outbox left is.left);
       gone = λ none. let it = gone none in (it.0, ap concat all ∙ it.1, it.2);
+      due = rw all_items (due_joined now.outbox client.outbox due is.left is.due);
+      begun = rw all_items (begun_joined now.outbox client.outbox begun is.left is.begun);
+      lost = λ none. ap (λ os. messages_in (past (length taken) (all_due os))) all_items ∙ lost none;
     } where
+      begun_joined : (new old : Option Waiting) → IfSome new (λ n. IsSomeAnd old (λ o. o.begun ≡ n.begun))
+          → IfSome old (λ o. concat (sent ecu buffer number ts) ≡ taken ++ o.bytes)
+          → IfSome old (λ o. drop (length taken - begun_by ecu buffer number ts (length taken)) taken ≡ o.begun)
+          → IfSome new (λ n. drop (length taken - in_front 0 (length taken) (all_due (outgoing ecu buffer number ts ++ items))) taken ≡ n.begun)
+      begun_joined None old h stands was = tt {0}
+      begun_joined (Some n) None h stands was = absurd h
+      begun_joined (Some n) (Some o) h stands was =
+          ap (λ k. drop (length taken - k) taken)
+          (ap (in_front 0 (length taken)) (map-append (λ (x : Outgoing). (length x.frame, x.messages)) (outgoing ecu buffer number ts) items)
+          ∙ front-append 0 (length taken) (all_due (outgoing ecu buffer number ts)) (all_due items) (taken_within ecu buffer number ts taken o.bytes stands))
+          ∙ was ∙ h
+
+      due_joined : (new old : Option Waiting) → IfSome new (λ n. IsSomeAnd old (λ o. o.due ++ all_due items ≡ n.due))
+          → IfSome old (λ o. concat (sent ecu buffer number ts) ≡ taken ++ o.bytes)
+          → IfSome old (λ o. untaken ecu buffer number ts (length taken) ≡ o.due)
+          → IfSome new (λ n. past (length taken) (all_due (outgoing ecu buffer number ts ++ items)) ≡ n.due)
+      due_joined None old h stands was = tt {0}
+      due_joined (Some n) None h stands was = absurd h
+      due_joined (Some n) (Some o) h stands was =
+          ap (past (length taken)) (map-append (λ (x : Outgoing). (length x.frame, x.messages)) (outgoing ecu buffer number ts) items)
+          ∙ past-append (length taken) (all_due (outgoing ecu buffer number ts)) (all_due items) (taken_within ecu buffer number ts taken o.bytes stands)
+          ∙ ap (λ ds. ds ++ all_due items) was ∙ h
+
       joined : (new old : Option Waiting) → IfSome new (λ n. IsSomeAnd old (λ o. o.bytes ++ concat frames ≡ n.bytes))
           → IfSome old (λ o. concat (sent ecu buffer number ts) ≡ taken ++ o.bytes)
           → IfSome new (λ n. concat (sent ecu buffer number ts ++ frames) ≡ taken ++ n.bytes)
@@ -110,15 +150,24 @@ more_replies number ts t one = sum_by-append (λ x. cond (is_reply_to number x) 
 
 -- an entry of other clients leaves a stream
 untouched : {ecu : List ℕ} {buffer : ℕ} {ts : List Traffic} {taken : List ℕ} {number : ℕ} {client : Client} (t : Traffic)
-    → IsStream ecu buffer ts taken number client → put ecu buffer number ts t ≡ [] → comes_or_goes number t ≡ false → is_reply_to number t ≡ false
+    → IsStream ecu buffer ts taken number client → put ecu buffer number ts t ≡ [] → outgoing_at ecu buffer number ts t ≡ [] → comes_or_goes number t ≡ false → is_reply_to number t ≡ false
     → IsStream ecu buffer (ts ++ t ∷ []) taken number client
-untouched {ecu} {buffer} {ts} {taken} {number} {client} t is puts quiet silent =
+untouched {ecu} {buffer} {ts} {taken} {number} {client} t is puts goes quiet silent =
     stream-of t [] client is puts
     (is_open-one number ts t ∙ rw quiet is.is_there)
     (omega arith) (omega arith)
     (same_replies number ts t silent ∙ is.replies)
     (itself client.outbox)
-    (λ none. let it = is.gone none in (it.0, ap concat (append-nil (sent ecu buffer number ts)) ∙ it.1, it.2)) where
+    (λ none. let it = is.gone none in (it.0, ap concat (append-nil (sent ecu buffer number ts)) ∙ it.1, it.2))
+    [] goes (begun_itself client.outbox) (due_itself client.outbox) (λ none. ap (λ os. messages_in (past (length taken) (all_due os))) (append-nil (outgoing ecu buffer number ts)) ∙ is.lost none) where
+      begun_itself : (o : Option Waiting) → IfSome o (λ new. IsSomeAnd o (λ old. old.begun ≡ new.begun))
+      begun_itself None = tt {0}
+      begun_itself (Some w) = refl
+
+      due_itself : (o : Option Waiting) → IfSome o (λ new. IsSomeAnd o (λ old. old.due ++ [] ≡ new.due))
+      due_itself None = tt {0}
+      due_itself (Some w) = append-nil w.due
+
       itself : (o : Option Waiting) → IfSome o (λ new. IsSomeAnd o (λ old. old.bytes ++ concat [] ≡ new.bytes))
       itself None = tt {0}
       itself (Some w) = append-nil w.bytes
@@ -130,13 +179,14 @@ admit_stream : {ecu : List ℕ} {buffer : ℕ} {ts : List Traffic} {taken : List
 admit_stream {ecu} {buffer} {ts} {taken} {number} {client} frame is = by_outbox client.outbox is where
   by_outbox : (o : Option Waiting) → IsStream ecu buffer ts taken number (record client { outbox = o })
       → IsStream ecu buffer (ts ++ Admitted frame ∷ []) taken number (with_frame frame (record client { outbox = o }))
-  by_outbox None is = untouched (Admitted frame) is (rw is.is_there refl) refl refl
+  by_outbox None is = untouched (Admitted frame) is (rw is.is_there refl) (rw is.is_there refl) refl refl
   by_outbox (Some w) is =
       stream-of (Admitted frame) (frame ∷ []) (with_frame frame (record client { outbox = Some w })) is
       (rw is.is_there refl) (is_open-one number ts (Admitted frame) ∙ is.is_there) refl (omega arith)
       (same_replies number ts (Admitted frame) refl ∙ is.replies)
       (ap (λ xs. w.bytes ++ xs) (append-nil frame))
       (λ none. absurd cc)
+      (one_message frame ∷ []) (rw is.is_there refl) refl refl (λ none. absurd cc)
 
 -- where a client is open, each open one is sent it
 pub admit-open : (frame : List ℕ) (ts : List Traffic) (taken : ℕ → List ℕ) (hub : Hub) → IsAfter ts taken hub → state.is_any_open hub ≡ true
@@ -152,7 +202,7 @@ admit-open frame ts taken hub is any = record {
   waits =
       let still : waiting (ts ++ Admitted frame ∷ []) ≡ waiting ts =
       waiting-admit frame ts ∙ ap (λ b. cond b [] (waiting ts ++ frame ∷ [])) (any_open ts taken hub is ∙ any) ∙ sym (nothing_waits ts taken hub is any) in
-      rw still (record { bytes = is.waits.bytes; frames_kept = is.waits.frames_kept; refusals = is.waits.refusals });
+      rw still (record { bytes = is.waits.bytes; frames_kept = is.waits.frames_kept; refusals = is.waits.refusals; due = is.waits.due });
 }
 
 -- ---- a frame waits
@@ -195,7 +245,7 @@ backlog-one f frames ecu store limit some later n m is = by_refused (eq-zero-or-
       → refused store.ring.capacity (frames ++ f ∷ []) ≡ store.refused + 1
       → fitting store.ring.capacity (frames ++ f ∷ []) ≡ fitting store.ring.capacity frames
       → IsBacklog store.ring.capacity (frames ++ f ∷ []) (state.hub_of ecu (stored f store) limit later m)
-  refuses is_so more same = rw is_so (record { bytes = ap concat same ∙ is.bytes; frames_kept = ap length same ∙ is.frames_kept; refusals = more })
+  refuses is_so more same = rw is_so (record { bytes = ap concat same ∙ is.bytes; frames_kept = ap length same ∙ is.frames_kept; refusals = more; due = ap (λ fs. all_due (map one_message fs)) same ∙ is.due })
 
   by_size : (store.refused ≡ 0) → ((leb (length store.ring.bytes + length f) store.ring.capacity ≡ true) × (length store.ring.bytes + length f ≤ store.ring.capacity))
       ⊎ ((leb (length store.ring.bytes + length f) store.ring.capacity ≡ false) × (store.ring.capacity < length store.ring.bytes + length f))
@@ -210,6 +260,7 @@ backlog-one f frames ecu store limit some later n m is = by_refused (eq-zero-or-
         bytes = ap concat kept ∙ concat-append frames (f ∷ []) ∙ rw (append-nil f) (ap (λ xs. xs ++ f) (ap concat (sym all.0) ∙ is.bytes));
         frames_kept = ap length kept ∙ length-append frames (f ∷ []) ∙ ap (λ k. k + 1) (ap length (sym all.0) ∙ is.frames_kept);
         refusals = ap (λ fs. length (frames ++ f ∷ []) - length fs) kept ∙ omega (arith, none);
+        due = ap (λ fs. all_due (map one_message fs)) kept ∙ due_one frames f ∙ ap (λ ds. ds ++ (length f, 1) ∷ []) (ap (λ fs. all_due (map one_message fs)) (sym all.0) ∙ is.due);
       })
   by_size none (inr above) =
       let all = kept_all store.ring.capacity frames (is.refusals ∙ none) in
@@ -239,7 +290,7 @@ shut_each (c ∷ cs) none (suc place) client there = shut_each cs (neither (stat
 
 closed_stream : {ecu : List ℕ} {buffer : ℕ} {ts : List Traffic} {taken : List ℕ} {number : ℕ} {client : Client} (frame : List ℕ)
     → IsStream ecu buffer ts taken number client → state.is_open client ≡ false → IsStream ecu buffer (ts ++ Admitted frame ∷ []) taken number client
-closed_stream frame is shut = untouched (Admitted frame) is (rw (is.is_there, shut) refl) refl refl
+closed_stream frame is shut = untouched (Admitted frame) is (rw (is.is_there, shut) refl) (rw (is.is_there, shut) refl) refl refl
 
 -- where no client is open, it waits
 pub admit-waits : (frame : List ℕ) (ts : List Traffic) (taken : ℕ → List ℕ) (ecu : List ℕ) (store : Stored) (limit : ℕ) (all : List Client) (n : ℕ)
@@ -264,7 +315,7 @@ pub one_changes : (t : Traffic) (number : ℕ) (change : Client → Client) (old
     → IsAfter ts taken hub
     → slice_get hub.clients number ≡ Some old
     → comer_of t ≡ None → frame_of t ≡ None
-    → ((other : ℕ) → other ≢ number → (put hub.ecu hub.buffer (other + 1) ts t ≡ []) × (comes_or_goes (other + 1) t ≡ false) × (is_reply_to (other + 1) t ≡ false))
+    → ((other : ℕ) → other ≢ number → (put hub.ecu hub.buffer (other + 1) ts t ≡ []) × (outgoing_at hub.ecu hub.buffer (other + 1) ts t ≡ []) × (comes_or_goes (other + 1) t ≡ false) × (is_reply_to (other + 1) t ≡ false))
     → IsStream hub.ecu hub.buffer (ts ++ t ∷ []) (taken (number + 1)) (number + 1) (change old)
     → IsBacklog hub.buffer (waiting (ts ++ t ∷ [])) hub
     → IsAfter (ts ++ t ∷ []) taken (record hub { clients = slice_set hub.clients number (change old) })
@@ -276,8 +327,8 @@ one_changes t number change old ts taken hub is found no_comer no_frame quiet st
   unanswered = λ other above.
       let past : length hub.clients < other = rw (length-set hub.clients number (change old)) at above in
       let not_it : other - 1 ≢ number = λ e. absurd (omega (arith, e, past, slice_get_within hub.clients number old found)) in
-      same_replies other ts t (subst (λ n. is_reply_to n t ≡ false) (omega (arith, past)) (quiet (other - 1) not_it).2) ∙ is.unanswered other past;
-  waits = record { bytes = backlog.bytes; frames_kept = backlog.frames_kept; refusals = backlog.refusals };
+      same_replies other ts t (subst (λ n. is_reply_to n t ≡ false) (omega (arith, past)) (quiet (other - 1) not_it).3) ∙ is.unanswered other past;
+  waits = record { bytes = backlog.bytes; frames_kept = backlog.frames_kept; refusals = backlog.refusals; due = backlog.due };
 } where
   by_place : (place : ℕ) (client : Client) → slice_get (slice_set hub.clients number (change old)) place ≡ Some client → ((eqb place number ≡ true) × (place ≡ number)) ⊎ ((eqb place number ≡ false) × (place ≢ number))
       → IsStream hub.ecu hub.buffer (ts ++ t ∷ []) (taken (place + 1)) (place + 1) client
@@ -287,7 +338,7 @@ one_changes t number change old ts taken hub is found no_comer no_frame quiet st
       (subst (λ c. IsStream hub.ecu hub.buffer (ts ++ t ∷ []) (taken (number + 1)) (number + 1) c) now stream)
   by_place place client there (inr other) =
       let was = sym (slice_get-set_other hub.clients number place (change old) other.1) ∙ there in
-      untouched t (is.streams place client was) (quiet place other.1).0 (quiet place other.1).1 (quiet place other.1).2
+      untouched t (is.streams place client was) (quiet place other.1).0 (quiet place other.1).1 (quiet place other.1).2 (quiet place other.1).3
 
 other_number : (place number : ℕ) → place ≢ number → eqb (number + 1) (place + 1) ≡ false
 other_number place number differ = grind (arith, nat_tests)
@@ -301,24 +352,33 @@ reply-follows frame number old ts taken hub is found there =
     let stream = is.streams number old found in
     let same : waiting (ts ++ t ∷ []) ≡ waiting ts = waiting-reply (number + 1) frame ts in
     one_changes t number (with_reply frame) old ts taken hub is found refl refl
-    (λ other differ. (rw (other_number other number differ) refl, refl, other_number other number differ))
+    (λ other differ. (rw (other_number other number differ) refl, rw (other_number other number differ) refl, refl, other_number other number differ))
     (stream-of t (frame ∷ []) (with_reply frame old) stream
     (rw (same_number (number + 1), stream.is_there, there) refl)
     (is_open-one (number + 1) ts t ∙ stream.is_there ∙ there ∙ sym (still_open old.outbox there))
     refl (omega arith)
     (more_replies (number + 1) ts t (same_number (number + 1)) ∙ ap (λ n. n + 1) stream.replies)
     (longer old.outbox)
-    (λ none. absurd (still_there old.outbox there none)))
+    (λ none. absurd (still_there old.outbox there none))
+    (no_message frame ∷ []) (rw (same_number (number + 1), stream.is_there, there) refl) (begun_longer old.outbox) (due_longer old.outbox) (λ none. absurd (still_there old.outbox there none)))
     (rw same is.waits) where
-      still_there : (o : Option Waiting) → is_some o ≡ true → option_map (added frame) o ≡ None → ⊥
+      begun_longer : (o : Option Waiting) → IfSome (option_map (added frame ((length frame, 0) ∷ [])) o) (λ new. IsSomeAnd o (λ was. was.begun ≡ new.begun))
+      begun_longer None = tt {0}
+      begun_longer (Some w) = refl
+
+      due_longer : (o : Option Waiting) → IfSome (option_map (added frame ((length frame, 0) ∷ [])) o) (λ new. IsSomeAnd o (λ was. was.due ++ all_due (no_message frame ∷ []) ≡ new.due))
+      due_longer None = tt {0}
+      due_longer (Some w) = refl
+
+      still_there : (o : Option Waiting) → is_some o ≡ true → option_map (added frame ((length frame, 0) ∷ [])) o ≡ None → ⊥
       still_there None e none = absurd cc
       still_there (Some w) e none = absurd cc
 
-      still_open : (o : Option Waiting) → is_some o ≡ true → is_some (option_map (added frame) o) ≡ true
+      still_open : (o : Option Waiting) → is_some o ≡ true → is_some (option_map (added frame ((length frame, 0) ∷ [])) o) ≡ true
       still_open None e = absurd cc
       still_open (Some w) e = refl
 
-      longer : (o : Option Waiting) → IfSome (option_map (added frame) o) (λ new. IsSomeAnd o (λ was. was.bytes ++ concat (frame ∷ []) ≡ new.bytes))
+      longer : (o : Option Waiting) → IfSome (option_map (added frame ((length frame, 0) ∷ [])) o) (λ new. IsSomeAnd o (λ was. was.bytes ++ concat (frame ∷ []) ≡ new.bytes))
       longer None = tt {0}
       longer (Some w) = ap (λ xs. w.bytes ++ xs) (append-nil frame)
 
@@ -331,14 +391,22 @@ goes-follows number old ts taken hub is found there any =
     let stream = is.streams number old found in
     let same : waiting (ts ++ t ∷ []) ≡ waiting ts = waiting-goes (number + 1) ts ∙ sym (nothing_waits ts taken hub is any) in
     one_changes t number shut old ts taken hub is found refl refl
-    (λ other differ. (refl, other_number other number differ, refl))
+    (λ other differ. (refl, refl, other_number other number differ, refl))
     (stream-of t [] (shut old) stream refl
     (is_open-one (number + 1) ts t ∙ ap (λ b. cond b false (traffic.is_open (number + 1) ts)) (same_number (number + 1)))
     (omega arith) (omega arith)
     (same_replies (number + 1) ts t refl ∙ stream.replies)
     (tt {0})
-    (λ none. what_is_left old.outbox there stream.left))
+    (λ none. what_is_left old.outbox there stream.left)
+    [] refl (tt {0}) (tt {0})
+    (λ none. ap (λ os. messages_in (past (length (taken (number + 1))) (all_due os))) (append-nil (outgoing hub.ecu hub.buffer (number + 1) ts)) ∙ what_is_lost old.outbox there stream.due))
     (rw same is.waits) where
+      what_is_lost : (o : Option Waiting) → is_some o ≡ true
+          → IfSome o (λ w. untaken hub.ecu hub.buffer (number + 1) ts (length (taken (number + 1))) ≡ w.due)
+          → messages_in (untaken hub.ecu hub.buffer (number + 1) ts (length (taken (number + 1)))) ≡ option_map_or (λ w. messages_in w.due) o old.messages
+      what_is_lost None e was = absurd cc
+      what_is_lost (Some w) e was = ap messages_in was
+
       what_is_left : (o : Option Waiting) → is_some o ≡ true
           → IfSome o (λ w. concat (sent hub.ecu hub.buffer (number + 1) ts) ≡ taken (number + 1) ++ w.bytes)
           → (rest : List ℕ) × (concat (sent hub.ecu hub.buffer (number + 1) ts ++ []) ≡ taken (number + 1) ++ rest)
@@ -375,18 +443,20 @@ pub comes-follows : (new : Client) (number : ℕ) (ts : List Traffic) (taken : �
     → IsAfter ts taken hub
     → number ≡ length hub.clients + 1
     → IsSomeAnd new.outbox (λ outbox. concat (due_backlog hub.ecu hub.buffer (waiting ts)) ≡ outbox.bytes)
+    → IsSomeAnd new.outbox (λ outbox. all_due (map one_message (fitting hub.buffer (waiting ts)) ++ map (refusals_told hub.ecu) (counters (refused hub.buffer (waiting ts)))) ≡ outbox.due)
+    → IsSomeAnd new.outbox (λ outbox. [] ≡ outbox.begun)
     → length (due_backlog hub.ecu hub.buffer (waiting ts)) ≡ new.frames
     → size_of (due_backlog hub.ecu hub.buffer (waiting ts)) ≡ new.bytes
     → new.replies ≡ 0
-    → IsAfter (ts ++ Connected number ∷ []) taken (record hub { clients = hub.clients ++ new ∷ []; backlog = []; frames = 0; refused = 0 })
-comes-follows new number ts taken hub is numbered outbox frames bytes replies = record {
+    → IsAfter (ts ++ Connected number ∷ []) taken (record hub { clients = hub.clients ++ new ∷ []; backlog = []; frames = 0; refused = 0; due = [] })
+comes-follows new number ts taken hub is numbered outbox due_so none_begun frames bytes replies = record {
   came = filter_map-append comer_of ts (t ∷ []) ∙ ap (λ xs. xs ++ number ∷ []) is.came
       ∙ rw (numbered) (ap (λ n. range_with_len 1 (length hub.clients) ++ n ∷ []) (omega arith) ∙ one_more_number 1 (length hub.clients)) ∙ ap (range_with_len 1) (sym longer);
   admissions = ap length (same_admissions ts t refl) ∙ is.admissions;
   streams = λ place client there. by_place place client there (leb_tells (length hub.clients) place);
   untaken = λ other above. is.untaken other (omega (arith, above, longer));
   unanswered = λ other above. same_replies other ts t refl ∙ is.unanswered other (omega (arith, above, longer));
-  waits = rw (waiting-comes number ts) (record { bytes = refl; frames_kept = refl; refusals = refl });
+  waits = rw (waiting-comes number ts) (record { bytes = refl; frames_kept = refl; refusals = refl; due = refl });
 } where
   t : Traffic
   t = Connected number
@@ -409,6 +479,22 @@ comes-follows new number ts taken hub is numbered outbox frames bytes replies = 
   first : taken number ≡ []
   first = is.untaken number (omega (arith, numbered))
 
+  items : List Outgoing
+  items = map one_message (fitting hub.buffer (waiting ts)) ++ map (refusals_told hub.ecu) (counters (refused hub.buffer (waiting ts)))
+
+  all_items : outgoing hub.ecu hub.buffer number (ts ++ t ∷ []) ≡ items
+  all_items = along-one (outgoing_at hub.ecu hub.buffer number) ts t ∙ rw (nothing_outgoing hub.ecu hub.buffer number ts nothing.0, same_number number) refl
+
+  is_begun : (o : Option Waiting) → IsSomeAnd o (λ outbox. [] ≡ outbox.begun) → IfSome o (λ outbox. drop (length (taken number) - begun_by hub.ecu hub.buffer number (ts ++ t ∷ []) (length (taken number))) (taken number) ≡ outbox.begun)
+  is_begun None h = absurd h
+  is_begun (Some w) h =
+      ap (drop (length (taken number) - begun_by hub.ecu hub.buffer number (ts ++ t ∷ []) (length (taken number)))) first
+      ∙ drop_nothing (length (taken number) - begun_by hub.ecu hub.buffer number (ts ++ t ∷ []) (length (taken number))) ∙ h
+
+  is_due : (o : Option Waiting) → IsSomeAnd o (λ outbox. all_due items ≡ outbox.due) → IfSome o (λ outbox. untaken hub.ecu hub.buffer number (ts ++ t ∷ []) (length (taken number)) ≡ outbox.due)
+  is_due None h = absurd h
+  is_due (Some w) h = rw (all_items, first) h
+
   is_new : (o : Option Waiting) → IsSomeAnd o (λ outbox. concat due ≡ outbox.bytes) → (is_some o ≡ true) × IfSome o (λ outbox. concat (sent hub.ecu hub.buffer number (ts ++ t ∷ [])) ≡ taken number ++ outbox.bytes)
   is_new None h = absurd h
   is_new (Some w) h = (refl, rw (all, first) h)
@@ -425,6 +511,9 @@ comes-follows new number ts taken hub is numbered outbox frames bytes replies = 
     replies = same_replies number ts t refl ∙ is.unanswered number (omega (arith, numbered)) ∙ sym replies;
     left = (is_new new.outbox outbox).1;
     gone = λ none. absurd (is_there_now new.outbox outbox none);
+    due = is_due new.outbox due_so;
+    begun = is_begun new.outbox none_begun;
+    lost = λ none. absurd (is_there_now new.outbox outbox none);
   }
 
   by_place : (place : ℕ) (client : Client) → slice_get (hub.clients ++ new ∷ []) place ≡ Some client → ((leb (length hub.clients) place ≡ true) × (length hub.clients ≤ place)) ⊎ ((leb (length hub.clients) place ≡ false) × (place < length hub.clients))
@@ -432,9 +521,9 @@ comes-follows new number ts taken hub is numbered outbox frames bytes replies = 
   by_place place client there (inr below) =
       let was = sym (slice_get-append_left hub.clients (new ∷ []) place below.1) ∙ there in
       let other : eqb number (place + 1) ≡ false = grind (arith, nat_tests, numbered, below.1) in
-      untouched t (is.streams place client was) (rw other refl) other refl
-  by_place place client there (inl past) =
-      let last : place ≡ length hub.clients = omega (arith, past.1, longer, slice_get_within (hub.clients ++ new ∷ []) place client there) in
+      untouched t (is.streams place client was) (rw other refl) (rw other refl) other refl
+  by_place place client there (inl beyond) =
+      let last : place ≡ length hub.clients = omega (arith, beyond.1, longer, slice_get_within (hub.clients ++ new ∷ []) place client there) in
       let it : new ≡ client = some_is (sym (slice_get-append_right hub.clients (new ∷ []) place 0 (omega (arith, last))) ∙ there) in
       let its : number ≡ place + 1 = omega (arith, numbered, last) in
       subst (λ n. IsStream hub.ecu hub.buffer (ts ++ t ∷ []) (taken n) n client) its (subst (λ c. IsStream hub.ecu hub.buffer (ts ++ t ∷ []) (taken number) number c) it new_stream)
@@ -453,7 +542,7 @@ took-follows count number old ts taken hub is found fits = record {
       let not_it : eqb other (number + 1) ≡ false = grind (arith, nat_tests, past, slice_get_within hub.clients number old found) in
       rw not_it (is.untaken other past);
   unanswered = λ other above. is.unanswered other (rw same_length at above);
-  waits = record { bytes = is.waits.bytes; frames_kept = is.waits.frames_kept; refusals = is.waits.refusals };
+  waits = record { bytes = is.waits.bytes; frames_kept = is.waits.frames_kept; refusals = is.waits.refusals; due = is.waits.due };
 } where
   same_length : length (slice_set hub.clients number (without count old)) ≡ length hub.clients
   same_length = length-set hub.clients number (without count old)
@@ -467,6 +556,34 @@ took-follows count number old ts taken hub is found fits = record {
       × IfSome (option_map (consumed count) o) (λ outbox. concat (sent hub.ecu hub.buffer (number + 1) ts) ≡ (taken (number + 1) ++ bytes_before count o) ++ outbox.bytes)
   shorter None h was = absurd h
   shorter (Some w) h was = (refl, was ∙ ap (λ xs. taken (number + 1) ++ xs) (sym (take-append-drop count w.bytes)) ∙ sym (append_assoc (taken (number + 1)) (take count w.bytes) (drop count w.bytes)))
+
+  begun_shorter : (o : Option Waiting) → IsSomeAnd o (λ outbox. count ≤ length outbox.bytes)
+      → IfSome o (λ outbox. concat (sent hub.ecu hub.buffer (number + 1) ts) ≡ taken (number + 1) ++ outbox.bytes)
+      → IfSome o (λ outbox. untaken hub.ecu hub.buffer (number + 1) ts (length (taken (number + 1))) ≡ outbox.due)
+      → IfSome o (λ outbox. drop (length (taken (number + 1)) - begun_by hub.ecu hub.buffer (number + 1) ts (length (taken (number + 1)))) (taken (number + 1)) ≡ outbox.begun)
+      → IfSome (option_map (consumed count) o) (λ outbox. drop (length (taken (number + 1) ++ bytes_before count o) - begun_by hub.ecu hub.buffer (number + 1) ts (length (taken (number + 1) ++ bytes_before count o))) (taken (number + 1) ++ bytes_before count o) ≡ outbox.begun)
+  begun_shorter None h stands due was = absurd h
+  begun_shorter (Some w) h stands due was =
+      let n = length (taken (number + 1)) in
+      let ds = all_due (outgoing hub.ecu hub.buffer (number + 1) ts) in
+      let k = in_front 0 n ds in
+      let j = in_front 0 (n + count) ds in
+      let long : length (taken (number + 1) ++ take count w.bytes) ≡ n + count = length-append (taken (number + 1)) (take count w.bytes) ∙ omega (arith, h, length-take count w.bytes) in
+      let within : k ≤ n = omega (arith, front_within 0 n ds) in
+      let has : length w.begun ≡ k = ap length (sym was) ∙ omega (arith, length-drop (n - k) (taken (number + 1)), within) in
+      let next : in_front k count w.due ≡ j = ap (in_front k count) (sym due) ∙ front-past 0 n count ds in
+      let later : j ≤ k + count = subst (λ i. i ≤ k + count) next (front_within k count w.due) in
+      rw (long, has, next) (begun_stream (taken (number + 1)) w.bytes count k j within later h ∙ ap (λ xs. take j (drop (k + count - j) (xs ++ w.bytes))) was)
+
+  due_shorter : (o : Option Waiting) → IsSomeAnd o (λ outbox. count ≤ length outbox.bytes)
+      → IfSome o (λ outbox. untaken hub.ecu hub.buffer (number + 1) ts (length (taken (number + 1))) ≡ outbox.due)
+      → IfSome (option_map (consumed count) o) (λ outbox. untaken hub.ecu hub.buffer (number + 1) ts (length (taken (number + 1) ++ bytes_before count o)) ≡ outbox.due)
+  due_shorter None h was = absurd h
+  due_shorter (Some w) h was =
+      let long : length (taken (number + 1) ++ take count w.bytes) ≡ length (taken (number + 1)) + count = length-append (taken (number + 1)) (take count w.bytes) ∙ omega (arith, h, length-take count w.bytes) in
+      ap (λ k. untaken hub.ecu hub.buffer (number + 1) ts k) long
+      ∙ sym (past-past (length (taken (number + 1))) count (all_due (outgoing hub.ecu hub.buffer (number + 1) ts)))
+      ∙ ap (past count) was
 
   still_there : (o : Option Waiting) → IsSomeAnd o (λ outbox. count ≤ length outbox.bytes) → option_map (consumed count) o ≡ None → ⊥
   still_there None h none = absurd h
@@ -483,6 +600,9 @@ took-follows count number old ts taken hub is found fits = record {
         replies = was.replies;
         left = its.1;
         gone = λ none. absurd (still_there old.outbox fits none);
+        due = due_shorter old.outbox fits was.due;
+        begun = begun_shorter old.outbox fits was.left was.due was.begun;
+        lost = λ none. absurd (still_there old.outbox fits none);
       })
 
   by_place : (place : ℕ) (client : Client) → slice_get (slice_set hub.clients number (without count old)) place ≡ Some client

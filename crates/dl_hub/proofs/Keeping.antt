@@ -20,6 +20,9 @@ use Rattle.dl_hub.proofs.Places.{slice_get_or, still_open}
 pub left_more : (clients : List Client) (client : Client) → sum_by (λ (c : Client). c.left) (clients ++ client ∷ []) ≡ sum_by (λ (c : Client). c.left) clients + client.left
 left_more clients client = sum_by_push (λ (c : Client). c.left) clients client
 
+pub messages_more : (clients : List Client) (client : Client) → sum_by (λ (c : Client). c.messages) (clients ++ client ∷ []) ≡ sum_by (λ (c : Client). c.messages) clients + client.messages
+messages_more clients client = sum_by_push (λ (c : Client). c.messages) clients client
+
 pub count-cons : {X : Type 0} (p : X → Bool) (x : X) (xs : List X) → count_by p (x ∷ xs) ≡ cond (p x) 1 0 + count_by p xs
 count-cons p x xs = sum_by-cons (λ y. cond (p y) 1 0) x xs
 
@@ -93,7 +96,7 @@ fits-close ecu store limit clients n free place old w fits is there bounded = re
       let was : is_open old ≡ true = rw there refl in
       rw (length-append free (emptied w ∷ [])) (omega (arith, fits.outboxes, rw was at counted));
   each = All-set (IsBounded store.ring.capacity n) clients place (shut old) (record { outbox = tt {0}; frames = bounded.frames; bytes = bounded.bytes; replies = bounded.replies }) fits.each;
-  unused = All-append (IsFree store.ring.capacity) free (emptied w ∷ []) fits.unused (All-cons (IsFree store.ring.capacity) (emptied w) [] (refl, (rw there at bounded.outbox).0) (λ k d below. absurd (omega (arith, below))));
+  unused = All-append (IsFree store.ring.capacity) free (emptied w ∷ []) fits.unused (All-cons (IsFree store.ring.capacity) (emptied w) [] (refl, (rw there at bounded.outbox).0, refl, refl) (λ k d below. absurd (omega (arith, below))));
   fits = fits.fits;
   admissions = fits.admissions;
   frames = fits.frames;

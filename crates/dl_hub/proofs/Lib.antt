@@ -1,3 +1,4 @@
+pub mod Untaken
 pub mod Overflow
 pub mod Following
 pub mod Keeping

@@ -98,7 +98,7 @@ slice_get_or (x ∷ xs) (suc k) d below = slice_get_or xs k d (omega (arith, bel
 
 pub still_open : (frame : List ℕ) (c : Client) → is_open (with_frame frame c) ≡ is_open c
 still_open frame c = by_outbox c.outbox where
-  by_outbox : (o : Option Waiting) → is_some (option_map (added frame) o) ≡ is_some o
+  by_outbox : (o : Option Waiting) → is_some (option_map (added frame ((length frame, 1) ∷ [])) o) ≡ is_some o
   by_outbox None = refl
   by_outbox (Some w) = refl
 

@@ -12,6 +12,7 @@ use Rattle.dl_outside.specs.Outside.{Grows}
 use Rattle.dl_outside.proofs.Staying.{stays_both, stays_same}
 use Rattle.dl_hub.specs.State.{Client, Waiting, Hub, outbox_of, changed, without, consumed}
 use Rattle.dl_outside.specs.Told.{LinkTold}
+use Rattle.dl_hub.proofs.Untaken.{consumed_none, consumed_again}
 use Rattle.dl_hub.specs.Pumping.{Pumps, IsOnlySent}
 use Rattle.dl_hub.proofs.Keeping.{found, changed_at}
 use Rattle.dl_hub.proofs.Calls.{some_and}
@@ -26,25 +27,16 @@ set_same [] i a is = refl
 set_same (x ∷ xs) zero a is = ap (λ y. y ∷ xs) (sym (some_is is))
 set_same (x ∷ xs) (suc i) a is = ap (λ ys. x ∷ ys) (set_same xs i a is)
 
-drop_again : {A : Type 0} (n m : ℕ) (xs : List A) → drop m (drop n xs) ≡ drop (n + m) xs
-drop_again zero m xs = ap (λ k. drop k xs) (omega arith)
-drop_again (suc n) m [] = drop_none m ∙ sym (drop_none (suc n + m)) where
-  drop_none : {A : Type 0} (k : ℕ) → drop {A = A} k [] ≡ []
-  drop_none zero = refl
-  drop_none (suc k) = refl
-drop_again (suc n) m (x ∷ xs) = let next : suc n + m ≡ suc (n + m) = omega arith in rw next (drop_again n m xs)
-
-again : (a b : ℕ) (c : Client) → without b (without a c) ≡ without (a + b) c
-again a b c = by_outbox c.outbox where
-  by_outbox : (o : Option Waiting) → without b (without a (record c { outbox = o })) ≡ without (a + b) (record c { outbox = o })
-  by_outbox None = refl
-  by_outbox (Some w) = rw (drop_again a b w.bytes) refl
+again : (a b : ℕ) (c : Client) (w : Waiting) → c.outbox ≡ Some w → a ≤ length w.bytes → without b (without a c) ≡ without (a + b) c
+again a b c w is within =
+    subst (λ o. without b (without a (record c { outbox = o })) ≡ without (a + b) (record c { outbox = o })) (sym is)
+    (ap (λ v. record c { outbox = Some v }) (consumed_again a b w within))
 
 nothing : (c : Client) → without 0 c ≡ c
 nothing c = by_outbox c.outbox where
   by_outbox : (o : Option Waiting) → without 0 (record c { outbox = o }) ≡ record c { outbox = o }
   by_outbox None = refl
-  by_outbox (Some w) = refl
+  by_outbox (Some w) = ap (λ v. record c { outbox = Some v }) (consumed_none w)
 
 -- before anything is sent
 pub nothing-sent : (number : ℕ) (hub : Hub) (link : LinkTold) → IsSome (outbox_of hub number) → Pumps number hub hub link link
@@ -101,7 +93,7 @@ more-sent number n old mid new l0 l1 l2 piece pumped there front fits some grown
     is ∙ ap (changed number (without n)) (pumped.left ∙ changed_at old number (without a) it.0 it.4 it.2)
     ∙ changed_at (record old { clients = slice_set old.clients (number - 1) (without a it.0) }) number (without n) (without a it.0) it.4
     (slice_get-set_same old.clients (number - 1) (without a it.0) (slice_get_within old.clients (number - 1) it.0 it.2))
-    ∙ ap (λ cs. record old { clients = cs }) (set_again old.clients (number - 1) (without a it.0) (without n (without a it.0)) ∙ ap (slice_set old.clients (number - 1)) (again a n it.0))
+    ∙ ap (λ cs. record old { clients = cs }) (set_again old.clients (number - 1) (without a it.0) (without n (without a it.0)) ∙ ap (slice_set old.clients (number - 1)) (again a n it.0 it.1 it.3 was.0))
     ∙ sym (changed_at old number (without (a + n)) it.0 it.4 it.2) in (
       record {
         count = a + n;

@@ -15,7 +15,7 @@ pub record IsBounded (buffer admitted : ℕ) (client : Client) : Type 0 where
 
 -- an outbox of no client
 abbrev pub IsFree : ℕ → Waiting → Type 0
-IsFree buffer outbox = (outbox.bytes ≡ []) × (outbox.capacity ≡ outbox_limit buffer)
+IsFree buffer outbox = (outbox.bytes ≡ []) × (outbox.capacity ≡ outbox_limit buffer) × (outbox.due ≡ []) × (outbox.begun ≡ [])
 
 -- all of the hub: no more clients than may come, an outbox for each that may be open, and a backlog of the buffer's size
 pub record Fits (hub : Hub) (free : List Waiting) : Type 0 where

@@ -1,3 +1,4 @@
+pub mod Untaken
 pub mod State
 pub mod Overflow
 pub mod Kept

@@ -3,20 +3,26 @@ use Rattle.std.specs.Prelude.{◌≡◌, ℕ, ◌+◌, ◌-◌, ◌^◌, ◌≤�
 use Rattle.std.specs.Option.{option_and_then, option_map_or}
 use Rattle.std.specs.List.{list_any}
 use Rattle.dl_bytes.specs.Limits.{open_client_limit, request_limit}
+use Rattle.dl_hub.specs.Untaken.{Due, in_front, past, messages_in}
 
--- bytes that wait, and how many may wait at most
+-- bytes that wait, how many may wait at most, the frames to which they belong, and the bytes that were taken of the first
+-- of these frames
 pub record Waiting : Type 0 where
   pub bytes : List ℕ
   pub capacity : ℕ
+  pub due : List Due
+  pub begun : List ℕ
 
 -- A client that came. It has an outbox while it is open; the frames and bytes are those put into its stream so far, the
--- replies those among them. Of one that has gone there is how many bytes its link had not taken then.
+-- replies those among them. Of one that has gone there is how many bytes its link had not taken then, and of how many
+-- messages the frames told that it had not taken to their last byte.
 pub record Client : Type 0 where
   pub outbox : Option Waiting
   pub frames : ℕ
   pub bytes : ℕ
   pub replies : ℕ
   pub left : ℕ
+  pub messages : ℕ
 
 -- The backlog: the bytes of the frames that wait, how many they are, and how many were refused.
 pub record Stored : Type 0 where
@@ -25,8 +31,8 @@ pub record Stored : Type 0 where
   pub refused : ℕ
 
 -- The hub: the control unit that its overflow records name, the size of its backlog, the most clients that may come, the
--- clients by their numbers from 1, how many frames were admitted, and the backlog with how many frames it holds and how
--- many it refused.
+-- clients by their numbers from 1, how many frames were admitted, and the backlog with how many frames it holds, how
+-- many it refused, and the frames one by one.
 pub record Hub : Type 0 where
   pub ecu : List ℕ
   pub buffer : ℕ
@@ -36,6 +42,7 @@ pub record Hub : Type 0 where
   pub backlog : List ℕ
   pub frames : ℕ
   pub refused : ℕ
+  pub due : List Due
 
 abbrev pub is_open : Client → Bool
 is_open client = is_some client.outbox
@@ -48,6 +55,10 @@ takes more client = option_map_or (λ outbox. nat_le (length outbox.bytes + more
 abbrev pub left_by : List Client → ℕ
 left_by clients = min (sum_by (λ client. client.left) clients) (2 ^ 64 - 1)
 
+-- Of how many messages the frames told that clients left which are gone. It stops at the top of 64 bits too.
+abbrev pub messages_left_by : List Client → ℕ
+messages_left_by clients = min (sum_by (λ client. client.messages) clients) (2 ^ 64 - 1)
+
 -- how many replies were put into the stream of each client that came
 abbrev pub replies_of : Hub → List ℕ
 replies_of hub = map (λ client. client.replies) hub.clients
@@ -56,30 +67,40 @@ replies_of hub = map (λ client. client.replies) hub.clients
 abbrev pub is_any_open : Hub → Bool
 is_any_open hub = list_any is_open hub.clients
 
--- what waits, with more at its end
-abbrev pub added : List ℕ → Waiting → Waiting
-added more waiting = record { bytes = waiting.bytes ++ more; capacity = waiting.capacity }
+-- what waits, with more frames at its end: their bytes, and what is due of them
+abbrev pub added : List ℕ → List Due → Waiting → Waiting
+added more due waiting = record { bytes = waiting.bytes ++ more; capacity = waiting.capacity; due = waiting.due ++ due; begun = waiting.begun }
+
+-- the bytes that were taken of the frame that is first when so many more are gone
+abbrev pub begun_after : ℕ → Waiting → List ℕ
+begun_after count waiting =
+    let front = in_front (length waiting.begun) count waiting.due in
+    take front (drop (length waiting.begun + count - front) (waiting.begun ++ waiting.bytes))
 
 -- what waits, with so many bytes gone from its front
 abbrev pub consumed : ℕ → Waiting → Waiting
-consumed count waiting = record { bytes = drop count waiting.bytes; capacity = waiting.capacity }
+consumed count waiting = record { bytes = drop count waiting.bytes; capacity = waiting.capacity; due = past count waiting.due; begun = begun_after count waiting }
 
 -- what waits, with all bytes gone
 abbrev pub emptied : Waiting → Waiting
-emptied waiting = record { bytes = []; capacity = waiting.capacity }
+emptied waiting = record { bytes = []; capacity = waiting.capacity; due = []; begun = [] }
 
--- a client that had a frame put into its stream; a client that is gone has none
-abbrev pub with_frame : List ℕ → Client → Client
-with_frame frame client = record client {
-  outbox = option_map (added frame) client.outbox;
+-- a client that had a frame put into its stream that tells of so many messages; a client that is gone has none
+abbrev pub with_item : List ℕ → ℕ → Client → Client
+with_item frame messages client = record client {
+  outbox = option_map (added frame ((length frame, messages) ∷ [])) client.outbox;
   frames = if is_open client then client.frames + 1 else client.frames;
   bytes = if is_open client then client.bytes + length frame else client.bytes;
 }
 
+-- a client that had a frame put into its stream that was admitted
+abbrev pub with_frame : List ℕ → Client → Client
+with_frame frame client = with_item frame 1 client
+
 -- a client that had a reply put into its stream
 abbrev pub with_reply : List ℕ → Client → Client
 with_reply frame client = record client {
-  outbox = option_map (added frame) client.outbox;
+  outbox = option_map (added frame ((length frame, 0) ∷ [])) client.outbox;
   frames = client.frames + 1;
   bytes = client.bytes + length frame;
   replies = client.replies + 1;
@@ -95,7 +116,11 @@ bytes_before count outbox = option_map_or (λ waiting. take count waiting.bytes)
 
 -- a client that is open no longer: what its link has not taken is dropped
 abbrev pub shut : Client → Client
-shut client = record client { outbox = None; left = option_map_or (λ outbox. length outbox.bytes) client.outbox client.left }
+shut client = record client {
+  outbox = None;
+  left = option_map_or (λ outbox. length outbox.bytes) client.outbox client.left;
+  messages = option_map_or (λ outbox. messages_in outbox.due) client.outbox client.messages;
+}
 
 -- a backlog keeps a frame: it refused none so far, and the frame fits
 abbrev pub keeps : List ℕ → Stored → Bool
@@ -104,7 +129,12 @@ keeps frame store = (store.refused == 0) && nat_le (length store.ring.bytes + le
 -- a backlog that a frame came to: kept or refused
 abbrev pub stored : List ℕ → Stored → Stored
 stored frame store = record {
-  ring = record { bytes = if keeps frame store then store.ring.bytes ++ frame else store.ring.bytes; capacity = store.ring.capacity };
+  ring = record {
+    bytes = if keeps frame store then store.ring.bytes ++ frame else store.ring.bytes;
+    capacity = store.ring.capacity;
+    due = if keeps frame store then store.ring.due ++ (length frame, 1) ∷ [] else store.ring.due;
+    begun = store.ring.begun;
+  };
   frames = if keeps frame store then store.frames + 1 else store.frames;
   refused = if keeps frame store then store.refused else store.refused + 1;
 }
@@ -112,11 +142,12 @@ stored frame store = record {
 -- a client that is handed the frames that wait
 abbrev pub handed : ℕ → Stored → Client
 handed capacity store = record {
-  outbox = Some (record { bytes = store.ring.bytes; capacity = capacity });
+  outbox = Some (record { bytes = store.ring.bytes; capacity = capacity; due = store.ring.due; begun = [] });
   frames = store.frames;
   bytes = length store.ring.bytes;
   replies = 0;
   left = 0;
+  messages = 0;
 }
 
 -- ---- the hub
@@ -132,11 +163,12 @@ hub_of ecu store limit clients admitted = record {
   backlog = store.ring.bytes;
   frames = store.frames;
   refused = store.refused;
+  due = store.ring.due;
 }
 
 -- a hub to which nobody came
 abbrev pub fresh : List ℕ → ℕ → ℕ → Hub
-fresh ecu buffer limit = record { ecu = ecu; buffer = buffer; limit = limit; clients = []; admitted = 0; backlog = []; frames = 0; refused = 0 }
+fresh ecu buffer limit = record { ecu = ecu; buffer = buffer; limit = limit; clients = []; admitted = 0; backlog = []; frames = 0; refused = 0; due = [] }
 
 -- the client of a number from 1, where it came
 abbrev pub client_of : Hub → ℕ → Option Client

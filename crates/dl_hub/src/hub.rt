@@ -5,7 +5,7 @@ ghost use Rattle.std.specs.Prelude.{IsTrue, IsSome, IsSomeAnd, count_by, find, l
 ghost use Rattle.std.specs.List.{All, list_all};
 ghost use Rattle.dl_bytes.specs.Limits.{admitted_limit, client_limit, frame_limit, open_client_limit, request_limit};
 ghost use Rattle.dl_model.specs.Traffic.{Connected, Admitted, Reply, Closed};
-ghost use Rattle.dl_hub.specs.State.{client_of, outbox_of, fresh, changed, without, with_frame, with_reply, shut, is_open, is_any_open, left_by, replies_of};
+ghost use Rattle.dl_hub.specs.State.{client_of, outbox_of, fresh, changed, without, with_frame, with_reply, shut, is_open, is_any_open, left_by, messages_left_by, replies_of};
 ghost use Rattle.dl_hub.specs.State.{Comes, HasPlace, HasRoom, EachHasRoom, IsFull, IsNextOpen, IsSameHub, IsSpent, MayAsk};
 ghost use Rattle.dl_model.specs.Backlog.{outbox_limit, size_of};
 ghost use Rattle.dl_model.specs.Overflow.{overflow_frames};
@@ -75,6 +75,18 @@ impl Model for Hub {
     ghost invariant = { λ h. Fits (state.hub_of h.ecu h.store h.limit h.clients.items h.admitted) h.free.items
         × (h.limit ≤ vec_capacity h.clients) × (open_client_limit ≤ vec_capacity h.free)
         × (h.places.items ≡ places_of 0 (map state.is_open h.clients.items)) };
+}
+
+/// Of how many messages the frames told that these clients left.
+#[tactic(auto, using(crate::proofs::Keeping::messages_more))]
+fn messages_left_by(clients: &[Client]) -> u64
+    ensures { result ≡ messages_left_by clients.now }
+{
+    let mut messages: u64 = 0;
+    for client in clients {
+        messages = messages.saturating_add(client.left_messages());
+    }
+    messages
 }
 
 /// How many bytes these clients left.
@@ -272,7 +284,7 @@ impl Hub {
     /// Admits a frame: each open client is sent it, and where none is open it waits in the backlog, or is refused there.
     pub fn admit(&mut self, frame: &[u8])
         requires room { EachHasRoom (length frame.now) self.old }
-        requires size { length frame.now ≤ frame_limit }
+        requires size { (4 ≤ length frame.now) × (length frame.now ≤ frame_limit) }
         requires few { self.old.admitted < admitted_limit }
         ensures adds { Adds (Admitted frame.now) self.old self.new }
         ensures rooms { (more : ℕ) → EachHasRoom (length frame.now + more) self.old → EachHasRoom more self.new }
@@ -292,7 +304,7 @@ impl Hub {
     fn send_each(&mut self, frame: &[u8])
         requires open { is_any_open self.old ≡ true }
         requires room { EachHasRoom (length frame.now) self.old }
-        requires size { length frame.now ≤ frame_limit }
+        requires size { (4 ≤ length frame.now) × (length frame.now ≤ frame_limit) }
         requires few { self.old.admitted < admitted_limit }
         ensures adds { Adds (Admitted frame.now) self.old self.new }
         ensures rooms { (more : ℕ) → EachHasRoom (length frame.now + more) self.old → EachHasRoom more self.new }
@@ -308,7 +320,7 @@ impl Hub {
     /// Admits a frame where no client is open: it waits in the backlog, or is refused there.
     fn keep(&mut self, frame: &[u8])
         requires closed { is_any_open self.old ≡ false }
-        requires size { length frame.now ≤ frame_limit }
+        requires size { (4 ≤ length frame.now) × (length frame.now ≤ frame_limit) }
         requires few { self.old.admitted < admitted_limit }
         ensures adds { Adds (Admitted frame.now) self.old self.new }
         ensures rooms { (more : ℕ) → EachHasRoom (length frame.now + more) self.old → EachHasRoom more self.new }
@@ -324,7 +336,7 @@ impl Hub {
     /// Puts a reply into a client's stream.
     pub fn reply(&mut self, client: u32, frame: &[u8])
         requires room { HasRoom (length frame.now) self.old client }
-        requires size { length frame.now ≤ 65535 }
+        requires size { (4 ≤ length frame.now) × (length frame.now ≤ 65535) }
         requires few { IsSomeAnd (client_of self.old client) (λ c. c.replies < request_limit) }
         ensures adds { Adds (Reply client frame.now) self.old self.new }
         ensures value { self.new ≡ changed client (with_reply frame.now) self.old }
@@ -412,6 +424,21 @@ impl Hub {
         left_by(&self.clients)
     }
 
+    /// Of how many messages the frames told that a client's link had not taken to their last byte when the client went.
+    pub fn left_messages(&self, client: u32) -> u64
+        requires { (1 ≤ client) × (client ≤ length self.now.clients) }
+        ensures { IsSomeAnd (client_of self.now client) (λ c. result ≡ c.messages) }
+    {
+        self.clients[client as usize - 1].left_messages()
+    }
+
+    /// The same of all clients that are gone together, at most 2^64 - 1. It goes through all that came.
+    pub fn untaken_messages(&self) -> u64
+        ensures { result ≡ messages_left_by self.now.clients }
+    {
+        messages_left_by(&self.clients)
+    }
+
     /// What waits for a client.
     pub fn backlog(&self) -> Backlog
         ensures { result ≡ record { frames = self.now.frames; bytes = length self.now.backlog; refused = self.now.refused } }
@@ -443,9 +470,10 @@ fn takes_at(clients: &[Client], place: u32, more: u64) -> bool
 
 /// An empty outbox for each client that may be open at once.
 fn outboxes(alloc: Global, capacity: usize) -> Result<Vec<Ring>, OutOfMemory>
+    requires { capacity ≤ 2 ^ 40 }
     ensures many { IfOk result (λ free. length free.items ≡ open_client_limit) }
     ensures room { IfOk result (λ free. open_client_limit ≤ vec_capacity free) }
-    ensures empty { IfOk result (λ free. All (λ r. (r.bytes ≡ []) × (r.capacity ≡ capacity)) free.items) }
+    ensures empty { IfOk result (λ free. All (λ r. (r.bytes ≡ []) × (r.capacity ≡ capacity) × (r.due ≡ []) × (r.begun ≡ [])) free.items) }
 {
     let mut free = Vec::with_capacity(alloc, OPEN_CLIENT_LIMIT)?;
     for _i in 0..OPEN_CLIENT_LIMIT {
@@ -457,6 +485,7 @@ fn outboxes(alloc: Global, capacity: usize) -> Result<Vec<Ring>, OutOfMemory>
 /// A new client. The first of those that are open is handed what waits.
 fn comer(store: &mut Store, ecu: Id, outbox: Ring, is_first: bool) -> Client
     requires empty { outbox.bytes ≡ [] }
+    requires none { (outbox.due ≡ []) × (outbox.begun ≡ []) }
     requires refused { store.old.refused ≤ admitted_limit }
     requires frames { store.old.frames ≤ admitted_limit }
     requires room { length store.old.ring.bytes + size_of (overflow_frames ecu daemon_apid daemon_ctid store.old.refused) ≤ outbox.capacity }
@@ -473,12 +502,13 @@ fn comer(store: &mut Store, ecu: Id, outbox: Ring, is_first: bool) -> Client
 /// Puts a frame into the stream of each client that is open. These are the places of those.
 fn put_each(clients: &mut [Client], places: &[u32], frame: &[u8])
     requires open { places.now ≡ places_of 0 (map is_open clients.old) }
+    requires size { (4 ≤ length frame.now) × (length frame.now ≤ 65535) }
     requires room { All (λ c. IfSome c.outbox (λ r. length r.bytes + length frame.now ≤ r.capacity)) clients.old }
     requires counts { All (λ c. (c.frames < 2 ^ 63) × (c.bytes + length frame.now < 2 ^ 63)) clients.old }
     ensures { clients.new ≡ map (with_frame frame.now) clients.old }
 {
     for place in places {
-        clients[*place as usize].add(frame);
+        clients[*place as usize].add(frame, 1);
     }
 }
 

@@ -5,8 +5,8 @@ ghost use Rattle.dl_bytes.specs.Limits.{admitted_limit};
 ghost use Rattle.dl_model.specs.Backlog.{size_of};
 ghost use Rattle.dl_model.specs.Overflow.{overflow_frames};
 ghost use Rattle.dl_control.specs.Reply.{daemon_apid, daemon_ctid};
-ghost use Rattle.dl_hub.specs.State.{Waiting, stored, handed};
-ghost use Rattle.dl_hub.specs.Overflow.{with_frames, CanTake};
+ghost use Rattle.dl_hub.specs.State.{Waiting, emptied, stored, handed};
+ghost use Rattle.dl_hub.specs.Overflow.{with_frames, records_due, CanTake};
 
 use crate::client::Client;
 use crate::ring::Ring;
@@ -25,17 +25,21 @@ pub struct Store {
 }
 
 impl Model for Store {
+    ghost use Rattle.std.specs.Prelude.{◌≡◌, []};
     ghost use Rattle.dl_hub.specs.State.{Stored};
 
     ghost Value = { Stored };
 
     ghost view = { λ s. record { ring = s.ring; frames = s.frames; refused = s.refused } };
+
+    ghost invariant = { λ s. s.ring.begun ≡ [] };
 }
 
 impl Store {
     /// A backlog that can hold this many bytes.
     pub fn make(alloc: Global, limit: usize) -> Result<Store, OutOfMemory>
-        ensures { IfOk result (λ store. store ≡ record { ring = record { bytes = []; capacity = limit }; frames = 0; refused = 0 }) }
+        requires { limit ≤ 2 ^ 40 }
+        ensures { IfOk result (λ store. store ≡ record { ring = record { bytes = []; capacity = limit; due = []; begun = [] }; frames = 0; refused = 0 }) }
     {
         Ok(Store {
             ring: Ring::make(alloc, limit)?,
@@ -70,10 +74,11 @@ impl Store {
         requires frames { self.old.frames < 2 ^ 63 }
         requires refused { self.old.refused < 2 ^ 63 }
         requires within { length self.old.ring.bytes ≤ self.old.ring.capacity }
+        requires size { (4 ≤ length frame.now) × (length frame.now ≤ 65535) }
         ensures { self.new ≡ stored frame.now self.old }
     {
         if self.refused == 0 && frame.len() <= self.ring.room() {
-            self.ring.push(frame);
+            self.ring.push(frame, 1);
             self.frames += 1;
         } else {
             self.refused += 1;
@@ -86,8 +91,8 @@ impl Store {
         requires refused { self.old.refused ≤ admitted_limit }
         requires frames { self.old.frames ≤ admitted_limit }
         requires room { length self.old.ring.bytes + size_of (overflow_frames ecu daemon_apid daemon_ctid self.old.refused) ≤ outbox.capacity }
-        ensures client { result ≡ with_frames (overflow_frames ecu daemon_apid daemon_ctid self.old.refused) (handed outbox.capacity self.old) }
-        ensures emptied { self.new ≡ record { ring = record { bytes = []; capacity = self.old.ring.capacity }; frames = 0; refused = 0 } }
+        ensures client { result ≡ with_frames (overflow_frames ecu daemon_apid daemon_ctid self.old.refused) (records_due ecu self.old.refused) (handed outbox.capacity self.old) }
+        ensures emptied { self.new ≡ record { ring = emptied self.old.ring; frames = 0; refused = 0 } }
     {
         let mut client = Client::handed(outbox, &mut self.ring, self.frames);
         add_refused(&mut client, ecu, self.refused);
@@ -100,7 +105,7 @@ impl Store {
 /// Adds the records that report this many frames as refused.
 fn add_refused(client: &mut Client, ecu: Id, refused: u64)
     requires { CanTake (overflow_frames ecu daemon_apid daemon_ctid refused) client.old }
-    ensures { client.new ≡ with_frames (overflow_frames ecu daemon_apid daemon_ctid refused) client.old }
+    ensures { client.new ≡ with_frames (overflow_frames ecu daemon_apid daemon_ctid refused) (records_due ecu refused) client.old }
 {
     let mut left = refused;
     while left > 0 {
@@ -111,7 +116,7 @@ fn add_refused(client: &mut Client, ecu: Id, refused: u64)
             Id::from_bytes(*b"DC1\0"),
             counter,
         );
-        client.add(frame.bytes());
+        client.add(frame.bytes(), counter);
         left -= counter as u64;
     }
 }

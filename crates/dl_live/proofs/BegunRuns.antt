@@ -29,7 +29,7 @@ use Rattle.dl_storage.specs.declared.ends.StoreEnds.{StoreEnds}
 use Rattle.dl_storage.specs.FilterLine.{Wanted}
 use Rattle.dl_storage.specs.FilterWhole.{wanted_of}
 use Rattle.dl_storage.specs.declared.filter.Filter.{Filter}
-use Rattle.dl_trace.specs.Stands.{IsTraceName}
+use Rattle.dl_trace.specs.InFolder.{IsTraceName}
 use Rattle.dl_trace.specs.State.{Trace}
 use Rattle.dl_words.specs.Run as words
 use Rattle.dl_writer.specs.State.{BookState}

@@ -30,7 +30,7 @@ use Rattle.dl_rounds.proofs.GreetedEvents.{greeted_each}
 use Rattle.dl_script.specs.Playable.{IsRunnable}
 use Rattle.dl_script_model.specs.declared.scenario.ScenarioLine.{ScenarioLine}
 use Rattle.dl_startup.specs.Setup.{IsBegun}
-use Rattle.dl_trace.specs.Stands.{HasFiles}
+use Rattle.dl_trace.specs.InFolder.{HasFiles}
 use Rattle.dl_trace.specs.State as trace
 use Rattle.dl_trace.specs.State.{Trace}
 use Rattle.dl_writer.specs.State.{BookState, IsWhole, numbers}
@@ -43,7 +43,7 @@ use Rattle.dl_live.proofs.FoundPlaces.{none_full}
 use Rattle.dl_live.proofs.PlayedBooks.{all_books}
 use Rattle.dl_live.proofs.PlayedDaemons as daemons
 use Rattle.dl_live.proofs.TakenFrames.{taken_framed}
-use Rattle.dl_desk.specs.Posting.{pushed_of, refusals_of}
+use Rattle.dl_desk.specs.QueuedInjections.{pushed_of, refusals_of}
 use Rattle.dl_desk.specs.State.{DeskState}
 use Rattle.dl_loop.specs.Made.{IsUntouched}
 use Rattle.dl_loop.specs.State.{DaemonState, desk_told}

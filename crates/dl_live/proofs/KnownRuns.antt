@@ -111,9 +111,9 @@ module _ {L : Type 0} (link_told : L → LinkTold) (begun : Begun) (p : Players 
       omega (arith, all, many, connected, dropped, few, count)
 
   all_came : failed ≡ false → wanted ≡ false → IfSome before.waiting (λ _. clients lines ≤ came account)
-  all_came well memory = elim (been.gathers.all (went_well well).1 (been.wanted_so memory)) [
+  all_came well memory = elim (been.gathers.all (went_well well).1 (been.none_wanted memory).0) [
     | inl many ↦ so_any before.waiting (enough (went_well well).0 many)
-    | inr all ↦ known_before before.waiting net.waiting (λ _. clients lines ≤ came account) heard.waiting (by net.waiting launches.waiting all)
+    | inr all ↦ known_before before.waiting net.waiting (λ _. clients lines ≤ came account) heard.waiting (by net.waiting launches.waiting all.1)
   ] where
     so_any : (o : Option (List L)) → clients lines ≤ came account → IfSome o (λ _. clients lines ≤ came account)
     so_any None so = tt

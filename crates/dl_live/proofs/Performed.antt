@@ -35,9 +35,9 @@ use Rattle.dl_settling.specs.Ends.{trace_told}
 use Rattle.dl_settling.specs.Went.{TellBytes, TellStreams}
 use Rattle.dl_startup.specs.Setup.{IsBegun}
 use Rattle.dl_startup.specs.Unchanged.{IsQuiet}
-use Rattle.dl_trace.specs.Stands.{HasFiles}
+use Rattle.dl_trace.specs.InFolder.{HasFiles}
 use Rattle.dl_trace.specs.State.{Trace}
-use Rattle.dl_turns.specs.Gone.{TellOver}
+use Rattle.dl_turns.specs.Gone.{TellTheEnd}
 use Rattle.dl_live.specs.declared.beginning.Begun.{Begun}
 use Rattle.dl_live.specs.declared.players.Players.{Players}
 use Rattle.dl_live.specs.Account.{IsComeTo, run_of, setting}
@@ -133,7 +133,7 @@ module _ {L : Type 0} (link_told : L → LinkTold) (begun : Begun) (p : Players 
 
   -- ---- the clients
 
-  pub served : AreServed (TellBytes link_told) (TellOver link_told) run account.events (map link_told links.links) account.outcome
+  pub served : AreServed (TellBytes link_told) (TellTheEnd link_told) run account.events (map link_told links.links) account.outcome
   served =
       let stops = come.stops_in link_told begun p wanted failed net net_now folder folder_now account links runnable are first.files begins been in
       let long : length (map link_told links.links) ≡ length links.links = length-map links.links link_told in

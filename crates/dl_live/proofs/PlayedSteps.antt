@@ -1,5 +1,5 @@
 -- A daemon from its making to its stop, step by step.
-use Rattle.std.proofs.Common.{◌≡◌, Bool, ℕ, ◌≤◌, List, ◌++◌, length, sym, ap, subst, ◌∙◌}
+use Rattle.std.proofs.Common.{◌≡◌, ◌⊎◌, inl, inr, refl, Bool, true, false, ℕ, ◌≤◌, List, ◌++◌, length, sym, ap, subst, ◌∙◌}
 use Rattle.std.specs.Prelude.{All, ◌==◌, ◌||◌, not}
 use Rattle.dl_crew.specs.Plays.{ArePairs, CanPlay, HasPlayed}
 use Rattle.dl_account.specs.Making.{AreMadeWith, IsMissing}
@@ -15,9 +15,9 @@ use Rattle.dl_settling.specs.Room.{together}
 use Rattle.dl_writer.specs.State.{BookState, IsWhole}
 use Rattle.dl_live.specs.declared.gathering.Gathered.{Gathered}
 use Rattle.dl_live.specs.declared.players.Players.{Players}
-use Rattle.dl_live.specs.Playing.{CanBePlayed, Gathers, HasBeenPlayed, HasSetOut, Rounds}
+use Rattle.dl_live.specs.Playing.{CanBePlayed, Gathers, HasBeenPlayed, HasSetOut, Rounds, TellsWanted}
 use Rattle.dl_live.proofs.Starting.{few, few_books, made, none_missing, room, whole}
-use Rattle.dl_lemmas.proofs.Bools.{or_left}
+use Rattle.dl_lemmas.proofs.Bools.{or_left, or_right}
 
 module _ {L : Type 0} (first now : Players L) (count : ℕ) (net net_now : NetTold L) (folder folder_now : FolderTold) (can : CanBePlayed first)
     (out : HasSetOut first now count net net_now folder folder_now) where
@@ -50,11 +50,11 @@ module _ {L : Type 0} (first now : Players L) (count : ℕ) (net net_now : NetTo
     none_missing_now missing = none_missing first can books played_first (length rounded.daemon.desk.owners) (ap (λ (os : List ℕ). length os) later.owners) missing
 
     -- so the run was played
-    pub has_played : (link_told : L → LinkTold) (got : Gathered) → Gathers count got net_now net_between (scene now.daemon folder_now) gathered → Rounds net_between net_last gathered rounded
-        → (late : Bool) (account : AccountState) (links : Links L) (folder_last : FolderTold) → Stops link_told rounded.daemon books account links rounded.folder folder_last
+    pub has_played : (link_told : L → LinkTold) (got : Gathered) → Gathers link_told count got net_now net_between (scene now.daemon folder_now) gathered → Rounds net_between net_last gathered rounded
+        → (late : Bool) → TellsWanted late gathered rounded → (account : AccountState) (links : Links L) (folder_last : FolderTold) → Stops link_told rounded.daemon books account links rounded.folder folder_last
         → (clients : List ClientScript) → clients ≡ now.scripts → (failed : Bool) → failed ≡ (not (count == length clients) || got.failed) → (wanted : Bool) → wanted ≡ (got.wanted || late)
         → (net_end : NetTold L) → net_end ≡ net_last → HasBeenPlayed link_told first wanted failed net net_end folder folder_last account links
-    has_played link_told got waits beside late account links folder_last stops clients clients_are failed failed_so wanted wanted_so net_end same =
+    has_played link_told got waits beside late late_so account links folder_last stops clients clients_are failed failed_so wanted wanted_so net_end same =
         subst (λ (n : NetTold L). HasBeenPlayed link_told first wanted failed net n folder folder_last account links) (sym same) (record {
           moment = out.moment;
           greeted = scene now.daemon folder_now;
@@ -73,5 +73,17 @@ module _ {L : Type 0} (first now : Players L) (count : ℕ) (net net_now : NetTo
           played = played_first;
           stops = stops;
           failed_so = failed_so ∙ ap (λ (scripts : List ClientScript). not (count == length scripts) || got.failed) (clients_are ∙ ap (λ (p : Players L). p.scripts) out.rest);
-          wanted_so = λ none. or_left got.wanted late (sym wanted_so ∙ none);
-        })
+          wanted_so = λ is. wanted_is (sym wanted_so ∙ is);
+          none_wanted = λ none. (or_left got.wanted late (sym wanted_so ∙ none), none_wanted (sym wanted_so ∙ none));
+        }) where
+          wanted_is : got.wanted || late ≡ true → rounded.daemon.wanted ≡ true
+          wanted_is is = by got.wanted refl where
+            by : (b : Bool) → got.wanted ≡ b → rounded.daemon.wanted ≡ true
+            by true early = beside.come.ends.wanted_once (waits.wanted early)
+            by false not_early = late_so.wanted_so (ap (λ (b : Bool). b || late) (sym not_early) ∙ is)
+
+          none_wanted : got.wanted || late ≡ false → (rounded.daemon.failed ≡ true) ⊎ (rounded.daemon.wanted ≡ false)
+          none_wanted none = by got.failed refl where
+            by : (b : Bool) → got.failed ≡ b → (rounded.daemon.failed ≡ true) ⊎ (rounded.daemon.wanted ≡ false)
+            by true failed_early = inl (beside.come.ends.failed_once (waits.failed failed_early))
+            by false well = late_so.none (or_right got.wanted late none) (waits.well well (or_left got.wanted late none)).1

@@ -28,7 +28,7 @@ use Rattle.dl_storage.specs.Passing.{directory_of, frames_for}
 use Rattle.dl_storage.specs.Storing.{AreStored, ChangesFiltersFiles, EndsAs, HoldsFiles as HoldsFiltersFiles, IsOther, IsStored}
 use Rattle.dl_storage.specs.declared.ends.StoreEnd.{StoreEnd}
 use Rattle.dl_storage.specs.declared.filter.Filter.{Filter}
-use Rattle.dl_trace.specs.Stands.{HasFiles, IsTraceName}
+use Rattle.dl_trace.specs.InFolder.{HasFiles, IsTraceName}
 use Rattle.dl_trace.specs.State.{Trace}
 use Rattle.dl_live.specs.declared.beginning.Begun.{Begun}
 use Rattle.dl_live.specs.Account.{IsComeTo, run_of, setting}

@@ -12,8 +12,8 @@ use Rattle.dl_model.specs.WholeAccounts.{apid_in, frame_of_record}
 use Rattle.dl_outside.specs.Links.{Links}
 use Rattle.dl_outside.specs.Told.{FolderTold, LinkTold, NetTold}
 use Rattle.dl_settling.specs.Went.{TellBytes}
-use Rattle.dl_trace.specs.Stands.{HasFiles}
-use Rattle.dl_turns.specs.Gone.{TellOver}
+use Rattle.dl_trace.specs.InFolder.{HasFiles}
+use Rattle.dl_turns.specs.Gone.{TellTheEnd}
 use Rattle.dl_words.specs.Run as words
 use Rattle.dl_live.specs.declared.beginning.Begun.{Begun}
 use Rattle.dl_live.specs.Begin.{IsStart}
@@ -62,7 +62,7 @@ pub record IsPlayedOut {L : Type 0} (link_told : L → LinkTold) (begun : Begun)
   pub net_after : IsNetAfter begun.port begun.scenario (count_by is_connect account.events) account.outcome.dropped net net_now
   pub stood : List StoredFile
   pub stood_so : begun.trace ≢ None → IfSome folder.files (λ files. HasFiles begun.conf.directory files stood)
-  pub clients : AreServed (TellBytes link_told) (TellOver link_told) (run_of begun stood account) account.events (map link_told links.links) account.outcome
+  pub clients : AreServed (TellBytes link_told) (TellTheEnd link_told) (run_of begun stood account) account.events (map link_told links.links) account.outcome
   pub untraced : begun.conf.directory ≡ [] → account.outcome.trace ≡ no_trace
   pub folder_after : IsFolderAfter (setting begun) account.events account.outcome.trace.end folder folder_now
 

@@ -10,7 +10,7 @@ use Rattle.dl_storage.specs.Passing.{directory_of}
 use Rattle.dl_storage.specs.FilterLine.{Wanted}
 use Rattle.dl_storage.specs.FilterWhole.{storage_said}
 use Rattle.dl_storage.specs.declared.filter.Filter.{Filter}
-use Rattle.dl_trace.specs.Stands.{IsTraceName}
+use Rattle.dl_trace.specs.InFolder.{IsTraceName}
 
 -- the name of the filters' file
 abbrev pub filters_name : List ℕ

@@ -11,7 +11,7 @@ use Rattle.dl_outside.specs.Folder.{Files}
 use Rattle.dl_outside.specs.Told.{FolderTold}
 use Rattle.dl_startup.specs.Setup.{conf_in, stored_name}
 use Rattle.dl_storage.specs.declared.filter.Filter.{Filter}
-use Rattle.dl_trace.specs.Stands.{HasFiles, IsTraceName}
+use Rattle.dl_trace.specs.InFolder.{HasFiles, IsTraceName}
 use Rattle.dl_trace.specs.State.{Trace}
 use Rattle.dl_words.specs.Run as words
 use Rattle.dl_live.specs.Filters.{AreElsewhere, IsOfNoFilter}

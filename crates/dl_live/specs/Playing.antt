@@ -6,7 +6,7 @@ use Rattle.dl_core.specs.Settings as settings
 use Rattle.dl_crew.specs.Plays.{ArePairs, HasPlayed}
 use Rattle.dl_launch.specs.Launching.{Launched}
 use Rattle.dl_account.specs.State.{AccountState}
-use Rattle.dl_loop.specs.Coming.{HaveCome}
+use Rattle.dl_loop.specs.Coming.{HasWaited, HaveCome}
 use Rattle.dl_loop.specs.Greeting.{Greets}
 use Rattle.dl_loop.specs.Later.{GoesRound, IsLaterGreeted}
 use Rattle.dl_loop.specs.Made.{IsMade}
@@ -45,11 +45,23 @@ pub record Rounds {L : Type 0} (net net_now : NetTold L) (old new : Scene L) : T
   pub came : ℕ
   pub come : HaveCome came net net_now old.daemon new.daemon
 
--- Rounds until the clients had come that were launched: as many links came, or all that waited. Else an accept failed or wanted memory.
-pub record Gathers {L : Type 0} (launched : ℕ) (got : Gathered) (net net_now : NetTold L) (old new : Scene L) : Type 0 where
+-- in its last thousand rounds nobody came, and all connections came that waited, as far as the net tells
+abbrev pub HasWaitedLong : {L : Type 0} → (L → LinkTold) → ℕ → NetTold L → NetTold L → Scene L → Type 0
+HasWaitedLong link_told came net net_now new = HasWaited link_told 1000 net_now new × IfSome net.waiting (λ links. length links ≤ came)
+
+-- Rounds until the clients had come that were launched: as many links came, or nobody a thousand times in a row. Else an accept failed or wanted
+-- memory, which the daemon shows.
+pub record Gathers {L : Type 0} (link_told : L → LinkTold) (launched : ℕ) (got : Gathered) (net net_now : NetTold L) (old new : Scene L) : Type 0 where
   pub rounds : Rounds net net_now old new
   pub failed : got.failed ≡ true → new.daemon.failed ≡ true
-  pub all : got.failed ≡ false → got.wanted ≡ false → (launched ≤ rounds.came) ⊎ IfSome net.waiting (λ links. length links ≤ rounds.came)
+  pub wanted : got.wanted ≡ true → new.daemon.wanted ≡ true
+  pub well : got.failed ≡ false → got.wanted ≡ false → (new.daemon.failed ≡ false) × (new.daemon.wanted ≡ false)
+  pub all : got.failed ≡ false → got.wanted ≡ false → (launched ≤ rounds.came) ⊎ HasWaitedLong link_told rounds.came net net_now new
+
+-- An accept wanted memory where this says so. Where it doesn't, none did, if none had before; or one failed, which ends them all.
+pub record TellsWanted {L : Type 0} (wanted : Bool) (old new : Scene L) : Type 0 where
+  pub wanted_so : wanted ≡ true → new.daemon.wanted ≡ true
+  pub none : wanted ≡ false → old.daemon.wanted ≡ false → (new.daemon.failed ≡ true) ⊎ (new.daemon.wanted ≡ false)
 
 -- A run was played: the daemon's own applications told of themselves, the clients were launched, rounds went on until they had come and while the
 -- writers made their calls, and the daemon stopped.
@@ -65,14 +77,15 @@ pub record HasBeenPlayed {L : Type 0} (link_told : L → LinkTold) (p : Players 
   pub got : Gathered
   pub gathered_net : NetTold L
   pub gathered : Scene L
-  pub gathers : Gathers count got launched_net gathered_net greeted gathered
+  pub gathers : Gathers link_told count got launched_net gathered_net greeted gathered
   pub rounded : Scene L
   pub goes : Rounds gathered_net net_now gathered rounded
   pub books : List BookState
   pub played : ArePairs (HasPlayed p.plan.contexts p.plan.lines) p.books books
   pub stops : Stops link_told rounded.daemon books account links rounded.folder folder_now
   pub failed_so : failed ≡ not (count == length p.scripts) || got.failed
-  pub wanted_so : wanted ≡ false → got.wanted ≡ false
+  pub wanted_so : wanted ≡ true → rounded.daemon.wanted ≡ true
+  pub none_wanted : wanted ≡ false → (got.wanted ≡ false) × ((rounded.daemon.failed ≡ true) ⊎ (rounded.daemon.wanted ≡ false))
 
 -- ---- for inner functions
 

@@ -14,7 +14,7 @@ use Rattle.dl_storage.specs.Storing.{IsStored}
 use Rattle.dl_storage.specs.declared.ends.StoreEnd.{StoreEnd}
 use Rattle.dl_storage.specs.declared.ends.StoreEnds.{StoreEnds}
 use Rattle.dl_storage.specs.declared.filter.Filter.{Filter}
-use Rattle.dl_trace.specs.Stands.{IsTraceName}
+use Rattle.dl_trace.specs.InFolder.{IsTraceName}
 use Rattle.dl_live.specs.declared.beginning.Begun.{Begun}
 use Rattle.dl_live.specs.Filters.{told_of}
 

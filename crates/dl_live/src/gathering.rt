@@ -18,11 +18,11 @@ const PATIENCE: u32 = 1000;
 pub struct Gathered {
     /// An accept failed.
     pub failed: bool,
-    /// An accept wanted memory.
+    /// An accept ran out of memory.
     pub wanted: bool,
 }
 
-/// Goes round until as many links came as clients were launched, an accept failed or wanted memory, or nobody came a thousand times in a
+/// Goes round until as many links came as clients were launched, an accept failed or ran out of memory, or nobody came a thousand times in a
 /// row.
 pub fn gather<R: Wait, N: Net, C: Clock, F: Folder>(
     rt: &R,
@@ -36,7 +36,7 @@ where
     N::L: Drop,
     requires greeted { daemon.old.greeted ≡ true }
     requires accepts { (daemon.old.failed ≡ false) × (daemon.old.wanted ≡ false) }
-    ensures { Gathers launched result (N.told net.old) (N.told net.new) (scene daemon.old (F.told folder.old)) (scene daemon.new (F.told folder.new)) }
+    ensures { Gathers N.L.told launched result (N.told net.old) (N.told net.new) (scene daemon.old (F.told folder.old)) (scene daemon.new (F.told folder.new)) }
 {
     rounds_go_on::<N::L>();
     connections_add_up::<N::L>();

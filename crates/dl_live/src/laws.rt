@@ -5,7 +5,7 @@ ghost use Rattle.std.specs.List.{AllByRecursion, range_with_len};
 ghost use Rattle.dl_crew.specs.Plays.{ArePairs, CanPlay, HasPlayed};
 ghost use Rattle.dl_desk.specs.Made.{IsLater};
 ghost use Rattle.dl_desk.specs.State.{DeskState};
-ghost use Rattle.dl_desk.specs.Told.{PostTold, told_by};
+ghost use Rattle.dl_desk.specs.Told.{ControlTold, told_by};
 ghost use Rattle.dl_ending.specs.Ending.{Finishes};
 ghost use Rattle.dl_events.specs.declared.event.Event.{Event};
 ghost use Rattle.dl_account.specs.Making.{AreMadeWith};
@@ -31,7 +31,7 @@ ghost use Rattle.dl_startup.specs.declared.failures.Failures.{Failures};
 ghost use Rattle.dl_startup.specs.declared.status.Status.{Status};
 ghost use Rattle.dl_storage.specs.declared.ends.StoreEnd.{StoreEnd};
 ghost use Rattle.dl_storage.specs.declared.ends.StoreEnds.{StoreEnds};
-ghost use Rattle.dl_turns.specs.Injected.{HasPosted};
+ghost use Rattle.dl_turns.specs.Injected.{HasInjected};
 ghost use Rattle.dl_writer.specs.State.{BookState, IsWhole, numbers};
 ghost use Rattle.dl_live.specs.declared.beginning.Begun.{Begun};
 ghost use Rattle.dl_live.specs.declared.players.Players.{Players};
@@ -66,13 +66,14 @@ pub fn played_books_have_all_calls()
 /// Where the queue of an application took and refused just the injections of a journal's requests, the account of that journal tells what became of
 /// them: its writers were given no more than the queue took, and no more than 16 are left.
 pub fn an_account_tells_of_injections()
-    ensures { (setting : Setting) (account : AccountState) (first : PostTold) (app : ℕ) → IsSettled account → app < length account.apps
+    ensures { (setting : Setting) (account : AccountState) (first : ControlTold) (app : ℕ) → IsSettled account → app < length account.apps
         → first.pushed app ≡ [] → first.refusals app ≡ 0
-        → HasPosted setting [] account.events app first (told_by (length account.apps) account.handles) → IsInjected setting account app }
+        → HasInjected setting [] account.events app first (told_by (length account.apps) account.handles) → IsInjected setting account app }
 {}
 
 /// What a status says of a run is what is promised of the whole: the words decide first, what is written is the report of the account and of what
-/// the filters stored, or its front, and where all is of the form and nothing fails, the report was written whole, or a frame had no name, or memory was wanted.
+/// the filters stored, or its front, and where all is of the form and nothing fails, the report was written whole, or a frame had no name, or memory
+/// ran out.
 pub fn an_outcome_is_a_run<L: Link>()
     ensures { (said : List (List ℕ)) (old new : Told L) (err err_now : SinkTold) (status : Status) (account : Option AccountState) (links : Links L)
         → (stored : Option StoreEnds) → Outcome L.told said old new status account stored links → ChangesNoOther said old.folder new.folder

@@ -62,12 +62,12 @@ struct Played<L> {
     links: LinkList<L>,
     /// A client could not be launched, or an accept failed while clients were waited for.
     failed: bool,
-    /// An accept wanted memory.
+    /// An accept ran out of memory.
     wanted: bool,
 }
 
 /// The applications tell of themselves, and the clients are launched. Tells how many were. What comes before it is that the net listens; what
-/// comes after it are the daemon's rounds. Where memory is wanted, a part of the clients may have been launched, and the run is over.
+/// comes after it are the daemon's rounds. Where memory runs out, a part of the clients may have been launched, and the run is over.
 pub fn set_out<F: Folder, N: Net>(
     players: &mut Players<N::L>,
     moment: Moment,
@@ -179,7 +179,7 @@ fn either(one: bool, other: bool) -> bool
     one || other
 }
 
-/// What went wrong in a run whose report is to be written: the net failed, the folder did, or memory was wanted.
+/// What went wrong in a run whose report is to be written: the net failed, the folder did, or memory ran out.
 fn went_wrong(net: bool, folder: bool, memory: bool) -> Failures
     ensures { result ≡ failed_so net folder memory }
 {

@@ -4,7 +4,7 @@ ghost use Rattle.std.specs.Prelude.{◌≡◌, ◌≤◌, true, All, length};
 ghost use Rattle.std.specs.Thread.{IsSync};
 ghost use Rattle.dl_crew.specs.Plays.{ArePairs, CanPlay, HasPlayed};
 ghost use Rattle.dl_loop.specs.Scene.{scene};
-ghost use Rattle.dl_live.specs.Playing.{Rounds};
+ghost use Rattle.dl_live.specs.Playing.{Rounds, TellsWanted};
 
 use dl_crew::{Plan, crew};
 use dl_loop::Daemon;
@@ -17,7 +17,7 @@ use std::sync::atomic::{AtomicBool, Ordering};
 use std::sync::{Wait, WaitMethods};
 use std::thread::{Threads, join_mut};
 
-/// Goes round for as long as the workers are at it. Tells whether an accept wanted memory.
+/// Goes round for as long as the workers are at it. Tells whether an accept ran out of memory.
 fn rounds<R: Wait, N: Net, C: Clock, F: Folder>(
     rt: &R,
     at_work: &AtomicBool,
@@ -29,7 +29,8 @@ fn rounds<R: Wait, N: Net, C: Clock, F: Folder>(
 where
     N::L: Drop,
     requires greeted { daemon.old.greeted ≡ true }
-    ensures { Rounds (N.told net.old) (N.told net.new) (scene daemon.old (F.told folder.old)) (scene daemon.new (F.told folder.new)) }
+    ensures goes { Rounds (N.told net.old) (N.told net.new) (scene daemon.old (F.told folder.old)) (scene daemon.new (F.told folder.new)) }
+    ensures wanted { TellsWanted result (scene daemon.old (F.told folder.old)) (scene daemon.new (F.told folder.new)) }
 {
     rounds_go_on::<N::L>();
     connections_add_up::<N::L>();
@@ -62,7 +63,7 @@ fn work<R: Threads + Wait + Sync, C: Clock + Sync, G: Gate + Sync>(
     at_work.store(false, Ordering::SeqCst);
 }
 
-/// Lets all workers make their calls while the daemon goes round. Tells whether an accept wanted memory. Where no thread can be made, the calls
+/// Lets all workers make their calls while the daemon goes round. Tells whether an accept ran out of memory. Where no thread can be made, the calls
 /// are made first.
 pub fn beside<
     R: Threads + Wait + Sync,
@@ -87,6 +88,7 @@ where
     requires greeted { daemon.old.greeted ≡ true }
     ensures played { ArePairs (HasPlayed plan.now.contexts plan.now.lines) books.old books.new }
     ensures goes { Rounds (N.told net.old) (N.told net.new) (scene daemon.old (F.told folder.old)) (scene daemon.new (F.told folder.new)) }
+    ensures wanted { TellsWanted result (scene daemon.old (F.told folder.old)) (scene daemon.new (F.told folder.new)) }
 {
     let flag = AtomicBool::new(true);
     let at_work = &flag;
@@ -94,7 +96,8 @@ where
         rt,
         &mut || -> bool
             requires { daemon.now.greeted ≡ true }
-            ensures { Rounds (N.told net.entry.now) (N.told net.exit.now) (scene daemon.entry.now (F.told folder.entry.now)) (scene daemon.exit.now (F.told folder.exit.now)) }
+            ensures goes { Rounds (N.told net.entry.now) (N.told net.exit.now) (scene daemon.entry.now (F.told folder.entry.now)) (scene daemon.exit.now (F.told folder.exit.now)) }
+            ensures wanted { TellsWanted result (scene daemon.entry.now (F.told folder.entry.now)) (scene daemon.exit.now (F.told folder.exit.now)) }
         { rounds(rt, at_work, daemon, net, clock, folder) },
         &mut ||
             requires { IsSync R.row × IsSync C.row × IsSync G.row × (length books.now ≤ 32) × All (CanPlay plan.now.lines) books.now }

@@ -20,7 +20,7 @@ use Rattle.dl_turns.proofs.PostedSides.{posted_both}
 use Rattle.dl_rounds.specs.Arrivals.{Arrives, Connects, ConnectsAs}
 use Rattle.dl_rounds.specs.declared.accepting.Arrival.{Arrival}
 use Rattle.dl_rounds.specs.declared.accepting.Arrival.TheVariants as arrival
-use Rattle.dl_turns.specs.Gone.{TellOver}
+use Rattle.dl_turns.specs.Gone.{TellTheEnd}
 use Rattle.dl_rounds.specs.Ready.{AreHeard, AreLinked, open_clients}
 use Rattle.dl_rounds.specs.Shown.{AllShowWhy}
 use Rattle.dl_loop.specs.Bounds.{HasBounds}
@@ -119,9 +119,9 @@ module _ {L : Type 0} (told : L → LinkTold) (old : DaemonState L) (is : IsDaem
         runs = λ run gives. subst (λ (es : List Event). HoldsIn (TellTaken told) (TellBytes told) (old.greeted ≡ true) run (map told links.links) old.seated.listeners es core (desk_told old.first_desk) (desk_told old.desk)) (sym events)
             (subst (λ (ls : Links L). HoldsIn (TellTaken told) (TellBytes told) (old.greeted ≡ true) run (map told ls.links) old.seated.listeners (old.journal.events ++ event.Connect number ∷ []) core (desk_told old.first_desk) (desk_told old.desk)) (sym links_are)
             (holds_connected number core journal.events link connects fresh run (is.runs run gives)));
-        shown = λ run gives. subst (λ (es : List Event). AllShowWhy (TellOver told) es core.hub (map told links.links)) (sym events)
-            (subst (λ (ls : Links L). AllShowWhy (TellOver told) (old.journal.events ++ event.Connect number ∷ []) core.hub (map told ls.links)) (sym links_are)
-            (subst (AllShowWhy (TellOver told) (old.journal.events ++ event.Connect number ∷ []) core.hub) (sym (map-append told old.links.links (link ∷ [])))
+        shown = λ run gives. subst (λ (es : List Event). AllShowWhy (TellTheEnd told) es core.hub (map told links.links)) (sym events)
+            (subst (λ (ls : Links L). AllShowWhy (TellTheEnd told) (old.journal.events ++ event.Connect number ∷ []) core.hub (map told ls.links)) (sym links_are)
+            (subst (AllShowWhy (TellTheEnd told) (old.journal.events ++ event.Connect number ∷ []) core.hub) (sym (map-append told old.links.links (link ∷ [])))
             (shown_connected old.journal.events (event.Connect number ∷ []) old.core.hub core.hub connects.comes.0 (map told old.links.links) (told link) connects.comes.1 connects.comes.2 connects.same.buffer
             (is.linked.many ∙ sym (length-map old.links.links told)) (is.shown run gives))));
       }

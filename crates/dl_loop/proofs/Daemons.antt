@@ -7,11 +7,11 @@ use Rattle.dl_desk.specs.State.{DeskState}
 use Rattle.dl_core.specs.State.{Core}
 use Rattle.dl_rounds.specs.Clients.{Clients, VisitsAll}
 use Rattle.dl_rounds.specs.Passing.{StayAsNoted}
-use Rattle.dl_turns.specs.Gone.{TellOver}
+use Rattle.dl_turns.specs.Gone.{TellTheEnd}
 use Rattle.dl_rounds.specs.Ready.{AreHeard}
 use Rattle.dl_rounds.specs.Shown.{ShowWhy, TellOvers}
 use Rattle.dl_rounds.specs.Visits.{HearsAll, Pumped}
-use Rattle.dl_rounds.specs.Seats.{Seated}
+use Rattle.dl_rounds.specs.ListenerPool.{Seated}
 use Rattle.dl_rounds.specs.declared.accepting.Arrival.{Arrival}
 use Rattle.dl_taking.specs.Took.{took_by}
 use Rattle.dl_settling.specs.Room.{HasFewClaims, IsFew}
@@ -62,14 +62,14 @@ accept_is {L} told came net net_now old new is accepts = subst (λ (d : DaemonSt
     (accepted told old is came net net_now new.core new.journal new.links new.dropped new.failed new.wanted accepts.arrives accepts.connects accepts.linked accepts.heard accepts.spare accepts.unused)
 
 pub hear_is : ((moved : Bool) (old new : Clients) → HearsAll moved old new → StayAsNoted old new) → {L : Type 0} (told : L → LinkTold)
-    → ((moved : Bool) (old new : Clients) → HearsAll moved old new → (TellOver told → TellOvers old.links) → ShowWhy (TellOver told) old → ShowWhy (TellOver told) new) → (moved : Bool) (folder folder_now : FolderTold) (old new : DaemonState L)
+    → ((moved : Bool) (old new : Clients) → HearsAll moved old new → (TellTheEnd told → TellOvers old.links) → ShowWhy (TellTheEnd told) old → ShowWhy (TellTheEnd told) new) → (moved : Bool) (folder folder_now : FolderTold) (old new : DaemonState L)
     → IsDaemon told old → Hears told moved folder folder_now old new → GoesOn old new → IsDaemon told new
 hear_is stays {L} told shows moved folder folder_now old new is hears goes = subst (λ (d : DaemonState L). IsDaemon told d) (sym hears.rest)
     (later_daemon told old is new.core new.desk new.journal new.links new.seated folder folder_now (stays moved _ _ hears.visits) (shows moved _ _ hears.visits (tell_overs told old.links.links)) (heard_runs moved _ _ hears.visits is.running)
     (heard_admits_none moved _ _ hears.visits) hears.desk goes.linked goes.heard goes.room goes.same)
 
 pub pump_is : ((moved : Bool) (old new : Clients) → VisitsAll Pumped moved old new → StayAsNoted old new) → PumpsAreEvents → {L : Type 0} (told : L → LinkTold)
-    → ((moved : Bool) (old new : Clients) → VisitsAll Pumped moved old new → ShowWhy (TellOver told) old → ShowWhy (TellOver told) new) → (moved : Bool) (old new : DaemonState L)
+    → ((moved : Bool) (old new : Clients) → VisitsAll Pumped moved old new → ShowWhy (TellTheEnd told) old → ShowWhy (TellTheEnd told) new) → (moved : Bool) (old new : DaemonState L)
     → IsDaemon told old → Pumps told moved old new → GoesOn old new → IsDaemon told new
 pump_is stays pump {L} told shows moved old new is pumps goes =
     let enough : length (map told old.links.links) ≤ length old.seated.listeners = omega (arith, length-map old.links.links told, is.linked.many, is.linked.few, is.heard.enough) in

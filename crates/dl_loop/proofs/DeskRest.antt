@@ -1,7 +1,7 @@
 -- What a desk keeps whatever levels are set and whatever is injected.
 use Rattle.std.proofs.Common.{◌≡◌, ℕ, List, [], ◌∷◌, ◌++◌, map, append-nil, append_assoc, refl, sym, ap, ◌∙◌}
 use Rattle.dl_desk.specs.Made.{IsLater}
-use Rattle.dl_desk.specs.Posting.{without_pushes}
+use Rattle.dl_desk.specs.QueuedInjections.{without_pushes}
 use Rattle.dl_desk.specs.State.{DeskState}
 use Rattle.dl_desk.specs.declared.app_handles.AppHandles.{AppHandles}
 use Rattle.dl_loop.specs.State.{SameDesk}

@@ -26,7 +26,7 @@ use Rattle.dl_core.proofs.LeftFiles.{leaves_alone, leaves_both}
 use Rattle.dl_admission.specs.Kept.{end_of}
 use Rattle.dl_turns.specs.Events.{Asks, Closes, ServesOne, SetsLevel, SetsLevels}
 use Rattle.dl_turns.specs.State.{Side, Stage}
-use Rattle.dl_turns.specs.Stopping.{GoesOn, IsClosedIn, IsWoundUp, TurnsOn}
+use Rattle.dl_turns.specs.Stopping.{GoesOn, IsClosedIn, HasClosingTurns, TurnsOn}
 use Rattle.dl_turns.specs.Turns.{ClosesFor, Heeds, IsPump, IsTurn, ServesEach}
 use Rattle.dl_turns.proofs.AddedEvents.{each_both, each_none}
 use Rattle.dl_turns.proofs.LaterStages.{WhatLinksTake, fits}
@@ -189,7 +189,7 @@ module _ (takes : WhatLinksTake) where
   on_turns client zero old new same = on_same old.side new.side (ap (λ (s : Stage). s.side) same)
   on_turns client (suc count) old new turns = on_both old.side turns.0.side new.side (on_goes client _ old turns.0 turns.1) (on_turns client count turns.0 new turns.2)
 
-  on_wound_up : (client : ℕ) (why : Why) (old new : Stage) → IsWoundUp client why old new → FolderGoesOn old.side new.side
+  on_wound_up : (client : ℕ) (why : Why) (old new : Stage) → HasClosingTurns client why old new → FolderGoesOn old.side new.side
   on_wound_up client why old new wound =
       let last = wound.last in
       on_both old.side last.side new.side (on_turns client wound.count old last wound.turns) (elim wound.ends [

@@ -32,7 +32,7 @@ use Rattle.dl_admission.specs.Kept.{end_of}
 use Rattle.dl_rounds.specs.Arrivals.{Arrives, ConnectsAs}
 use Rattle.dl_rounds.specs.declared.accepting.Arrival.{Arrival}
 use Rattle.dl_rounds.specs.declared.accepting.Arrival.TheVariants as arrival
-use Rattle.dl_rounds.specs.Seats.{Seated}
+use Rattle.dl_rounds.specs.ListenerPool.{Seated}
 use Rattle.dl_rounds.specs.Visits.{HearsAll, Pumped}
 use Rattle.dl_rounds.specs.Clients.{Clients, VisitsAll}
 use Rattle.dl_rounds.specs.Passing.{AreLater, IsOfClients}

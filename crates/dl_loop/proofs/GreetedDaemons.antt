@@ -24,7 +24,7 @@ use Rattle.dl_outside.specs.Told.{FolderTold, LinkTold}
 use Rattle.dl_model.proofs.LongerJournals.{goes_on}
 use Rattle.dl_desk.specs.Apps.{AppState}
 use Rattle.dl_desk.specs.State.{DeskState}
-use Rattle.dl_desk.specs.Told.{PostTold}
+use Rattle.dl_desk.specs.Told.{ControlTold}
 use Rattle.dl_registry.specs.Kept.{owed_change}
 use Rattle.dl_hub.specs.State.{Client, Hub, is_open, outbox_of}
 use Rattle.dl_core.specs.Admission.{AddsEach}
@@ -36,7 +36,7 @@ use Rattle.dl_admission.specs.Kept.{KeepsTrace}
 use Rattle.dl_admission.proofs.KeptTraces.{trace_both, trace_each, trace_none}
 use Rattle.dl_core.proofs.InTurn.{level_in_turn, user_in_turn}
 use Rattle.dl_turns.specs.Events.{SetsLevel, SetsLevels}
-use Rattle.dl_turns.specs.Gone.{TellOver}
+use Rattle.dl_turns.specs.Gone.{TellTheEnd}
 use Rattle.dl_turns.specs.Later.{IsDeskLater}
 use Rattle.dl_turns.specs.State.{Side}
 use Rattle.dl_turns.proofs.AddedEvents.{each_both, each_none}
@@ -137,9 +137,9 @@ leads_level next old new sets = record {
   after = subst (λ (f : FolderTold). Adds (event.Level next.slot next.level ∷ []) (λ run. Unit {0}) old.core new.core old.folder f) (sym sets.folder) (sets.after old.folder);
   formed = λ run past taken after running formed.
       goes_on run.setting (source_of run) past (event.Level next.slot next.level ∷ []) formed (level_in_turn old.core next [] sets.owed run past taken after, tt);
-  desk = record { sets = ap (λ (d : PostTold). d.sets) sets.desk; apps = ap (λ (d : PostTold). d.apps) sets.desk; first = ap (λ (d : PostTold). d.first) sets.desk };
-  pushed = λ app. ap (λ (d : PostTold). d.pushed app) sets.desk;
-  refusals = λ app. ap (λ (d : PostTold). d.refusals app) sets.desk;
+  desk = record { sets = ap (λ (d : ControlTold). d.sets) sets.desk; apps = ap (λ (d : ControlTold). d.apps) sets.desk; first = ap (λ (d : ControlTold). d.first) sets.desk };
+  pushed = λ app. ap (λ (d : ControlTold). d.pushed app) sets.desk;
+  refusals = λ app. ap (λ (d : ControlTold). d.refusals app) sets.desk;
   admitted = ap (λ (c : Core). c.hub.admitted) sets.core;
   limit = ap (λ (c : Core). c.hub.limit) sets.core;
   trace = keeps_still old.core.trace new.core.trace old.folder new.folder (ap (λ (c : Core). c.trace) sets.core) sets.folder;
@@ -177,12 +177,12 @@ leads_one moment msg old new settled is greets =
         formed = λ run past taken after running formed.
             goes_on run.setting (source_of run) past (event.User 0 msg moment ∷ []) formed (user_in_turn old.core 0 msg moment [] settled run past taken after running, tt);
         desk = record {
-          sets = ap (λ (d : PostTold). d.sets) greets.desk ∙ sym (append-nil old.desk.sets);
-          apps = ap (λ (d : PostTold). d.apps) greets.desk;
-          first = ap (λ (d : PostTold). d.first) greets.desk;
+          sets = ap (λ (d : ControlTold). d.sets) greets.desk ∙ sym (append-nil old.desk.sets);
+          apps = ap (λ (d : ControlTold). d.apps) greets.desk;
+          first = ap (λ (d : ControlTold). d.first) greets.desk;
         };
-        pushed = λ app. ap (λ (d : PostTold). d.pushed app) greets.desk;
-        refusals = λ app. ap (λ (d : PostTold). d.refusals app) greets.desk;
+        pushed = λ app. ap (λ (d : ControlTold). d.pushed app) greets.desk;
+        refusals = λ app. ap (λ (d : ControlTold). d.refusals app) greets.desk;
         admitted = greets.notes.admitted ∙ ap (λ n. old.core.hub.admitted + n) (no_frames old.core.ecu msg is) ∙ add_none old.core.hub.admitted;
         limit = greets.notes.same.limit;
         trace = trace_each (map (stored old.core.ecu moment) (user_frames old.core.ecu msg)) old.core.trace greets.between.core.trace old.folder greets.between.folder greets.notes.stores greets.notes.others;
@@ -362,7 +362,7 @@ module _ {L : Type 0} (told : L → LinkTold) (moment : Moment) (msgs : List Use
         running = subst IsRunning (sym events) (running_on old.daemon.journal.events led.0 is.running (none_stops led.0 led.1.kinds));
         runs = λ run gives. subst (λ (es : List Event). HoldsIn (TellTaken told) (TellBytes told) (new.daemon.greeted ≡ true) run (map told old.daemon.links.links) old.daemon.seated.listeners es new.daemon.core (desk_told old.daemon.first_desk) (desk_told new.daemon.desk)) (sym events)
             (holds_greeted there_now run gives);
-        shown = λ run gives. subst (λ (ls : List L). AllShowWhy (TellOver told) new.daemon.journal.events new.daemon.core.hub (map told ls)) (sym nobody) (λ number link there gone at. absurd (cc at));
+        shown = λ run gives. subst (λ (ls : List L). AllShowWhy (TellTheEnd told) new.daemon.journal.events new.daemon.core.hub (map told ls)) (sym nobody) (λ number link there gone at. absurd (cc at));
       })
 
   -- it is later by what they told

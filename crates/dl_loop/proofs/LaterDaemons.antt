@@ -30,10 +30,10 @@ use Rattle.dl_turns.specs.State.{side}
 use Rattle.dl_turns.proofs.PostedSides.{posted_both}
 use Rattle.dl_rounds.specs.Clients.{Clients}
 use Rattle.dl_rounds.specs.Passing.{AreLater, IsOfClients, StayAsNoted, took_all}
-use Rattle.dl_turns.specs.Gone.{TellOver}
+use Rattle.dl_turns.specs.Gone.{TellTheEnd}
 use Rattle.dl_rounds.specs.Ready.{AreHeard, AreLinked, KeepsRoom}
 use Rattle.dl_rounds.specs.Shown.{AllShowWhy}
-use Rattle.dl_rounds.specs.Seats.{Seated}
+use Rattle.dl_rounds.specs.ListenerPool.{Seated}
 use Rattle.dl_taking.specs.Drained.{is_claim, is_noted}
 use Rattle.dl_taking.specs.Takes.{AreThere}
 use Rattle.dl_taking.specs.Took.{Took, took_by}
@@ -123,7 +123,7 @@ module _ {L : Type 0} (told : L → LinkTold) (old : DaemonState L) (is : IsDaem
   -- a daemon is one after it
   pub later_daemon : (core : Core) (desk : DeskState) (journal : Journaled) (links : Links L) (seated : Seated) (folder folder_now : FolderTold)
       → StayAsNoted (clients_of told old folder) (record { links = map told links.links; listeners = seated.listeners; side = side core (desk_told desk) (Some journal.events) folder_now })
-      → (AllShowWhy (TellOver told) old.journal.events old.core.hub (map told old.links.links) → AllShowWhy (TellOver told) journal.events core.hub (map told links.links))
+      → (AllShowWhy (TellTheEnd told) old.journal.events old.core.hub (map told old.links.links) → AllShowWhy (TellTheEnd told) journal.events core.hub (map told links.links))
       → IsRunning journal.events → core.hub.admitted ≡ old.core.hub.admitted → SameDesk old.desk desk
       → AreLinked links core journal.spare → AreHeard seated core (desk_told desk) → KeepsRoom old.core core old.journal.spare journal.spare → IsSameHub old.core.hub core.hub
       → IsDaemon told (record old { core = core; desk = desk; journal = journal; links = links; seated = seated })

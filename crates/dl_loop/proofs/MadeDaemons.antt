@@ -23,10 +23,10 @@ use Rattle.dl_account.specs.Known.{told_as}
 use Rattle.dl_core.specs.Settings.{begun}
 use Rattle.dl_core.specs.State.{Core}
 use Rattle.dl_turns.specs.Events.{IsDeskOf}
-use Rattle.dl_turns.specs.Gone.{TellOver}
+use Rattle.dl_turns.specs.Gone.{TellTheEnd}
 use Rattle.dl_rounds.specs.Ready.{AreLinked, fresh_listener}
 use Rattle.dl_rounds.specs.Shown.{AllShowWhy}
-use Rattle.dl_rounds.specs.Seats.{Seated}
+use Rattle.dl_rounds.specs.ListenerPool.{Seated}
 use Rattle.dl_rounds.specs.declared.listener.Listener.{Listener}
 use Rattle.dl_taking.specs.Drained.{is_claim, is_noted}
 use Rattle.dl_loop.specs.Daemon.{IsDaemon, TellTaken}
@@ -151,5 +151,5 @@ made_daemon told core desk journal links seated calls begins untouched events no
             posted = λ app. record { took = sym (append-nil _); refused = still _; full = tt };
             there = λ greeted. absurd (cc greeted);
           }));
-      shown = λ run gives. subst (λ (ls : Links _). AllShowWhy (TellOver told) journal.events (begun conf stored 0 trace).hub (map told ls.links)) (sym no_links) (λ number link there gone at. absurd (cc at));
+      shown = λ run gives. subst (λ (ls : Links _). AllShowWhy (TellTheEnd told) journal.events (begun conf stored 0 trace).hub (map told ls.links)) (sym no_links) (λ number link there gone at. absurd (cc at));
     })

@@ -14,7 +14,7 @@ use Rattle.dl_message.specs.Requests.{requests}
 use Rattle.dl_message.proofs.Pieces.{short_no_piece}
 use Rattle.dl_model.specs.ClientEnds.{LinkDid, asked_by, asked_in}
 use Rattle.dl_outside.specs.Told.{FolderTold, LinkTold}
-use Rattle.dl_desk.specs.Told.{PostTold}
+use Rattle.dl_desk.specs.Told.{ControlTold}
 use Rattle.dl_hub.specs.State.{Client as HubClient, Hub, Waiting, client_of, outbox_of}
 use Rattle.dl_core.specs.Follows.{IsAfter, Run}
 use Rattle.dl_core.specs.State.{Core}
@@ -110,7 +110,7 @@ module _ (run : Run) (events : List Event) (took : ℕ → List ℕ) (old new : 
     (many : length old.hub.clients ≡ length links) (given : link.given ≡ Some [])
     (unused : (place : ℕ) (listener : Listener) → slice_get listeners place ≡ Some listener → length old.hub.clients ≤ place → listener ≡ fresh_listener)
     (after : IsAfter run (events ++ event.Connect number ∷ []) took new) (taken : AreTaken (links ++ link ∷ []) took) (noted : AreNoted run events took links listeners old)
-    (desk : PostTold) (journal : Option (List Event)) (folder : FolderTold) where
+    (desk : ControlTold) (journal : Option (List Event)) (folder : FolderTold) where
   abbrev before : Clients
   before = record { links = links; listeners = listeners; side = side old desk journal folder }
 
@@ -190,7 +190,7 @@ noted_taken run events took specs old new drain gives links listeners noted =
 -- ---- the links of clients that are gone were shut
 
 module _ (run : Run) (events : List Event) (took : ℕ → List ℕ) (core : Core) (listeners : List Listener) (old new : List LinkTold) (shuts : ShutsGone core.hub old new) (tells : TellFrom 0 old)
-    (noted : AreNoted run events took old listeners core) (desk : PostTold) (journal : Option (List Event)) (folder : FolderTold) where
+    (noted : AreNoted run events took old listeners core) (desk : ControlTold) (journal : Option (List Event)) (folder : FolderTold) where
   abbrev unparted : Clients
   unparted = record { links = old; listeners = listeners; side = side core desk journal folder }
 

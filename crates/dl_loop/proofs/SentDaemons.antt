@@ -12,7 +12,7 @@ use Rattle.dl_desk.proofs.desk.Desk.TheSendSync as desk
 use Rattle.dl_events.proofs.journal.Kept.TheSendSync as journal
 use Rattle.dl_outside.specs.declared.link.Link.{Ghosts}
 use Rattle.dl_outside.proofs.links.LinkList.TheSendSync as links
-use Rattle.dl_rounds.proofs.seats.Seats.TheSendSync as seats
+use Rattle.dl_rounds.proofs.listener_pool.ListenerPool.TheSendSync as seats
 use Rattle.dl_settling.proofs.ends.EndRoom.TheSendSync as ends
 use Rattle.dl_taking.proofs.batch.Batch.TheSendSync as batch
 use Rattle.dl_loop.specs.contracts.daemon.Daemon as Daemon

@@ -7,7 +7,7 @@ use Rattle.std.proofs.lemmas.Option.{slice_get-get_or, slice_get_within}
 use Rattle.dl_events.specs.declared.event.Event.{Event}
 use Rattle.dl_outside.specs.Told.{LinkTold}
 use Rattle.dl_hub.specs.State.{Client as HubClient, Hub, client_of, outbox_of}
-use Rattle.dl_turns.specs.Gone.{TellOver}
+use Rattle.dl_turns.specs.Gone.{TellTheEnd}
 use Rattle.dl_rounds.specs.Partings.{ShutsGone}
 use Rattle.dl_rounds.specs.Shown.{AllShowWhy}
 use Rattle.dl_rounds.proofs.ByPlace.{get_before}
@@ -16,7 +16,7 @@ use Rattle.dl_rounds.proofs.Turned.{placed}
 use Rattle.dl_lemmas.proofs.Lists.{get_end}
 
 -- where all links of a kind tell whether they are over, these do
-pub tell_overs : {L : Type 0} (told : L → LinkTold) (links : List L) → TellOver told → (place : ℕ) (link : LinkTold) → slice_get (map told links) place ≡ Some link → IsSome link.over
+pub tell_overs : {L : Type 0} (told : L → LinkTold) (links : List L) → TellTheEnd told → (place : ℕ) (link : LinkTold) → slice_get (map told links) place ≡ Some link → IsSome link.over
 tell_overs told [] tells place link at = absurd cc
 tell_overs told (l ∷ links) tells zero link at = (let same : told l ≡ link = cc at in subst (λ (k : LinkTold). IsSome k.over) same (tells l))
 tell_overs told (l ∷ links) tells (suc place) link at = tell_overs told links tells place link at

@@ -19,7 +19,7 @@ use Rattle.dl_ring.proofs.Items.{calls_in-append}
 use Rattle.dl_writer.specs.State.{BookState, IsWhole}
 use Rattle.dl_desk.specs.Lists.{At}
 use Rattle.dl_desk.specs.State.{DeskState}
-use Rattle.dl_desk.specs.Told.{PostTold}
+use Rattle.dl_desk.specs.Told.{ControlTold}
 use Rattle.dl_desk.specs.declared.app_handles.AppHandles.{AppHandles}
 use Rattle.dl_account.specs.Known.{AreGathered, taken_of, told_as}
 use Rattle.dl_account.specs.Making.{IsMadeOf, KeepsDesk}
@@ -34,8 +34,8 @@ use Rattle.dl_taking.specs.Drained.{GivesTook}
 use Rattle.dl_taking.specs.Draining.{all_claims_left, closing_told, closing_took}
 use Rattle.dl_taking.specs.Takes.{AreThere, TellAllTaken}
 use Rattle.dl_taking.specs.Took.{Took, took_by}
-use Rattle.dl_turns.specs.Gone.{TellOver}
-use Rattle.dl_turns.specs.Injected.{HasPosted}
+use Rattle.dl_turns.specs.Gone.{TellTheEnd}
+use Rattle.dl_turns.specs.Injected.{HasInjected}
 use Rattle.dl_turns.specs.Later.{level_in}
 use Rattle.dl_turns.proofs.PostedSides.{posted_both}
 use Rattle.dl_rounds.specs.Passing.{AreAsNoted, took_all}
@@ -122,7 +122,7 @@ module _ {L : Type 0} (told : L → LinkTold) (d : DaemonState L) (books : List 
     (went : (run : Run) (taken : ℕ → List ℕ) → TellBytes told → GivesTook account.apps (account_took account) run → AreAsNoted run d.journal.events taken (stopping.clients_of told (stopping_of d closing) folder)
     → HaveGone run account.events (map told links.links) account.outcome.links)
     (ended : (run : Run) (taken : ℕ → List ℕ) → GivesTook account.apps (account_took account) run → IsAfter run d.journal.events taken d.core
-    → AllShowWhy (TellOver told) d.journal.events d.core.hub (map told d.links.links) → HaveEnded (TellOver told) run.setting account.events (map told links.links) account.outcome.links)
+    → AllShowWhy (TellTheEnd told) d.journal.events d.core.hub (map told d.links.links) → HaveEnded (TellTheEnd told) run.setting account.events (map told links.links) account.outcome.links)
     (outbox : (run : Run) (events : List Event) (taken : ℕ → List ℕ) (core : Core) (client : ℕ) → IsAfter run events taken core → IsSome (outbox_of core.hub client) ↔ IsOpen client events)
     (stops : FolderStops (stopping_of d closing) core account folder folder_now) where
   apps_so : account.apps ≡ d.desk.apps
@@ -176,11 +176,11 @@ module _ {L : Type 0} (told : L → LinkTold) (d : DaemonState L) (books : List 
       record {
         took = taken;
         after = after;
-        formed = subst (IsWellFormed run.setting (source_of run)) events (on.formed (subst (λ (t : PostTold). AreThere t.apps d.core.registry) (sym told_so) (holds.there greeted)) is.running holds.formed);
+        formed = subst (IsWellFormed run.setting (source_of run)) events (on.formed (subst (λ (t : ControlTold). AreThere t.apps d.core.registry) (sym told_so) (holds.there greeted)) is.running holds.formed);
         none_open = λ client open_so. not_some (outbox_of core.hub client) (stop.none_open client) ((outbox run account.events taken core client after).1 open_so);
-        posted = λ app. subst (λ (es : List Event). HasPosted run.setting [] es app (desk_told d.first_desk) (account_told account)) events
+        posted = λ app. subst (λ (es : List Event). HasInjected run.setting [] es app (desk_told d.first_desk) (account_told account)) events
             (posted_both run.setting [] d.journal.events stop.more app (desk_told d.first_desk) (desk_told d.desk) (account_told account) (holds.posted app)
-            (subst (λ (t : PostTold). HasPosted run.setting d.journal.events stop.more app t (account_told account)) told_so (on.posted app)));
+            (subst (λ (t : ControlTold). HasInjected run.setting d.journal.events stop.more app t (account_told account)) told_so (on.posted app)));
         ends = subst (λ (n : ℕ). TellStreams run account.events n account.outcome.links) stop.clients
             (subst (TellStreams run account.events (length core.hub.clients)) (sym ends) (streams_told run account.events taken core after));
         trace = ap (λ (o : Ends). o.trace) stop.outcome;

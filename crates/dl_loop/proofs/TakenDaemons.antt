@@ -17,9 +17,9 @@ use Rattle.dl_ring.specs.Items.{calls_in}
 use Rattle.dl_ring.proofs.Items.{calls_in-append}
 use Rattle.dl_desk.specs.Lists.{At}
 use Rattle.dl_desk.specs.Made.{IsLater}
-use Rattle.dl_desk.specs.Posting.{without_pushes}
+use Rattle.dl_desk.specs.QueuedInjections.{without_pushes}
 use Rattle.dl_desk.specs.State.{DeskState}
-use Rattle.dl_desk.specs.Told.{PostTold}
+use Rattle.dl_desk.specs.Told.{ControlTold}
 use Rattle.dl_desk.specs.declared.app_handles.AppHandles.{AppHandles}
 use Rattle.dl_account.specs.Known.{taken_of, told_as}
 use Rattle.dl_registry.specs.Kept.{owed_change}
@@ -29,7 +29,7 @@ use Rattle.dl_taking.specs.Drained.{GivesTook, IsDrain, IsTake, is_claim, is_not
 use Rattle.dl_taking.specs.Took.{took_by, without_takes}
 use Rattle.dl_taking.specs.Takes.{AreThere, TellAllTaken}
 use Rattle.dl_turns.specs.Events.{IsDeskOf}
-use Rattle.dl_turns.specs.Gone.{TellOver}
+use Rattle.dl_turns.specs.Gone.{TellTheEnd}
 use Rattle.dl_turns.specs.Later.{level_in}
 use Rattle.dl_turns.proofs.PostedSides.{posted_both}
 use Rattle.dl_core.proofs.Following.{running_on}
@@ -141,7 +141,7 @@ module _ {L : Type 0} (told : L → LinkTold) (logs claims frames : ℕ) (old ne
         formed = drain.formed run old.daemon.journal.events holds.took it holds.after (holds.there took.greeted) is.running holds.formed;
         posted = λ app. posted_both run.setting [] old.daemon.journal.events drain.more app (desk_told old.daemon.first_desk) (desk_told old.daemon.desk) (desk_told new.daemon.desk) (holds.posted app)
             (posted_none run.setting old.daemon.journal.events drain.more app (desk_told old.daemon.desk) (desk_told new.daemon.desk) (drain_asks drain.more drain.kinds)
-            (ap (λ (p : PostTold). p.pushed app) drain.desk) (ap (λ (p : PostTold). p.refusals app) drain.desk));
+            (ap (λ (p : ControlTold). p.pushed app) drain.desk) (ap (λ (p : ControlTold). p.refusals app) drain.desk));
         there = λ greeted. subst (λ (n : ℕ). AreThere n new.daemon.core.registry) (sym apps) (drain.there (holds.there greeted));
       }
 
@@ -163,8 +163,8 @@ module _ {L : Type 0} (told : L → LinkTold) (logs claims frames : ℕ) (old ne
     admitted = tells.admitted;
     losses = tells.losses;
     alone = alone;
-    first = ap (λ (p : PostTold). p.first) drain.desk ∙ is.told_by.first;
-    levels = ap (λ (p : PostTold). p.sets) drain.desk ∙ ap (λ (cs : List Change). cs ++ filter_map level_in drain.more) is.told_by.levels
+    first = ap (λ (p : ControlTold). p.first) drain.desk ∙ is.told_by.first;
+    levels = ap (λ (p : ControlTold). p.sets) drain.desk ∙ ap (λ (cs : List Change). cs ++ filter_map level_in drain.more) is.told_by.levels
         ∙ sym (filter_map-append level_in old.daemon.journal.events drain.more);
   }
 
@@ -217,6 +217,6 @@ module _ {L : Type 0} (told : L → LinkTold) (logs claims frames : ℕ) (old ne
         shown = λ run gives.
             let before = gives_before run gives in
             let holds = is.runs run before in
-            subst (λ (es : List Event). AllShowWhy (TellOver told) es new.daemon.core.hub (map told old.daemon.links.links)) (sym events)
+            subst (λ (es : List Event). AllShowWhy (TellTheEnd told) es new.daemon.core.hub (map told old.daemon.links.links)) (sym events)
             (shown_drain run old.daemon.journal.events holds.took old.daemon.desk.apps (taking_of old) (taking_of new) drain (gives_took run gives) holds.after (map told old.daemon.links.links) (is.shown run before));
       })

@@ -7,7 +7,7 @@ use Rattle.dl_desk.specs.Made.{IsLater}
 use Rattle.dl_core.specs.Follows.{Run}
 use Rattle.dl_taking.specs.Drained.{is_claim, is_noted}
 use Rattle.dl_taking.specs.Took.{took_by}
-use Rattle.dl_turns.specs.Gone.{TellOver}
+use Rattle.dl_turns.specs.Gone.{TellTheEnd}
 use Rattle.dl_rounds.specs.Ready.{AreHeard, AreLinked, open_clients}
 use Rattle.dl_rounds.specs.Shown.{AllShowWhy}
 use Rattle.dl_settling.specs.Room.{HasFewClaims, IsFew}
@@ -49,4 +49,4 @@ pub record IsDaemon {L : Type 0} (told : L → LinkTold) (d : DaemonState L) : T
   pub running : IsRunning d.journal.events
   pub runs : (run : Run) → Gives run d.first_core d.desk.apps d.desk.handles
       → HoldsIn (TellTaken told) (TellBytes told) (d.greeted ≡ true) run (map told d.links.links) d.seated.listeners d.journal.events d.core (desk_told d.first_desk) (desk_told d.desk)
-  pub shown : (run : Run) → Gives run d.first_core d.desk.apps d.desk.handles → AllShowWhy (TellOver told) d.journal.events d.core.hub (map told d.links.links)
+  pub shown : (run : Run) → Gives run d.first_core d.desk.apps d.desk.handles → AllShowWhy (TellTheEnd told) d.journal.events d.core.hub (map told d.links.links)

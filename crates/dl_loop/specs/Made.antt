@@ -3,7 +3,7 @@ use Rattle.std.specs.Prelude.{◌≡◌, ℕ, ◌+◌, ◌≤◌, false, List, [
 use Rattle.dl_bytes.specs.declared.conf.Conf.{Conf}
 use Rattle.dl_bytes.specs.declared.conf.Stored.{Stored}
 use Rattle.dl_trace.specs.State.{Trace}
-use Rattle.dl_desk.specs.Posting.{pushed_of, refusals_of}
+use Rattle.dl_desk.specs.QueuedInjections.{pushed_of, refusals_of}
 use Rattle.dl_desk.specs.State.{DeskState}
 use Rattle.dl_account.specs.Known.{taken_of}
 use Rattle.dl_core.specs.Settings.{begun}

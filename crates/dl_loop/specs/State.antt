@@ -3,13 +3,13 @@ use Rattle.std.specs.Prelude.{◌≡◌, ℕ, Bool, Some, length, map}
 use Rattle.dl_events.specs.Journal.{Journaled}
 use Rattle.dl_outside.specs.Links.{Links}
 use Rattle.dl_outside.specs.Told.{FolderTold, LinkTold}
-use Rattle.dl_desk.specs.Posting.{rest_of}
+use Rattle.dl_desk.specs.QueuedInjections.{rest_of}
 use Rattle.dl_desk.specs.State.{DeskState}
-use Rattle.dl_desk.specs.Told.{PostTold, told_by}
+use Rattle.dl_desk.specs.Told.{ControlTold, told_by}
 use Rattle.dl_core.specs.State.{Core}
 use Rattle.dl_turns.specs.State.{side}
 use Rattle.dl_rounds.specs.Clients.{Clients}
-use Rattle.dl_rounds.specs.Seats.{Seated}
+use Rattle.dl_rounds.specs.ListenerPool.{Seated}
 
 -- The daemon: its core, its desk and its journal; the link of each client, by the clients' numbers from 1, and the listeners in their seats; how many Log
 -- and Lost events there may be, and how many there are; how many Claim events there are; how many links were dropped, and whether an accept has
@@ -31,7 +31,7 @@ pub record DaemonState (L : Type 0) : Type 0 where
   pub first_desk : DeskState
 
 -- what a desk tells of itself
-abbrev pub desk_told : DeskState → PostTold
+abbrev pub desk_told : DeskState → ControlTold
 desk_told desk = told_by (length desk.apps) desk.handles
 
 -- nothing has changed of a desk but levels and injections

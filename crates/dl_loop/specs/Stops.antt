@@ -16,8 +16,8 @@ use Rattle.dl_admission.specs.Kept.{end_of}
 use Rattle.dl_taking.specs.Draining.{MayNote, all_claims_left, all_to_note, closing_told}
 use Rattle.dl_rounds.specs.Ready.{AreHeard, AreLinked}
 use Rattle.dl_bytes.specs.Limits.{client_limit}
-use Rattle.dl_turns.specs.Gone.{TellOver}
-use Rattle.dl_turns.specs.Injected.{HasPosted}
+use Rattle.dl_turns.specs.Gone.{TellTheEnd}
+use Rattle.dl_turns.specs.Injected.{HasInjected}
 use Rattle.dl_writer.specs.State.{BookState}
 use Rattle.dl_account.specs.Making.{AreInOrder, IsMadeOf}
 use Rattle.dl_account.specs.Settled.{IsSettled}
@@ -44,12 +44,12 @@ pub record StopsIn {L : Type 0} (told : L → LinkTold) (run : Run) (d : DaemonS
   pub after : IsAfter run account.events took core
   pub formed : IsWellFormed run.setting (source_of run) account.events
   pub none_open : (client : ℕ) → IsOpen client account.events → ⊥
-  pub posted : (app : ℕ) → HasPosted run.setting [] account.events app (desk_told d.first_desk) (account_told account)
+  pub posted : (app : ℕ) → HasInjected run.setting [] account.events app (desk_told d.first_desk) (account_told account)
   pub ends : TellStreams run account.events (length links.links) account.outcome.links
   pub trace : account.outcome.trace ≡ trace_told core.trace
   pub holds : HoldsTrace run d.journal.events d.core folder → HoldsTrace run account.events core folder_now
   pub gone : TellBytes told → HaveGone run account.events (map told links.links) account.outcome.links
-  pub ended : HaveEnded (TellOver told) run.setting account.events (map told links.links) account.outcome.links
+  pub ended : HaveEnded (TellTheEnd told) run.setting account.events (map told links.links) account.outcome.links
 
 -- What a stop leaves: the journal is longer by calls, claims, losses, requests, levels and Closes alone; more was taken, and the journal tells just
 -- what was taken, reported and set; as many links come back as there were, and so many are told as dropped; and in each run that the account may be

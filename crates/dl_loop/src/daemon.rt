@@ -24,7 +24,7 @@ use dl_core::Core;
 use dl_desk::{AppList, Desk};
 use dl_events::{Journal, Kept};
 use dl_outside::{Clock, Folder, Link, LinkList, Net};
-use dl_rounds::{Arrival, Seats, accept_one, greet, listen_all, pump_all, shut_gone};
+use dl_rounds::{Arrival, ListenerPool, accept_one, greet, listen_all, pump_all, shut_gone};
 use dl_settling::EndRoom;
 use dl_taking::Batch;
 use std::alloc::Global;
@@ -41,7 +41,7 @@ pub struct Daemon<L: Link> {
     // of each client that came its link, by the clients' numbers from 1
     pub(crate) links: LinkList<L>,
     // of each client that may come what cuts its bytes
-    pub(crate) seats: Seats,
+    pub(crate) seats: ListenerPool,
     pub(crate) batch: Batch,
     // room for what becomes of each client's link
     pub(crate) ends: EndRoom,
@@ -53,7 +53,7 @@ pub struct Daemon<L: Link> {
     pub(crate) claimed: u32,
     // how many links were dropped
     pub(crate) dropped: u32,
-    // whether an accept has failed, and whether one has wanted memory
+    // whether an accept has failed, and whether one has run out of memory
     pub(crate) failed: bool,
     pub(crate) wanted: bool,
     // whether its own applications have told of themselves
@@ -158,7 +158,7 @@ impl<L: Link> Daemon<L> {
     }
 
     /// Notes what the applications of this process tell of themselves, before the first client comes. The list is that of the desk's applications.
-    /// Where memory was wanting the first ones of these messages are noted, each with its Level events.
+    /// Where memory ran out the first ones of these messages are noted, each with its Level events.
     pub fn hello<F: Folder>(
         &mut self,
         apps: &AppList,
@@ -195,9 +195,9 @@ impl<L: Link> Daemon<L> {
         self.greeted
     }
 
-    /// One round: an accept, unless one has failed or wanted memory before; each open client is listened to; each application's calls and claims are
-    /// taken, at most 64, and then its losses; and each open client is sent what waits for it. The link of a client that is gone is shut then, also
-    /// where it was too slow for what was taken. The net rests where nothing came, was taken or went.
+    /// One round: an accept, unless one has failed or run out of memory before; each open client is listened to; each application's calls and claims
+    /// are taken, at most 64, and then its losses; and each open client is sent what waits for it. The link of a client that is gone is shut then,
+    /// also where it was too slow for what was taken. The net rests where nothing came, was taken or went.
     pub fn round<R: Wait, N: Net<L = L>, C: Clock, F: Folder>(
         &mut self,
         rt: &R,
@@ -231,7 +231,7 @@ struct Served {
 #[derive(Drop)]
 struct Rooms<L> {
     links: LinkList<L>,
-    seats: Seats,
+    seats: ListenerPool,
     batch: Batch,
     ends: EndRoom,
 }
@@ -262,10 +262,10 @@ fn make_rooms<L: Drop>(
 
 /// The listeners of all clients that may come.
 #[tactic(auto, unfolding(crate::specs::Made::fresh_listeners))]
-fn all_seats(alloc: Global) -> Result<Seats, OutOfMemory>
+fn all_seats(alloc: Global) -> Result<ListenerPool, OutOfMemory>
     ensures { IfOk result (λ seats. seats.listeners ≡ fresh_listeners) }
 {
-    Seats::make(alloc, CLIENT_LIMIT)
+    ListenerPool::make(alloc, CLIENT_LIMIT)
 }
 
 /// The answer of a round, by what came of its accept.
@@ -287,7 +287,7 @@ fn is_failure(came: Arrival) -> bool
     matches!(came, Arrival::Failed)
 }
 
-/// Whether memory was wanting.
+/// Whether memory ran out.
 fn is_want(came: Arrival) -> bool
     ensures { result ≡ is_want came }
 {
@@ -332,7 +332,7 @@ impl<L: Link> Daemon<L> {
         shut_gone(self.core.hub(), &mut self.links);
     }
 
-    // One accept, unless an earlier one failed or wanted memory: then that one's answer again.
+    // One accept, unless an earlier one failed or ran out of memory: then that one's answer again.
     fn accept<N: Net<L = L>>(&mut self, net: &mut N) -> Arrival
     where
         L: Drop,

@@ -9,6 +9,6 @@ pub struct Round {
     pub none: bool,
     /// An accept failed, in this round or before: there are no more.
     pub failed: bool,
-    /// An accept wanted memory, in this round or before: there are no more.
+    /// An accept ran out of memory, in this round or before: there are no more.
     pub wanted: bool,
 }

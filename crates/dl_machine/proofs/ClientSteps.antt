@@ -9,7 +9,7 @@ use Rattle.dl_cells.specs.declared.level_history.Change.{Change}
 use Rattle.dl_channel.specs.State.{Outbox}
 use Rattle.dl_channel_turns.specs.Levels.{put_for, told}
 use Rattle.dl_core.specs.State.{Core}
-use Rattle.dl_desk.specs.Told.{PostTold}
+use Rattle.dl_desk.specs.Told.{ControlTold}
 use Rattle.dl_events.specs.declared.event.Why.{Why}
 use Rattle.dl_events.specs.declared.event.Why.TheVariants as why
 use Rattle.dl_hub.specs.State.{Waiting, outbox_of}
@@ -37,7 +37,7 @@ use Rattle.dl_socket.specs.Turns.{told_each}
 use Rattle.dl_turns.specs.Events.{Asks, Closes, SetsLevel, SetsLevels}
 use Rattle.dl_turns.specs.State.{Side, Stage}
 use Rattle.dl_turns.specs.Sent.{is_bad}
-use Rattle.dl_turns.specs.Stopping.{GoesOn, HasStopCause, IsClosedIn, IsStop, IsWoundUp, TurnsOn}
+use Rattle.dl_turns.specs.Stopping.{GoesOn, HasStopCause, IsClosedIn, IsStop, HasClosingTurns, TurnsOn}
 use Rattle.dl_turns.specs.Turns.{ClosesFor, HasGiven, Heeds, IsPump, IsTurn, Listens, Refuses, SendsRightly, ServesEach}
 use Rattle.dl_turns.proofs.PostedSides.{posts_keep}
 use Rattle.dl_turns.proofs.ShownCauses.{left_listens}
@@ -203,7 +203,7 @@ module _ (Visit : ℕ → Bool → rounds.Client → rounds.Client → Type 0) w
 
 module _ (IsTold : LinkTold → Type 0) (base : State) (registry : Registry) (sets : List Change) where
   -- what waits for the channels: the levels that were set since are put, each by this registry
-  abbrev pub boxes : PostTold → List (ℕ × Outbox)
+  abbrev pub boxes : ControlTold → List (ℕ × Outbox)
   boxes desk = told_each registry (drop (length sets) desk.sets) base.channels.outboxes
 
   abbrev pub lift : Spot → State
@@ -230,7 +230,7 @@ module _ (IsTold : LinkTold → Type 0) (base : State) (registry : Registry) (se
   same : (old new : Spot) → new ≡ old → Leading old new
   same = leads_same IsTold lift (λ spot. Follows spot.side)
 
-  pub boxes_now : (desk : PostTold) (more : List Change) → desk.sets ≡ sets ++ more → boxes desk ≡ told_each registry more base.channels.outboxes
+  pub boxes_now : (desk : ControlTold) (more : List Change) → desk.sets ≡ sets ++ more → boxes desk ≡ told_each registry more base.channels.outboxes
   boxes_now desk more so = ap (λ (cs : List Change). told_each registry cs base.channels.outboxes) (ap (λ (cs : List Change). drop (length sets) cs) so ∙ drop-append_seam sets more)
 
   -- ---- requests and levels
@@ -239,7 +239,7 @@ module _ (IsTold : LinkTold → Type 0) (base : State) (registry : Registry) (se
   level_leads next old new clients one = λ f.
       let c : Change = change next.slot next.level in
       let sets_now : new.desk.sets ≡ sets ++ (f.more ++ c ∷ []) =
-      ap (λ (d : PostTold). d.sets) one.desk ∙ ap (λ (cs : List Change). cs ++ c ∷ []) f.sets_so ∙ append_assoc sets f.more (c ∷ []) in
+      ap (λ (d : ControlTold). d.sets) one.desk ∙ ap (λ (cs : List Change). cs ++ c ∷ []) f.sets_so ∙ append_assoc sets f.more (c ∷ []) in
       let put : boxes new.desk ≡ told old.core.registry.registry next (boxes old.desk) =
       boxes_now new.desk (f.more ++ c ∷ []) sets_now ∙ told_more registry f.more c base.channels.outboxes
       ∙ ap (λ (o : List (ℕ × Outbox)). told registry next o) (sym (boxes_now old.desk f.more f.sets_so)) ∙ sym (told_names registry old.core.registry.registry f.names next (boxes old.desk)) in
@@ -368,7 +368,7 @@ module _ (IsTold : LinkTold → Type 0) (base : State) (registry : Registry) (se
         → Leading (at old was) (at new (record was { due = None; turn = no_turn }))
     close_leads cause was old new may closes = λ f.
         let named : new.core.registry.registry ≡ old.core.registry.registry = ap (λ (k : Core). k.registry.registry) closes.core in
-        let sets_same : new.desk.sets ≡ old.desk.sets = ap (λ (d : PostTold). d.sets) closes.desk in
+        let sets_same : new.desk.sets ≡ old.desk.sets = ap (λ (d : ControlTold). d.sets) closes.desk in
         let now : Client = record was { due = None; turn = no_turn } in (
           goes_one IsTold (OfClient number (Closed cause)) (lift (at old was)) (lift (at new now)) (
             low,
@@ -495,7 +495,7 @@ module _ (IsTold : LinkTold → Type 0) (base : State) (registry : Registry) (se
     stopped_may stops (why.Stuck left) last end new tried old stop closes cause (inr all) = (let risen = cause.0.1 in (stops, (refl, refl), omega (arith, risen), omega (arith, all)))
     stopped_may stops _ last end new tried old stop closes cause ends = absurd stop
 
-    wound_up_leads : base.stops ≡ true → (cause : Why) (old new : Stage) → (cause ≡ why.Left → TellOvers IsTold → new.link.over ≡ Some true) → IsSome (outbox_of old.side.core.hub number) → IsWoundUp number cause old new
+    wound_up_leads : base.stops ≡ true → (cause : Why) (old new : Stage) → (cause ≡ why.Left → TellOvers IsTold → new.link.over ≡ Some true) → IsSome (outbox_of old.side.core.hub number) → HasClosingTurns number cause old new
         → Leading (at old.side (idle old)) (at new.side (idle new))
     wound_up_leads stops cause old new left there stop =
         let last : Stage = stop.last in

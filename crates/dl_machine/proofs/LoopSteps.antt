@@ -9,7 +9,7 @@ use Rattle.dl_bytes.specs.declared.moment.Moment.{Moment}
 use Rattle.dl_bytes.specs.declared.user.UserMsg.{UserMsg}
 use Rattle.dl_cells.specs.declared.level_history.Change.{Change}
 use Rattle.dl_channel_turns.specs.Levels.{put_for, told}
-use Rattle.dl_desk.specs.Told.{PostTold}
+use Rattle.dl_desk.specs.Told.{ControlTold}
 use Rattle.dl_loop.specs.RoundSteps.{AcceptsIfMay, IsRound}
 use Rattle.dl_loop.specs.Scene.{Scene, side_of, taking_of}
 use Rattle.dl_loop.specs.State.{DaemonState, SameDesk, clients_of, desk_told}
@@ -47,7 +47,7 @@ use Rattle.dl_taking.specs.Takes.{Reports, TakesClaimIf, TakesSome, found_none, 
 use Rattle.dl_taking.specs.Took.{took_by}
 use Rattle.dl_taking.specs.declared.taking.Got.{Got}
 use Rattle.dl_turns.specs.Events.{HaveSetLevels}
-use Rattle.dl_turns.specs.Gone.{TellOver}
+use Rattle.dl_turns.specs.Gone.{TellTheEnd}
 use Rattle.dl_turns.specs.State.{Side, side}
 use Rattle.dl_machine.specs.State.{AreIdle, Client, State, new_client, no_turn}
 use Rattle.dl_machine.specs.Steps.{Came, Goes, Greeted, IsToldBy, LetGo, OfRings, PartedAll, TookCalls, TookClaim, TookLosses, Wanted}
@@ -78,7 +78,7 @@ module _ (IsTold : LinkTold → Type 0) (base : State) (none : base.channels ≡
 
   lead_goes : (registry : Registry) (sets : List Change) (old new : Spot) → Follows IsTold base registry sets old.side → clients.Leading IsTold base registry sets old new → Goes IsTold (plain old) (plain new)
   lead_goes registry sets old new follows lead =
-      let put : (desk : PostTold) → boxes IsTold base registry sets desk ≡ base.channels.outboxes =
+      let put : (desk : ControlTold) → boxes IsTold base registry sets desk ≡ base.channels.outboxes =
       (λ desk. ap (λ (c : Channels). told_each registry (drop (length sets) desk.sets) c.outboxes) none ∙ told_each_none registry (drop (length sets) desk.sets)
       ∙ sym (ap (λ (c : Channels). c.outboxes) none)) in
       let lifted : (spot : Spot) → lift IsTold base registry sets spot ≡ plain spot = (λ spot i. record (plain spot) { channels = record base.channels { outboxes = put spot.side.desk i } }) in
@@ -200,7 +200,7 @@ module _ {L : Type 0} (link_told : L → LinkTold) where
   Told link = IsToldBy link_told link
 
   -- what links tell, told by each of them
-  overs : TellOvers Told → TellOver link_told
+  overs : TellOvers Told → TellTheEnd link_told
   overs tells = λ link. tells (link_told link) (link, refl)
 
   desk_stands : (old new : DaemonState L) → SameDesk old.desk new.desk → took_by new.desk.handles ≡ took_by old.desk.handles
@@ -266,7 +266,7 @@ module _ {L : Type 0} (link_told : L → LinkTold) where
       let links_now : List LinkTold = map link_told new.links.links in
       let listeners : List Listener = old.seated.listeners ++ replicate (length links) fresh_listener in
       let enough : length links ≤ length listeners = omega (arith, length-append old.seated.listeners (replicate (length links) fresh_listener), length-replicate (length links) fresh_listener) in
-      let desk : PostTold = desk_told old.desk in
+      let desk : ControlTold = desk_told old.desk in
       let was : Clients = record { links = links; listeners = listeners; side = side old.core desk (Some old.journal.events) folder } in
       let now : Clients = record { links = links_now; listeners = listeners; side = side new.core desk (Some new.journal.events) folder } in
       let padded : (ls : List LinkTold) → clients_with ls listeners ≡ clients_with ls old.seated.listeners = (λ ls. joined_padded client_with fresh_listener ls old.seated.listeners (length links)) in
@@ -382,5 +382,5 @@ module _ {L : Type 0} (link_told : L → LinkTold) where
   stop_closes old new folder folder_now dropped wanted closes =
       let base : State = stopping_state old folder dropped wanted in
       let closed : State = plain Told base refl (spot_of (settling_state.clients_of link_told new folder_now)) in
-      goes_both Told base closed _ (closes_go Told base refl refl (TellOver link_told) overs (settling_state.clients_of link_told old folder) (settling_state.clients_of link_told new folder_now) closes.closes)
+      goes_both Told base closed _ (closes_go Told base refl refl (TellTheEnd link_told) overs (settling_state.clients_of link_told old folder) (settling_state.clients_of link_told new folder_now) closes.closes)
       (goes_same Told _ _ (λ i. record closed { took = closing_stands old.closing new.closing closes.same i }))

@@ -20,12 +20,12 @@ use Rattle.dl_model.specs.declared.registry.LevelChange.{LevelChange}
 use Rattle.dl_outside.specs.Told.{LinkTold}
 use Rattle.dl_outside.specs.declared.link.Gave.{Gave as Answer}
 use Rattle.dl_outside.specs.declared.link.Gave.TheVariants as answer
-use Rattle.dl_serving.specs.Rounds as rounds
-use Rattle.dl_serving.specs.Rounds.{Scene, VisitsEach, Visited, seen_by}
-use Rattle.dl_serving.specs.Visits.{Closes, Ends, EndsFor, Hears, Pumps, side_of}
+use Rattle.dl_channels.specs.Rounds as rounds
+use Rattle.dl_channels.specs.Rounds.{Scene, VisitsEach, Visited, seen_by}
+use Rattle.dl_channels.specs.Visits.{Closes, Ends, EndsFor, Hears, Pumps, side_of}
 use Rattle.dl_socket.specs.Channels.{Channels}
 use Rattle.dl_socket.specs.Closing.{UnregistersEach}
-use Rattle.dl_socket.specs.Turns.{HasTurned, Sight}
+use Rattle.dl_socket.specs.Turns.{HasTurned, ChannelView}
 use Rattle.dl_turns.specs.Turns as client
 use Rattle.dl_machine.specs.State.{AreIdle, Changes, IsOne, Program, State}
 use Rattle.dl_machine.specs.Steps.{Ended, Forwarded, Goes, Levelled, Noted, OfProgram, Said, Says, ShutOff, TookLevels, Unregistered}
@@ -56,7 +56,7 @@ abbrev pub programs_with : List LinkTold → List (Option ChannelEnd) → List P
 programs_with links ends = joined program_with None links ends
 
 -- what a sight has beside its link
-abbrev part_seen : Sight → Part
+abbrev part_seen : ChannelView → Part
 part_seen s = part s.core s.events s.folder
 
 -- with this part, these channels and this program of a number, beside the others
@@ -136,7 +136,7 @@ module _ (IsTold : LinkTold → Type 0) (base : State) (idle : AreIdle base.clie
 
     -- ---- turns
 
-    turn_goes : base.stops ≡ false → (end : Option ChannelEnd) (before after : Sight) (old new : Channels) → HasTurned number moment end before after old new
+    turn_goes : base.stops ≡ false → (end : Option ChannelEnd) (before after : ChannelView) (old new : Channels) → HasTurned number moment end before after old new
         → Goes IsTold (at (part_seen before) old (program_with before.link None)) (at (part_seen after) new (program_with after.link end))
     turn_goes runs end before after old new turned = by turned.turn.answer turned.turn.into turned.turn.size turned.turn.hears turned.turn.heeds where
       channels : Channels
@@ -184,7 +184,7 @@ module _ (IsTold : LinkTold → Type 0) (base : State) (idle : AreIdle base.clie
         (low, (unregisters.0, serves.1, λ i. record channels { outboxes = serves.1.outboxes i }, refl, (program, (changes program program).there, none, may)), refl))
         (both _ (on between channels program) _ (levels_go serves.2.0 noted between channels program serves.2.1) (unregisters_go apids between new channels program none may unregisters.3))
 
-    ends_go : (closed : Bool) (end : Option ChannelEnd) → IsSome end ⊎ (base.stops ≡ true) → (before after : Sight) (old new : Channels) → Ends number moment closed before after old new
+    ends_go : (closed : Bool) (end : Option ChannelEnd) → IsSome end ⊎ (base.stops ≡ true) → (before after : ChannelView) (old new : Channels) → Ends number moment closed before after old new
         → Goes IsTold (at (part_seen before) old (program_with before.link end)) (at (part_seen after) new (program_with after.link end))
     ends_go closed end may before after old new ends =
         let was : Program = program_with before.link end in
@@ -204,12 +204,12 @@ module _ (IsTold : LinkTold → Type 0) (base : State) (idle : AreIdle base.clie
             both _ (on (side_of after new) old now) _ (unregisters_go closes.unregistered.0 (side_of before old) (side_of after new) old now refl may closes.unregistered.1)
             (same _ _ (ap (λ (c : Channels). at (part_seen after) c now) closes.is))
 
-    ends_for_go : (end : Option ChannelEnd) (before after : Sight) (old new : Channels) → EndsFor end number moment before after old new
+    ends_for_go : (end : Option ChannelEnd) (before after : ChannelView) (old new : Channels) → EndsFor end number moment before after old new
         → Goes IsTold (at (part_seen before) old (program_with before.link end)) (at (part_seen after) new (program_with after.link end))
     ends_for_go None before after old new stands = same _ _ (λ i. at (part_seen (stands.0 i)) (stands.1 i) (program_with (stands.0 i).link None))
     ends_for_go (Some cause) before after old new ends = ends_go ends.0 (Some cause) (inl refl) before after old new ends.1
 
-    pub hears_go : base.stops ≡ false → (end end_now : Option ChannelEnd) (before after : Sight) (old new : Channels) → Hears number moment end end_now before after old new
+    pub hears_go : base.stops ≡ false → (end end_now : Option ChannelEnd) (before after : ChannelView) (old new : Channels) → Hears number moment end end_now before after old new
         → Goes IsTold (at (part_seen before) old (program_with before.link end)) (at (part_seen after) new (program_with after.link end_now))
     hears_go runs None end_now before after old new (inl turned) =
         both _ (at (part_seen turned.0) turned.1 (program_with turned.0.link end_now)) _ (turn_goes runs end_now before turned.0 old turned.1 turned.2)
@@ -219,10 +219,10 @@ module _ (IsTold : LinkTold → Type 0) (base : State) (idle : AreIdle base.clie
         both _ (at (part_seen after) new (program_with after.link (Some cause))) _ (ends_go hears.1 (Some cause) (inl refl) before after old new hears.2)
         (same _ _ (ap (λ (e : Option ChannelEnd). at (part_seen after) new (program_with after.link e)) hears.0))
 
-    pub pumps_go : (end end_now : Option ChannelEnd) (before after : Sight) (old new : Channels) → Pumps number moment end end_now before after old new
+    pub pumps_go : (end end_now : Option ChannelEnd) (before after : ChannelView) (old new : Channels) → Pumps number moment end end_now before after old new
         → Goes IsTold (at (part_seen before) old (program_with before.link end)) (at (part_seen after) new (program_with after.link end_now))
     pumps_go None end_now before after old new pumps =
-        let between : Sight = pumps.0 in
+        let between : ChannelView = pumps.0 in
         let sent : Channels = pumps.1 in
         let was : Program = program_with before.link None in
         let now : Program = program_with between.link end_now in

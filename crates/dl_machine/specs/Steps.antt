@@ -22,7 +22,7 @@ use Rattle.dl_core.specs.Admission.{has_frames}
 use Rattle.dl_core.specs.Noting.{NotesClaim, NotesMessage}
 use Rattle.dl_core.specs.Registering.{Registers}
 use Rattle.dl_bytes.specs.declared.conf.Conf.{Conf}
-use Rattle.dl_desk.specs.Told.{PostTold}
+use Rattle.dl_desk.specs.Told.{ControlTold}
 use Rattle.dl_events.specs.declared.event.Why.{Why}
 use Rattle.dl_events.specs.declared.event.Why.TheVariants as why
 use Rattle.dl_hub.specs.Pumping.{IsOnlySent, Pumps}
@@ -59,7 +59,7 @@ use Rattle.dl_machine.specs.State.{AreIdle, Changes, Client, IsIdle, IsOne, Prog
 -- ---- what the parts of a daemon see of it
 
 -- a client's turn, beside what sets levels
-abbrev pub side_of : State → PostTold → Side
+abbrev pub side_of : State → ControlTold → Side
 side_of s desk = side s.core desk s.events s.folder
 
 -- a program's turn
@@ -211,7 +211,7 @@ IsClientStep number (Gave due link cut) old new =
     × ((stream : List ℕ) → due ≡ None → HasCut stream was.cutter → HasCut (stream ++ heard gave into) cut)
     × (part_of new ≡ part_of old) × IsIdle was × Counts (HasGiven was.link.given link.given) was.turn.tried turn.tried × IsSome (outbox_of old.core.hub number)
 IsClientStep number (Asked frame) old new =
-    (desk : PostTold) × (desk_now : PostTold) × Asks number frame (side_of old desk) (side_of new desk_now)
+    (desk : ControlTold) × (desk_now : ControlTold) × Asks number frame (side_of old desk) (side_of new desk_now)
     × (was : Client) × (others : List (List ℕ)) × (was.turn.asks ≡ frame ∷ others)
     × Changes number was (record was { turn = record was.turn { asks = others } }) old.clients new.clients
 IsClientStep number (Sent due link) old new =
@@ -221,7 +221,7 @@ IsClientStep number (Sent due link) old new =
     × IsIdle was × (turn.asks ≡ []) × Counts (HasRisen was.link.waits link.waits) was.turn.tried turn.tried
 IsClientStep number (Closed cause) old new =
     (was : Client) × MayClose number cause was old × Changes number was (record was { due = None; turn = no_turn }) old.clients new.clients
-    × (desk : PostTold) × Closes number cause (side_of old desk) (side_of new desk)
+    × (desk : ControlTold) × Closes number cause (side_of old desk) (side_of new desk)
 IsClientStep number (Parted link) old new =
     (was : Client) × Changes number was (record was { link = link }) old.clients new.clients × IsShut was.link link × (part_of new ≡ part_of old)
 

@@ -1,6 +1,12 @@
 //! The outside in memory, for tests and for whoever has no files at hand: a source, a sink, a folder, a dial and a clock; the net, with
 //! its connections, whose peers send and take what a test prepares; a sign, gates and a net that threads share; and `Failing`, an
 //! object of the outside of which chosen calls fail, each with the fault that its trait says.
+//!
+//! Proved: of `Failing` and of each object in memory what its trait in `dl_outside` says; objects in memory tell all that they hold, so a test over
+//! them can look at everything.
+//!
+//! Chosen: these objects stand apart from the traits, so that who names a trait waits for none of their proofs. A sink in memory counts out of memory
+//! as its fault; `Discard` never fails and keeps nothing. Objects in memory don't rest.
 #![tactic(auto)]
 
 mod failing;

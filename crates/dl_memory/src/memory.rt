@@ -67,7 +67,7 @@ impl Source for MemorySource {
     }
 }
 
-/// A sink in memory, which takes at most so many bytes in one write. Its only fault is want of memory.
+/// A sink in memory, which takes at most so many bytes in one write. Its only fault is out of memory.
 #[derive(Drop)]
 pub struct MemorySink {
     bytes: Vec<u8>,

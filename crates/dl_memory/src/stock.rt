@@ -19,7 +19,7 @@ use std::alloc::Global;
 use std::marker::Model;
 
 /// A folder in memory, with room for so many files and bytes. Its names have at most 255 bytes. It never fails, and
-/// within its room takes no memory; what doesn't fit is refused for want of memory.
+/// within its room takes no memory; what doesn't fit is refused as out of memory.
 #[derive(Drop)]
 pub struct MemoryFolder {
     alloc: Global,

@@ -1,4 +1,7 @@
 //! A picture of what sessions have: one row each, time from left to right, as an SVG text that holds no script and loads nothing.
+//!
+//! Proved: the text that `draw` writes is a function of the chart (`picture`), a row for each of its rows; `Tally` keeps what each column of each row
+//! has of all marks (`bin_of`); `Axis` gives the column of a number, and where a column begins.
 #![tactic(auto)]
 
 mod axis;

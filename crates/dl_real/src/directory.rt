@@ -409,7 +409,7 @@ impl<R: Files + AllocGlobal> Directory<R> {
 }
 
 impl<R: Files + Eprint> Directory<R> {
-    /// Counts an error as a fault, unless it is want of memory, and says or notes what it was.
+    /// Counts an error as a fault, unless it is out of memory, and says or notes what it was.
     fn refused(&mut self, name: &str, error: Error) -> FolderFault
         ensures failed { result ≡ FolderFault.Failed → HasRisen self.old.faults self.new.faults }
         ensures memory { result ≡ FolderFault.OutOfMemory → self.new.faults ≡ self.old.faults }

@@ -1,7 +1,7 @@
 //! Whether standard input has ended, asked without waiting.
 
 use crate::known::Known;
-use crate::tidings::Tidings;
+use crate::readiness::Readiness;
 use dl_real::{has_answer, read_once};
 use std::rt::Stdin;
 
@@ -18,7 +18,7 @@ pub struct InputEnd {
 
 impl InputEnd {
     /// Of this standard input, whose end is to end rests that these tidings are of.
-    pub fn of(inner: Stdin, tidings: Option<&Tidings>) -> InputEnd {
+    pub fn of(inner: Stdin, tidings: Option<&Readiness>) -> InputEnd {
         InputEnd {
             inner,
             known: Known::of(tidings, STANDARD_INPUT),

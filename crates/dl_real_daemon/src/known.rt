@@ -2,7 +2,7 @@
 
 ghost use Rattle.std.specs.Prelude.{◌≡◌, ◌≢◌, ◌<◌, ◌≤◌, true, false, None, IfSome, IsSomeAnd};
 
-use crate::tidings::Tidings;
+use crate::readiness::Readiness;
 use std::os::fd::RawFd;
 
 /// What is known of one way of a socket, by the takes of news.
@@ -48,7 +48,7 @@ impl Way {
 #[derive(Drop)]
 pub struct Known {
     // none where the system tells nothing of it
-    tidings: Option<Tidings>,
+    tidings: Option<Readiness>,
     fd: RawFd,
     input: Way,
     output: Way,
@@ -56,7 +56,7 @@ pub struct Known {
 
 impl Known {
     /// Of a socket of which the system is to tell; where it doesn't, nothing is ever known.
-    pub fn of(tidings: Option<&Tidings>, fd: RawFd) -> Known {
+    pub fn of(tidings: Option<&Readiness>, fd: RawFd) -> Known {
         Known {
             tidings: tidings.and_then(|tidings| tidings.watch(fd)),
             fd,
@@ -113,7 +113,7 @@ impl Known {
 }
 
 /// The take behind which nothing was found, where nothing was. What was found is noted as something that moved.
-fn empty_at(tidings: &Tidings, found: bool) -> Option<u64> {
+fn empty_at(tidings: &Readiness, found: bool) -> Option<u64> {
     if found {
         tidings.move_on();
         None

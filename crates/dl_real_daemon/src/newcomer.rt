@@ -10,7 +10,7 @@ const TRIAL: u64 = 50;
 
 /// What a connection shows that has just come.
 #[derive(Clone, Copy, PartialEq, Eq)]
-pub enum Shows {
+pub enum FirstSign {
     /// It has sent something, or has stayed for long enough.
     Stays,
     /// It is over, or has failed.
@@ -49,19 +49,19 @@ impl Newcomer {
     }
 
     /// What it shows now. What it has sent stays to be read.
-    pub fn shows<R: Clock>(&self, rt: &R) -> Shows {
+    pub fn shows<R: Clock>(&self, rt: &R) -> FirstSign {
         let mut first = [0; 1];
         match self.stream.peek(&mut first) {
-            Ok(0) => Shows::Gone,
-            Ok(_) => Shows::Stays,
+            Ok(0) => FirstSign::Gone,
+            Ok(_) => FirstSign::Stays,
             Err(error) if is_pause(&error) => {
                 if self.has_stayed(rt) {
-                    Shows::Stays
+                    FirstSign::Stays
                 } else {
-                    Shows::Nothing
+                    FirstSign::Nothing
                 }
             }
-            Err(_) => Shows::Gone,
+            Err(_) => FirstSign::Gone,
         }
     }
 }

@@ -9,11 +9,11 @@ use crate::answers::{came, is_pause};
 use crate::attendance::Attendance;
 use crate::client::attend;
 use crate::known::Known;
-use crate::newcomer::{Newcomer, Shows};
-use crate::presence::Presence;
+use crate::newcomer::{FirstSign, Newcomer};
+use crate::readiness::Readiness;
 use crate::resting::{Resting, sleep};
+use crate::seats::{MadeRoom, Room, Seat, SeatRule, Seats, millis};
 use crate::streams::{pass_on, receive};
-use crate::tidings::Tidings;
 use crate::waiter::Waiter;
 use dl_bytes::OutOfMemory;
 use dl_outside::{Accepted, ClientScript, Gave, Link, Net, NetFault, Sends};
@@ -78,14 +78,44 @@ pub struct TcpLink<R> {
     rt: R,
     // none once it was shut
     stream: Option<TcpStream>,
-    // none where memory was wanting for it, and once it was shut
-    presence: Option<Presence>,
+    // none where memory ran out for it, and once it was shut
+    seat: Option<Seat>,
     known: Known,
     resting: Resting,
     faults: u64,
     idles: u64,
     waits: u64,
     is_shut: bool,
+}
+
+impl<R: Clock> TcpLink<R> {
+    /// Whether it is to end, to make room for another one. Then the other side gets nothing more, and what it has sent is the last.
+    fn is_sent_away(&self) -> bool {
+        let Some(seat) = &self.seat else {
+            return false;
+        };
+        if !seat.is_sent_away() {
+            return false;
+        }
+        if let Some(stream) = &self.stream {
+            let _ = stream.shutdown(Shutdown::Both);
+        }
+        true
+    }
+
+    /// The other side sent bytes.
+    fn note_sent(&self) {
+        if let Some(seat) = &self.seat {
+            seat.note_sent(millis(&self.rt));
+        }
+    }
+
+    /// It took bytes.
+    fn note_taken(&self) {
+        if let Some(seat) = &self.seat {
+            seat.note_taken(millis(&self.rt));
+        }
+    }
 }
 
 impl<R: Clock> Link for TcpLink<R> {
@@ -101,7 +131,8 @@ impl<R: Clock> Link for TcpLink<R> {
     } };
 
     fn recv(&mut self, into: &mut [u8]) -> Gave {
-        if self.is_shut || self.known.has_no_input() {
+        let ends = self.is_sent_away();
+        if self.is_shut || (self.known.has_no_input() && !ends) {
             self.idles = self.idles.saturating_add(1);
             return Gave::NotYet;
         }
@@ -109,6 +140,7 @@ impl<R: Clock> Link for TcpLink<R> {
         match gave {
             Gave::Bytes(_) => {
                 self.resting.end();
+                self.note_sent();
                 self.known.note_input(true);
             }
             Gave::NotYet => {
@@ -130,6 +162,7 @@ impl<R: Clock> Link for TcpLink<R> {
         match sent {
             Sends::Bytes(_) => {
                 self.resting.end();
+                self.note_taken();
                 self.known.note_room(true);
             }
             Sends::Busy => {
@@ -146,9 +179,7 @@ impl<R: Clock> Link for TcpLink<R> {
         if let Some(stream) = self.stream.take() {
             hang_up(stream);
         }
-        if let Some(presence) = self.presence.take() {
-            presence.go();
-        }
+        self.seat = None;
     }
 
     fn rest(&mut self) {
@@ -184,12 +215,11 @@ pub struct TcpNet<R> {
     // how many clients were launched, and how many of them have gone
     launched: u64,
     gone: Option<Attendance>,
-    // none until one connection came, and where memory was wanting for it
-    presence: Option<Presence>,
+    seats: Seats,
     // what takes the news of its sockets; none where another net does, and where the system has refused it
     waiter: Option<Waiter>,
     // none where the system has refused it
-    tidings: Option<Tidings>,
+    tidings: Option<Readiness>,
     // what is known of its listener
     known: Known,
     // the connection that came last, while it isn't known whether it stays
@@ -213,7 +243,7 @@ impl<R> TcpNet<R> {
         self.port
     }
 
-    /// Counts an error as a fault, unless it is want of memory, and notes what it was.
+    /// Counts an error as a fault, unless it is out of memory, and notes what it was.
     fn refused(&mut self, port: u16, error: Error) -> NetFault
         ensures failed { result ≡ NetFault.Failed → HasRisen self.old.faults self.new.faults }
         ensures memory { result ≡ NetFault.OutOfMemory → self.new.faults ≡ self.old.faults }
@@ -229,11 +259,12 @@ impl<R> TcpNet<R> {
 
 impl<R: AllocGlobal> TcpNet<R> {
     /// A net that is to listen on this address, with what tells of its sockets.
-    fn over(rt: R, address: IpAddr, waiter: Option<Waiter>, tidings: Option<Tidings>) -> TcpNet<R>
+    fn over(rt: R, address: IpAddr, waiter: Option<Waiter>, tidings: Option<Readiness>) -> TcpNet<R>
         ensures faults { result.faults ≡ 0 }
         ensures port { result.port ≡ 0 }
     {
         let troubles = Troubles::none(rt.alloc());
+        let seats = Seats::none(rt.alloc());
         TcpNet {
             rt,
             address,
@@ -241,7 +272,7 @@ impl<R: AllocGlobal> TcpNet<R> {
             listener: None,
             launched: 0,
             gone: None,
-            presence: None,
+            seats,
             waiter,
             tidings,
             known: Known::nothing(),
@@ -270,13 +301,21 @@ impl<R: AllocGlobal> TcpNet<R> {
         ensures faults { result.faults ≡ 0 }
         ensures port { result.port ≡ 0 }
     {
+        TcpNet::beside_at(rt, other, other.address)
+    }
+
+    /// A net that is to listen on this address, beside another one, which rests for both.
+    pub fn beside_at(rt: R, other: &TcpNet<R>, address: IpAddr) -> TcpNet<R>
+        ensures faults { result.faults ≡ 0 }
+        ensures port { result.port ≡ 0 }
+    {
         let tidings = tidings_of(&other.waiter);
-        TcpNet::over(rt, other.address, None, tidings)
+        TcpNet::over(rt, address, None, tidings)
     }
 }
 
 /// What a net tells of its sockets, for another one that looks at it.
-fn tidings_of(waiter: &Option<Waiter>) -> Option<Tidings> {
+fn tidings_of(waiter: &Option<Waiter>) -> Option<Readiness> {
     waiter.as_ref()?.tidings()
 }
 
@@ -289,8 +328,20 @@ impl<R> TcpNet<R> {
         self.is_watchful = true;
     }
 
+    /// From now on, where so many connections are open, one through which nothing goes makes room for another that comes.
+    pub fn seat(&mut self, rule: SeatRule)
+        ensures { self.new ≡ record self.old { seats = self.new.seats } }
+    {
+        self.seats.obey(rule);
+    }
+
+    /// How many connections made room for others, for who looks on.
+    pub fn made_room(&self) -> MadeRoom {
+        self.seats.made_room()
+    }
+
     /// What it tells of its sockets, where it does.
-    pub fn tidings(&self) -> Option<Tidings> {
+    pub fn tidings(&self) -> Option<Readiness> {
         tidings_of(&self.waiter)
     }
 }
@@ -309,7 +360,7 @@ impl<R: Threads + AllocGlobal> TcpNet<R> {
             listener,
             launched,
             gone,
-            presence: _,
+            seats: _,
             waiter: _,
             tidings: _,
             known: _,
@@ -340,19 +391,17 @@ impl<R: Threads + AllocGlobal> TcpNet<R> {
     }
 }
 
-impl<R: AllocGlobal> TcpNet<R> {
-    /// What one more connection has of their count, or none where memory is wanting for it.
-    fn come(&mut self) -> Option<Presence>
-        ensures { self.new ≡ record self.old { presence = self.new.presence } }
-    {
-        if self.presence.is_none() {
-            self.presence = Presence::none(self.rt.alloc()).ok();
-        }
-        self.presence.as_ref()?.come().ok()
-    }
-}
-
 impl<R> TcpNet<R> {
+    /// The seat of one more connection, or none where memory runs out for it.
+    fn come(&mut self) -> Option<Seat>
+    where
+        R: Clock,
+        ensures { self.new ≡ record self.old { seats = self.new.seats } }
+    {
+        let now = millis(&self.rt);
+        self.seats.come(now)
+    }
+
     /// A round begins: the news is taken, unless a rest has just taken it.
     fn begin_round(&mut self)
         ensures { self.new.faults ≡ self.old.faults }
@@ -384,14 +433,14 @@ impl<R> TcpNet<R> {
     }
 
     /// What the connection shows that came last: that it stays, where nothing would be lost with it or nobody looks.
-    fn shown(&self, newcomer: &Newcomer) -> Shows
+    fn shown(&self, newcomer: &Newcomer) -> FirstSign
     where
         R: Clock,
     {
         if self.is_watchful && self.is_alone() {
             newcomer.shows(&self.rt)
         } else {
-            Shows::Stays
+            FirstSign::Stays
         }
     }
 
@@ -403,13 +452,29 @@ impl<R> TcpNet<R> {
     {
         let newcomer = self.newcomer.take()?;
         match self.shown(&newcomer) {
-            Shows::Stays => Some(newcomer),
-            Shows::Gone => {
+            FirstSign::Stays => self.seated(newcomer),
+            FirstSign::Gone => {
                 // others may wait behind it
                 self.known.note_input(true);
                 None
             }
-            Shows::Nothing => {
+            FirstSign::Nothing => {
+                self.known.ask_soon();
+                self.newcomer = Some(newcomer);
+                None
+            }
+        }
+    }
+
+    /// A connection that stays, unless another one is ending to make room for it: then it waits.
+    fn seated(&mut self, newcomer: Newcomer) -> Option<Newcomer>
+    where
+        R: Clock,
+        ensures { self.new.faults ≡ self.old.faults }
+    {
+        match self.seats.room(millis(&self.rt)) {
+            Room::Free | Room::None => Some(newcomer),
+            Room::Soon => {
                 self.known.ask_soon();
                 self.newcomer = Some(newcomer);
                 None
@@ -443,10 +508,7 @@ impl<R> TcpNet<R> {
 
     /// Whether no connection that it accepted is open.
     fn is_alone(&self) -> bool {
-        match &self.presence {
-            Some(presence) => presence.is_alone(),
-            None => true,
-        }
+        self.seats.are_empty()
     }
 }
 
@@ -463,7 +525,7 @@ fn listener<R: std::net::Net<Stream = TcpStream, Listener = TcpListener>>(
 }
 
 /// The address that reaches a listener on this address from the same machine.
-fn reached_at(address: IpAddr) -> IpAddr {
+pub fn reached_at(address: IpAddr) -> IpAddr {
     if !address.is_unspecified() {
         return address;
     }
@@ -523,6 +585,10 @@ where
     ghost told = { λ n. record { listens_on = None; launched = None; waiting = None; faults = n.faults } };
 
     fn listen(&mut self, port: u16) -> Result<(), NetFault> {
+        if self.listener.is_some() && self.port == port {
+            // It stays open from one session to the next.
+            return Ok(());
+        }
         match listener(&self.rt, self.address, port) {
             Ok((listener, bound)) => {
                 self.known = Known::of(self.tidings.as_ref(), listener.as_raw_fd());
@@ -556,7 +622,7 @@ where
                     rt: self.rt,
                     known: newcomer.known,
                     stream: Some(newcomer.stream),
-                    presence: self.come(),
+                    seat: self.come(),
                     resting: Resting::none(),
                     faults: 0,
                     idles: 0,

@@ -1,6 +1,6 @@
 //! A rest that ends when something comes.
 
-use crate::tidings::{Rest, Tidings};
+use crate::readiness::{Readiness, Rest};
 use mio::{Events, Poll};
 use std::alloc::Global;
 use std::io;
@@ -15,7 +15,7 @@ const NEWS: usize = 64;
 pub struct Waiter {
     poll: Poll,
     events: Events,
-    tidings: Tidings,
+    tidings: Readiness,
 }
 
 impl Waiter {
@@ -26,12 +26,12 @@ impl Waiter {
         Ok(Waiter {
             poll,
             events: Events::with_capacity(alloc, NEWS)?,
-            tidings: Tidings::over(alloc, registry)?,
+            tidings: Readiness::over(alloc, registry)?,
         })
     }
 
     /// What it has told, for another one that looks at it.
-    pub fn tidings(&self) -> Option<Tidings> {
+    pub fn tidings(&self) -> Option<Readiness> {
         self.tidings.share()
     }
 

@@ -6,7 +6,7 @@ pub mod Status
 pub mod Streams
 pub mod Program
 pub mod Receiving
-pub mod Handed
+pub mod ProgramRun
 pub mod Laws
 pub mod Listening
 pub mod Calls

@@ -1,7 +1,7 @@
 //! The program: a stream from a port, its lines to standard output, and a status.
 
 ghost use Rattle.std.specs.Prelude.{Some};
-ghost use Rattle.dl_receive.specs.Handed.{AskedFor, Asks, Receives, Runs};
+ghost use Rattle.dl_receive.specs.ProgramRun.{AskedFor, Asks, Receives, Runs};
 ghost use Rattle.dl_receive.specs.Program.{told};
 
 use crate::counting::Counting;

@@ -8,7 +8,7 @@ use Rattle.dl_outside.proofs.Staying.{counted}
 use Rattle.dl_script_model.specs.Replay.{files_of, trace_of}
 use Rattle.dl_model.specs.Setting.{Setting}
 use Rattle.dl_model.specs.TraceFiles.{StoredFile}
-use Rattle.dl_trace.specs.Stands.{HasFiles}
+use Rattle.dl_trace.specs.InFolder.{HasFiles}
 use Rattle.dl_trace.specs.State.{listed}
 use Rattle.dl_bytes.specs.declared.outcome.TraceEnd.{TraceEnd}
 use Rattle.dl_bytes.specs.declared.outcome.TraceEnd.TheVariants as end

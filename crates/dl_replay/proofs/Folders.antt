@@ -17,7 +17,7 @@ use Rattle.dl_replay.specs.Playing.{OwnFiles}
 use Rattle.dl_replay.specs.Program.{ChangesOwnFiles}
 use Rattle.dl_replay.specs.Run.{HoldsItsStored, setting}
 use Rattle.dl_replay.specs.declared.task.Task.{Task}
-use Rattle.dl_trace.specs.Stands.{HasFiles, IsTraceName}
+use Rattle.dl_trace.specs.InFolder.{HasFiles, IsTraceName}
 use Rattle.dl_core.specs.Standing.{Stands}
 use Rattle.dl_world.specs.Played.{IsTraced}
 use Rattle.dl_world.specs.Stored.{HoldsStored}

@@ -16,7 +16,7 @@ use Rattle.dl_script_model.specs.Steps as steps
 use Rattle.dl_model.specs.TraceFiles.{StoredFile, trace_files, trace_name}
 use Rattle.dl_outside.specs.Folder.{Files}
 use Rattle.dl_outside.specs.Written.{WroteAll}
-use Rattle.dl_trace.specs.Stands.{HasFiles}
+use Rattle.dl_trace.specs.InFolder.{HasFiles}
 use Rattle.dl_trace.proofs.Alike.{one_list}
 use Rattle.dl_replay.specs.declared.begin.Start.{Start}
 use Rattle.dl_startup.specs.declared.status.Status.TheVariants as status

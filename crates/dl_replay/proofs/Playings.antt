@@ -29,7 +29,7 @@ use Rattle.dl_outside.specs.Outside.{Stays}
 use Rattle.dl_startup.specs.Setup.{IsBegun, stored_name}
 use Rattle.dl_report.specs.Counts.{HasStreams}
 use Rattle.dl_trace.specs.Made.{IsMade}
-use Rattle.dl_trace.specs.Stands.{HasFiles, IsTraceName}
+use Rattle.dl_trace.specs.InFolder.{HasFiles, IsTraceName}
 use Rattle.dl_trace.specs.State.{Trace, IsAfter}
 use Rattle.dl_core.specs.Files.{ChangesOwnFiles}
 use Rattle.dl_core.specs.Standing.{Stands, files_with}

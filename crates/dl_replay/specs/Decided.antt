@@ -5,7 +5,7 @@ use Rattle.dl_model.specs.TraceFiles.{StoredFile}
 use Rattle.dl_outside.specs.Folder.{Files}
 use Rattle.dl_outside.specs.Told.{SinkTold}
 use Rattle.dl_outside.specs.Written.{WroteAll}
-use Rattle.dl_trace.specs.Stands.{HasFiles}
+use Rattle.dl_trace.specs.InFolder.{HasFiles}
 use Rattle.dl_replay.specs.declared.begin.Start.{Start}
 use Rattle.dl_startup.specs.declared.status.Status.TheVariants.{Ok}
 use Rattle.dl_replay.specs.declared.task.Task.{Task}

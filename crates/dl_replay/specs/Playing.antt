@@ -7,7 +7,7 @@ use Rattle.dl_outside.specs.Folder.{Files}
 use Rattle.dl_outside.specs.Outside.{HasRisen}
 use Rattle.dl_startup.specs.Setup.{stored_name}
 use Rattle.dl_report.specs.Counts.{HasStreams}
-use Rattle.dl_trace.specs.Stands.{IsTraceName}
+use Rattle.dl_trace.specs.InFolder.{IsTraceName}
 use Rattle.dl_world.specs.declared.played.Played.{Played}
 use Rattle.dl_replay.specs.declared.begin.Start.{Start}
 use Rattle.dl_startup.specs.declared.status.Status.{Status}

@@ -8,7 +8,7 @@ use Rattle.dl_startup.specs.Configuration.{AreSetUp}
 use Rattle.dl_startup.specs.Setup.{conf_in, conf_name, stored_name}
 use Rattle.dl_startup.specs.Status.{number}
 use Rattle.dl_script.specs.Script.{steps_of}
-use Rattle.dl_trace.specs.Stands.{IsTraceName}
+use Rattle.dl_trace.specs.InFolder.{IsTraceName}
 use Rattle.dl_replay.specs.declared.begin.Start.{Start}
 use Rattle.dl_startup.specs.declared.status.Status.{Status}
 use Rattle.dl_startup.specs.declared.status.Status.TheVariants.{Ok, WordsRefused, OutOfMemory, NamesSpent}

@@ -13,7 +13,7 @@ use Rattle.dl_core.specs.Settings.{setting_of}
 use Rattle.dl_outside.specs.Folder.{Files}
 use Rattle.dl_startup.specs.Failures.{unserved}
 use Rattle.dl_startup.specs.Setup.{stored_name}
-use Rattle.dl_trace.specs.Stands.{HasFiles}
+use Rattle.dl_trace.specs.InFolder.{HasFiles}
 use Rattle.dl_world.specs.Played.{IsTraced, failures, frames_in, is_failed}
 use Rattle.dl_world.specs.Stored.{HoldsStored}
 use Rattle.dl_replay.specs.declared.begin.Start.{Start}

@@ -9,7 +9,7 @@ use Rattle.dl_bytes.specs.Limits.{request_limit}
 use Rattle.dl_events.specs.Journal as notes
 use Rattle.dl_events.specs.declared.event.Event.{Event}
 use Rattle.dl_events.specs.declared.event.Event.TheVariants as event
-use Rattle.dl_desk.specs.Told.{PostTold}
+use Rattle.dl_desk.specs.Told.{ControlTold}
 use Rattle.dl_registry.specs.Kept.{Kept}
 use Rattle.dl_hub.specs.State.{Client, Comes, HasPlace, Hub, IsSameHub, client_of, outbox_of}
 use Rattle.dl_hub.specs.declared.hub.HubFault.{HubFault}
@@ -19,7 +19,7 @@ use Rattle.dl_turns.specs.Events.{HasServed, IsDeskOf}
 use Rattle.dl_rounds.specs.declared.listener.Listener.{Listener}
 use Rattle.dl_rounds.specs.Arrivals.{Connects}
 use Rattle.dl_rounds.specs.Ready.{AreHeard}
-use Rattle.dl_rounds.specs.Seats.{Seated}
+use Rattle.dl_rounds.specs.ListenerPool.{Seated}
 use Rattle.dl_rounds.proofs.ByPlace.{get_before}
 use Rattle.dl_rounds.proofs.Turned.{open_within}
 use Rattle.dl_lemmas.proofs.Lists.{get_end, there}
@@ -58,7 +58,7 @@ one_longer old new comes = ap length comes.1 ∙ length-append old.clients (come
 is_served : (o : Option Client) (c : Client) → o ≡ Some c → c.replies ≡ 0 → IsSomeAnd o (λ x. (x.replies ≡ 0) × (0 ≤ request_limit))
 is_served o c is none = subst (λ (x : Option Client). IsSomeAnd x (λ y. (y.replies ≡ 0) × (0 ≤ request_limit))) (sym is) (none, omega arith)
 
-pub heard_comes : (number : ℕ) (old new : Core) (events events_now : Option (List Event)) → Connects number old new events events_now → (seated : Seated) (desk : PostTold)
+pub heard_comes : (number : ℕ) (old new : Core) (events events_now : Option (List Event)) → Connects number old new events events_now → (seated : Seated) (desk : ControlTold)
     → AreHeard seated old desk → AreHeard seated new desk
 heard_comes number old new events events_now connects seated desk heard =
     let comes = connects.comes in

@@ -7,7 +7,7 @@ use Rattle.dl_bytes.specs.Limits.{open_client_limit}
 use Rattle.dl_hub.specs.State.{Client, Hub, changed, client_of, is_open, outbox_of, shut}
 use Rattle.dl_turns.proofs.ClientChanges.{client_changed}
 use Rattle.dl_rounds.specs.Ready.{open_clients}
-use Rattle.dl_rounds.specs.Seats.{AreApart}
+use Rattle.dl_rounds.specs.ListenerPool.{AreApart}
 use Rattle.dl_rounds.proofs.OneClient.{IsBut, but_changed}
 use Rattle.dl_rounds.proofs.SeatedListeners.{apart_behind}
 use Rattle.dl_rounds.proofs.Turned.{goes_shut}

@@ -14,7 +14,7 @@ use Rattle.dl_model.specs.declared.registry.Slot.{Slot}
 use Rattle.dl_model.specs.Registry.{App, Registry, applied, least_free, numbers, with_app}
 use Rattle.dl_model.proofs.Numbered.{map-set_value, least_free-le-length}
 use Rattle.dl_model.proofs.Changes.{app_registers, context_registers, new_app}
-use Rattle.dl_desk.specs.Told.{PostTold}
+use Rattle.dl_desk.specs.Told.{ControlTold}
 use Rattle.dl_registry.specs.Kept.{Applies, Kept, slots}
 use Rattle.dl_core.specs.Registering.{Registers, applied_now}
 use Rattle.dl_core.specs.State.{Core}
@@ -84,11 +84,11 @@ done_or_not (Err fault.ContextsFull) old new is = inr is.1
 done_or_not (Err fault.Worn) old new is = inr is.1
 done_or_not (Err fault.OutOfMemory) old new is = inr is.1
 
-pub record IsGreeted (msg : UserMsg) (core : Core) (kept : Kept) (desk : PostTold) : Type 0 where
+pub record IsGreeted (msg : UserMsg) (core : Core) (kept : Kept) (desk : ControlTold) : Type 0 where
   pub desk_so : IsDeskOf kept desk
   pub many : length kept.registry.apps ≤ registered core + apps_in msg
 
-pub greeted : (msg : UserMsg) (core : Core) (kept : Kept) (desk : PostTold) → IsRegistration msg → Registers 0 msg core kept → registered core + apps_in msg ≤ desk.apps
+pub greeted : (msg : UserMsg) (core : Core) (kept : Kept) (desk : ControlTold) → IsRegistration msg → Registers 0 msg core kept → registered core + apps_in msg ≤ desk.apps
     → IsDeskOf core.registry desk → IsGreeted msg core kept desk
 greeted msg core kept desk is registers place of = elim (done_or_not (applied_now core 0 msg) core.registry kept registers) [
   | inl done ↦

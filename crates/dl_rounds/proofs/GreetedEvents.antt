@@ -9,7 +9,7 @@ use Rattle.dl_events.specs.declared.event.Event.{Event}
 use Rattle.dl_events.specs.declared.event.Event.TheVariants as event
 use Rattle.dl_model.specs.declared.registry.LevelChange.{LevelChange}
 use Rattle.dl_outside.specs.Told.{FolderTold}
-use Rattle.dl_desk.specs.Told.{PostTold}
+use Rattle.dl_desk.specs.Told.{ControlTold}
 use Rattle.dl_core.specs.Follows.{Adds, HoldsTrace, IsAfter}
 use Rattle.dl_core.specs.State.{Core}
 use Rattle.dl_turns.specs.Events.{SetsLevel, SetsLevels}
@@ -60,7 +60,7 @@ greeted_level next old new sets = record {
   of_greeting = (tt, tt);
   told = refl;
   after = subst (λ (f : FolderTold). Adds (event.Level next.slot next.level ∷ []) (λ run. Unit {0}) old.core new.core old.folder f) (sym sets.folder) (sets.after old.folder);
-  desk = record { sets = ap (λ (d : PostTold). d.sets) sets.desk; apps = ap (λ (d : PostTold). d.apps) sets.desk; first = ap (λ (d : PostTold). d.first) sets.desk };
+  desk = record { sets = ap (λ (d : ControlTold). d.sets) sets.desk; apps = ap (λ (d : ControlTold). d.apps) sets.desk; first = ap (λ (d : ControlTold). d.first) sets.desk };
 }
 
 greeted_levels : (changes : List LevelChange) (old new : Side) → SetsLevels changes old new → AreGreeted [] old new
@@ -76,9 +76,9 @@ greeted_one moment msg old new greets =
       told = refl;
       after = greets.notes.after;
       desk = record {
-        sets = ap (λ (d : PostTold). d.sets) greets.desk ∙ sym (append-nil old.desk.sets);
-        apps = ap (λ (d : PostTold). d.apps) greets.desk;
-        first = ap (λ (d : PostTold). d.first) greets.desk;
+        sets = ap (λ (d : ControlTold). d.sets) greets.desk ∙ sym (append-nil old.desk.sets);
+        apps = ap (λ (d : ControlTold). d.apps) greets.desk;
+        first = ap (λ (d : ControlTold). d.first) greets.desk;
       };
     }) (greeted_levels greets.levels.0 greets.between new greets.levels.1)
 

@@ -12,7 +12,7 @@ use Rattle.dl_core.specs.Serving.{reply_now}
 use Rattle.dl_core.specs.State.{Core}
 use Rattle.dl_turns.specs.Events.{Asks, Closes, ServesOne, SetsLevels}
 use Rattle.dl_turns.specs.State.{Side, Stage}
-use Rattle.dl_turns.specs.Stopping.{GoesOn, IsClosedIn, IsWoundUp, TurnsOn}
+use Rattle.dl_turns.specs.Stopping.{GoesOn, IsClosedIn, HasClosingTurns, TurnsOn}
 use Rattle.dl_turns.specs.Turns.{ClosesFor, Heeds, IsPump, IsTurn, Listens, ServesEach}
 use Rattle.dl_turns.proofs.ClientChanges.{client_other}
 use Rattle.dl_rounds.proofs.ByPlace.{set_length}
@@ -124,7 +124,7 @@ but_closed_in client why old new closed = elim closed [
       (but_pump client (Some why) sent.0.link new.link sent.0.side new.side sent.2)
 ]
 
-pub but_stop : (client : ℕ) (why : Why) (old new : Stage) → IsWoundUp client why old new → IsBut client old.side.core.hub new.side.core.hub
+pub but_stop : (client : ℕ) (why : Why) (old new : Stage) → HasClosingTurns client why old new → IsBut client old.side.core.hub new.side.core.hub
 but_stop client why old new wound =
     let turns = but_turns client wound.count old wound.last wound.turns in
     but_both client old.side.core.hub wound.last.side.core.hub new.side.core.hub turns (elim wound.ends [

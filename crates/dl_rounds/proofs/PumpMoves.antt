@@ -4,7 +4,7 @@ use Rattle.std.specs.Prelude.{nat_lt, take, IsSomeAnd, option_map}
 use Rattle.std.specs.Option.{option_and_then}
 use Rattle.dl_outside.specs.Outside.{Grows}
 use Rattle.dl_outside.specs.Told.{FolderTold, LinkTold}
-use Rattle.dl_desk.specs.Told.{PostTold}
+use Rattle.dl_desk.specs.Told.{ControlTold}
 use Rattle.dl_hub.specs.State.{Client, Hub, Waiting, client_of, consumed, outbox_of, without}
 use Rattle.dl_hub.specs.Pumping.{Pumps}
 use Rattle.dl_turns.proofs.ClientChanges.{client_changed}
@@ -40,7 +40,7 @@ pump_moves client before after old new link link_now pumps was is = by (client_o
     at (Some b) sent first last = less before pumps.count after (omega (arith, sent.0, first)) (last ∙ length-drop pumps.count b.bytes ∙ ap (λ (n : ℕ). n - pumps.count) (sym first))
 
 -- a desk and a folder, which a pump does not see
-pub some_desk : PostTold
+pub some_desk : ControlTold
 some_desk = record { apps = 0; first = 0; sets = []; pushed = λ app. []; refusals = λ app. 0 }
 
 pub some_folder : FolderTold

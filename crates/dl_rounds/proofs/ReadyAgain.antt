@@ -6,13 +6,13 @@ use Rattle.std.proofs.lemmas.Bool.{cases_lt}
 use Rattle.std.proofs.lemmas.Bool.Decides.{eqb_tells}
 use Rattle.dl_bytes.specs.Limits.{message_limit, request_limit}
 use Rattle.dl_outside.specs.Links.{Links}
-use Rattle.dl_desk.specs.Told.{PostTold}
+use Rattle.dl_desk.specs.Told.{ControlTold}
 use Rattle.dl_registry.specs.Kept.{Kept, owed_change}
 use Rattle.dl_hub.specs.State.{Client, Hub, IsNextOpen, client_of, outbox_of}
 use Rattle.dl_core.specs.State.{Core}
 use Rattle.dl_turns.specs.Events.{HasServed, IsDeskOf, IsServing}
 use Rattle.dl_rounds.specs.declared.listener.Listener.{Listener}
-use Rattle.dl_rounds.specs.Seats.{HasSeat, Seated}
+use Rattle.dl_rounds.specs.ListenerPool.{HasSeat, Seated}
 use Rattle.dl_rounds.specs.Lends.{with_listener}
 use Rattle.dl_rounds.specs.Ready.{AreHeard, AreLinked, KeepsRoom, fresh_listener}
 use Rattle.dl_rounds.proofs.ByPlace.{set_cases, set_length}
@@ -37,7 +37,7 @@ served_still client served old new same has = subst (λ (o : Option Client). IsS
 was_open : (old new : Hub) (client other : ℕ) → IsBut client old new → other ≢ client → IsSome (outbox_of new other) → IsSome (outbox_of old other)
 was_open old new client other but apart some = subst (λ (o : Option Client). IsSome (option_and_then (λ (c : Client). c.outbox) o)) (but.others other apart) some
 
-pub heard_again : (client : ℕ) (seated : Seated) (was now : Listener) (old new : Core) (desk desk_now : PostTold) → AreHeard seated old desk
+pub heard_again : (client : ℕ) (seated : Seated) (was now : Listener) (old new : Core) (desk desk_now : ControlTold) → AreHeard seated old desk
     → slice_get seated.listeners (client - 1) ≡ Some was → HasSeat client seated → 0 < client → client ≤ length old.hub.clients → IsBut client old.hub new.hub
     → now.cutter.limit ≡ message_limit → HasServed client now.served new → IsDeskOf new.registry desk_now → AreHeard (with_listener seated client now) new desk_now
 heard_again client seated was now old new desk desk_now heard at has some came but limit served kept = record {
@@ -62,7 +62,7 @@ heard_again client seated was now old new desk desk_now heard at has some came b
 }
 
 -- seats changed hands
-pub heard_seated : (seated seated_now : Seated) (core : Core) (desk : PostTold) → AreHeard seated core desk → seated_now.listeners ≡ seated.listeners
+pub heard_seated : (seated seated_now : Seated) (core : Core) (desk : ControlTold) → AreHeard seated core desk → seated_now.listeners ≡ seated.listeners
     → ((number : ℕ) → IsSome (outbox_of core.hub number) → HasSeat number seated → HasSeat number seated_now) → AreHeard seated_now core desk
 heard_seated seated seated_now core desk heard same stay = record {
   enough = omega (arith, heard.enough, ap length same);
@@ -75,7 +75,7 @@ heard_seated seated seated_now core desk heard same stay = record {
   at : (place : ℕ) → slice_get seated.listeners place ≡ slice_get seated_now.listeners place
   at place = sym (ap (λ (ls : List Listener). slice_get ls place) same)
 
-pub heard_still : (client : ℕ) (seated : Seated) (old new : Core) (desk : PostTold) → AreHeard seated old desk → IsBut client old.hub new.hub → IsSome (outbox_of old.hub client)
+pub heard_still : (client : ℕ) (seated : Seated) (old new : Core) (desk : ControlTold) → AreHeard seated old desk → IsBut client old.hub new.hub → IsSome (outbox_of old.hub client)
     → new.registry ≡ old.registry → ((served : ℕ) → HasServed client served old → HasServed client served new) → AreHeard seated new desk
 heard_still client seated old new desk heard but was_so same served = record {
   enough = omega (arith, heard.enough, but.same.limit);
@@ -97,7 +97,7 @@ heard_still client seated old new desk heard but was_so same served = record {
 -- ---- before a visit
 
 -- an open client is served from here on
-pub serves_on : {L : Type 0} (client : ℕ) (links : Links L) (seated : Seated) (listener : Listener) (core : Core) (desk : PostTold) (spare : ℕ)
+pub serves_on : {L : Type 0} (client : ℕ) (links : Links L) (seated : Seated) (listener : Listener) (core : Core) (desk : ControlTold) (spare : ℕ)
     → AreLinked links core spare → AreHeard seated core desk → IsSome (outbox_of core.hub client) → slice_get seated.listeners (client - 1) ≡ Some listener → IsServing client listener.served core desk
 serves_on client links seated listener core desk spare linked heard some at =
     let within = open_within core.hub client some in

@@ -7,7 +7,7 @@ use Rattle.dl_bytes.specs.Limits.{message_limit}
 use Rattle.dl_rounds.specs.declared.listener.Listener.{Listener}
 use Rattle.dl_message.specs.Cutting.{unfed}
 use Rattle.dl_rounds.specs.Ready.{fresh_listener}
-use Rattle.dl_rounds.specs.Seats.{AreApart, Fits, laid}
+use Rattle.dl_rounds.specs.ListenerPool.{AreApart, Fits, laid}
 use Rattle.dl_rounds.proofs.ByPlace.{set_length}
 use Rattle.dl_lemmas.proofs.Lists.{set_again, set_here, set_other, there, within_of}
 

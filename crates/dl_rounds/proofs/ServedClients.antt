@@ -11,7 +11,7 @@ use Rattle.dl_hub.specs.State.{Client as HubClient, client_of, shut}
 use Rattle.dl_core.specs.State.{Core}
 use Rattle.dl_turns.specs.Events.{Closes}
 use Rattle.dl_turns.specs.State.{Side, Stage}
-use Rattle.dl_turns.specs.Stopping.{IsWoundUp}
+use Rattle.dl_turns.specs.Stopping.{HasClosingTurns}
 use Rattle.dl_turns.specs.Turns.{Heeds, IsPump, IsTurn, ServesEach}
 use Rattle.dl_turns.proofs.ClientChanges.{client_changed}
 use Rattle.dl_rounds.specs.Shown.{WasServedAll}
@@ -50,7 +50,7 @@ pub pump_served : (client : ℕ) (why : Why) (link link_now : LinkTold) (old new
 pump_served client TooMany link link_now old new pump = absurd pump.sends
 pump_served client _ link link_now old new pump = tt
 
-pub stop_served : (client : ℕ) (why : Why) (old new : Stage) → IsWoundUp client why old new → WasServedAll client why new.side.core.hub
+pub stop_served : (client : ℕ) (why : Why) (old new : Stage) → HasClosingTurns client why old new → WasServedAll client why new.side.core.hub
 stop_served client TooMany old new wound = elim wound.ends [
   | inl closed ↦ elim closed.1 [
     | inl turn ↦ turn_served client TooMany wound.last new turn

@@ -15,7 +15,7 @@ use Rattle.dl_core.specs.Admission.{AddsEach}
 use Rattle.dl_turns.specs.Gone.{ShowsCause}
 use Rattle.dl_turns.specs.Later.{HasLeft, IsLater, IsLaterStage, LeavesSo, close_of}
 use Rattle.dl_turns.specs.State.{Side, Stage}
-use Rattle.dl_turns.specs.Stopping.{IsWoundUp}
+use Rattle.dl_turns.specs.Stopping.{HasClosingTurns}
 use Rattle.dl_turns.specs.Turns.{IsPump, IsTurn}
 use Rattle.dl_rounds.specs.Clients.{Client, Clients, IsClient, Visits, stage_of, with_client}
 use Rattle.dl_rounds.specs.Shown.{AllShowWhy, IsOverFor, ShowWhy, ShowsWhy, TellOvers, WasServedAll}
@@ -134,7 +134,7 @@ abbrev PumpsAreEvents : Type 0
 PumpsAreEvents = (client : ℕ) (cause : Option Why) (old new : Stage) → IsPump client cause old.link new.link old.side new.side → new.cutter ≡ old.cutter → IsLaterStage client cause old new
 
 abbrev StopsAreEvents : Type 0
-StopsAreEvents = (client : ℕ) (cause : Why) (old new : Stage) → IsWoundUp client cause old new → IsLaterStage client (Some cause) old new
+StopsAreEvents = (client : ℕ) (cause : Why) (old new : Stage) → HasClosingTurns client cause old new → IsLaterStage client (Some cause) old new
 
 over_if : (cause : Why) (link : LinkTold) → (cause ≡ why.Left → link.over ≡ Some true) → IsOverFor cause link
 over_if why.Left link left = left refl
@@ -193,7 +193,7 @@ module _ (Tells : Type 0) where
       served None pump = tt
       served (Some cause) pump = pump_served number cause was.link pumped.link was.side now.side pump
 
-  closed_shows : StopsAreEvents → ((client : ℕ) (cause : Why) (old new : Stage) → IsWoundUp client cause old new → ShowsCause new.link cause)
+  closed_shows : StopsAreEvents → ((client : ℕ) (cause : Why) (old new : Stage) → HasClosingTurns client cause old new → ShowsCause new.link cause)
       → (number : ℕ) (moved : Bool) (clients : Clients) (was now : Client) → 1 ≤ number → IsClient number clients was → Closed Tells number moved was now
       → ShowWhy Tells clients → ShowWhy Tells (with_client number now clients)
   closed_shows stops shown number moved clients was now some is closed =
@@ -241,7 +241,7 @@ module _ (Tells : Type 0) where
       (passed_on Pumped (λ last clients. ShowWhy Tells clients)
       (λ last number here clients was now above is pumped so. pumped_shows Tells pumps shown number here clients was now (omega (arith, above)) is pumped so) 0 numbers moved old new visits holds).1
 
-  pub closed_all : StopsAreEvents → ((client : ℕ) (cause : Why) (old new : Stage) → IsWoundUp client cause old new → ShowsCause new.link cause)
+  pub closed_all : StopsAreEvents → ((client : ℕ) (cause : Why) (old new : Stage) → HasClosingTurns client cause old new → ShowsCause new.link cause)
       → (moved : Bool) (old new : Clients) (numbers : List ℕ) → Visits (Closed Tells) 0 numbers moved old new → ShowWhy Tells old → ShowWhy Tells new
   closed_all stops shown moved old new numbers visits holds =
       (passed_on (Closed Tells) (λ last clients. ShowWhy Tells clients)

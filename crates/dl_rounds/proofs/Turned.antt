@@ -10,7 +10,7 @@ use Rattle.dl_hub.specs.State.{Client, Hub, Waiting, client_of, is_open, outbox_
 use Rattle.dl_core.specs.State.{Core}
 use Rattle.dl_turns.specs.Events.{Closes}
 use Rattle.dl_turns.specs.State.{Side, Stage}
-use Rattle.dl_turns.specs.Stopping.{IsWoundUp}
+use Rattle.dl_turns.specs.Stopping.{HasClosingTurns}
 use Rattle.dl_turns.proofs.ClientChanges.{client_changed}
 use Rattle.dl_rounds.specs.Ready.{KeepsRoom, open_clients}
 use Rattle.dl_rounds.proofs.ByPlace.{count_but, one_if}
@@ -86,7 +86,7 @@ closed_so client why old new closes =
       by None = refl
       by (Some c) = refl
 
-pub stop_closed : (client : ℕ) (why : Why) (old new : Stage) → IsWoundUp client why old new → outbox_of new.side.core.hub client ≡ None
+pub stop_closed : (client : ℕ) (why : Why) (old new : Stage) → HasClosingTurns client why old new → outbox_of new.side.core.hub client ≡ None
 stop_closed client why old new wound = elim wound.ends [
   | inl closed ↦ elim closed.1 [
     | inl turn ↦ closed_so client why turn.between new.side turn.closes

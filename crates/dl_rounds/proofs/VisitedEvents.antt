@@ -19,10 +19,10 @@ use Rattle.dl_core.specs.Follows.{HoldsTrace, IsAfter, Run}
 use Rattle.dl_core.specs.Next.{ComeInTurn}
 use Rattle.dl_core.proofs.Following.{both_come}
 use Rattle.dl_turns.specs.Gone.{IsShown, Tells}
-use Rattle.dl_turns.specs.Injected.{HasPosted}
+use Rattle.dl_turns.specs.Injected.{HasInjected}
 use Rattle.dl_turns.specs.Later.{IsCalm, IsDeskLater, IsLater, IsLaterStage, close_of}
 use Rattle.dl_turns.specs.State.{Side, Stage}
-use Rattle.dl_turns.specs.Stopping.{IsWoundUp}
+use Rattle.dl_turns.specs.Stopping.{HasClosingTurns}
 use Rattle.dl_turns.specs.Turns.{IsPump, IsTurn}
 use Rattle.dl_turns.proofs.AddedEvents.{each_both, each_none}
 use Rattle.dl_turns.proofs.GrownBytes.{stays_grow, stays_same}
@@ -165,7 +165,7 @@ module _ (number : ℕ) (clients : Clients) (was now : Client) (some : 1 ≤ num
     after = subst (λ (s : Side). AddsSendingAll side.more (only number visit.later.sent) s now.side) is.side (λ run past taken before.
         let so = side.after run past taken before in (subst (λ (t : ℕ → List ℕ). IsAfter run (past ++ side.more) t now.side.core) (took_only taken number visit.later.sent) so.0, so.1));
     desk = subst (λ (s : Side). IsDeskLater side.more s.desk now.side.desk) is.side side.desk;
-    posts = subst (λ (s : Side). (run : Run) (past : List Event) (taken : ℕ → List ℕ) → IsAfter run past taken s.core → (app : ℕ) → HasPosted run.setting past side.more app s.desk now.side.desk) is.side side.posts;
+    posts = subst (λ (s : Side). (run : Run) (past : List Event) (taken : ℕ → List ℕ) → IsAfter run past taken s.core → (app : ℕ) → HasInjected run.setting past side.more app s.desk now.side.desk) is.side side.posts;
     many = set_length clients.links (number - 1) now.link;
   }
 
@@ -215,8 +215,8 @@ pumped_visit pumps shown number moved old new pumped = record {
     by None pump = tt
     by (Some why) pump = λ did tells left. shown number why (stage_of old) (record (stage_of new) { link = pumped.link }) did pump tells
 
-pub closed_visit : ((client : ℕ) (why : Why) (old new : Stage) → IsWoundUp client why old new → IsLaterStage client (Some why) old new)
-    → ((client : ℕ) (why : Why) (old new : Stage) (did : LinkDid) → IsWoundUp client why old new → Tells old.link new.link did → (why ≡ Left → did.is_over ≡ true) → IsShown did why)
+pub closed_visit : ((client : ℕ) (why : Why) (old new : Stage) → HasClosingTurns client why old new → IsLaterStage client (Some why) old new)
+    → ((client : ℕ) (why : Why) (old new : Stage) (did : LinkDid) → HasClosingTurns client why old new → Tells old.link new.link did → (why ≡ Left → did.is_over ≡ true) → IsShown did why)
     → {Tells : Type 0} (number : ℕ) (moved : Bool) (old new : Client) → Closed Tells number moved old new → IsVisit number old new
 closed_visit stops shown number moved old new closed = record {
   why = Some closed.why;

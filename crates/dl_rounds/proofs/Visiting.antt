@@ -5,7 +5,7 @@ use Rattle.std.proofs.lemmas.Option.{slice_get-map}
 use Rattle.dl_events.specs.declared.event.Event.{Event}
 use Rattle.dl_outside.specs.Links.{Links}
 use Rattle.dl_outside.specs.Told.{FolderTold, LinkTold}
-use Rattle.dl_desk.specs.Told.{PostTold}
+use Rattle.dl_desk.specs.Told.{ControlTold}
 use Rattle.dl_hub.specs.State.{Hub, IsNextOpen}
 use Rattle.dl_core.specs.State.{Core}
 use Rattle.dl_rounds.specs.declared.listener.Listener.{Listener}
@@ -29,7 +29,7 @@ moved_or true b c = refl
 moved_or false b c = refl
 
 -- the next visit, where links and listeners are kept in lists
-pub visited_next : {L D J F : Type 0} (told : L → LinkTold) (desk_told : D → PostTold) (events : J → Option (List Event)) (folder_told : F → FolderTold)
+pub visited_next : {L D J F : Type 0} (told : L → LinkTold) (desk_told : D → ControlTold) (events : J → Option (List Event)) (folder_told : F → FolderTold)
     (Visit : ℕ → Bool → Client → Client → Type 0) (last number : ℕ) (here later : Bool) (links : Links L) (link link_now : L) (listeners : List Listener) (listener listener_now : Listener)
     (core core_now : Core) (desk desk_now : D) (journal journal_now : J) (folder folder_now : F) (new : Clients)
     → IsNextOpen core.hub last (Some number) → slice_get links.links (number - 1) ≡ Some link → slice_get listeners (number - 1) ≡ Some listener

@@ -2,7 +2,7 @@
 use Rattle.std.specs.Prelude.{◌≡◌, ℕ, ◌-◌, Bool, false, ◌||◌, List, [], ◌∷◌, slice_get, slice_set, Option, Some, None}
 use Rattle.dl_events.specs.declared.event.Event.{Event}
 use Rattle.dl_outside.specs.Told.{FolderTold, LinkTold}
-use Rattle.dl_desk.specs.Told.{PostTold}
+use Rattle.dl_desk.specs.Told.{ControlTold}
 use Rattle.dl_hub.specs.State.{IsNextOpen}
 use Rattle.dl_core.specs.State.{Core}
 use Rattle.dl_turns.specs.State.{Side, Stage, side}
@@ -22,7 +22,7 @@ pub record Clients : Type 0 where
   pub side : Side
 
 -- the client of a link, a listener, a core, a desk, a journal and a folder, where these are the words for what they tell
-abbrev pub seen : {L D J F : Type 0} → (L → LinkTold) → (D → PostTold) → (J → Option (List Event)) → (F → FolderTold) → L → Listener → Core → D → J → F → Client
+abbrev pub seen : {L D J F : Type 0} → (L → LinkTold) → (D → ControlTold) → (J → Option (List Event)) → (F → FolderTold) → L → Listener → Core → D → J → F → Client
 seen link_told desk_told events folder_told link listener core desk journal folder =
     record { link = link_told link; listener = listener; side = side core (desk_told desk) (events journal) (folder_told folder) }
 

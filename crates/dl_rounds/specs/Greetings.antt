@@ -9,7 +9,7 @@ use Rattle.dl_events.specs.declared.event.Event.{Event}
 use Rattle.dl_events.specs.declared.event.Event.TheVariants as event
 use Rattle.dl_outside.specs.Told.{FolderTold}
 use Rattle.dl_desk.specs.Apps.{AppState}
-use Rattle.dl_desk.specs.Told.{PostTold}
+use Rattle.dl_desk.specs.Told.{ControlTold}
 use Rattle.dl_registry.specs.Kept.{owed_change}
 use Rattle.dl_core.specs.Admission.{AddsEach}
 use Rattle.dl_core.specs.Follows.{Adds}
@@ -45,7 +45,7 @@ pub record IsIntroduced (app : AppState) : Type 0 where
   pub are_contexts : AllByRecursion IsContext contexts
 
 -- the side of a core, a desk, a journal and a folder, where these are the words for what they tell
-abbrev pub seen : {D J F : Type 0} → (D → PostTold) → (J → Option (List Event)) → (F → FolderTold) → Core → D → J → F → Side
+abbrev pub seen : {D J F : Type 0} → (D → ControlTold) → (J → Option (List Event)) → (F → FolderTold) → Core → D → J → F → Side
 seen desk_told events folder_told core desk journal folder = side core (desk_told desk) (events journal) (folder_told folder)
 
 -- A message was noted as a User event of this process, and behind it the Level events that it owes.
@@ -80,7 +80,7 @@ apps_in other = 0
 
 -- Messages may be noted: no client came and no more frames were admitted than may be, no Level event is owed, the desk is that of the
 -- registry, and the journal has room for an event.
-pub record MayGreet (core : Core) (desk : PostTold) (spare : ℕ) : Type 0 where
+pub record MayGreet (core : Core) (desk : ControlTold) (spare : ℕ) : Type 0 where
   pub nobody : core.hub.clients ≡ []
   pub few : core.hub.admitted ≤ admitted_limit
   pub settled : owed_change core.registry ≡ None

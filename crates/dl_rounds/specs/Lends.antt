@@ -3,8 +3,8 @@ use Rattle.std.specs.Prelude.{ℕ, ◌-◌, slice_set}
 use Rattle.std.specs.Borrow.{Lends, MutBor, Fml}
 use Rattle.dl_rounds.specs.declared.listener.Listener.{Listener}
 use Rattle.dl_rounds.specs.contracts.listener.Listener.{the_row as listener_row}
-use Rattle.dl_rounds.specs.contracts.seats.Seats.{the_row}
-use Rattle.dl_rounds.specs.Seats.{Seated}
+use Rattle.dl_rounds.specs.contracts.listener_pool.ListenerPool.{the_row}
+use Rattle.dl_rounds.specs.ListenerPool.{Seated}
 
 -- the listeners with this one at a client's number
 abbrev pub with_listener : Seated → ℕ → Listener → Seated

@@ -1,7 +1,7 @@
 pub mod Clients
 pub mod Rounds
 pub mod Visits
-pub mod Seats
+pub mod ListenerPool
 pub mod Lends
 pub mod Ready
 pub mod Arrivals

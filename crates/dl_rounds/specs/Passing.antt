@@ -14,7 +14,7 @@ use Rattle.dl_core.specs.Admission.{AddsEach}
 use Rattle.dl_core.specs.Follows.{HoldsTrace, IsAfter, Run, source_of}
 use Rattle.dl_core.specs.Next.{ComeInTurn}
 use Rattle.dl_turns.specs.Gone.{IsShown, Tells}
-use Rattle.dl_turns.specs.Injected.{HasPosted}
+use Rattle.dl_turns.specs.Injected.{HasInjected}
 use Rattle.dl_turns.specs.Later.{IsDeskLater, IsLaterStage}
 use Rattle.dl_turns.specs.Sent.{HasCut}
 use Rattle.dl_turns.specs.State.{Side}
@@ -66,7 +66,7 @@ pub record AreLater (old new : Clients) : Type 0 where
   pub after : AddsSendingAll more sent old.side new.side
   pub desk : IsDeskLater more old.side.desk new.side.desk
   pub posts : (run : Run) (past : List Event) (taken : ℕ → List ℕ) → IsAfter run past taken old.side.core
-      → (app : ℕ) → HasPosted run.setting past more app old.side.desk new.side.desk
+      → (app : ℕ) → HasInjected run.setting past more app old.side.desk new.side.desk
   pub many : length new.links ≡ length old.links
 
 -- ---- what a client is, by the events of a run

@@ -3,13 +3,13 @@ use Rattle.std.specs.Prelude.{◌≡◌, ℕ, ◌+◌, ◌<◌, ◌≤◌, lengt
 use Rattle.dl_bytes.specs.Limits.{message_limit}
 use Rattle.dl_message.specs.Cutting.{unfed}
 use Rattle.dl_outside.specs.Links.{Links}
-use Rattle.dl_desk.specs.Told.{PostTold}
+use Rattle.dl_desk.specs.Told.{ControlTold}
 use Rattle.dl_registry.specs.Kept.{owed_change}
 use Rattle.dl_hub.specs.State.{Hub, is_open, outbox_of}
 use Rattle.dl_core.specs.State.{Core}
 use Rattle.dl_turns.specs.Events.{HasServed, IsDeskOf}
 use Rattle.dl_rounds.specs.declared.listener.Listener.{Listener}
-use Rattle.dl_rounds.specs.Seats.{HasSeat, Seated}
+use Rattle.dl_rounds.specs.ListenerPool.{HasSeat, Seated}
 
 -- how many clients are open
 abbrev pub open_clients : Hub → ℕ
@@ -30,7 +30,7 @@ fresh_listener = record { cutter = unfed message_limit; served = 0 }
 
 -- Each client that may come has a listener, with a cutter for clients. That of one that came has the count of its requests that were served, and
 -- the others are of clients that sent nothing yet; so is that of an open client without a seat. The desk is that of the registry.
-pub record AreHeard (seated : Seated) (core : Core) (desk : PostTold) : Type 0 where
+pub record AreHeard (seated : Seated) (core : Core) (desk : ControlTold) : Type 0 where
   pub enough : core.hub.limit ≤ length seated.listeners
   pub limits : (place : ℕ) (listener : Listener) → slice_get seated.listeners place ≡ Some listener → listener.cutter.limit ≡ message_limit
   pub counts : (place : ℕ) (listener : Listener) → slice_get seated.listeners place ≡ Some listener → place < length core.hub.clients

@@ -6,13 +6,13 @@ use Rattle.dl_events.specs.declared.event.Why.TheVariants.{Left}
 use Rattle.dl_outside.specs.Link.{StaysOver}
 use Rattle.dl_outside.specs.Outside.{Stays}
 use Rattle.dl_outside.specs.Told.{FolderTold, LinkTold}
-use Rattle.dl_desk.specs.Told.{PostTold}
+use Rattle.dl_desk.specs.Told.{ControlTold}
 use Rattle.dl_hub.specs.State.{outbox_of}
 use Rattle.dl_core.specs.State.{Core}
 use Rattle.dl_turns.specs.Events.{HasServed}
-use Rattle.dl_turns.specs.Gone.{TellOver}
+use Rattle.dl_turns.specs.Gone.{TellTheEnd}
 use Rattle.dl_turns.specs.State.{side}
-use Rattle.dl_turns.specs.Stopping.{IsWoundUp}
+use Rattle.dl_turns.specs.Stopping.{HasClosingTurns}
 use Rattle.dl_turns.specs.Turns.{IsPump, IsTurn}
 use Rattle.dl_rounds.specs.declared.listener.Listener.{Listener}
 use Rattle.dl_rounds.specs.Clients.{Client, Clients, VisitsAll, stage_of}
@@ -60,7 +60,7 @@ pub record Pumped (number : ℕ) (moved : Bool) (old new : Client) : Type 0 wher
 pub record Closed (Tells : Type 0) (number : ℕ) (moved : Bool) (old new : Client) : Type 0 where
   pub why : Why
   pub link : LinkTold
-  pub wound_up : IsWoundUp number why (stage_of old) (record (stage_of new) { link = link })
+  pub wound_up : HasClosingTurns number why (stage_of old) (record (stage_of new) { link = link })
   pub shut : IsShut link new.link
   pub served : HasServed number new.listener.served new.side.core
   pub left : why ≡ Left → Tells → link.over ≡ Some true
@@ -69,7 +69,7 @@ pub record Closed (Tells : Type 0) (number : ℕ) (moved : Bool) (old new : Clie
 -- A pump sees neither desk nor folder nor listener: whatever these are, the client was pumped.
 abbrev pub PumpsTo : ℕ → Bool → LinkTold → LinkTold → Core → Core → Option (List Event) → Option (List Event) → Type 0
 PumpsTo number moved link link_now old new events events_now =
-    (desk : PostTold) (folder : FolderTold) (listener : Listener)
+    (desk : ControlTold) (folder : FolderTold) (listener : Listener)
     → Pumped number moved (record { link = link; listener = listener; side = side old desk events folder })
     (record { link = link_now; listener = listener; side = side new desk events_now folder })
 
@@ -82,7 +82,7 @@ HearsAll moved old new = VisitsAll Heard moved old new
 -- each was pumped, whatever desk, folder and listeners are
 abbrev pub PumpsAll : Bool → List LinkTold → List LinkTold → Core → Core → Option (List Event) → Option (List Event) → Type 0
 PumpsAll moved links links_now old new events events_now =
-    (desk : PostTold) (folder : FolderTold) (listeners : List Listener) → length links ≤ length listeners
+    (desk : ControlTold) (folder : FolderTold) (listeners : List Listener) → length links ≤ length listeners
     → VisitsAll Pumped moved (record { links = links; listeners = listeners; side = side old desk events folder })
     (record { links = links_now; listeners = listeners; side = side new desk events_now folder })
 
@@ -92,7 +92,7 @@ ClosesAll Tells old new = (moved : Bool) × VisitsAll (Closed Tells) moved old n
 
 -- the same by what links tell
 abbrev pub Shuts : {L : Type 0} → (L → LinkTold) → ℕ → Client → Client → Type 0
-Shuts link_told number = Closed (TellOver link_told) number true
+Shuts link_told number = Closed (TellTheEnd link_told) number true
 
 abbrev pub HaveShut : {L : Type 0} → (L → LinkTold) → Clients → Clients → Type 0
-HaveShut link_told = ClosesAll (TellOver link_told)
+HaveShut link_told = ClosesAll (TellTheEnd link_told)

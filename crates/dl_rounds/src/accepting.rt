@@ -2,10 +2,10 @@
 
 ghost use Rattle.std.specs.Prelude.{◌≡◌, ◌≢◌, ◌≤◌, ◌+◌, ◌-◌, ◌^◌, ℕ, min, IfSome, IfNone, OnSome};
 ghost use Rattle.dl_outside.specs.Outside.{Stays};
-ghost use Rattle.dl_desk.specs.Told.{PostTold};
+ghost use Rattle.dl_desk.specs.Told.{ControlTold};
 ghost use Rattle.dl_registry.specs.Kept.{owed_change};
 ghost use Rattle.dl_hub.specs.State.{HasPlace};
-ghost use Rattle.dl_rounds.specs.Seats.{Seated};
+ghost use Rattle.dl_rounds.specs.ListenerPool.{Seated};
 ghost use Rattle.dl_rounds.specs.declared.accepting.Arrival.TheVariants as arrival;
 ghost use Rattle.dl_rounds.specs.Arrivals.{Arrives, ConnectsAs, Connects};
 ghost use Rattle.dl_rounds.specs.Ready.{AreHeard, AreLinked, open_clients};
@@ -66,7 +66,7 @@ where
     ensures listens { Stays (N.told net.old).listens_on (N.told net.new).listens_on }
     ensures launched { Stays (N.told net.old).launched (N.told net.new).launched }
     ensures linked { AreLinked links.new core.new (J.spare journal.new) }
-    ensures heard { (seated : Seated) (desk : PostTold) → AreHeard seated core.old desk → AreHeard seated core.new desk }
+    ensures heard { (seated : Seated) (desk : ControlTold) → AreHeard seated core.old desk → AreHeard seated core.new desk }
     ensures spare { (number : ℕ) → result ≡ arrival.Client number → J.spare journal.new + 1 ≡ J.spare journal.old }
     ensures unused { ((number : ℕ) → result ≢ arrival.Client number) → journal.new ≡ journal.old }
 {

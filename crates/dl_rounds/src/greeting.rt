@@ -7,7 +7,7 @@ ghost use Rattle.dl_rounds.specs.Greetings.{Greets, GreetsEach, GreetsFirst, IsI
 
 use dl_bytes::{Moment, OutOfMemory, UserMsg};
 use dl_core::Core;
-use dl_desk::{App, AppList, Post};
+use dl_desk::{App, AppList, WriterControl};
 use dl_events::Journal;
 use dl_outside::Folder;
 use dl_turns::note_levels;
@@ -16,8 +16,8 @@ use std::alloc::Global;
 /// The channel of this process.
 const OWN_CHANNEL: u16 = 0;
 
-/// Notes a registration of this process as a User event, and the Level events that it owes. Where memory was wanting nothing is noted.
-pub fn greet_one<D: Post, J: Journal, F: Folder>(
+/// Notes a registration of this process as a User event, and the Level events that it owes. Where memory ran out nothing is noted.
+pub fn greet_one<D: WriterControl, J: Journal, F: Folder>(
     alloc: Global,
     core: &mut Core,
     desk: &mut D,
@@ -46,7 +46,7 @@ pub fn greet_one<D: Post, J: Journal, F: Folder>(
 }
 
 /// Notes what an application tells of itself, message by message.
-fn greet_app<D: Post, J: Journal, F: Folder>(
+fn greet_app<D: WriterControl, J: Journal, F: Folder>(
     alloc: Global,
     core: &mut Core,
     desk: &mut D,
@@ -74,9 +74,9 @@ fn greet_app<D: Post, J: Journal, F: Folder>(
     Ok(())
 }
 
-/// Notes what the applications of a desk tell of themselves, in their order, before any client comes. Where memory was wanting the first ones of
+/// Notes what the applications of a desk tell of themselves, in their order, before any client comes. Where memory ran out the first ones of
 /// these messages are noted, each with its Level events.
-pub fn greet<D: Post, J: Journal, F: Folder>(
+pub fn greet<D: WriterControl, J: Journal, F: Folder>(
     alloc: Global,
     core: &mut Core,
     desk: &mut D,

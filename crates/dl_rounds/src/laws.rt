@@ -5,7 +5,7 @@ ghost use Rattle.dl_bytes.specs.declared.moment.Moment.{Moment};
 ghost use Rattle.dl_bytes.specs.declared.user.UserMsg.{UserMsg};
 ghost use Rattle.dl_hub.specs.State.{Hub, outbox_of};
 ghost use Rattle.dl_outside.specs.Told.{LinkTold};
-ghost use Rattle.dl_turns.specs.Gone.{TellOver};
+ghost use Rattle.dl_turns.specs.Gone.{TellTheEnd};
 ghost use Rattle.dl_turns.specs.State.{Side};
 ghost use Rattle.dl_rounds.specs.Clients.{Client, Clients, VisitsAll};
 ghost use Rattle.dl_rounds.specs.Greetings.{AreGreeted, GreetsEach};
@@ -20,7 +20,7 @@ use dl_outside::Link;
 pub fn a_visit_is_its_events<L: Link>()
     ensures heard { (number : ℕ) (moved : Bool) (old new : Client) → Heard number moved old new → IsVisit number old new }
     ensures pumped { (number : ℕ) (moved : Bool) (old new : Client) → Pumped number moved old new → IsVisit number old new }
-    ensures closed { (number : ℕ) (moved : Bool) (old new : Client) → Closed (TellOver L.told) number moved old new → IsVisit number old new }
+    ensures closed { (number : ℕ) (moved : Bool) (old new : Client) → Closed (TellTheEnd L.told) number moved old new → IsVisit number old new }
 {
     dl_turns::laws::a_turn_is_its_events();
     dl_turns::laws::a_pump_is_its_events();
@@ -32,7 +32,7 @@ pub fn a_visit_is_its_events<L: Link>()
 pub fn a_round_is_its_events<L: Link>()
     ensures heard { (moved : Bool) (old new : Clients) → HearsAll moved old new → AreLater old new }
     ensures pumped { (moved : Bool) (old new : Clients) → VisitsAll Pumped moved old new → AreLater old new }
-    ensures closed { (old new : Clients) → ClosesAll (TellOver L.told) old new → AreLater old new }
+    ensures closed { (old new : Clients) → ClosesAll (TellTheEnd L.told) old new → AreLater old new }
 {
     a_visit_is_its_events::<L>();
 }
@@ -42,7 +42,7 @@ pub fn a_round_is_its_events<L: Link>()
 pub fn clients_are_as_noted<L: Link>()
     ensures heard { (moved : Bool) (old new : Clients) → HearsAll moved old new → StayAsNoted old new }
     ensures pumped { (moved : Bool) (old new : Clients) → VisitsAll Pumped moved old new → StayAsNoted old new }
-    ensures closed { (old new : Clients) → ClosesAll (TellOver L.told) old new → StayAsNoted old new }
+    ensures closed { (old new : Clients) → ClosesAll (TellTheEnd L.told) old new → StayAsNoted old new }
 {
     a_visit_is_its_events::<L>();
 }
@@ -72,10 +72,10 @@ pub fn why_clients_stay()
 /// Clients that are gone show why after a round, too: those that went before it, and those that were closed in it. That the link of one that left is
 /// over they show of links that told before the round whether they are.
 pub fn gone_clients_show_why<L: Link>()
-    ensures heard { (moved : Bool) (old new : Clients) → HearsAll moved old new → (TellOver L.told → TellOvers old.links)
-        → ShowWhy (TellOver L.told) old → ShowWhy (TellOver L.told) new }
-    ensures pumped { (moved : Bool) (old new : Clients) → VisitsAll Pumped moved old new → ShowWhy (TellOver L.told) old → ShowWhy (TellOver L.told) new }
-    ensures closed { (old new : Clients) → ClosesAll (TellOver L.told) old new → ShowWhy (TellOver L.told) old → ShowWhy (TellOver L.told) new }
+    ensures heard { (moved : Bool) (old new : Clients) → HearsAll moved old new → (TellTheEnd L.told → TellOvers old.links)
+        → ShowWhy (TellTheEnd L.told) old → ShowWhy (TellTheEnd L.told) new }
+    ensures pumped { (moved : Bool) (old new : Clients) → VisitsAll Pumped moved old new → ShowWhy (TellTheEnd L.told) old → ShowWhy (TellTheEnd L.told) new }
+    ensures closed { (old new : Clients) → ClosesAll (TellTheEnd L.told) old new → ShowWhy (TellTheEnd L.told) old → ShowWhy (TellTheEnd L.told) new }
 {
     dl_turns::laws::a_turn_is_its_events();
     dl_turns::laws::a_pump_is_its_events();
@@ -89,7 +89,7 @@ pub fn gone_clients_show_why<L: Link>()
 pub fn links_of_gone_clients_are_shut<L: Link>()
     ensures heard { (moved : Bool) (old new : Clients) → HearsAll moved old new → AreShut old.side.core.hub old.links → AreShut new.side.core.hub new.links }
     ensures pumped { (moved : Bool) (old new : Clients) → VisitsAll Pumped moved old new → AreShut old.side.core.hub old.links → AreShut new.side.core.hub new.links }
-    ensures closed { (old new : Clients) → ClosesAll (TellOver L.told) old new → AreShut old.side.core.hub old.links → AreShut new.side.core.hub new.links }
+    ensures closed { (old new : Clients) → ClosesAll (TellTheEnd L.told) old new → AreShut old.side.core.hub old.links → AreShut new.side.core.hub new.links }
     ensures parted { (hub : Hub) (old new : List LinkTold) → ShutsGone hub old new → AreShut hub new }
 {
     a_visit_is_its_events::<L>();

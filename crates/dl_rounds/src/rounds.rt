@@ -1,31 +1,31 @@
 //! All open clients, in the order of their numbers.
 
 ghost use Rattle.std.specs.Prelude.{◌≡◌, ℕ, None, map};
-ghost use Rattle.dl_desk.specs.Told.{PostTold};
+ghost use Rattle.dl_desk.specs.Told.{ControlTold};
 ghost use Rattle.dl_hub.specs.State.{IsSameHub, outbox_of};
-ghost use Rattle.dl_rounds.specs.Seats.{Seated};
+ghost use Rattle.dl_rounds.specs.ListenerPool.{Seated};
 ghost use Rattle.dl_rounds.specs.Ready.{AreHeard, AreLinked, KeepsRoom};
 ghost use Rattle.dl_rounds.specs.Rounds.{seated};
 ghost use Rattle.dl_rounds.specs.Visits.{HaveShut, HearsAll, PumpsAll};
 
-use crate::seats::Seats;
+use crate::listener_pool::ListenerPool;
 use crate::visits::{close_one, listen_to, pump_to};
 use dl_core::Core;
-use dl_desk::Post;
+use dl_desk::WriterControl;
 use dl_events::Journal;
 use dl_outside::{Folder, Link, LinkList};
 use std::alloc::Global;
 use std::sync::Wait;
 
 /// Listens to each open client once, in the order of their numbers. Answers whether anything moved.
-pub fn listen_all<R: Wait, D: Post, J: Journal, L: Link, F: Folder>(
+pub fn listen_all<R: Wait, D: WriterControl, J: Journal, L: Link, F: Folder>(
     rt: &R,
     alloc: Global,
     core: &mut Core,
     desk: &mut D,
     journal: &mut J,
     links: &mut LinkList<L>,
-    seats: &mut Seats,
+    seats: &mut ListenerPool,
     folder: &mut F,
 ) -> bool
     requires linked { AreLinked links.old core.old (J.spare journal.old) }
@@ -61,7 +61,7 @@ pub fn pump_all<J: Journal, L: Link>(
     requires linked { AreLinked links.old core.old (J.spare journal.old) }
     ensures visits { PumpsAll result (map L.told links.old.links) (map L.told links.new.links) core.old core.new (J.events journal.old) (J.events journal.new) }
     ensures linked { AreLinked links.new core.new (J.spare journal.new) }
-    ensures heard { (seated : Seated) (desk : PostTold) → AreHeard seated core.old desk → AreHeard seated core.new desk }
+    ensures heard { (seated : Seated) (desk : ControlTold) → AreHeard seated core.old desk → AreHeard seated core.new desk }
     ensures room { KeepsRoom core.old core.new (J.spare journal.old) (J.spare journal.new) }
     ensures same { IsSameHub core.old.hub core.new.hub }
 {
@@ -75,14 +75,14 @@ pub fn pump_all<J: Journal, L: Link>(
 }
 
 /// Closes each open client, in the order of their numbers, as the daemon stops.
-pub fn close_all<R: Wait, D: Post, J: Journal, L: Link, F: Folder>(
+pub fn close_all<R: Wait, D: WriterControl, J: Journal, L: Link, F: Folder>(
     rt: &R,
     alloc: Global,
     core: &mut Core,
     desk: &mut D,
     journal: &mut J,
     links: &mut LinkList<L>,
-    seats: &mut Seats,
+    seats: &mut ListenerPool,
     folder: &mut F,
 )
     requires linked { AreLinked links.old core.old (J.spare journal.old) }

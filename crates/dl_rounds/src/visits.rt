@@ -11,7 +11,7 @@ ghost use Rattle.dl_rounds.specs.Visits.{Heard, PumpsTo, Shuts};
 
 use crate::listener::Listener;
 use dl_core::Core;
-use dl_desk::Post;
+use dl_desk::WriterControl;
 use dl_events::Journal;
 use dl_outside::{Folder, Link};
 use dl_turns::{client_turn, close_turn, pump_turn};
@@ -20,7 +20,7 @@ use std::sync::Wait;
 
 /// Listens to a client that is open, and shuts its link where that closed it. Answers whether anything moved: the link gave a byte, or the
 /// client was closed.
-pub fn listen_to<R: Wait, D: Post, J: Journal, L: Link, F: Folder>(
+pub fn listen_to<R: Wait, D: WriterControl, J: Journal, L: Link, F: Folder>(
     rt: &R,
     alloc: Global,
     core: &mut Core,
@@ -91,7 +91,7 @@ pub fn pump_to<J: Journal, L: Link>(
 }
 
 /// Closes a client that is open, at the daemon's stop: it has its closing turns before that, and its link is shut behind it.
-pub fn close_one<R: Wait, D: Post, J: Journal, L: Link, F: Folder>(
+pub fn close_one<R: Wait, D: WriterControl, J: Journal, L: Link, F: Folder>(
     rt: &R,
     alloc: Global,
     core: &mut Core,

@@ -117,7 +117,7 @@ fn scenario_lines(alloc: Global, text: &[u8]) -> Result<Vec<ScenarioLine>, Scrip
 }
 
 /// The step script that a text is, or its first bad line and what is wrong with it. The text has at most 16,777,216
-/// bytes. Memory is taken line by line, so want of memory may come before a line that is bad.
+/// bytes. Memory is taken line by line, so out of memory may come before a line that is bad.
 #[tactic(auto, unfolding(crate::specs::Script::script_of))]
 pub fn read_steps(alloc: Global, text: &[u8]) -> Result<StepList, ScriptError>
     ensures { Reads (λ list. list) result (steps_of text.now) }
@@ -132,7 +132,7 @@ pub fn read_steps(alloc: Global, text: &[u8]) -> Result<StepList, ScriptError>
 }
 
 /// The scenario that a text is, or its first bad line and what is wrong with it. The text has at most 16,777,216 bytes.
-/// Memory is taken line by line, so want of memory may come before a line that is bad.
+/// Memory is taken line by line, so out of memory may come before a line that is bad.
 #[tactic(auto, unfolding(crate::specs::Script::script_of))]
 pub fn read_scenario(alloc: Global, text: &[u8]) -> Result<Scenario, ScriptError>
     ensures { Reads (λ list. list) result (scenario_of text.now) }

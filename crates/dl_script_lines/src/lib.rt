@@ -1,4 +1,7 @@
 //! The lines of scripts: the word that a line begins with, and what the fields behind it say or what is wrong with them.
+//!
+//! Proved: what the fields of each form of line say, or the first that is wrong and how (`app`, `context`, `log_call`, `user`), and the word that a
+//! line begins with. Rests on tests: a table of lines.
 #![tactic(auto)]
 
 mod line;

@@ -12,9 +12,9 @@ use Rattle.dl_rounds.specs.declared.accepting.Arrival.{Arrival}
 use Rattle.dl_rounds.specs.declared.accepting.Arrival.TheVariants as arrival
 use Rattle.dl_server.specs.Accepts.{AcceptsClientIfMay, AcceptsProgramIfMay, has_failed, has_failed_to_enter, has_wanted, has_wanted_to_enter}
 use Rattle.dl_server.specs.State.{State}
-use Rattle.dl_serving.specs.Accepting.{Enters}
-use Rattle.dl_serving.specs.declared.accepting.Entry.{Entry}
-use Rattle.dl_serving.specs.declared.accepting.Entry.TheVariants as entry
+use Rattle.dl_channels.specs.Accepting.{Enters}
+use Rattle.dl_channels.specs.declared.accepting.Entry.{Entry}
+use Rattle.dl_channels.specs.declared.accepting.Entry.TheVariants as entry
 use Rattle.dl_serve.specs.Service.{Accepts, EachNow, IsNewLink}
 use Rattle.dl_serve.proofs.GoingLinks.{rose_on}
 use Rattle.dl_serve.proofs.OtherEntries.{last_at}

@@ -20,14 +20,14 @@ use Rattle.dl_model.specs.TraceFiles.{StoredFile}
 use Rattle.dl_outside.specs.Folder.{Files}
 use Rattle.dl_outside.specs.Told.{FolderTold, LinkTold}
 use Rattle.dl_registry.specs.Kept.{owed_change}
-use Rattle.dl_server.specs.Holds.{GoesOut, Holds}
+use Rattle.dl_server.specs.Holds.{GoesOnUntilClosed, Holds}
 use Rattle.dl_server.specs.State.{State}
 use Rattle.dl_settling.specs.Ends.{end_in, ends_in}
 use Rattle.dl_settling.specs.Went.{TellStreams}
 use Rattle.dl_settling.proofs.WentClients.{client_at, end_at, streams_told}
 use Rattle.dl_startup.specs.Setup.{IsBegun}
 use Rattle.dl_startup.specs.Unchanged.{IsQuiet}
-use Rattle.dl_trace.specs.Stands.{HasFiles}
+use Rattle.dl_trace.specs.InFolder.{HasFiles}
 use Rattle.dl_trace.specs.State as trace
 use Rattle.dl_trace.specs.State.{Trace}
 use Rattle.dl_core.proofs.Connecting.{came_by_journal}
@@ -175,7 +175,7 @@ module _ (Tell : Type 0) (set : Setting) (begun : Begun) (first : FolderTold) (b
 module _ {L : Type 0} (link_told : L → LinkTold)
     (outbox : (run : Run) (events : List Event) (taken : ℕ → List ℕ) (core : Core) (client : ℕ) → IsAfter run events taken core → IsSome (outbox_of core.hub client) ↔ IsOpen client events)
     (set : Setting) (begun : Begun) (first : FolderTold) (begins : IsBegun begun.conf first.files begun.trace) (start final : State) (quiet : IsQuiet first start.folder) (fresh : IsFresh set begun start)
-    (goes : (held : Bool) → GoesOut (TellTaken link_told) (held ≡ true) start final) (none_open : (number : ℕ) → outbox_of final.core.hub number ≡ None)
+    (goes : (held : Bool) → GoesOnUntilClosed (TellTaken link_told) (held ≡ true) start final) (none_open : (number : ℕ) → outbox_of final.core.hub number ≡ None)
     (closed : Closed L) (left : IsLeft link_told final closed) where
   abbrev stood_before : HaveStood begun.conf first.files begun.trace
   stood_before = what_stood begun.conf first.files begun.trace begins

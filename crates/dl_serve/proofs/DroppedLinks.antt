@@ -150,11 +150,11 @@ module _ (IsTold : LinkTold → Type 0) where
 -- ---- the whole
 
 -- before anybody came to a server that was made like this
-pub first_kept : {J L : Type 0} (told : L → LinkTold) (events : J → Option (List Event)) (may_want : Bool) (folder : FolderTold) (core : Core) (journal : J) (channels : Channels) (clients programs : ℕ) (s : Server J L)
+pub first_kept : {J L : Type 0} (told : L → LinkTold) (events : J → Option (List Event)) (may_run_out : Bool) (folder : FolderTold) (core : Core) (journal : J) (channels : Channels) (clients programs : ℕ) (s : Server J L)
     → IsMade core journal channels clients programs s → length core.hub.clients ≡ 0 → channels.opened ≡ 0 → channels.inboxes ≡ [] → open_client_limit ≤ core.hub.limit → open_channel_limit ≤ channels.at_once
-    → open_channel_limit ≤ channels.in_all → IsKept (counts (state_of (server.seen told events may_want folder s)))
-first_kept told events may_want folder core journal channels clients programs s made nobody opened inboxes limit at_once in_all =
-    let start : State = state_of (server.seen told events may_want folder s) in
+    → open_channel_limit ≤ channels.in_all → IsKept (counts (state_of (server.seen told events may_run_out folder s)))
+first_kept told events may_run_out folder core journal channels clients programs s made nobody opened inboxes limit at_once in_all =
+    let start : State = state_of (server.seen told events may_run_out folder s) in
     let no_program : length start.programs ≡ 0 = joined_length program_with None _ _ ∙ ap (λ (ls : Links _). length (map told ls.links)) made.no_program in
     let no_client : length start.clients ≡ 0 = joined_length client_with fresh_listener _ _ ∙ ap (λ (ls : Links _). length (map told ls.links)) made.no_client in
     let no_inbox : length start.channels.inboxes ≡ 0 = ap (λ (c : Channels). length c.inboxes) made.channels_are ∙ ap (λ (is : List (ℕ × cutter.Channel)). length is) inboxes in record {

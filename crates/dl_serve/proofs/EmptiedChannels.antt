@@ -29,11 +29,11 @@ use Rattle.dl_model.specs.declared.registry.LevelChange.{LevelChange}
 use Rattle.dl_outside.specs.Told.{LinkTold}
 use Rattle.dl_registry.specs.Kept.{Kept, owed_change}
 use Rattle.dl_rounds.proofs.ByPlace.{set_cases}
-use Rattle.dl_serving.specs.Rounds.{PumpsAll, Scene, Sent, VisitsEach, Visited, seen_by}
-use Rattle.dl_serving.specs.Visits.{Ends, EndsFor, Pumps, side_of}
+use Rattle.dl_channels.specs.Rounds.{PumpsAll, Scene, Sent, VisitsEach, Visited, seen_by}
+use Rattle.dl_channels.specs.Visits.{Ends, EndsFor, Pumps, side_of}
 use Rattle.dl_socket.specs.Channels.{Channels, IsOpen, open_in}
 use Rattle.dl_socket.specs.Closing.{UnregistersEach}
-use Rattle.dl_socket.specs.Turns.{Sight}
+use Rattle.dl_socket.specs.Turns.{ChannelView}
 use Rattle.dl_serve.proofs.NotedSteps.{Follows, IsSilent, message_follows}
 use Rattle.dl_serve.proofs.OtherEntries.{gone_apart, set_apart, set_here, value_apart, value_here}
 
@@ -133,7 +133,7 @@ module _ (setting : Setting) (channel : ℕ) (moment : Moment) where
   each_led past [] old new each = same_led past old new each
   each_led past (apid ∷ apids) old new each = both_led past old each.1 new (one_led past apid old each.1 each.2) (λ later. each_led later apids each.1 new each.3)
 
-  pub ends_led : (past : List Event) (closed : Bool) (before after : Sight) (old new : Channels) → Ends channel moment closed before after old new → Led past (side_of before old) (side_of after new)
+  pub ends_led : (past : List Event) (closed : Bool) (before after : ChannelView) (old new : Channels) → Ends channel moment closed before after old new → Led past (side_of before old) (side_of after new)
   ends_led past true before after old new ends =
       let all = ends.closes.unregistered in
       with_led past (side_of before old) (record (side_of after new) { outboxes = ends.closes.outboxes }) new.outboxes
@@ -141,11 +141,11 @@ module _ (setting : Setting) (channel : ℕ) (moment : Moment) where
       (each_led past all.0 (side_of before old) (record (side_of after new) { outboxes = ends.closes.outboxes }) all.1)
   ends_led past false before after old new ends = let all = ends.closes.unregistered in each_led past all.0 (side_of before old) (side_of after new) all.1
 
-  for_led : (past : List Event) (end : Option ChannelEnd) (before after : Sight) (old new : Channels) → EndsFor end channel moment before after old new → Led past (side_of before old) (side_of after new)
+  for_led : (past : List Event) (end : Option ChannelEnd) (before after : ChannelView) (old new : Channels) → EndsFor end channel moment before after old new → Led past (side_of before old) (side_of after new)
   for_led past None before after old new same = same_led past (side_of before old) (side_of after new) (λ i. side_of (same.0 i) (same.1 i))
   for_led past (Some cause) before after old new ends = ends_led past ends.0 before after old new ends.1
 
-  pub pumps_led : (past : List Event) (end end_now : Option ChannelEnd) (before after : Sight) (old new : Channels) → Pumps channel moment end end_now before after old new → Led past (side_of before old) (side_of after new)
+  pub pumps_led : (past : List Event) (end end_now : Option ChannelEnd) (before after : ChannelView) (old new : Channels) → Pumps channel moment end end_now before after old new → Led past (side_of before old) (side_of after new)
   pumps_led past None end_now before after old new pumps =
       let one = pumps.2.pumps in
       let set : pumps.1.outboxes ≡ set_value (nat_eq channel) old.outboxes one.outbox_now =
@@ -153,19 +153,19 @@ module _ (setting : Setting) (channel : ℕ) (moment : Moment) where
       both_led past (side_of before old) (side_of pumps.0 pumps.1) (side_of after new)
       (with_led past (side_of before old) (record (side_of pumps.0 pumps.1) { outboxes = old.outboxes }) pumps.1.outboxes
       (λ other apart. ap (λ (es : List (ℕ × Outbox)). outbox_of es other) set ∙ value_apart channel other old.outboxes one.outbox_now apart)
-      (same_led past (side_of before old) (record (side_of pumps.0 pumps.1) { outboxes = old.outboxes }) (ap (λ (s : Sight). side_of s old) pumps.3)))
+      (same_led past (side_of before old) (record (side_of pumps.0 pumps.1) { outboxes = old.outboxes }) (ap (λ (s : ChannelView). side_of s old) pumps.3)))
       (λ later. for_led later end_now pumps.0 after pumps.1 new pumps.4)
   pumps_led past (Some cause) end_now before after old new pumps = same_led past (side_of before old) (side_of after new) (λ i. side_of (pumps.1 i) (pumps.2 i))
 
 -- A pump leaves nothing behind where the channel goes on and its link never had to wait.
-pub pump_empties : (channel : ℕ) (moment : Moment) (before after : Sight) (old new : Channels) → Pumps channel moment None None before after old new → after.link.waits ≡ 0 → outbox_of new.outboxes channel ≡ Some empty
+pub pump_empties : (channel : ℕ) (moment : Moment) (before after : ChannelView) (old new : Channels) → Pumps channel moment None None before after old new → after.link.waits ≡ 0 → outbox_of new.outboxes channel ≡ Some empty
 pump_empties channel moment before after old new pumps never =
     let one = pumps.2.pumps in
     let set : pumps.1.outboxes ≡ set_value (nat_eq channel) old.outboxes one.outbox_now =
     one.is ∙ ap (λ (o : Option Outbox). option_map_or (λ (x : Outbox). set_value (nat_eq channel) old.outboxes one.outbox_now) o old.outboxes) one.was in
     let here : outbox_of pumps.1.outboxes channel ≡ Some one.outbox_now = ap (λ (es : List (ℕ × Outbox)). outbox_of es channel) set ∙ value_here channel old.outboxes one.outbox_now one.outbox one.was in
     ap (λ (c : Channels). outbox_of c.outboxes channel) pumps.4.1 ∙ here
-    ∙ ap Some (by one.outbox.full one.outbox one.outbox_now before.link pumps.0.link refl one.pumps (ap (λ (s : Sight). s.link.waits) (sym pumps.4.0) ∙ never))
+    ∙ ap Some (by one.outbox.full one.outbox one.outbox_now before.link pumps.0.link refl one.pumps (ap (λ (s : ChannelView). s.link.waits) (sym pumps.4.0) ∙ never))
   where
     by : (b : Bool) (outbox outbox_now : Outbox) (link link_now : LinkTold) → outbox.full ≡ b → PumpsBy b None outbox outbox_now link link_now → link_now.waits ≡ 0 → outbox_now ≡ empty
     by true outbox outbox_now link link_now full pumps none = absurd (cc pumps.0)
@@ -200,7 +200,7 @@ module _ (setting : Setting) (moment : Moment) where
         | inr emptied ↦ inr (λ never. stand (place + 1) differs ∙ emptied never)
       ]) (sym (ap (λ (ls : List LinkTold). slice_get ls place) visited.links) ∙ there)
     where
-      by : (n : ℕ) (end end_now : Option ChannelEnd) (before now : Sight) (was is : Channels) → Pumps n moment end end_now before now was is → end_now ≡ None → now.link.waits ≡ 0 → outbox_of is.outboxes n ≡ Some empty
+      by : (n : ℕ) (end end_now : Option ChannelEnd) (before now : ChannelView) (was is : Channels) → Pumps n moment end end_now before now was is → end_now ≡ None → now.link.waits ≡ 0 → outbox_of is.outboxes n ≡ Some empty
       by n None end_now before now was is pumps none never =
           pump_empties n moment before now was is (subst (λ (e : Option ChannelEnd). Pumps n moment None e before now was is) none pumps) never
       by n (Some cause) end_now before now was is pumps none never = absurd (let bad : Some cause ≡ None = sym pumps.0 ∙ none in cc bad)

@@ -18,11 +18,11 @@ use Rattle.dl_model.specs.Report.{why_of}
 use Rattle.dl_model.specs.Traffic.{Admitted, Traffic}
 use Rattle.dl_model.specs.declared.registry.LevelChange.{LevelChange}
 use Rattle.dl_rounds.specs.Passing.{IsOfClients}
-use Rattle.dl_serving.specs.Rounds.{Scene, Sent, Stopped, VisitsEach, seen_by}
-use Rattle.dl_serving.specs.Visits.{Ends, EndsFor, Pumps, side_of}
+use Rattle.dl_channels.specs.Rounds.{Scene, Sent, Stopped, VisitsEach, seen_by}
+use Rattle.dl_channels.specs.Visits.{Ends, EndsFor, Pumps, side_of}
 use Rattle.dl_socket.specs.Channels.{Channels}
 use Rattle.dl_socket.specs.Closing.{UnregistersEach}
-use Rattle.dl_socket.specs.Turns.{Sight}
+use Rattle.dl_socket.specs.Turns.{ChannelView}
 use Rattle.dl_serve.specs.Admitted.{IsFarewell}
 use Rattle.dl_serve.specs.Service.{IsAt}
 
@@ -116,19 +116,19 @@ module _ (moment : Moment) where
         (both_quietly old.events noted.events each.1.events (event.User channel (UnregisterApp apid 0) moment ∷ [], each.2.1.notes.event, ((refl, refl, λ ecu. refl), tt)) (levels_quietly each.2.2.0 noted each.1 each.2.2.1))
         (each_quietly apids each.1 new each.3)
 
-    ends_quietly : (closed : Bool) (before after : Sight) (old new : Channels) → Ends channel moment closed before after old new → Quietly before.events after.events
+    ends_quietly : (closed : Bool) (before after : ChannelView) (old new : Channels) → Ends channel moment closed before after old new → Quietly before.events after.events
     ends_quietly true before after old new ends =
         let all = ends.closes.unregistered in each_quietly all.0 (side_of before old) (record (side_of after new) { outboxes = ends.closes.outboxes }) all.1
     ends_quietly false before after old new ends = let all = ends.closes.unregistered in each_quietly all.0 (side_of before old) (side_of after new) all.1
 
-    for_quietly : (cause : Option ChannelEnd) (before after : Sight) (old new : Channels) → EndsFor cause channel moment before after old new → Quietly before.events after.events
-    for_quietly None before after old new same = same_quietly before.events after.events (ap (λ (s : Sight). s.events) same.0)
+    for_quietly : (cause : Option ChannelEnd) (before after : ChannelView) (old new : Channels) → EndsFor cause channel moment before after old new → Quietly before.events after.events
+    for_quietly None before after old new same = same_quietly before.events after.events (ap (λ (s : ChannelView). s.events) same.0)
     for_quietly (Some cause) before after old new ends = ends_quietly ends.0 before after old new ends.1
 
-    pumps_quietly : (end end_now : Option ChannelEnd) (before after : Sight) (old new : Channels) → Pumps channel moment end end_now before after old new → Quietly before.events after.events
+    pumps_quietly : (end end_now : Option ChannelEnd) (before after : ChannelView) (old new : Channels) → Pumps channel moment end end_now before after old new → Quietly before.events after.events
     pumps_quietly None end_now before after old new pumps =
-        both_quietly before.events pumps.0.events after.events (same_quietly before.events pumps.0.events (ap (λ (s : Sight). s.events) pumps.3)) (for_quietly end_now pumps.0 after pumps.1 new pumps.4)
-    pumps_quietly (Some cause) end_now before after old new pumps = same_quietly before.events after.events (ap (λ (s : Sight). s.events) pumps.1)
+        both_quietly before.events pumps.0.events after.events (same_quietly before.events pumps.0.events (ap (λ (s : ChannelView). s.events) pumps.3)) (for_quietly end_now pumps.0 after pumps.1 new pumps.4)
+    pumps_quietly (Some cause) end_now before after old new pumps = same_quietly before.events after.events (ap (λ (s : ChannelView). s.events) pumps.1)
 
   pub sent_quietly : (channels : List ℕ) (moved : Bool) (old new : Scene) → VisitsEach (Sent moment) channels moved old new → Quietly old.part.events new.part.events
   sent_quietly [] moved old new visits = same_quietly old.part.events new.part.events (ap (λ (s : Scene). s.part.events) visits.1)

@@ -26,10 +26,10 @@ use Rattle.dl_model.specs.declared.registry.LevelChange.{LevelChange}
 use Rattle.dl_outside.specs.declared.link.Gave.{Gave}
 use Rattle.dl_outside.specs.declared.link.Gave.TheVariants as gave
 use Rattle.dl_channel_turns.proofs.ServedMessages.{frames_few}
-use Rattle.dl_serving.specs.Visits.{Ends, EndsFor, Hears, HearsOpen, Pumps, side_of}
+use Rattle.dl_channels.specs.Visits.{Ends, EndsFor, Hears, HearsOpen, Pumps, side_of}
 use Rattle.dl_socket.specs.Channels.{Channels, inbox_of}
 use Rattle.dl_socket.specs.Closing.{UnregistersEach}
-use Rattle.dl_socket.specs.Turns.{Sight}
+use Rattle.dl_socket.specs.Turns.{ChannelView}
 use Rattle.dl_user.specs.Channel as cutter
 use Rattle.dl_user.specs.Cut.{Begins, HasRanges, IsSpelled}
 use Rattle.dl_user.specs.Layout.{fields_of, kind_of, marker, uint32, user_message_with}
@@ -204,18 +204,18 @@ module _ (channel : ℕ) (moment : Moment) where
   unregisters_few (apid ∷ apids) old new each =
       few_both 0 0 (part_of old) (part_of each.1) (part_of new) (one_few (user.UnregisterApp apid 0) false old each.1 (omega arith) each.2) (unregisters_few apids each.1 new each.3)
 
-  ends_few : (closed : Bool) (before after : Sight) (old new : Channels) → Ends channel moment closed before after old new → Few 0 (part_in before) (part_in after)
+  ends_few : (closed : Bool) (before after : ChannelView) (old new : Channels) → Ends channel moment closed before after old new → Few 0 (part_in before) (part_in after)
   ends_few true before after old new ends =
       let all = ends.closes.unregistered in unregisters_few all.0 (side_of before old) (record (side_of after new) { outboxes = ends.closes.outboxes }) all.1
   ends_few false before after old new ends = let all = ends.closes.unregistered in unregisters_few all.0 (side_of before old) (side_of after new) all.1
 
-  ends_for_few : (end : Option ChannelEnd) (before after : Sight) (old new : Channels) → EndsFor end channel moment before after old new → Few 0 (part_in before) (part_in after)
+  ends_for_few : (end : Option ChannelEnd) (before after : ChannelView) (old new : Channels) → EndsFor end channel moment before after old new → Few 0 (part_in before) (part_in after)
   ends_for_few None before after old new same = few_same (part_in before) (part_in after) (ap part_in same.0)
   ends_for_few (Some cause) before after old new ends = ends_few ends.0 before after old new ends.1
 
   -- ---- visits
 
-  hears_open_few : (end : Option ChannelEnd) (before after : Sight) (old new : Channels) → ((inbox : cutter.Channel) → inbox_of old.inboxes channel ≡ Some inbox → NoMessage inbox.unread)
+  hears_open_few : (end : Option ChannelEnd) (before after : ChannelView) (old new : Channels) → ((inbox : cutter.Channel) → inbox_of old.inboxes channel ≡ Some inbox → NoMessage inbox.unread)
       → HearsOpen channel moment end before after old new → Few 4096 (part_in before) (part_in after)
   hears_open_few end before after old new none hears = elim hears [
     | inl turned ↦
@@ -223,12 +223,12 @@ module _ (channel : ℕ) (moment : Moment) where
     | inr full ↦ few_more 0 4096 (part_in before) (part_in after) (omega arith) (few_same (part_in before) (part_in after) (ap part_in full.2))
   ]
 
-  pub hears_few : (end end_now : Option ChannelEnd) (before after : Sight) (old new : Channels) → (end ≡ None → (inbox : cutter.Channel) → inbox_of old.inboxes channel ≡ Some inbox → NoMessage inbox.unread)
+  pub hears_few : (end end_now : Option ChannelEnd) (before after : ChannelView) (old new : Channels) → (end ≡ None → (inbox : cutter.Channel) → inbox_of old.inboxes channel ≡ Some inbox → NoMessage inbox.unread)
       → Hears channel moment end end_now before after old new → Few 4096 (part_in before) (part_in after)
   hears_few None end_now before after old new none hears = hears_open_few end_now before after old new (none refl) hears
   hears_few (Some cause) end_now before after old new none hears = few_more 0 4096 (part_in before) (part_in after) (omega arith) (ends_few hears.1 before after old new hears.2)
 
-  pub pumps_few : (end end_now : Option ChannelEnd) (before after : Sight) (old new : Channels) → Pumps channel moment end end_now before after old new → Few 0 (part_in before) (part_in after)
+  pub pumps_few : (end end_now : Option ChannelEnd) (before after : ChannelView) (old new : Channels) → Pumps channel moment end end_now before after old new → Few 0 (part_in before) (part_in after)
   pumps_few None end_now before after old new pumps =
       few_both 0 0 (part_in before) (part_in pumps.0) (part_in after) (few_same (part_in before) (part_in pumps.0) (ap part_in pumps.3)) (ends_for_few end_now pumps.0 after pumps.1 new pumps.4)
   pumps_few (Some cause) end_now before after old new pumps = few_same (part_in before) (part_in after) (ap part_in pumps.1)

@@ -23,10 +23,10 @@ use Rattle.dl_server.specs.Round.{IsRound}
 use Rattle.dl_server.specs.State.{State, clients_of, scene_of, with_want}
 use Rattle.dl_server.specs.Steps.{HearsClientsIfMay, PumpsClientsIfMay}
 use Rattle.dl_server.proofs.HeldRounds.{no_desk}
-use Rattle.dl_serving.specs.Accepting.{Enters}
-use Rattle.dl_serving.specs.Rounds.{Heard, Sent}
-use Rattle.dl_serving.specs.declared.accepting.Entry.{Entry}
-use Rattle.dl_serving.specs.declared.accepting.Entry.TheVariants as entry
+use Rattle.dl_channels.specs.Accepting.{Enters}
+use Rattle.dl_channels.specs.Rounds.{Heard, Sent}
+use Rattle.dl_channels.specs.declared.accepting.Entry.{Entry}
+use Rattle.dl_channels.specs.declared.accepting.Entry.TheVariants as entry
 use Rattle.dl_socket.specs.Channels.{Channels, Opens, channel_limit, inbox_of, open_in}
 use Rattle.dl_user.specs.Channel as cutter
 use Rattle.dl_user.specs.Channel.{unfed}
@@ -34,7 +34,7 @@ use Rattle.dl_server.specs.State.{seen}
 use Rattle.dl_events.specs.Journal.{Journaled}
 use Rattle.dl_serve.specs.declared.beginning.Begun.{Begun}
 use Rattle.dl_serve.specs.declared.closed.Closed.{Closed}
-use Rattle.dl_serve.specs.Handed.{HasHandedOut, NetsStand}
+use Rattle.dl_serve.specs.WhoWaited.{HasAcceptedInOrder, NetsStand}
 use Rattle.dl_serve.specs.Open.{setting}
 use Rattle.dl_serve.specs.Program.{HasOpened, IsServed}
 use Rattle.dl_serve.specs.Rounds.{AreRounds, HasRoom, event_limit, kept}
@@ -327,6 +327,6 @@ module _ {L : Type 0} (told : L → LinkTold) (heard : (moved : Bool) (old new :
       })
 
   pub handed_out_few : frames_in (setting begun) last.events ≡ has.run.last.core.hub.admitted → IsServed told begun full old.net new.net old.users new.users closed last → full ≡ false → closed.memory ≡ false
-      → NetsStand old new → HasHandedOut told begun.rounds last.events old.net new.net old.users new.users closed
+      → NetsStand old new → HasAcceptedInOrder told begun.rounds last.events old.net new.net old.users new.users closed
   handed_out_few frames served room unwanted stand =
       handed_out told begun old new full closed last served room unwanted stand (let few = few_last.bound in omega (arith, frames, few))

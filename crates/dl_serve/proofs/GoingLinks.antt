@@ -21,12 +21,12 @@ use Rattle.dl_rounds.specs.Clients.{Client, Clients, Visits, VisitsAll, with_cli
 use Rattle.dl_rounds.specs.Partings.{ShutsGone}
 use Rattle.dl_rounds.specs.Visits.{Closed, ClosesAll, Heard as HeardClient, HearsAll as HearsClients, IsShut, Pumped, ShutsFor}
 use Rattle.dl_rounds.proofs.ByPlace.{set_cases}
-use Rattle.dl_serving.specs.Rounds.{Heard, Scene, Sent, Stopped, VisitsEach, Visited, seen_by}
-use Rattle.dl_serving.specs.Visits.{EndsFor, Hears, Pumps}
+use Rattle.dl_channels.specs.Rounds.{Heard, Scene, Sent, Stopped, VisitsEach, Visited, seen_by}
+use Rattle.dl_channels.specs.Visits.{EndsFor, Hears, Pumps}
 use Rattle.dl_socket.specs.Channels.{Channels}
-use Rattle.dl_socket.specs.Turns.{Sight}
+use Rattle.dl_socket.specs.Turns.{ChannelView}
 use Rattle.dl_turns.specs.State.{Side, Stage}
-use Rattle.dl_turns.specs.Stopping.{GoesOn as TurnsOnce, IsClosedIn, IsWoundUp, TurnsOn}
+use Rattle.dl_turns.specs.Stopping.{GoesOn as TurnsOnce, IsClosedIn, HasClosingTurns, TurnsOn}
 use Rattle.dl_turns.specs.Turns.{Hears as HearsLink, IsPump, SendsRightly, heard}
 use Rattle.dl_turns.proofs.GrownBytes.{gives_heard, stays_grow}
 use Rattle.dl_serve.specs.Service.{GoesOn, WasRead}
@@ -235,7 +235,7 @@ closing_goes client cause old new (inr sent) =
     let listens = sent.1 in
     goes_both old.link sent.0.link new.link (goes_heard listens.answer listens.into old.link sent.0.link listens.hears) (goes_sent client (Some cause) sent.0.link new.link sent.0.side new.side sent.2)
 
-stop_goes : (client : ℕ) (cause : Why) (old new : Stage) → IsWoundUp client cause old new → GoesOn old.link new.link
+stop_goes : (client : ℕ) (cause : Why) (old new : Stage) → HasClosingTurns client cause old new → GoesOn old.link new.link
 stop_goes client cause old new wound = goes_both old.link wound.last.link new.link (turns_go client wound.count old wound.last wound.turns) (elim wound.ends [
   | inl closed ↦ closing_goes client cause wound.last new closed.1
   | inr stopped ↦
@@ -276,24 +276,24 @@ clients_parted hub old new shuts = λ place link there. by place link there (out
 
 -- ---- visits to channels
 
-ended_goes : (cause : Option ChannelEnd) (channel : ℕ) (moment : Moment) (before after : Sight) (old new : Channels) → EndsFor cause channel moment before after old new → GoesOn before.link after.link
-ended_goes None channel moment before after old new same = goes_same before.link after.link (ap (λ (s : Sight). s.link) same.0)
+ended_goes : (cause : Option ChannelEnd) (channel : ℕ) (moment : Moment) (before after : ChannelView) (old new : Channels) → EndsFor cause channel moment before after old new → GoesOn before.link after.link
+ended_goes None channel moment before after old new same = goes_same before.link after.link (ap (λ (s : ChannelView). s.link) same.0)
 ended_goes (Some cause) channel moment before after old new ends = goes_shut before.link after.link ends.1.shut
 
-pub channel_heard : (channel : ℕ) (moment : Moment) (end end_now : Option ChannelEnd) (before after : Sight) (old new : Channels) → Hears channel moment end end_now before after old new → GoesOn before.link after.link
+pub channel_heard : (channel : ℕ) (moment : Moment) (end end_now : Option ChannelEnd) (before after : ChannelView) (old new : Channels) → Hears channel moment end end_now before after old new → GoesOn before.link after.link
 channel_heard channel moment None end_now before after old new (inl turned) =
     let turn = turned.2.turn in
     goes_both before.link turned.0.link after.link (goes_heard turn.answer turn.into before.link turned.0.link turn.hears) (ended_goes end_now channel moment turned.0 after turned.1 new turned.3)
-channel_heard channel moment None end_now before after old new (inr full) = goes_same before.link after.link (ap (λ (s : Sight). s.link) full.2)
+channel_heard channel moment None end_now before after old new (inr full) = goes_same before.link after.link (ap (λ (s : ChannelView). s.link) full.2)
 channel_heard channel moment (Some cause) end_now before after old new hears = goes_shut before.link after.link hears.2.shut
 
-pub channel_sent : (channel : ℕ) (moment : Moment) (end end_now : Option ChannelEnd) (before after : Sight) (old new : Channels) → Pumps channel moment end end_now before after old new → GoesOn before.link after.link
+pub channel_sent : (channel : ℕ) (moment : Moment) (end end_now : Option ChannelEnd) (before after : ChannelView) (old new : Channels) → Pumps channel moment end end_now before after old new → GoesOn before.link after.link
 channel_sent channel moment None end_now before after old new pumps =
     let one = pumps.2.pumps in
     goes_both before.link pumps.0.link after.link (goes_pumped one.outbox.full end_now one.outbox one.outbox_now before.link pumps.0.link one.pumps) (ended_goes end_now channel moment pumps.0 after pumps.1 new pumps.4)
-channel_sent channel moment (Some cause) end_now before after old new pumps = goes_same before.link after.link (ap (λ (s : Sight). s.link) pumps.1)
+channel_sent channel moment (Some cause) end_now before after old new pumps = goes_same before.link after.link (ap (λ (s : ChannelView). s.link) pumps.1)
 
-each_goes : (Visit : ℕ → Bool → List (Option ChannelEnd) → List (Option ChannelEnd) → Sight → Sight → Channels → Channels → Type 0)
+each_goes : (Visit : ℕ → Bool → List (Option ChannelEnd) → List (Option ChannelEnd) → ChannelView → ChannelView → Channels → Channels → Type 0)
     → ((channel : ℕ) (moved : Bool) (old new : Scene) (visited : Visited Visit channel moved old new) → GoesOn visited.link visited.link_now)
     → (channels : List ℕ) (moved : Bool) (old new : Scene) → VisitsEach Visit channels moved old new → AllGo old.links new.links
 each_goes Visit one [] moved old new visits = all_same old.links new.links (ap (λ (s : Scene). s.links) visits.1)

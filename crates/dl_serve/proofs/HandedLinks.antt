@@ -14,9 +14,9 @@ use Rattle.dl_server.specs.Round.{Hears, IsRound, Pumps}
 use Rattle.dl_server.specs.State.{State, clients_of, scene_of, with_want}
 use Rattle.dl_server.specs.Steps.{HearsClientsIfMay, PumpsClientsIfMay}
 use Rattle.dl_server.proofs.HeldRounds.{no_desk}
-use Rattle.dl_serving.specs.Rounds.{Heard, Sent, Stopped}
+use Rattle.dl_channels.specs.Rounds.{Heard, Sent, Stopped}
 use Rattle.dl_socket.specs.Channels.{open_in}
-use Rattle.dl_serve.specs.Handed.{HandsOut}
+use Rattle.dl_serve.specs.WhoWaited.{AcceptsInOrder}
 use Rattle.dl_serve.proofs.LastingScenes.{closed_many, each_lasts, heard_many, heard_one, pumped_many, sent_one, stopped_one}
 
 -- ---- what waits
@@ -48,8 +48,8 @@ module _ {A : Type 0} where
 
 module _ {L : Type 0} (told : L → LinkTold) (first net net_now : NetTold L) where
   -- the one that waited longest was handed out: it came, or was dropped
-  pub hands_one : (many came came_now dropped dropped_now : ℕ) (link : L) → came_now + dropped_now ≡ came + dropped + 1 → Takes told net net_now link → HandsOut many came dropped first net
-      → HandsOut (suc many) came_now dropped_now first net_now
+  pub hands_one : (many came came_now dropped dropped_now : ℕ) (link : L) → came_now + dropped_now ≡ came + dropped + 1 → Takes told net net_now link → AcceptsInOrder many came dropped first net
+      → AcceptsInOrder (suc many) came_now dropped_now first net_now
   hands_one many came came_now dropped dropped_now link more takes hands = (let both = by first.waiting hands.waits hands.all in record { waits = both.0; all = both.1 }) where
     by : (o : Option (List L)) → IfSome o (λ waiting. net.waiting ≡ Some (drop many waiting)) → IfSome o (λ waiting. came + dropped ≡ min many (length waiting))
         → IfSome o (λ waiting. net_now.waiting ≡ Some (drop (suc many) waiting)) × IfSome o (λ waiting. came_now + dropped_now ≡ min (suc many) (length waiting))
@@ -61,7 +61,7 @@ module _ {L : Type 0} (told : L → LinkTold) (first net net_now : NetTold L) wh
         (there.2 ∙ ap Some (sym (drop_next many waiting link there.0 there.1)), omega (arith, more, all, below))
 
   -- none waited
-  pub hands_none : (many came dropped : ℕ) → IfSome net.waiting (λ waiting. waiting ≡ []) → Stays net.waiting net_now.waiting → HandsOut many came dropped first net → HandsOut (suc many) came dropped first net_now
+  pub hands_none : (many came dropped : ℕ) → IfSome net.waiting (λ waiting. waiting ≡ []) → Stays net.waiting net_now.waiting → AcceptsInOrder many came dropped first net → AcceptsInOrder (suc many) came dropped first net_now
   hands_none many came dropped none stays hands = (let both = by first.waiting hands.waits hands.all in record { waits = both.0; all = both.1 }) where
     by : (o : Option (List L)) → IfSome o (λ waiting. net.waiting ≡ Some (drop many waiting)) → IfSome o (λ waiting. came + dropped ≡ min many (length waiting))
         → IfSome o (λ waiting. net_now.waiting ≡ Some (drop (suc many) waiting)) × IfSome o (λ waiting. came + dropped ≡ min (suc many) (length waiting))
@@ -73,9 +73,9 @@ module _ {L : Type 0} (told : L → LinkTold) (first net net_now : NetTold L) wh
         (still ∙ ap Some (nobody ∙ sym (drop_past many waiting nobody)), omega (arith, all, beyond))
 
 -- as many came, and as many were dropped
-pub hands_same : {L : Type 0} (first net : NetTold L) (many came came_now dropped dropped_now : ℕ) → came_now ≡ came → dropped_now ≡ dropped → HandsOut many came dropped first net → HandsOut many came_now dropped_now first net
+pub hands_same : {L : Type 0} (first net : NetTold L) (many came came_now dropped dropped_now : ℕ) → came_now ≡ came → dropped_now ≡ dropped → AcceptsInOrder many came dropped first net → AcceptsInOrder many came_now dropped_now first net
 hands_same first net many came came_now dropped dropped_now came_so dropped_so hands =
-    subst (λ (n : ℕ). HandsOut many n dropped_now first net) (sym came_so) (subst (λ (n : ℕ). HandsOut many came n first net) (sym dropped_so) hands)
+    subst (λ (n : ℕ). AcceptsInOrder many n dropped_now first net) (sym came_so) (subst (λ (n : ℕ). AcceptsInOrder many came n first net) (sym dropped_so) hands)
 
 -- ---- steps that hand out nothing
 
@@ -240,7 +240,7 @@ module _ {L : Type 0} (told : L → LinkTold) where
   -- ---- who comes
 
   -- where none was dropped, one came in each accept: who comes now has the place of this one
-  pub next_place : (first net net_now : NetTold L) (many came dropped : ℕ) (link : L) → IsSome first.waiting → dropped ≡ 0 → Takes told net net_now link → HandsOut many came dropped first net → many ≤ came
+  pub next_place : (first net net_now : NetTold L) (many came dropped : ℕ) (link : L) → IsSome first.waiting → dropped ≡ 0 → Takes told net net_now link → AcceptsInOrder many came dropped first net → many ≤ came
   next_place first net net_now many came dropped link tells none takes hands = by first.waiting tells hands.waits hands.all where
     by : (o : Option (List L)) → IsSome o → IfSome o (λ waiting. net.waiting ≡ Some (drop many waiting)) → IfSome o (λ waiting. came + dropped ≡ min many (length waiting)) → many ≤ came
     by None tells waits all = absurd (cc tells)

@@ -17,7 +17,7 @@ use Rattle.dl_outside.specs.Told.{LinkTold, NetTold}
 use Rattle.dl_serve.specs.declared.beginning.Begun.{Begun}
 use Rattle.dl_serve.specs.declared.closed.Closed.{Closed}
 use Rattle.dl_serve.specs.Admitted.{TellGiven}
-use Rattle.dl_serve.specs.Handed.{EachGave, GaveOrIdled, HandsOut, HasHandedOut, NetsStand}
+use Rattle.dl_serve.specs.WhoWaited.{EachGave, GaveOrIdled, AcceptsInOrder, HasAcceptedInOrder, NetsStand}
 use Rattle.dl_serve.specs.Open.{setting}
 use Rattle.dl_serve.specs.Program.{IsServed, ServesOnce}
 use Rattle.dl_serve.specs.Service.{Accepts, GoesOn, Program, Rounds, ServesRound, Standing, WasRead, frames_in, nobody, source_in}
@@ -62,7 +62,7 @@ fresh_gave link tells = inl (by link.given tells) where
 
 -- ---- before the first round
 
-hands_nothing : {L : Type 0} (net : NetTold L) → HandsOut 0 0 0 net net
+hands_nothing : {L : Type 0} (net : NetTold L) → AcceptsInOrder 0 0 0 net net
 hands_nothing {L} net = record { waits = waits net.waiting refl; all = all net.waiting } where
   waits : (o : Option (List L)) → net.waiting ≡ o → IfSome o (λ waiting. net.waiting ≡ Some (drop 0 waiting))
   waits None is = tt
@@ -73,7 +73,7 @@ hands_nothing {L} net = record { waits = waits net.waiting refl; all = all net.w
   all (Some waiting) = omega arith
 
 -- what waited before waits still
-hands_first : {L : Type 0} (first then now : NetTold L) (many came dropped : ℕ) → Stays first.waiting then.waiting → HandsOut many came dropped then now → HandsOut many came dropped first now
+hands_first : {L : Type 0} (first then now : NetTold L) (many came dropped : ℕ) → Stays first.waiting then.waiting → AcceptsInOrder many came dropped then now → AcceptsInOrder many came dropped first now
 hands_first {L} first then now many came dropped stays hands = (let both = by first.waiting stays in record { waits = both.0; all = both.1 }) where
   by : (o : Option (List L)) → Stays o then.waiting → IfSome o (λ waiting. now.waiting ≡ Some (drop many waiting)) × IfSome o (λ waiting. came + dropped ≡ min many (length waiting))
   by None stays = (tt, tt)
@@ -99,7 +99,7 @@ module _ {L : Type 0} (told : L → LinkTold) (faults : ℕ) where
   never_fell wanted old new came dropped (inr none) = none.2
 
   net_handed : (first : NetTold L) (many all gone : ℕ) (wanted : Bool) (old new : NetTold L) (came dropped : ℕ) → Accepts told faults wanted old new came dropped → wanted ≡ false → ¬ (HasRisen faults new.faults)
-      → HandsOut many all gone first old → HandsOut (suc many) (all + came) (gone + dropped) first new
+      → AcceptsInOrder many all gone first old → AcceptsInOrder (suc many) (all + came) (gone + dropped) first new
   net_handed first many all gone wanted old new came dropped (inl handed) unwanted stood hands =
       hands_one told first old new many all (all + came) gone (gone + dropped) handed.0 (let one = handed.2 in omega (arith, one)) handed.1 hands
   net_handed first many all gone wanted old new came dropped (inr none) unwanted stood hands = elim none.3 [
@@ -110,7 +110,7 @@ module _ {L : Type 0} (told : L → LinkTold) (faults : ℕ) where
 
   -- who comes now has the place of this round, where none was dropped
   its_place : (first : NetTold L) (many all gone : ℕ) (wanted : Bool) (old new : NetTold L) (came dropped : ℕ) → Accepts told faults wanted old new came dropped → IsSome first.waiting → gone ≡ 0 → 1 ≤ came
-      → HandsOut many all gone first old → many ≤ all
+      → AcceptsInOrder many all gone first old → many ≤ all
   its_place first many all gone wanted old new came dropped (inl handed) waiting none one hands = next_place told first old new many all gone handed.0 waiting none handed.1 hands
   its_place first many all gone wanted old new came dropped (inr nobody_came) waiting none one hands = absurd (let so = nobody_came.0 in omega (arith, so, one))
 
@@ -122,8 +122,8 @@ module _ {L : Type 0} (told : L → LinkTold) (set : Setting) (first_net first_u
     clients_dropped : ℕ
     users_dropped : ℕ
     dropped : s.dropped ≡ min (clients_dropped + users_dropped) most_dropped
-    on_net : HandsOut many (length s.clients) clients_dropped first_net s.net
-    on_users : HandsOut many (length s.programs) users_dropped first_users s.users
+    on_net : AcceptsInOrder many (length s.clients) clients_dropped first_net s.net
+    on_users : AcceptsInOrder many (length s.programs) users_dropped first_users s.users
     clients : Clients_count → EachGave many (λ place. IsOpen (place + 1) s.events) s.clients
     programs : Users_count → (place : ℕ) (program : Program) → slice_get s.programs place ≡ Some program → program.end ≡ None → GaveOrIdled (many - place) program.link
 
@@ -155,9 +155,9 @@ module _ {L : Type 0} (told : L → LinkTold) (set : Setting) (first_net first_u
         clients_dropped = h.clients_dropped + r.clients_dropped;
         users_dropped = h.users_dropped + r.programs_dropped;
         dropped = (let so = h.dropped in let now = r.dropped in omega (arith, so, now));
-        on_net = subst (λ (n : ℕ). HandsOut (suc many) n (h.clients_dropped + r.clients_dropped) first_net new.net) (sym r.clients_many)
+        on_net = subst (λ (n : ℕ). AcceptsInOrder (suc many) n (h.clients_dropped + r.clients_dropped) first_net new.net) (sym r.clients_many)
             (net_handed told first_net.faults first_net many (length old.clients) h.clients_dropped new.wanted old.net new.net r.clients_came r.clients_dropped r.accepts well.unwanted well.net h.on_net);
-        on_users = subst (λ (n : ℕ). HandsOut (suc many) n (h.users_dropped + r.programs_dropped) first_users new.users) (sym r.programs_many)
+        on_users = subst (λ (n : ℕ). AcceptsInOrder (suc many) n (h.users_dropped + r.programs_dropped) first_users new.users) (sym r.programs_many)
             (net_handed told first_users.faults first_users many (length old.programs) h.users_dropped new.wanted old.users new.users r.programs_came r.programs_dropped r.enters well.unwanted well.users h.on_users);
         clients = λ counts place now there is. (let one = r.clients place now there in let goes = one.2.goes_on in let read = one.2.read is well.unwanted in elim one.1 [
           | inl before ↦
@@ -236,17 +236,17 @@ module _ {L : Type 0} (told : L → LinkTold) (begun : Begun) (old new : Told L)
         room = frames;
       }))
 
-  pub handed_out : HasHandedOut told begun.rounds last.events old.net new.net old.users new.users closed
+  pub handed_out : HasAcceptedInOrder told begun.rounds last.events old.net new.net old.users new.users closed
   handed_out = record {
     clients_dropped = handed.clients_dropped;
     users_dropped = handed.users_dropped;
     dropped = s.closing.dropped ∙ handed.dropped;
     on_net = hands_first old.net s.first_net new.net begun.rounds (length closed.clients.links) handed.clients_dropped s.net_heard.waiting
-        (subst (λ (n : ℕ). HandsOut begun.rounds n handed.clients_dropped s.first_net new.net) (sym s.closing.clients_many)
-        (subst (λ (n : NetTold L). HandsOut begun.rounds (length last.clients) handed.clients_dropped s.first_net n) s.net_last handed.on_net));
+        (subst (λ (n : ℕ). AcceptsInOrder begun.rounds n handed.clients_dropped s.first_net new.net) (sym s.closing.clients_many)
+        (subst (λ (n : NetTold L). AcceptsInOrder begun.rounds (length last.clients) handed.clients_dropped s.first_net n) s.net_last handed.on_net));
     on_users = hands_first old.users s.first_users new.users begun.rounds (length closed.users.links) handed.users_dropped s.users_heard.waiting
-        (subst (λ (n : ℕ). HandsOut begun.rounds n handed.users_dropped s.first_users new.users) (sym s.closing.programs_many)
-        (subst (λ (n : NetTold L). HandsOut begun.rounds (length last.programs) handed.users_dropped s.first_users n) s.users_last handed.on_users));
+        (subst (λ (n : ℕ). AcceptsInOrder begun.rounds n handed.users_dropped s.first_users new.users) (sym s.closing.programs_many)
+        (subst (λ (n : NetTold L). AcceptsInOrder begun.rounds (length last.programs) handed.users_dropped s.first_users n) s.users_last handed.on_users));
     clients_gave = λ tells none waiting place link there is. (let one = s.closing.clients place link there in elim one.1 [
       | inl before ↦ gave_on (begun.rounds - place) one.0 link one.2 (handed.clients (tells, none, waiting) place one.0 before is)
       | inr never ↦ absurd never.1

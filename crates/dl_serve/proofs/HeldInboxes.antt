@@ -7,10 +7,10 @@ use Rattle.dl_bytes.specs.declared.moment.Moment.{Moment}
 use Rattle.dl_channel.specs.declared.outcome.ChannelEnd.{ChannelEnd}
 use Rattle.dl_core.specs.Admission.{AddsEach}
 use Rattle.dl_events.specs.declared.event.Event.{Event}
-use Rattle.dl_serving.specs.Visits.{Ends, EndsFor, Hears, Pumps}
-use Rattle.dl_serving.proofs.LeftOpen as leaving
+use Rattle.dl_channels.specs.Visits.{Ends, EndsFor, Hears, Pumps}
+use Rattle.dl_channels.proofs.LeftOpen as leaving
 use Rattle.dl_socket.specs.Channels.{Channels, inbox_of, open_in}
-use Rattle.dl_socket.specs.Turns.{Sight}
+use Rattle.dl_socket.specs.Turns.{ChannelView}
 use Rattle.dl_serve.proofs.OtherEntries.{gone_apart, value_apart}
 
 pub adds_so : (before now : Option (List Event)) (past more : List Event) → before ≡ Some past → AddsEach before now more → now ≡ Some (past ++ more)
@@ -48,15 +48,15 @@ module _ (channel : ℕ) (moment : Moment) where
   held_both : (old between new : Channels) → OthersHeld channel old between → OthersHeld channel between new → OthersHeld channel old new
   held_both old between new one two = λ other apart. two other apart ∙ one other apart
 
-  pub ends_held : (closed : Bool) (before after : Sight) (old new : Channels) → Ends channel moment closed before after old new → OthersHeld channel old new
+  pub ends_held : (closed : Bool) (before after : ChannelView) (old new : Channels) → Ends channel moment closed before after old new → OthersHeld channel old new
   ends_held true before after old new ends = λ other apart. ap (λ (c : Channels). inbox_of c.inboxes other) ends.closes.is ∙ gone_apart channel other old.inboxes apart
   ends_held false before after old new ends = λ other apart. ap (λ (c : Channels). inbox_of c.inboxes other) ends.closes.is
 
-  ends_for_held : (end : Option ChannelEnd) (before after : Sight) (old new : Channels) → EndsFor end channel moment before after old new → OthersHeld channel old new
+  ends_for_held : (end : Option ChannelEnd) (before after : ChannelView) (old new : Channels) → EndsFor end channel moment before after old new → OthersHeld channel old new
   ends_for_held None before after old new same = same_held old new same.1
   ends_for_held (Some cause) before after old new ends = ends_held ends.0 before after old new ends.1
 
-  pub hears_held : (end end_now : Option ChannelEnd) (before after : Sight) (old new : Channels) → Hears channel moment end end_now before after old new → OthersHeld channel old new
+  pub hears_held : (end end_now : Option ChannelEnd) (before after : ChannelView) (old new : Channels) → Hears channel moment end end_now before after old new → OthersHeld channel old new
   hears_held None end_now before after old new hears = elim hears [
     | inl turned ↦ held_both old turned.1 new (λ other apart. ap (λ (c : Channels). inbox_of c.inboxes other) turned.2.is ∙ value_apart channel other old.inboxes turned.2.inbox_now apart)
         (ends_for_held end_now turned.0 after turned.1 new turned.3)
@@ -64,7 +64,7 @@ module _ (channel : ℕ) (moment : Moment) where
   ]
   hears_held (Some cause) end_now before after old new hears = ends_held hears.1 before after old new hears.2
 
-  pub pumps_held : (end end_now : Option ChannelEnd) (before after : Sight) (old new : Channels) → Pumps channel moment end end_now before after old new → OthersHeld channel old new
+  pub pumps_held : (end end_now : Option ChannelEnd) (before after : ChannelView) (old new : Channels) → Pumps channel moment end end_now before after old new → OthersHeld channel old new
   pumps_held None end_now before after old new pumps =
       held_both old pumps.1 new (λ other apart. ap (λ (c : Channels). inbox_of c.inboxes other) pumps.2.is) (ends_for_held end_now pumps.0 after pumps.1 new pumps.4)
   pumps_held (Some cause) end_now before after old new pumps = same_held old new pumps.2

@@ -9,12 +9,12 @@ use Rattle.dl_outside.specs.Told.{LinkTold}
 use Rattle.dl_rounds.specs.Clients.{Clients, VisitsAll}
 use Rattle.dl_rounds.specs.Visits.{Closed as ClosesOne, ClosesAll, Heard as HeardOne, HearsAll, Pumped}
 use Rattle.dl_rounds.proofs.ByPlace.{set_length}
-use Rattle.dl_serving.specs.Rounds.{Heard, Scene, Sent, Stopped, VisitsEach, Visited, seen_by}
-use Rattle.dl_serving.specs.Visits.{Ends, EndsFor, Hears, Pumps}
-use Rattle.dl_serving.proofs.Behind.{others_than}
-use Rattle.dl_serving.proofs.LeftOpen.{Leaves, ended_leaves, heard_leaves, pumped_leaves}
+use Rattle.dl_channels.specs.Rounds.{Heard, Scene, Sent, Stopped, VisitsEach, Visited, seen_by}
+use Rattle.dl_channels.specs.Visits.{Ends, EndsFor, Hears, Pumps}
+use Rattle.dl_channels.proofs.Behind.{others_than}
+use Rattle.dl_channels.proofs.LeftOpen.{Leaves, ended_leaves, heard_leaves, pumped_leaves}
 use Rattle.dl_socket.specs.Channels.{Channels, open_in}
-use Rattle.dl_socket.specs.Turns.{Sight}
+use Rattle.dl_socket.specs.Turns.{ChannelView}
 use Rattle.dl_serve.proofs.OtherEntries.{set_long}
 
 -- ---- visits to clients
@@ -65,22 +65,22 @@ left_few channel old new leaves = elim leaves.left [
 ]
 
 -- as many may be open at once
-ended_limit : (channel : ℕ) (moment : Moment) (closed : Bool) (before after : Sight) (old new : Channels) → Ends channel moment closed before after old new → new.at_once ≡ old.at_once
+ended_limit : (channel : ℕ) (moment : Moment) (closed : Bool) (before after : ChannelView) (old new : Channels) → Ends channel moment closed before after old new → new.at_once ≡ old.at_once
 ended_limit channel moment true before after old new ends = ap (λ (c : Channels). c.at_once) ends.closes.is
 ended_limit channel moment false before after old new ends = ap (λ (c : Channels). c.at_once) ends.closes.is
 
-for_limit : (end : Option ChannelEnd) (channel : ℕ) (moment : Moment) (before after : Sight) (old new : Channels) → EndsFor end channel moment before after old new → new.at_once ≡ old.at_once
+for_limit : (end : Option ChannelEnd) (channel : ℕ) (moment : Moment) (before after : ChannelView) (old new : Channels) → EndsFor end channel moment before after old new → new.at_once ≡ old.at_once
 for_limit None channel moment before after old new same = ap (λ (c : Channels). c.at_once) same.1
 for_limit (Some end) channel moment before after old new ends = ended_limit channel moment ends.0 before after old new ends.1
 
-heard_limit : (channel : ℕ) (moment : Moment) (end end_now : Option ChannelEnd) (before after : Sight) (old new : Channels) → Hears channel moment end end_now before after old new → new.at_once ≡ old.at_once
+heard_limit : (channel : ℕ) (moment : Moment) (end end_now : Option ChannelEnd) (before after : ChannelView) (old new : Channels) → Hears channel moment end end_now before after old new → new.at_once ≡ old.at_once
 heard_limit channel moment None end_now before after old new hears = elim hears [
   | inl turned ↦ for_limit end_now channel moment turned.0 after turned.1 new turned.3 ∙ ap (λ (c : Channels). c.at_once) turned.2.is
   | inr full ↦ ap (λ (c : Channels). c.at_once) full.3
 ]
 heard_limit channel moment (Some cause) end_now before after old new hears = ended_limit channel moment hears.1 before after old new hears.2
 
-pumped_limit : (channel : ℕ) (moment : Moment) (end end_now : Option ChannelEnd) (before after : Sight) (old new : Channels) → Pumps channel moment end end_now before after old new → new.at_once ≡ old.at_once
+pumped_limit : (channel : ℕ) (moment : Moment) (end end_now : Option ChannelEnd) (before after : ChannelView) (old new : Channels) → Pumps channel moment end end_now before after old new → new.at_once ≡ old.at_once
 pumped_limit channel moment None end_now before after old new pumps = for_limit end_now channel moment pumps.0 after pumps.1 new pumps.4 ∙ ap (λ (c : Channels). c.at_once) pumps.2.is
 pumped_limit channel moment (Some cause) end_now before after old new pumps = ap (λ (c : Channels). c.at_once) pumps.2
 
@@ -118,7 +118,7 @@ module _ (moment : Moment) where
       lasts_so channel old new visited.link_now visited.links (ended_leaves channel moment true before after old.channels new.channels v.stops)
       (ended_limit channel moment true before after old.channels new.channels v.stops)
 
-module _ (Visit : ℕ → Bool → List (Option ChannelEnd) → List (Option ChannelEnd) → Sight → Sight → Channels → Channels → Type 0)
+module _ (Visit : ℕ → Bool → List (Option ChannelEnd) → List (Option ChannelEnd) → ChannelView → ChannelView → Channels → Channels → Type 0)
     (one : (channel : ℕ) (moved : Bool) (old new : Scene) → Visited Visit channel moved old new → Lasts old new) where
   pub each_lasts : (channels : List ℕ) (moved : Bool) (old new : Scene) → VisitsEach Visit channels moved old new → Lasts old new
   each_lasts [] moved old new visits = lasts_same old new visits.1

@@ -13,15 +13,15 @@ use Rattle.dl_server.specs.Accepts.{AcceptsClientIfMay, AcceptsProgramIfMay}
 use Rattle.dl_server.specs.Round.{Hears, IsRound, Pumps}
 use Rattle.dl_server.specs.State.{State, scene_of, with_want}
 use Rattle.dl_server.specs.Steps.{HearsClientsIfMay, PumpsClientsIfMay}
-use Rattle.dl_serving.specs.Accepting.{Enters}
-use Rattle.dl_serving.specs.Rounds as rounds
-use Rattle.dl_serving.specs.Rounds.{Scene, VisitsEach, seen_by}
-use Rattle.dl_serving.specs.Visits as visits
-use Rattle.dl_serving.specs.declared.accepting.Entry.{Entry}
-use Rattle.dl_serving.specs.declared.accepting.Entry.TheVariants as entry
-use Rattle.dl_serving.proofs.LeftOpen.{Leaves, heard_leaves, pumped_leaves}
+use Rattle.dl_channels.specs.Accepting.{Enters}
+use Rattle.dl_channels.specs.Rounds as rounds
+use Rattle.dl_channels.specs.Rounds.{Scene, VisitsEach, seen_by}
+use Rattle.dl_channels.specs.Visits as visits
+use Rattle.dl_channels.specs.declared.accepting.Entry.{Entry}
+use Rattle.dl_channels.specs.declared.accepting.Entry.TheVariants as entry
+use Rattle.dl_channels.proofs.LeftOpen.{Leaves, heard_leaves, pumped_leaves}
 use Rattle.dl_socket.specs.Channels.{Channels, IsOpen, Opens, inbox_of, open_in}
-use Rattle.dl_socket.specs.Turns.{Sight}
+use Rattle.dl_socket.specs.Turns.{ChannelView}
 use Rattle.dl_user.specs.Channel as cutter
 use Rattle.dl_user.specs.Channel.{unfed}
 use Rattle.dl_serve.proofs.EmptiedChannels.{EachOpen}
@@ -39,7 +39,7 @@ pub record AllOpen (links : List LinkTold) (ends : List (Option ChannelEnd)) (ch
 open_still : (channel : ℕ) (old new : Channels) → new ≡ old → IsOpen channel old → IsOpen channel new
 open_still channel old new same is = ap (λ (c : Channels). is_some (inbox_of c.inboxes channel)) same ∙ is
 
-heard_open : (channel : ℕ) (moment : Moment) (end end_now : Option ChannelEnd) (before after : Sight) (old new : Channels) → visits.Hears channel moment end end_now before after old new → end_now ≡ None
+heard_open : (channel : ℕ) (moment : Moment) (end end_now : Option ChannelEnd) (before after : ChannelView) (old new : Channels) → visits.Hears channel moment end end_now before after old new → end_now ≡ None
     → (end ≡ None → IsOpen channel old) → IsOpen channel new
 heard_open channel moment None end_now before after old new hears none was =
     elim (subst (λ (e : Option ChannelEnd). visits.Hears channel moment None e before after old new) none hears) [
@@ -50,7 +50,7 @@ heard_open channel moment None end_now before after old new hears none was =
     ]
 heard_open channel moment (Some cause) end_now before after old new hears none was = absurd (let bad : Some cause ≡ None = sym hears.0 ∙ none in cc bad)
 
-pumped_open : (channel : ℕ) (moment : Moment) (end end_now : Option ChannelEnd) (before after : Sight) (old new : Channels) → visits.Pumps channel moment end end_now before after old new → end_now ≡ None
+pumped_open : (channel : ℕ) (moment : Moment) (end end_now : Option ChannelEnd) (before after : ChannelView) (old new : Channels) → visits.Pumps channel moment end end_now before after old new → end_now ≡ None
     → (end ≡ None → IsOpen channel old) → IsOpen channel new
 pumped_open channel moment None end_now before after old new pumps none was =
     let goes_on : visits.Pumps channel moment None None before after old new = subst (λ (e : Option ChannelEnd). visits.Pumps channel moment None e before after old new) none pumps in
@@ -95,8 +95,8 @@ module _ (moment : Moment) where
       let one = visited.4 in
       let v = one.visit in
       let between : Scene = visited.0 in
-      let before : Sight = seen_by one.link old.part in
-      let now : Sight = seen_by one.link_now between.part in
+      let before : ChannelView = seen_by one.link old.part in
+      let now : ChannelView = seen_by one.link_now between.part in
       heard_each others visited.2 between new low.1 visited.5
       (visited_open channel old.links between.links old.ends between.ends old.channels between.channels one.link one.link_now v.end v.end_now low.0 one.was one.links v.was v.is
       (heard_leaves channel moment v.end v.end_now before now old.channels between.channels v.hears) (hears_held channel moment v.end v.end_now before now old.channels between.channels v.hears)
@@ -108,8 +108,8 @@ module _ (moment : Moment) where
       let one = visited.4 in
       let v = one.visit in
       let between : Scene = visited.0 in
-      let before : Sight = seen_by one.link old.part in
-      let now : Sight = seen_by one.link_now between.part in
+      let before : ChannelView = seen_by one.link old.part in
+      let now : ChannelView = seen_by one.link_now between.part in
       sent_each others visited.2 between new low.1 visited.5
       (visited_open channel old.links between.links old.ends between.ends old.channels between.channels one.link one.link_now v.end v.end_now low.0 one.was one.links v.was v.is
       (pumped_leaves channel moment v.end v.end_now before now old.channels between.channels v.pumps) (pumps_held channel moment v.end v.end_now before now old.channels between.channels v.pumps)

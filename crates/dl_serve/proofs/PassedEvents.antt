@@ -27,11 +27,11 @@ use Rattle.dl_model.specs.declared.registry.LevelChange.{LevelChange}
 use Rattle.dl_outside.specs.Told.{FolderTold}
 use Rattle.dl_outside.specs.declared.link.Gave.{Gave}
 use Rattle.dl_outside.specs.declared.link.Gave.TheVariants as gave
-use Rattle.dl_serving.specs.Rounds.{Heard, HearsAll, PumpsAll, Scene, Sent, Stopped, StopsAll, VisitsEach, Visited, seen_by}
-use Rattle.dl_serving.specs.Visits.{Ends, EndsFor, Hears, Pumps, side_of}
+use Rattle.dl_channels.specs.Rounds.{Heard, HearsAll, PumpsAll, Scene, Sent, Stopped, StopsAll, VisitsEach, Visited, seen_by}
+use Rattle.dl_channels.specs.Visits.{Ends, EndsFor, Hears, Pumps, side_of}
 use Rattle.dl_socket.specs.Channels.{Channels, open_in}
 use Rattle.dl_socket.specs.Closing.{UnregistersEach}
-use Rattle.dl_socket.specs.Turns.{Sight}
+use Rattle.dl_socket.specs.Turns.{ChannelView}
 use Rattle.dl_user.specs.Channel as cutter
 use Rattle.dl_lemmas.proofs.Lists.{all_both}
 
@@ -164,23 +164,23 @@ module _ (channel : ℕ) (moment : Moment) where
       passes_both (part_of old) (part_of each.1) (part_of new) (one_passes (UnregisterApp apid 0) false old each.1 each.2) (unregisters_pass apids each.1 new each.3)
 
 -- what a visit to a channel sees but its link
-abbrev pub part_in : Sight → Part
+abbrev pub part_in : ChannelView → Part
 part_in s = part s.core s.events s.folder
 
 module _ (channel : ℕ) (moment : Moment) where
-  ends_pass : (closed : Bool) (before after : Sight) (old new : Channels) → Ends channel moment closed before after old new → Passes (part_in before) (part_in after)
+  ends_pass : (closed : Bool) (before after : ChannelView) (old new : Channels) → Ends channel moment closed before after old new → Passes (part_in before) (part_in after)
   ends_pass true before after old new ends =
       let all = ends.closes.unregistered in
       unregisters_pass channel moment all.0 (side_of before old) (record (side_of after new) { outboxes = ends.closes.outboxes }) all.1
   ends_pass false before after old new ends = let all = ends.closes.unregistered in unregisters_pass channel moment all.0 (side_of before old) (side_of after new) all.1
 
-  ends_for_pass : (end : Option ChannelEnd) (before after : Sight) (old new : Channels) → EndsFor end channel moment before after old new → Passes (part_in before) (part_in after)
+  ends_for_pass : (end : Option ChannelEnd) (before after : ChannelView) (old new : Channels) → EndsFor end channel moment before after old new → Passes (part_in before) (part_in after)
   ends_for_pass None before after old new same = passes_same (part_in before) (part_in after) (ap part_in same.0)
   ends_for_pass (Some cause) before after old new ends = ends_pass ends.0 before after old new ends.1
 
   -- ---- visits
 
-  pub hears_pass : (end end_now : Option ChannelEnd) (before after : Sight) (old new : Channels) → Hears channel moment end end_now before after old new → Passes (part_in before) (part_in after)
+  pub hears_pass : (end end_now : Option ChannelEnd) (before after : ChannelView) (old new : Channels) → Hears channel moment end end_now before after old new → Passes (part_in before) (part_in after)
   hears_pass None end_now before after old new hears = elim hears [
     | inl turned ↦
         passes_both (part_in before) (part_in turned.0) (part_in after) (turn_passes channel moment end_now _ _ turned.2.turn) (ends_for_pass end_now turned.0 after turned.1 new turned.3)
@@ -188,7 +188,7 @@ module _ (channel : ℕ) (moment : Moment) where
   ]
   hears_pass (Some cause) end_now before after old new hears = ends_pass hears.1 before after old new hears.2
 
-  pub pumps_pass : (end end_now : Option ChannelEnd) (before after : Sight) (old new : Channels) → Pumps channel moment end end_now before after old new → Passes (part_in before) (part_in after)
+  pub pumps_pass : (end end_now : Option ChannelEnd) (before after : ChannelView) (old new : Channels) → Pumps channel moment end end_now before after old new → Passes (part_in before) (part_in after)
   pumps_pass None end_now before after old new pumps =
       passes_both (part_in before) (part_in pumps.0) (part_in after) (passes_same (part_in before) (part_in pumps.0) (ap part_in pumps.3)) (ends_for_pass end_now pumps.0 after pumps.1 new pumps.4)
   pumps_pass (Some cause) end_now before after old new pumps = passes_same (part_in before) (part_in after) (ap part_in pumps.1)
@@ -199,7 +199,7 @@ module _ (channel : ℕ) (moment : Moment) where
 abbrev pub part_at : Scene → Part
 part_at s = part s.part.core s.part.events s.part.folder
 
-module _ (Visit : ℕ → Bool → List (Option ChannelEnd) → List (Option ChannelEnd) → Sight → Sight → Channels → Channels → Type 0)
+module _ (Visit : ℕ → Bool → List (Option ChannelEnd) → List (Option ChannelEnd) → ChannelView → ChannelView → Channels → Channels → Type 0)
     (one : (channel : ℕ) (moved : Bool) (old new : Scene) → Visited Visit channel moved old new → Passes (part_at old) (part_at new)) where
   all_pass : (channels : List ℕ) (moved : Bool) (old new : Scene) → VisitsEach Visit channels moved old new → Passes (part_at old) (part_at new)
   all_pass [] moved old new visits = passes_same (part_at old) (part_at new) (ap part_at visits.1)

@@ -12,7 +12,7 @@ use Rattle.dl_events.specs.declared.event.Event.{Event}
 use Rattle.dl_outside.specs.Told.{LinkTold}
 use Rattle.dl_outside.specs.declared.link.Gave.{Gave}
 use Rattle.dl_outside.specs.declared.link.Gave.TheVariants as gave
-use Rattle.dl_serving.specs.Rounds.{Heard, Scene, Sent, VisitsEach, Visited, seen_by}
+use Rattle.dl_channels.specs.Rounds.{Heard, Scene, Sent, VisitsEach, Visited, seen_by}
 use Rattle.dl_socket.specs.Channels.{Channels, inbox_of}
 use Rattle.dl_user.specs.Channel as cutter
 use Rattle.dl_serve.proofs.EmptiedChannels.{EachOpen}

@@ -23,10 +23,10 @@ use Rattle.dl_outside.specs.Told.{LinkTold}
 use Rattle.dl_outside.specs.declared.link.Gave.{Gave}
 use Rattle.dl_outside.specs.declared.link.Gave.TheVariants as gave
 use Rattle.dl_registry.specs.Kept.{owed_change}
-use Rattle.dl_serving.specs.Rounds.{Heard, HearsAll, PumpsAll, Scene, Sent, VisitsEach, Visited, seen_by}
-use Rattle.dl_serving.specs.Visits.{Hears, HearsOpen, Pumps, PumpsOpen}
+use Rattle.dl_channels.specs.Rounds.{Heard, HearsAll, PumpsAll, Scene, Sent, VisitsEach, Visited, seen_by}
+use Rattle.dl_channels.specs.Visits.{Hears, HearsOpen, Pumps, PumpsOpen}
 use Rattle.dl_socket.specs.Channels.{Channels, inbox_of, open_in}
-use Rattle.dl_socket.specs.Turns.{Sight}
+use Rattle.dl_socket.specs.Turns.{ChannelView}
 use Rattle.dl_turns.specs.Turns as clients
 use Rattle.dl_serve.specs.Service.{GoesOn, WasRead}
 use Rattle.dl_serve.proofs.EmptiedChannels.{EachOpen, IsAmong, among_keys, pumps_led}
@@ -98,7 +98,7 @@ module _ (first : Scene) (Good : Scene → ℕ → LinkTold → LinkTold → Typ
         }
   ]
 
-  module _ (Visit : ℕ → Bool → List (Option ChannelEnd) → List (Option ChannelEnd) → Sight → Sight → Channels → Channels → Type 0)
+  module _ (Visit : ℕ → Bool → List (Option ChannelEnd) → List (Option ChannelEnd) → ChannelView → ChannelView → Channels → Channels → Type 0)
       (one : (channel : ℕ) (moved : Bool) (old new : Scene) → 1 ≤ channel → Visited Visit channel moved old new → Kept old → Does channel old new) where
     each_found : (channels : List ℕ) (moved : Bool) (old new : Scene) → AllByRecursion (λ channel. 1 ≤ channel) channels → VisitsEach Visit channels moved old new → Kept old → AllFound channels old → AllFound [] new
     each_found [] moved old new low visits kept all = subst (AllFound []) (sym visits.1) all
@@ -127,12 +127,12 @@ pub record IsOpenSince (first : Scene) (Good : LinkTold → LinkTold → Type 0)
 -- ---- each was read
 
 -- a channel that goes on went on before
-pub heard_back : (channel : ℕ) (moment : Moment) (end end_now : Option ChannelEnd) (before after : Sight) (old new : Channels) → Hears channel moment end end_now before after old new → end_now ≡ None
+pub heard_back : (channel : ℕ) (moment : Moment) (end end_now : Option ChannelEnd) (before after : ChannelView) (old new : Channels) → Hears channel moment end end_now before after old new → end_now ≡ None
     → (end ≡ None) × HearsOpen channel moment None before after old new
 heard_back channel moment None end_now before after old new hears none = (refl, subst (λ (e : Option ChannelEnd). Hears channel moment None e before after old new) none hears)
 heard_back channel moment (Some cause) end_now before after old new hears none = absurd (let bad : Some cause ≡ None = sym hears.0 ∙ none in cc bad)
 
-pub sent_back : (moment : Moment) (channel : ℕ) (end end_now : Option ChannelEnd) (before after : Sight) (old new : Channels) → Pumps channel moment end end_now before after old new → end_now ≡ None
+pub sent_back : (moment : Moment) (channel : ℕ) (end end_now : Option ChannelEnd) (before after : ChannelView) (old new : Channels) → Pumps channel moment end end_now before after old new → end_now ≡ None
     → (end ≡ None) × PumpsOpen channel moment None before after old new
 sent_back moment channel None end_now before after old new pumps none = (refl, subst (λ (e : Option ChannelEnd). Pumps channel moment None e before after old new) none pumps)
 sent_back moment channel (Some cause) end_now before after old new pumps none = absurd (let bad : Some cause ≡ None = sym pumps.0 ∙ none in cc bad)
@@ -187,7 +187,7 @@ module _ (run : Run) (moment : Moment) (first : Scene) where
         good = λ none link goes. elim (heard_back channel moment v.end v.end_now before after old.channels new.channels v.hears none).1 [
           | inl turned ↦
               let read : WasRead visited.link turned.0.link = turn_reads channel moment _ _ turned.2.turn in
-              inl (read_on link visited.link turned.0.link visited.link_now goes read (goes_same turned.0.link visited.link_now (ap (λ (s : Sight). s.link) turned.3.0)))
+              inl (read_on link visited.link turned.0.link visited.link_now goes read (goes_same turned.0.link visited.link_now (ap (λ (s : ChannelView). s.link) turned.3.0)))
           | inr full ↦ inr (let over = full.0 in omega (arith, over, more))
         ];
         still = λ place link link_now apart good. elim good [ inl read ↦ inl read | inr full ↦ inr (omega (arith, full, more)) ];
@@ -203,7 +203,7 @@ module _ (run : Run) (moment : Moment) (first : Scene) where
   -- ---- each was sent what waits for it
 
   -- a pump leaves nothing, where the channel goes on, or its link had to wait
-  pump_sends : (channel : ℕ) (before after : Sight) (old new : Channels) → PumpsOpen channel moment None before after old new → (outbox_of new.outboxes channel ≡ Some empty) ⊎ HasRisen before.link.waits after.link.waits
+  pump_sends : (channel : ℕ) (before after : ChannelView) (old new : Channels) → PumpsOpen channel moment None before after old new → (outbox_of new.outboxes channel ≡ Some empty) ⊎ HasRisen before.link.waits after.link.waits
   pump_sends channel before after old new pumps =
       let one = pumps.2.pumps in
       let set : pumps.1.outboxes ≡ set_value (nat_eq channel) old.outboxes one.outbox_now =
@@ -211,7 +211,7 @@ module _ (run : Run) (moment : Moment) (first : Scene) where
       let here : outbox_of pumps.1.outboxes channel ≡ Some one.outbox_now = ap (λ (es : List (ℕ × Outbox)). outbox_of es channel) set ∙ value_here channel old.outboxes one.outbox_now one.outbox one.was in
       elim (by one.outbox.full one.outbox one.outbox_now before.link pumps.0.link refl one.pumps) [
         | inl none ↦ inl (ap (λ (c : Channels). outbox_of c.outboxes channel) pumps.4.1 ∙ here ∙ ap Some none)
-        | inr waited ↦ inr (subst (λ (s : Sight). HasRisen before.link.waits s.link.waits) (sym pumps.4.0) waited)
+        | inr waited ↦ inr (subst (λ (s : ChannelView). HasRisen before.link.waits s.link.waits) (sym pumps.4.0) waited)
       ]
     where
       by : (b : Bool) (outbox outbox_now : Outbox) (link link_now : LinkTold) → outbox.full ≡ b → PumpsBy b None outbox outbox_now link link_now → (outbox_now ≡ empty) ⊎ HasRisen link.waits link_now.waits

@@ -13,13 +13,13 @@ use Rattle.dl_model.specs.Journal.{IsOpen}
 use Rattle.dl_outside.specs.Links.{Links}
 use Rattle.dl_outside.specs.Told.{FolderTold, LinkTold, NetTold}
 use Rattle.dl_server.specs.Closing.{IsClosed}
-use Rattle.dl_server.specs.Holds.{GoesOn, GoesOut, Holds}
+use Rattle.dl_server.specs.Holds.{GoesOn, GoesOnUntilClosed, Holds}
 use Rattle.dl_server.specs.Round.{IsRound}
 use Rattle.dl_server.specs.State.{State, seen}
 use Rattle.dl_server.proofs.HeldStates.{goes_both, goes_same}
 use Rattle.dl_startup.specs.Setup.{IsBegun}
 use Rattle.dl_startup.specs.Unchanged.{IsQuiet}
-use Rattle.dl_turns.specs.Gone.{TellOver}
+use Rattle.dl_turns.specs.Gone.{TellTheEnd}
 use Rattle.dl_serve.specs.declared.beginning.Begun.{Begun}
 use Rattle.dl_serve.specs.declared.closed.Closed.{Closed}
 use Rattle.dl_serve.specs.Comes.{IsComeTo}
@@ -30,7 +30,7 @@ use Rattle.dl_serve.specs.Told.{Told}
 use Rattle.dl_serve.proofs.CameTo.{IsFresh, come_to}
 
 -- a server goes on, and then it goes out
-pub then_out : (Tell Held : Type 0) (old between new : State) → GoesOn Tell Held old between → GoesOut Tell Held between new → GoesOut Tell Held old new
+pub then_out : (Tell Held : Type 0) (old between new : State) → GoesOn Tell Held old between → GoesOnUntilClosed Tell Held between new → GoesOnUntilClosed Tell Held old new
 then_out Tell Held old between new first second = λ run events holds.
     let one = first run events holds in
     let two = second run (events ++ one.0) one.1 in
@@ -45,7 +45,7 @@ module _ {L : Type 0} (link_told : L → LinkTold) (Held : Type 0)
 
 module _ {L : Type 0} (link_told : L → LinkTold)
     (round : (held : Bool) (net net_now users users_now : NetTold L) (old new : State) → IsRound link_told net net_now users users_now old new → GoesOn (TellTaken link_told) (held ≡ true) old new)
-    (close : (held : Bool) (moment : Moment) (old new : State) → IsClosed (TellOver link_told) moment old new → GoesOut (TellTaken link_told) (held ≡ true) old new)
+    (close : (held : Bool) (moment : Moment) (old new : State) → IsClosed (TellTheEnd link_told) moment old new → GoesOnUntilClosed (TellTaken link_told) (held ≡ true) old new)
     (outbox : (run : Run) (events : List Event) (taken : ℕ → List ℕ) (core : Core) (client : ℕ) → IsAfter run events taken core → IsSome (outbox_of core.hub client) ↔ IsOpen client events) where
   module _ (begun : Begun) (old new : Told L) (full : Bool) (closed : Closed L) (first : FolderTold) (begins : IsBegun begun.conf first.files begun.trace) (quiet : IsQuiet first old.folder)
       (has : HasOpened link_told begun full old new closed) where
@@ -63,7 +63,7 @@ module _ {L : Type 0} (link_told : L → LinkTold)
       directory = refl;
     }
 
-    goes : (held : Bool) → GoesOut (TellTaken link_told) (held ≡ true) start has.run.closes.0
+    goes : (held : Bool) → GoesOnUntilClosed (TellTaken link_told) (held ≡ true) start has.run.closes.0
     goes held =
         then_out (TellTaken link_told) (held ≡ true) start has.run.last has.run.closes.0
         (rounds_on link_told (held ≡ true) (round held) has.run.served.many has.net new.net has.users new.users start has.run.last has.run.served.rounds) (close held has.run.moment has.run.last has.run.closes.0 has.run.closes.2)

@@ -50,9 +50,9 @@ use Rattle.dl_server.specs.Round.{IsRound}
 use Rattle.dl_server.specs.State.{State, clients_of, scene_of}
 use Rattle.dl_server.specs.Accepts.{AcceptsClientIfMay, AcceptsProgramIfMay}
 use Rattle.dl_server.specs.Steps.{HearsClientsIfMay, PumpsClients, PumpsClientsIfMay}
-use Rattle.dl_serving.specs.Accepting.{Enters}
-use Rattle.dl_serving.specs.declared.accepting.Entry.{Entry}
-use Rattle.dl_serving.specs.declared.accepting.Entry.TheVariants as entry
+use Rattle.dl_channels.specs.Accepting.{Enters}
+use Rattle.dl_channels.specs.declared.accepting.Entry.{Entry}
+use Rattle.dl_channels.specs.declared.accepting.Entry.TheVariants as entry
 use Rattle.dl_socket.specs.Channels.{Channels, open_in}
 use Rattle.dl_turns.specs.State.{Side, side}
 use Rattle.dl_lemmas.proofs.Options.{not_some, some_of}
@@ -163,29 +163,29 @@ record BesideClient (old new : State) : Type 0 where
   programs : new.programs ≡ old.programs
   ends : new.ends ≡ old.ends
   no_programs : new.no_programs ≡ old.no_programs
-  may_want : new.may_want ≡ old.may_want
+  may_run_out : new.may_run_out ≡ old.may_run_out
 
 record BesideProgram (old new : State) : Type 0 where
   core : new.core ≡ old.core
   clients : new.clients ≡ old.clients
   ends : new.ends ≡ old.ends
   no_clients : new.no_clients ≡ old.no_clients
-  may_want : new.may_want ≡ old.may_want
+  may_run_out : new.may_run_out ≡ old.may_run_out
 
 module _ {L : Type 0} (told : L → LinkTold) where
   client_beside : (moved : Bool) (net net_now : NetTold L) (old new : State) → AcceptsClientIfMay told moved net net_now old new → BesideClient old new
   client_beside moved net net_now old new (inl none) =
-      record { programs = ap (λ (s : State). s.programs) none.3; ends = ap (λ (s : State). s.ends) none.3; no_programs = ap (λ (s : State). s.no_programs) none.3; may_want = ap (λ (s : State). s.may_want) none.3 }
+      record { programs = ap (λ (s : State). s.programs) none.3; ends = ap (λ (s : State). s.ends) none.3; no_programs = ap (λ (s : State). s.no_programs) none.3; may_run_out = ap (λ (s : State). s.may_run_out) none.3 }
   client_beside moved net net_now old new (inr (inl want)) =
-      record { programs = ap (λ (s : State). s.programs) want.3; ends = ap (λ (s : State). s.ends) want.3; no_programs = ap (λ (s : State). s.no_programs) want.3; may_want = ap (λ (s : State). s.may_want) want.3 }
+      record { programs = ap (λ (s : State). s.programs) want.3; ends = ap (λ (s : State). s.ends) want.3; no_programs = ap (λ (s : State). s.no_programs) want.3; may_run_out = ap (λ (s : State). s.may_run_out) want.3 }
   client_beside moved net net_now old new (inr (inr accepts)) =
-      let rest = accepts.1.2.rest in record { programs = ap (λ (s : State). s.programs) rest; ends = ap (λ (s : State). s.ends) rest; no_programs = ap (λ (s : State). s.no_programs) rest; may_want = ap (λ (s : State). s.may_want) rest }
+      let rest = accepts.1.2.rest in record { programs = ap (λ (s : State). s.programs) rest; ends = ap (λ (s : State). s.ends) rest; no_programs = ap (λ (s : State). s.no_programs) rest; may_run_out = ap (λ (s : State). s.may_run_out) rest }
 
   program_beside : (moved : Bool) (net net_now : NetTold L) (old new : State) → AcceptsProgramIfMay told moved net net_now old new → BesideProgram old new
   program_beside moved net net_now old new (inl none) =
-      record { core = ap (λ (s : State). s.core) none.3; clients = ap (λ (s : State). s.clients) none.3; ends = ap (λ (s : State). s.ends) none.3; no_clients = ap (λ (s : State). s.no_clients) none.3; may_want = ap (λ (s : State). s.may_want) none.3 }
+      record { core = ap (λ (s : State). s.core) none.3; clients = ap (λ (s : State). s.clients) none.3; ends = ap (λ (s : State). s.ends) none.3; no_clients = ap (λ (s : State). s.no_clients) none.3; may_run_out = ap (λ (s : State). s.may_run_out) none.3 }
   program_beside moved net net_now old new (inr accepts) =
-      let rest = accepts.3.rest in record { core = ap (λ (s : State). s.core) rest; clients = ap (λ (s : State). s.clients) rest; ends = ap (λ (s : State). s.ends) rest; no_clients = ap (λ (s : State). s.no_clients) rest; may_want = ap (λ (s : State). s.may_want) rest }
+      let rest = accepts.3.rest in record { core = ap (λ (s : State). s.core) rest; clients = ap (λ (s : State). s.clients) rest; ends = ap (λ (s : State). s.ends) rest; no_clients = ap (λ (s : State). s.no_clients) rest; may_run_out = ap (λ (s : State). s.may_run_out) rest }
 
 -- one that came before is open where it was
 came_before : (old new : Hub) (place : ℕ) → Comes old new → place < length old.clients → IsSome (outbox_of new (place + 1)) → IsSome (outbox_of old (place + 1))
@@ -227,16 +227,16 @@ heard_links moved old new (inr (inr hears)) = (let serves = hears.serves in clie
 record BesideVisits (old new : State) : Type 0 where
   programs : new.programs ≡ old.programs
   ends : new.ends ≡ old.ends
-  may_want : new.may_want ≡ old.may_want
+  may_run_out : new.may_run_out ≡ old.may_run_out
 
 heard_beside : (moved : Bool) (old new : State) → HearsClientsIfMay moved old new → BesideVisits old new
-heard_beside moved old new (inl nobody) = record { programs = ap (λ (s : State). s.programs) nobody.2; ends = ap (λ (s : State). s.ends) nobody.2; may_want = ap (λ (s : State). s.may_want) nobody.2 }
-heard_beside moved old new (inr (inl want)) = record { programs = ap (λ (s : State). s.programs) want.1; ends = ap (λ (s : State). s.ends) want.1; may_want = ap (λ (s : State). s.may_want) want.1 }
-heard_beside moved old new (inr (inr hears)) = record { programs = ap (λ (s : State). s.programs) hears.rest; ends = ap (λ (s : State). s.ends) hears.rest; may_want = ap (λ (s : State). s.may_want) hears.rest }
+heard_beside moved old new (inl nobody) = record { programs = ap (λ (s : State). s.programs) nobody.2; ends = ap (λ (s : State). s.ends) nobody.2; may_run_out = ap (λ (s : State). s.may_run_out) nobody.2 }
+heard_beside moved old new (inr (inl want)) = record { programs = ap (λ (s : State). s.programs) want.1; ends = ap (λ (s : State). s.ends) want.1; may_run_out = ap (λ (s : State). s.may_run_out) want.1 }
+heard_beside moved old new (inr (inr hears)) = record { programs = ap (λ (s : State). s.programs) hears.rest; ends = ap (λ (s : State). s.ends) hears.rest; may_run_out = ap (λ (s : State). s.may_run_out) hears.rest }
 
 pumped_beside : (moved : Bool) (old new : State) → PumpsClientsIfMay moved old new → BesideVisits old new
-pumped_beside moved old new (inl want) = record { programs = ap (λ (s : State). s.programs) want.1; ends = ap (λ (s : State). s.ends) want.1; may_want = ap (λ (s : State). s.may_want) want.1 }
-pumped_beside moved old new (inr pumps) = record { programs = ap (λ (s : State). s.programs) pumps.rest; ends = ap (λ (s : State). s.ends) pumps.rest; may_want = ap (λ (s : State). s.may_want) pumps.rest }
+pumped_beside moved old new (inl want) = record { programs = ap (λ (s : State). s.programs) want.1; ends = ap (λ (s : State). s.ends) want.1; may_run_out = ap (λ (s : State). s.may_run_out) want.1 }
+pumped_beside moved old new (inr pumps) = record { programs = ap (λ (s : State). s.programs) pumps.rest; ends = ap (λ (s : State). s.ends) pumps.rest; may_run_out = ap (λ (s : State). s.may_run_out) pumps.rest }
 
 -- what a pump of all clients sees
 module _ (moved : Bool) (old new : State) (pumps : PumpsClients moved old new) where
@@ -466,15 +466,15 @@ module _ {L : Type 0} (told : L → LinkTold) (heard : (moved : Bool) (old new :
 
     -- where the journal may want memory, and clients were served all the same, none was wanted
     abbrev NoneWanted : Type 0
-    NoneWanted = (old.may_want && new.wanted) ≡ false
+    NoneWanted = (old.may_run_out && new.wanted) ≡ false
 
-    accepted_may : round.accepted.may_want ≡ old.may_want
-    accepted_may = entered_beside.may_want ∙ came_beside.may_want
+    accepted_may : round.accepted.may_run_out ≡ old.may_run_out
+    accepted_may = entered_beside.may_run_out ∙ came_beside.may_run_out
 
-    heard_may : round.heard.may_want ≡ old.may_want
-    heard_may = (let h = round.hears in ap (λ (s : State). s.may_want) h.programs.rest ∙ (heard_beside h.asked round.accepted h.served h.clients).may_want ∙ accepted_may)
+    heard_may : round.heard.may_run_out ≡ old.may_run_out
+    heard_may = (let h = round.hears in ap (λ (s : State). s.may_run_out) h.programs.rest ∙ (heard_beside h.asked round.accepted h.served h.clients).may_run_out ∙ accepted_may)
 
-    unwanted_so : (may : Bool) → may ≡ old.may_want → may ≡ true → NoneWanted → new.wanted ≡ false
+    unwanted_so : (may : Bool) → may ≡ old.may_run_out → may ≡ true → NoneWanted → new.wanted ≡ false
     unwanted_so may same wants is = ap (λ (b : Bool). b && new.wanted) (sym wants ∙ same) ∙ is
 
     module _ (place : ℕ) (link : LinkTold) (there : slice_get new.clients place ≡ Some link) (ls : ClientLinks place link) where
@@ -487,7 +487,7 @@ module _ {L : Type 0} (told : L → LinkTold) (heard : (moved : Bool) (old new :
         by (inl nobody) some = absurd (not_some (outbox_of round.accepted.core.hub (place + 1)) (nobody.1 (place + 1) (omega arith)) (subst (λ (s : State). IsSome (outbox_of s.core.hub (place + 1))) nobody.2 some))
         by (inr (inl want)) some = absurd (let bad : true ≡ false =
             sym (ap (λ (s : State). s.wanted) want.1) ∙ sym (ap (λ (s : State). s.wanted) round.hears.programs.rest)
-            ∙ (round_unwanted told net net_now users users_now old new round (unwanted_so round.accepted.may_want accepted_may want.3 none)).at_hearing in cc bad)
+            ∙ (round_unwanted told net net_now users users_now old new round (unwanted_so round.accepted.may_run_out accepted_may want.3 none)).at_hearing in cc bad)
         by (inr (inr hears)) some =
             let serves = hears.serves in
             read round.hears.asked (clients_of round.accepted serves.desk) (clients_of round.hears.served serves.desk_now) serves.visits (place + 1) some ls.was ls.heard_link
@@ -527,7 +527,7 @@ module _ {L : Type 0} (told : L → LinkTold) (heard : (moved : Bool) (old new :
         by : PumpsClientsIfMay round.pumps.moved round.heard round.pumps.sent → WasSent Tells (concat (stream (source_in setting) setting.buffer (place + 1) noted)) ls.was link
         by (inl want) = absurd (let bad : true ≡ false =
             sym (ap (λ (s : State). s.wanted) want.1) ∙ sym (ap (λ (s : State). s.wanted) round.pumps.programs.rest) ∙ sym (ap (λ (s : State). s.wanted) round.pumps.parts.rest)
-            ∙ unwanted_so round.heard.may_want heard_may want.2 none in cc bad)
+            ∙ unwanted_so round.heard.may_run_out heard_may want.2 none in cc bad)
         by (inr pumps) =
             let m = round.pumps.moved in
             elim (sends m (before_pumps m round.heard round.pumps.sent pumps) (after_pumps m round.heard round.pumps.sent pumps) (visits_of m round.heard round.pumps.sent pumps) (place + 1) (open_sent place is) ls.heard_link ls.sent_link
@@ -543,7 +543,7 @@ module _ {L : Type 0} (told : L → LinkTold) (heard : (moved : Bool) (old new :
         by None none =
             are_shut (place + 1) link (omega arith) none (subst (λ (n : ℕ). slice_get new.clients n ≡ Some link) back there)
 
-    clients_served : EachNow (IsNewLink told) (ServesClient Tells setting noted (old.may_want && new.wanted)) old.clients new.clients
+    clients_served : EachNow (IsNewLink told) (ServesClient Tells setting noted (old.may_run_out && new.wanted)) old.clients new.clients
     clients_served = λ place link there. (let ls = links_of place link there in (
       ls.was,
       ls.origin,
@@ -758,7 +758,7 @@ module _ {L : Type 0} (told : L → LinkTold) (heard : (moved : Bool) (old new :
 
     -- ---- the round
 
-    pub served : ServesRound told old.may_want setting faults user_faults (standing net users events old) (standing net_now users_now noted new)
+    pub served : ServesRound told old.may_run_out setting faults user_faults (standing net users events old) (standing net_now users_now noted new)
     served = record {
       clients_came = asked.came;
       clients_dropped = asked.gone;

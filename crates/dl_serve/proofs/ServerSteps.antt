@@ -5,7 +5,7 @@ use Rattle.std.proofs.lemmas.List.{length-replicate, map-append}
 use Rattle.dl_bytes.specs.declared.moment.Moment.{Moment}
 use Rattle.dl_cells.specs.declared.level_history.Change.{Change}
 use Rattle.dl_core.specs.State.{Core}
-use Rattle.dl_desk.specs.Told.{PostTold}
+use Rattle.dl_desk.specs.Told.{ControlTold}
 use Rattle.dl_loop.proofs.ShownDaemons.{tell_overs}
 use Rattle.dl_model.specs.Registry.{Registry}
 use Rattle.dl_outside.specs.Links.{Links}
@@ -25,15 +25,15 @@ use Rattle.dl_server.specs.Round.{IsRound}
 use Rattle.dl_server.specs.State as server
 use Rattle.dl_server.specs.State.{clients_of, scene_of, with_want}
 use Rattle.dl_server.specs.Steps.{HearsClientsIfMay, HearsPrograms, PartsClients, PumpsClientsIfMay, PumpsPrograms}
-use Rattle.dl_serving.specs.Accepting.{Enters, entry_of}
-use Rattle.dl_serving.specs.declared.accepting.Entry.{Entry}
-use Rattle.dl_serving.specs.declared.accepting.Entry.TheVariants as entry
+use Rattle.dl_channels.specs.Accepting.{Enters, entry_of}
+use Rattle.dl_channels.specs.declared.accepting.Entry.{Entry}
+use Rattle.dl_channels.specs.declared.accepting.Entry.TheVariants as entry
 use Rattle.dl_socket.specs.Channels.{open_in, Refuses}
 use Rattle.dl_socket.specs.Listening.{HaveServed}
 use Rattle.dl_socket.specs.declared.fault.ChannelFault.{ChannelFault}
 use Rattle.dl_socket.specs.declared.fault.ChannelFault.TheVariants as fault
 use Rattle.dl_taking.specs.Took.{Took}
-use Rattle.dl_turns.specs.Gone.{TellOver}
+use Rattle.dl_turns.specs.Gone.{TellTheEnd}
 use Rattle.dl_turns.specs.State.{side}
 use Rattle.dl_machine.specs.State.{Client, State, new_client, new_program, no_turn}
 use Rattle.dl_machine.specs.Steps.{BeginsOrStays, Came, Entered, Goes, IsToldBy, LetGo, MayLetGo, PartedAll, Renewed, Stopping, Wanted}
@@ -47,7 +47,7 @@ use Rattle.dl_machine.proofs.ProgramSteps as programs
 use Rattle.dl_machine.proofs.ProgramSteps.{program_with, programs_with, with_scene}
 
 -- what a pump does not see
-abbrev untold : PostTold
+abbrev untold : ControlTold
 untold = record { apps = 0; first = 0; sets = []; pushed = λ app. []; refusals = λ app. 0 }
 
 -- nothing was taken of rings and loss words
@@ -279,7 +279,7 @@ module _ {L : Type 0} (told : L → LinkTold) where
   abbrev pub TellsOvers : List LinkTold → Type 0
   TellsOvers links = (place : ℕ) (link : LinkTold) → slice_get links place ≡ Some link → TellOvers (IsToldBy told) → IsSome link.over
 
-  all_tell : TellOvers (IsToldBy told) → TellOver told
+  all_tell : TellOvers (IsToldBy told) → TellTheEnd told
   all_tell tells = λ link. tells (told link) (link, refl)
 
   pub map_tells : (links : List L) → TellsOvers (map told links)
@@ -343,10 +343,10 @@ module _ {L : Type 0} (told : L → LinkTold) where
       ))
       (same _ _ (ap state_of parts.rest)))
 
-  close_clients : (old new : server.State) → ClosesClients (TellOver told) old new → Goes_on (state_in true old) (state_in true new)
+  close_clients : (old new : server.State) → ClosesClients (TellTheEnd told) old new → Goes_on (state_in true old) (state_in true new)
   close_clients old new closes =
-      served_go true (ClosesAll (TellOver told)) (λ links. Unit {0}) (λ base registry sets stops was now fit closed. visits_lead (IsToldBy told) base registry sets (λ link. Unit {0}) (visits.Closed (TellOver told))
-      (λ number low all first there here c d fits some visit. closed_leads (IsToldBy told) base registry sets number low all first there stops (TellOver told) all_tell here c d some visit) 0 closed.1.0 closed.0 was now
+      served_go true (ClosesAll (TellTheEnd told)) (λ links. Unit {0}) (λ base registry sets stops was now fit closed. visits_lead (IsToldBy told) base registry sets (λ link. Unit {0}) (visits.Closed (TellTheEnd told))
+      (λ number low all first there here c d fits some visit. closed_leads (IsToldBy told) base registry sets number low all first there stops (TellTheEnd told) all_tell here c d some visit) 0 closed.1.0 closed.0 was now
       (λ place link above at. tt) closed.1.1) old new tt closes.serves
       (ap (state_in true) closes.rest)
 
@@ -421,7 +421,7 @@ module _ {L : Type 0} (told : L → LinkTold) where
         (lead_both round.pumps.sent round.pumps.pumped new (pump_programs round.pumps.moment round.pumps.sent round.pumps.pumped round.pumps.programs)
         (part_clients round.pumps.pumped new round.pumps.parts))
 
-  pub closing_goes : (moment : Moment) (old new : server.State) → HasLow (state_of old) → IsClosed (TellOver told) moment old new → Goes (IsToldBy told) (state_of old) (state_in true new)
+  pub closing_goes : (moment : Moment) (old new : server.State) → HasLow (state_of old) → IsClosed (TellTheEnd told) moment old new → Goes (IsToldBy told) (state_of old) (state_in true new)
   closing_goes moment old new low closes =
       both _ (state_in true old) _ (goes_one (IsToldBy told) Stopping (state_of old) (state_in true old) refl)
       (both _ (state_in true closes.between) _ (close_programs moment old closes.between low closes.programs) (close_clients closes.between new closes.clients))

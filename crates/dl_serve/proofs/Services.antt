@@ -37,7 +37,7 @@ use Rattle.dl_server.specs.Holds.{Holds}
 use Rattle.dl_server.specs.State.{State, clients_of, seen}
 use Rattle.dl_socket.specs.Channels.{Channels, channel_limit, none_opened, open_channel_limit, open_in}
 use Rattle.dl_startup.specs.Setup.{IsBegun}
-use Rattle.dl_turns.specs.Gone.{TellOver}
+use Rattle.dl_turns.specs.Gone.{TellTheEnd}
 use Rattle.dl_serve.specs.declared.beginning.Begun.{Begun}
 use Rattle.dl_serve.specs.declared.closed.Closed.{Closed}
 use Rattle.dl_serve.specs.Closed.{IsLeft, backlog_of}
@@ -93,10 +93,10 @@ backlog_so run events taken core is =
     ∙ ap (λ (buffer : ℕ). left buffer (traffic (source_of run) events)) is.set_to.buffer
 
 module _ {L : Type 0} (told : L → LinkTold) (heard : (moved : Bool) (old new : Clients) → HearsAll moved old new → AreLater old new)
-    (pumped : (moved : Bool) (old new : Clients) → VisitsAll Pumped moved old new → AreLater old new) (closed_so : (old new : Clients) → ClosesAll (TellOver told) old new → AreLater old new)
+    (pumped : (moved : Bool) (old new : Clients) → VisitsAll Pumped moved old new → AreLater old new) (closed_so : (old new : Clients) → ClosesAll (TellTheEnd told) old new → AreLater old new)
     (pump : PumpsAreEvents) (read : (moved : Bool) (old new : Clients) → HearsAll moved old new → EachOpen WasRead old new)
     (sends : (moved : Bool) (old new : Clients) → VisitsAll Pumped moved old new → EachOpen WasSent old new) (parted : (hub : Hub) (old new : List LinkTold) → ShutsGone hub old new → AreShut hub new)
-    (shuts : (old new : Clients) → ClosesAll (TellOver told) old new → AreShut old.side.core.hub old.links → AreShut new.side.core.hub new.links) where
+    (shuts : (old new : Clients) → ClosesAll (TellTheEnd told) old new → AreShut old.side.core.hub old.links → AreShut new.side.core.hub new.links) where
   module _ (setting : Setting) (stood : List StoredFile) (before : ℕ × List (List ℕ)) where
     abbrev pub KeepsIn : List Event → State → Type 0
     KeepsIn events s = Keeps told heard pumped pump read sends parted setting stood before events s
@@ -136,7 +136,7 @@ module _ {L : Type 0} (told : L → LinkTold) (heard : (moved : Bool) (old new :
 
     -- ---- the closing
 
-    module _ (moment : Moment) (last final : State) (events : List Event) (closed : Closed L) (closes : IsClosed (TellOver told) moment last final) (left_so : IsLeft told final closed) (k : KeepsIn events last) where
+    module _ (moment : Moment) (last final : State) (events : List Event) (closed : Closed L) (closes : IsClosed (TellTheEnd told) moment last final) (left_so : IsLeft told final closed) (k : KeepsIn events last) where
       abbrev between : State
       between = closes.between
 
@@ -165,7 +165,7 @@ module _ {L : Type 0} (told : L → LinkTold) (heard : (moved : Bool) (old new :
       clients_go =
           let serves = closes.clients.serves in
           both_go last.clients between.clients final.clients (all_same last.clients between.clients (ap (λ (s : State). s.clients) closes.programs.rest))
-          (clients_closed (TellOver told) (clients_of between serves.desk) (clients_of final serves.desk_now) serves.visits)
+          (clients_closed (TellTheEnd told) (clients_of between serves.desk) (clients_of final serves.desk_now) serves.visits)
 
       programs_go : AllGo last.programs final.programs
       programs_go =
@@ -286,7 +286,7 @@ module _ {L : Type 0} (told : L → LinkTold) (heard : (moved : Bool) (old new :
             (
               room,
               subst (λ (may : Bool). ServesRound told may setting net.faults users.faults (standing rounds.0 rounds.1 so_far.0 middle) (standing net_now users_now (noted told heard pumped pump read sends parted setting stood (0, []) net.faults users.faults rounds.0 net_now rounds.1 users_now middle new so_far.0 rounds.5 tell_overs so_far.2) new))
-                  (ap (λ (s : State). s.may_want) rounds.6.is)
+                  (ap (λ (s : State). s.may_run_out) rounds.6.is)
                   (served told heard pumped pump read sends parted setting stood (0, []) net.faults users.faults rounds.0 net_now rounds.1 users_now middle new so_far.0 rounds.5 tell_overs so_far.2),
             ),
           ),

@@ -30,8 +30,8 @@ first_ready s clients programs inboxes listeners ends = record {
 }
 
 -- the links of clients that are seen of a server are told
-pub seen_tells : {J L : Type 0} (told : L → LinkTold) (events : J → Option (List Event)) (may_want : Bool) (s : server.State) → IsSeen told events may_want s → TellsOvers told s.clients
-seen_tells told events may_want s is_seen = subst (λ (t : server.State). TellsOvers told t.clients) (sym is_seen.is) (map_tells told is_seen.server.clients.links)
+pub seen_tells : {J L : Type 0} (told : L → LinkTold) (events : J → Option (List Event)) (may_run_out : Bool) (s : server.State) → IsSeen told events may_run_out s → TellsOvers told s.clients
+seen_tells told events may_run_out s is_seen = subst (λ (t : server.State). TellsOvers told t.clients) (sym is_seen.is) (map_tells told is_seen.server.clients.links)
 
 module _ {L : Type 0} (told : L → LinkTold) where
   rounds_lead : (many : ℕ) (net net_now users users_now : NetTold L) (old new : server.State) → AreRounds told many net net_now users users_now old new → Leading told old new

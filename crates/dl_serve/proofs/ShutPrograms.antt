@@ -6,11 +6,11 @@ use Rattle.std.proofs.lemmas.Bool.Decides.{eqb_tells}
 use Rattle.dl_bytes.specs.declared.moment.Moment.{Moment}
 use Rattle.dl_channel.specs.declared.outcome.ChannelEnd.{ChannelEnd}
 use Rattle.dl_outside.specs.Told.{LinkTold}
-use Rattle.dl_serving.specs.Rounds.{Heard, Scene, Sent, Stopped, VisitsEach, seen_by}
-use Rattle.dl_serving.specs.Visits.{EndsFor, Hears, Pumps}
-use Rattle.dl_serving.proofs.LeftOpen.{Leaves, heard_leaves, pumped_leaves}
+use Rattle.dl_channels.specs.Rounds.{Heard, Scene, Sent, Stopped, VisitsEach, seen_by}
+use Rattle.dl_channels.specs.Visits.{EndsFor, Hears, Pumps}
+use Rattle.dl_channels.proofs.LeftOpen.{Leaves, heard_leaves, pumped_leaves}
 use Rattle.dl_socket.specs.Channels.{Channels}
-use Rattle.dl_socket.specs.Turns.{Sight}
+use Rattle.dl_socket.specs.Turns.{ChannelView}
 use Rattle.dl_serve.proofs.EmptiedChannels.{IsAmong}
 use Rattle.dl_serve.proofs.OtherEntries.{set_apart, set_here, set_long}
 
@@ -35,20 +35,20 @@ one_shut place links links_now ends ends_now link link_now end end_now was links
       (sym (ap (λ (es : List (Option ChannelEnd)). slice_get es other) ends_so ∙ set_apart ends place other end_now apart.1) ∙ slot)
 ]
 
-for_shut : (end : Option ChannelEnd) (cause : ChannelEnd) (channel : ℕ) (moment : Moment) (before after : Sight) (old new : Channels) → EndsFor end channel moment before after old new → end ≡ Some cause → after.link.is_shut ≡ true
+for_shut : (end : Option ChannelEnd) (cause : ChannelEnd) (channel : ℕ) (moment : Moment) (before after : ChannelView) (old new : Channels) → EndsFor end channel moment before after old new → end ≡ Some cause → after.link.is_shut ≡ true
 for_shut None cause channel moment before after old new same is = absurd (cc is)
 for_shut (Some end) cause channel moment before after old new ends is = ends.1.shut.shut
 
-hears_shut : (channel : ℕ) (moment : Moment) (end end_now : Option ChannelEnd) (before after : Sight) (old new : Channels) → Hears channel moment end end_now before after old new → (cause : ChannelEnd) → end_now ≡ Some cause
+hears_shut : (channel : ℕ) (moment : Moment) (end end_now : Option ChannelEnd) (before after : ChannelView) (old new : Channels) → Hears channel moment end end_now before after old new → (cause : ChannelEnd) → end_now ≡ Some cause
     → after.link.is_shut ≡ true
 hears_shut channel moment None end_now before after old new (inl turned) cause is = for_shut end_now cause channel moment turned.0 after turned.1 new turned.3 is
 hears_shut channel moment None end_now before after old new (inr full) cause is = absurd (let bad : None ≡ Some cause = sym full.1 ∙ is in cc bad)
 hears_shut channel moment (Some end) end_now before after old new hears cause is = hears.2.shut.shut
 
-pumps_shut : (channel : ℕ) (moment : Moment) (end end_now : Option ChannelEnd) (before after : Sight) (old new : Channels) → Pumps channel moment end end_now before after old new → (cause : ChannelEnd) → end_now ≡ Some cause
+pumps_shut : (channel : ℕ) (moment : Moment) (end end_now : Option ChannelEnd) (before after : ChannelView) (old new : Channels) → Pumps channel moment end end_now before after old new → (cause : ChannelEnd) → end_now ≡ Some cause
     → ((other : ChannelEnd) → end ≡ Some other → before.link.is_shut ≡ true) → after.link.is_shut ≡ true
 pumps_shut channel moment None end_now before after old new pumps cause is was = for_shut end_now cause channel moment pumps.0 after pumps.1 new pumps.4 is
-pumps_shut channel moment (Some end) end_now before after old new pumps cause is was = ap (λ (s : Sight). s.link.is_shut) pumps.1 ∙ was end refl
+pumps_shut channel moment (Some end) end_now before after old new pumps cause is was = ap (λ (s : ChannelView). s.link.is_shut) pumps.1 ∙ was end refl
 
 -- ---- all of them
 

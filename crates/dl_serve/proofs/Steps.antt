@@ -28,12 +28,12 @@ use Rattle.dl_serve.specs.Program.{Ended, EndsBegun, EndsWith, HasOpened, IsServ
 use Rattle.dl_serve.specs.Rounds.{HasMadeRounds, kept}
 use Rattle.dl_serve.specs.Service.{Standing, frames_in}
 use Rattle.dl_serve.specs.Dropped.{HasDropped}
-use Rattle.dl_serve.specs.Handed.{HasHandedOut, NetsStand}
+use Rattle.dl_serve.specs.WhoWaited.{HasAcceptedInOrder, NetsStand}
 use Rattle.dl_serve.specs.Levels.{AllTookLevels}
 use Rattle.dl_loop.specs.Daemon.{TellTaken}
 use Rattle.dl_serve.specs.Shown.{AllShowEnds, TellLeft}
 use Rattle.dl_serve.specs.Told.{Told, told}
-use Rattle.dl_serve.specs.Went.{AllWent}
+use Rattle.dl_serve.specs.Went.{EachCloseHasCause}
 use Rattle.dl_serve.proofs.EndedServings.{ended}
 use Rattle.dl_serve.proofs.HeardNets.{rounds_listen, still_listens}
 use Rattle.dl_serve.proofs.KnownServings.{counts_same, ends_from}
@@ -169,13 +169,13 @@ module _ {L : Type 0} (link_told : L → LinkTold) where
       → ((full : Bool) (left : Closed L) → HasOpened link_told begun full (record old { folder = between }) new left → TellGiven link_told
       → AllAdmitted left.events.events (map link_told left.users.links) left.ends)
       → ((full : Bool) (left : Closed L) → HasOpened link_told begun full (record old { folder = between }) new left → AllShowEnds (TellLeft link_told) (map link_told left.users.links) left.ends)
-      → ((full : Bool) (left : Closed L) → HasOpened link_told begun full (record old { folder = between }) new left → AllWent link_told (setting begun) left)
+      → ((full : Bool) (left : Closed L) → HasOpened link_told begun full (record old { folder = between }) new left → EachCloseHasCause link_told (setting begun) left)
       → ((full : Bool) (left : Closed L) → HasOpened link_told begun full (record old { folder = between }) new left
       → AllTookLevels (TellTaken link_told) (setting begun) left.events.events (map link_told left.users.links) left.ends)
       → ((full : Bool) (left : Closed L) → HasOpened link_told begun full (record old { folder = between }) new left → HasDropped left)
       → ((full : Bool) (left : Closed L) (last : Standing L) (has : HasOpened link_told begun full (record old { folder = between }) new left) → frames_in (setting begun) last.events ≡ has.run.last.core.hub.admitted
       → IsServed link_told begun full old.net new.net old.users new.users left last → full ≡ false → left.memory ≡ false → NetsStand (record old { folder = between }) new
-      → HasHandedOut link_told begun.rounds last.events old.net new.net old.users new.users left)
+      → HasAcceptedInOrder link_told begun.rounds last.events old.net new.net old.users new.users left)
       → ((full : Bool) (left : Closed L) (has : HasOpened link_told begun full (record old { folder = between }) new left)
       → (last : Standing L) × (has.run.last.events ≡ Some last.events) × (frames_in (setting begun) last.events ≡ has.run.last.core.hub.admitted) × IsServed link_told begun full old.net new.net old.users new.users left last)
       → serve_of said ≡ Some asked → IsStart asked old.folder between begun → EndsBegun link_told begun (record old { folder = between }) new s closed → Ended link_told said old new s closed

@@ -17,7 +17,7 @@ use Rattle.dl_rounds.specs.Visits.{ClosesAll}
 use Rattle.dl_server.specs.State.{State}
 use Rattle.dl_socket.specs.Channels.{Channels, channel_limit, none_opened, open_channel_limit}
 use Rattle.dl_startup.specs.Setup.{IsBegun}
-use Rattle.dl_turns.specs.Gone.{TellOver}
+use Rattle.dl_turns.specs.Gone.{TellTheEnd}
 use Rattle.dl_serve.specs.declared.beginning.Begun.{Begun}
 use Rattle.dl_serve.specs.declared.closed.Closed.{Closed}
 use Rattle.dl_serve.specs.Comes.{run_in}
@@ -48,7 +48,7 @@ module _ {L : Type 0} (told : L → LinkTold) (set : Setting) (room : ℕ) where
   rounds_stand (suc many) net net_now users users_now old new rounds stands =
       round_stands told set room rounds.0 net_now rounds.1 users_now rounds.2 new rounds.5 (seen_tells told kept true rounds.2 rounds.6) (rounds_stand many net rounds.0 users rounds.1 old rounds.2 rounds.3 stands)
 
-module _ {L : Type 0} (told : L → LinkTold) (closed_so : (old new : Clients) → ClosesAll (TellOver told) old new → AreLater old new) (begun : Begun) (old new : Told L) (full : Bool) (closed : Closed L) (first : FolderTold)
+module _ {L : Type 0} (told : L → LinkTold) (closed_so : (old new : Clients) → ClosesAll (TellTheEnd told) old new → AreLater old new) (begun : Begun) (old new : Told L) (full : Bool) (closed : Closed L) (first : FolderTold)
     (begins : IsBegun begun.conf first.files begun.trace) (has : HasOpened told begun full old new closed) where
   pub took_so : AllTookLevels (TellTaken told) (setting begun) closed.events.events (map told closed.users.links) closed.ends
   took_so =

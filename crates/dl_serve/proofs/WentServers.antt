@@ -34,7 +34,7 @@ use Rattle.dl_settling.specs.Went.{HasEnded, HaveEnded, HaveGone, TellBytes}
 use Rattle.dl_settling.proofs.ShownDrains.{outbox_at}
 use Rattle.dl_settling.proofs.WentClients.{client_at, end_at, stream_of}
 use Rattle.dl_startup.specs.Setup.{IsBegun}
-use Rattle.dl_turns.specs.Gone.{ShowsCause, TellOver}
+use Rattle.dl_turns.specs.Gone.{ShowsCause, TellTheEnd}
 use Rattle.dl_turns.specs.Later.{HasHeard, LeavesSo}
 use Rattle.dl_turns.proofs.HeardSides.{how_many}
 use Rattle.dl_turns.proofs.LaterStages.{WhatLinksTake}
@@ -53,7 +53,7 @@ use Rattle.dl_serve.specs.Comes.{run_in}
 use Rattle.dl_serve.specs.Open.{setting}
 use Rattle.dl_serve.specs.Program.{HasOpened}
 use Rattle.dl_serve.specs.Told.{Told}
-use Rattle.dl_serve.specs.Went.{AllWent}
+use Rattle.dl_serve.specs.Went.{EachCloseHasCause}
 use Rattle.dl_serve.proofs.CameTo.{what_stood}
 use Rattle.dl_serve.proofs.ServingSteps.{first, serving_goes}
 
@@ -64,7 +64,7 @@ module _ {L : Type 0} (told : L → LinkTold) where
   tells : TellBytes told → TellGiven Kind
   tells all = λ other is. subst (λ (l : LinkTold). IsSome l.given × IsSome l.taken) (sym is.1) (all is.0)
 
-  overs : TellOver told → TellOvers Kind
+  overs : TellTheEnd told → TellOvers Kind
   overs all = λ other is. subst (λ (l : LinkTold). IsSome l.over) (sym is.1) (all is.0)
 
   -- ---- in the end
@@ -118,13 +118,13 @@ module _ {L : Type 0} (told : L → LinkTold) where
           left = left;
         }
 
-    all_ended : HaveEnded (TellOver told) run.setting events links (ends_in hub)
+    all_ended : HaveEnded (TellTheEnd told) run.setting events links (ends_in hub)
     all_ended = λ place link end there end_is.
         let one = one_of place link there in
         let c = one.client in
         let gone = one.gone in
         let within : length gone.left ≤ c.bytes = omega (arith, one.sizes, one.bytes, one.left) in
-        subst (HasEnded (TellOver told) run.setting events (place + 1) link) (one_is (end_in hub (place + 1)) end (slice_get (ends_in hub) place) one.end_so end_is) (record {
+        subst (HasEnded (TellTheEnd told) run.setting events (place + 1) link) (one_is (end_in hub (place + 1)) end (slice_get (ends_in hub) place) one.end_so end_is) (record {
           before = gone.close.before;
           cause = gone.close.cause;
           after = gone.close.after;
@@ -200,7 +200,7 @@ module _ {L : Type 0} (told : L → LinkTold) where
 
   -- a server to which no client had come came to this by steps, and this was left of it
   pub left_went : WhatLinksTake → (set : Setting) (stood : List StoredFile) (old new : server.State) (closed : Closed L) → Goes Kind (state_of old) (state_in true new) → old.events ≡ Some [] → old.clients ≡ []
-      → length old.core.hub.clients ≡ 0 → IsAfter (run_in set stood) [] (λ number. []) old.core → ((number : ℕ) → outbox_of new.core.hub number ≡ None) → IsLeft told new closed → AllWent told set closed
+      → length old.core.hub.clients ≡ 0 → IsAfter (run_in set stood) [] (λ number. []) old.core → ((number : ℕ) → outbox_of new.core.hub number ≡ None) → IsLeft told new closed → EachCloseHasCause told set closed
   left_went takes set stood old new closed goes kept none many after none_open left =
       let run : Run = run_in set [] in
       let at_first : Known Kind run old.core old.events (clients_with old.clients old.listeners) =
@@ -223,16 +223,16 @@ module _ {L : Type 0} (told : L → LinkTold) where
       let ends : closed.state.links ≡ ends_in new.core.hub = ap (λ (e : Ends). e.links) left.state in
       let same : k.all ≡ closed.events.events = cc (k.kept, left.events) in
       record {
-        ended = subst (λ (es : List LinkEnd). HaveEnded (TellOver told) set closed.events.events (map told closed.clients.links) es) (sym ends)
-            (subst (λ (ls : List LinkTold). HaveEnded (TellOver told) set closed.events.events ls (ends_in new.core.hub)) (sym left.clients)
-            (subst (λ (es : List Event). HaveEnded (TellOver told) set es new.clients (ends_in new.core.hub)) same ended));
+        ended = subst (λ (es : List LinkEnd). HaveEnded (TellTheEnd told) set closed.events.events (map told closed.clients.links) es) (sym ends)
+            (subst (λ (ls : List LinkTold). HaveEnded (TellTheEnd told) set closed.events.events ls (ends_in new.core.hub)) (sym left.clients)
+            (subst (λ (es : List Event). HaveEnded (TellTheEnd told) set es new.clients (ends_in new.core.hub)) same ended));
         gone = λ b. subst (λ (es : List LinkEnd). HaveGone run closed.events.events (map told closed.clients.links) es) (sym ends)
             (subst (λ (ls : List LinkTold). HaveGone run closed.events.events ls (ends_in new.core.hub)) (sym left.clients)
             (subst (λ (es : List Event). HaveGone run es new.clients (ends_in new.core.hub)) same (gone b)));
       }
 
   pub all_went : WhatLinksTake → (begun : Begun) (old new : Told L) (full : Bool) (closed : Closed L) (begin : FolderTold) → IsBegun begun.conf begin.files begun.trace → HasOpened told begun full old new closed
-      → AllWent told (setting begun) closed
+      → EachCloseHasCause told (setting begun) closed
   all_went takes begun old new full closed begin begins has =
       let opened = has.is_opened in
       let made = opened.made in

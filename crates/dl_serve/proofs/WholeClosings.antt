@@ -18,7 +18,7 @@ use Rattle.dl_rounds.specs.Passing.{AreLater, IsOfClients}
 use Rattle.dl_rounds.specs.Visits.{ClosesAll}
 use Rattle.dl_server.specs.Closing.{IsClosed, closing_scene}
 use Rattle.dl_server.specs.State.{State, clients_of}
-use Rattle.dl_serving.specs.Rounds.{Scene, Stopped, VisitsEach, Visited, seen_by}
+use Rattle.dl_channels.specs.Rounds.{Scene, Stopped, VisitsEach, Visited, seen_by}
 use Rattle.dl_socket.specs.Channels.{open_in}
 use Rattle.dl_machine.proofs.NamedSlots.{AreApart}
 use Rattle.dl_serve.specs.Levels.{levels_put}

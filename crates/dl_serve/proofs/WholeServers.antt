@@ -27,7 +27,7 @@ use Rattle.dl_server.specs.Round.{IsRound}
 use Rattle.dl_server.specs.State.{State, scene_of}
 use Rattle.dl_server.specs.Steps.{HearsClientsIfMay, PumpsClientsIfMay}
 use Rattle.dl_socket.specs.Channels.{Channels, IsOpen}
-use Rattle.dl_turns.specs.Gone.{TellOver}
+use Rattle.dl_turns.specs.Gone.{TellTheEnd}
 use Rattle.dl_machine.specs.Steps.{Goes, IsToldBy, Stopping}
 use Rattle.dl_machine.specs.State as machine
 use Rattle.dl_machine.proofs.Composed.{goes_both, goes_one, steps_keep}
@@ -170,7 +170,7 @@ module _ {L : Type 0} (told : L → LinkTold) where
 
     -- ---- at the end
 
-    module _ (closed_so : (old new : Clients) → ClosesAll (TellOver told) old new → AreLater old new) (moment : Moment) (last final : State) (closes : IsClosed (TellOver told) moment last final) (stands : Stands last) where
+    module _ (closed_so : (old new : Clients) → ClosesAll (TellTheEnd told) old new → AreLater old new) (moment : Moment) (last final : State) (closes : IsClosed (TellTheEnd told) moment last final) (stands : Stands last) where
       final_keeps : Kept (state_in true final)
       final_keeps = keeps_on (state_of last) (state_in true final) (closing_goes told moment last final stands.ready.low closes) stands.keeps
 

@@ -13,7 +13,7 @@ use Rattle.dl_server.specs.Closing.{IsClosed}
 use Rattle.dl_server.specs.State.{State}
 use Rattle.dl_settling.specs.Ends.{ends_of}
 use Rattle.dl_startup.specs.Failures.{unserved}
-use Rattle.dl_turns.specs.Gone.{TellOver}
+use Rattle.dl_turns.specs.Gone.{TellTheEnd}
 use Rattle.dl_startup.specs.declared.failures.Failures.{Failures}
 use Rattle.dl_bytes.specs.declared.outcome.TraceEnd.{TraceEnd}
 use Rattle.dl_bytes.specs.declared.outcome.TraceEnd.TheVariants as trace
@@ -37,7 +37,7 @@ pub record IsLeft {L : Type 0} (told : L → LinkTold) (s : State) (closed : Clo
 
 -- it closed, and this is left of it, beside what the folder tells then
 abbrev pub HasClosedTo : {L : Type 0} → (L → LinkTold) → Moment → State → FolderTold → Closed L → Type 0
-HasClosedTo told moment old folder closed = (final : State) × (final.folder ≡ folder) × IsClosed (TellOver told) moment old final × IsLeft told final closed
+HasClosedTo told moment old folder closed = (final : State) × (final.folder ≡ folder) × IsClosed (TellTheEnd told) moment old final × IsLeft told final closed
 
 -- ---- what went wrong
 

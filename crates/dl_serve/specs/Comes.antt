@@ -12,7 +12,7 @@ use Rattle.dl_model.specs.TraceFiles.{StoredFile}
 use Rattle.dl_outside.specs.Told.{FolderTold, LinkTold}
 use Rattle.dl_settling.specs.Ends.{trace_told}
 use Rattle.dl_settling.specs.Went.{TellStreams}
-use Rattle.dl_trace.specs.Stands.{HasFiles}
+use Rattle.dl_trace.specs.InFolder.{HasFiles}
 use Rattle.dl_trace.specs.State.{Trace}
 use Rattle.dl_serve.specs.declared.beginning.Begun.{Begun}
 use Rattle.dl_serve.specs.declared.closed.Closed.{Closed}

@@ -12,6 +12,6 @@ pub mod Comes
 pub mod Went
 pub mod Levels
 pub mod Dropped
-pub mod Handed
+pub mod WhoWaited
 pub mod Service
 pub mod Program

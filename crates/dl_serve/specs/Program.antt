@@ -26,7 +26,7 @@ use Rattle.dl_serve.specs.Comes.{IsComeTo}
 use Rattle.dl_serve.specs.Dropped.{HasDropped}
 use Rattle.dl_serve.specs.Ends.{Ends, EndsEarly, HasGoneWell, Started}
 use Rattle.dl_serve.specs.Faults.{counted}
-use Rattle.dl_serve.specs.Handed.{HasHandedOut, NetsStand}
+use Rattle.dl_serve.specs.WhoWaited.{HasAcceptedInOrder, NetsStand}
 use Rattle.dl_serve.specs.Levels.{AllTookLevels}
 use Rattle.dl_serve.specs.Open.{HasNotListened, IsHeard, IsOpenedFor, Listens, setting}
 use Rattle.dl_serve.specs.Rounds.{HasMadeRounds, event_limit, kept}
@@ -34,7 +34,7 @@ use Rattle.dl_serve.specs.Service.{IsClosing, Rounds, ServesRound, Standing, nob
 use Rattle.dl_serve.specs.Shown.{AllShowEnds, TellLeft}
 use Rattle.dl_serve.specs.Status.{line_of}
 use Rattle.dl_serve.specs.Told.{Told, told}
-use Rattle.dl_serve.specs.Went.{AllWent}
+use Rattle.dl_serve.specs.Went.{EachCloseHasCause}
 
 -- ---- what was served
 
@@ -77,11 +77,11 @@ pub record HasClosed {L : Type 0} (link_told : L → LinkTold) (said : List (Lis
   pub comes : IsComeTo link_told (setting it.begun) it.begun old.folder new.folder closed
   pub admits : TellGiven link_told → AllAdmitted closed.events.events (map link_told closed.users.links) closed.ends
   pub shows : AllShowEnds (TellLeft link_told) (map link_told closed.users.links) closed.ends
-  pub went : AllWent link_told (setting it.begun) closed
+  pub went : EachCloseHasCause link_told (setting it.begun) closed
   pub took : AllTookLevels (TellTaken link_told) (setting it.begun) closed.events.events (map link_told closed.users.links) closed.ends
   pub dropped : HasDropped closed
   pub hands : HasGoneWell closed full (counts old) (counts new) → NetsStand old new
-      → HasHandedOut link_told it.begun.rounds last.events old.net new.net old.users new.users closed
+      → HasAcceptedInOrder link_told it.begun.rounds last.events old.net new.net old.users new.users closed
 
 -- Serving ended with this status: the closing was not made, and nothing was written; or it was, and serving ended so.
 abbrev pub Ended : {L : Type 0} → (L → LinkTold) → List (List ℕ) → Told L → Told L → Status → Option (Closed L) → Type 0

@@ -24,11 +24,11 @@ abbrev pub IsFull : Option (List Event) → Type 0
 IsFull events = IsSomeAnd events (λ all. event_limit ≤ length all)
 
 -- it is what is seen of a server, where these are the words for what links and the journal tell, and for whether the journal may want memory
-pub record IsSeen {J L : Type 0} (told : L → LinkTold) (events : J → Option (List Event)) (may_want : Bool) (s : State) : Type 0 where
+pub record IsSeen {J L : Type 0} (told : L → LinkTold) (events : J → Option (List Event)) (may_run_out : Bool) (s : State) : Type 0 where
   pub server : Server J L
   pub folder : FolderTold
   pub is_server : IsServer told server
-  pub is : s ≡ seen told events may_want folder server
+  pub is : s ≡ seen told events may_run_out folder server
 
 -- so many rounds of a server, none of which began with a full journal
 abbrev pub AreRounds : {L : Type 0} → (L → LinkTold) → ℕ → NetTold L → NetTold L → NetTold L → NetTold L → State → State → Type 0

@@ -128,7 +128,7 @@ EachAdmitted events programs =
 -- dropped; each client that came has its Connect; more may be noted, but no Close as at a stop; what the links of programs gave was noted; who is open was so
 -- before, unless it came; and each client and each program was served. Where memory was wanted before, it still is; clients may be left unserved then, but only
 -- where the journal may want memory for their Closes.
-pub record ServesRound {L : Type 0} (told : L → LinkTold) (may_want : Bool) (setting : Setting) (faults user_faults : ℕ) (old new : Standing L) : Type 0 where
+pub record ServesRound {L : Type 0} (told : L → LinkTold) (may_run_out : Bool) (setting : Setting) (faults user_faults : ℕ) (old new : Standing L) : Type 0 where
   pub clients_came : ℕ
   pub clients_dropped : ℕ
   pub accepts : Accepts told faults new.wanted old.net new.net clients_came clients_dropped
@@ -145,7 +145,7 @@ pub record ServesRound {L : Type 0} (told : L → LinkTold) (may_want : Bool) (s
   pub admits : TellGiven told → EachAdmitted new.events new.programs
   pub still_wanted : old.wanted ≡ true → new.wanted ≡ true
   pub still_open : (place : ℕ) → place < length old.clients → IsOpen (place + 1) new.events → IsOpen (place + 1) old.events
-  pub clients : EachNow (IsNewLink told) (ServesClient (TellTaken told) setting new.events (may_want && new.wanted)) old.clients new.clients
+  pub clients : EachNow (IsNewLink told) (ServesClient (TellTaken told) setting new.events (may_run_out && new.wanted)) old.clients new.clients
   pub programs : EachNow (IsNewProgram told) (ServesProgram (TellTaken told) setting new.events) old.programs new.programs
 
 -- so many rounds, one after the other

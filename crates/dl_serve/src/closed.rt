@@ -20,6 +20,6 @@ pub struct Closed<L> {
     pub users: LinkList<L>,
     /// Why each channel that came has ended, where it ended before the closing.
     pub ends: Sequence<Option<ChannelEnd>>,
-    /// Whether memory was wanted for a link, for a channel, or in the journal.
+    /// Whether memory ran out for a link, for a channel, or in the journal.
     pub memory: bool,
 }

@@ -68,7 +68,7 @@ where
     }
 }
 
-/// The closing of a server, and what is left of it; where memory was wanting for it, nothing.
+/// The closing of a server, and what is left of it; where memory ran out for it, nothing.
 pub fn close<R: Wait, L: Link, F: Folder>(
     rt: &R,
     alloc: Global,

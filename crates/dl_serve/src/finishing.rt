@@ -34,7 +34,7 @@ fn unheard(events: &[Event]) -> bool
     events.iter().any(|event| is_unheard(event))
 }
 
-/// Whether a channel ended for want of memory.
+/// Whether a channel ended since memory ran out.
 fn is_starved(end: &Option<ChannelEnd>) -> bool
     ensures { result ≡ is_starved end.now }
 {
@@ -55,14 +55,14 @@ fn is_spent(end: Option<TraceEnd>) -> bool
     matches!(end, Some(TraceEnd::Spent))
 }
 
-/// Whether memory was wanting for the trace.
+/// Whether memory ran out for the trace.
 fn is_short(end: Option<TraceEnd>) -> bool
     ensures { result ≡ is_short end }
 {
     matches!(end, Some(TraceEnd::NoMemory))
 }
 
-/// Whether memory was wanted.
+/// Whether memory ran out.
 fn has_wanted<L>(closed: &Closed<L>) -> bool
     ensures { result ≡ has_wanted closed.now }
 {

@@ -11,14 +11,14 @@ ghost use Rattle.dl_serve.specs.declared.closed.Closed.{Closed};
 ghost use Rattle.dl_serve.specs.Admitted.{AllAdmitted, TellGiven};
 ghost use Rattle.dl_serve.specs.Comes.{IsComeTo};
 ghost use Rattle.dl_serve.specs.Dropped.{HasDropped};
-ghost use Rattle.dl_serve.specs.Handed.{HasHandedOut, NetsStand};
+ghost use Rattle.dl_serve.specs.WhoWaited.{HasAcceptedInOrder, NetsStand};
 ghost use Rattle.dl_serve.specs.Levels.{AllTookLevels};
 ghost use Rattle.dl_serve.specs.Open.{setting};
 ghost use Rattle.dl_serve.specs.Program.{Ended, HasOpened, IsServed, IsServing, Says};
 ghost use Rattle.dl_serve.specs.Service.{Standing, frames_in};
 ghost use Rattle.dl_serve.specs.Shown.{AllShowEnds, TellLeft};
 ghost use Rattle.dl_serve.specs.Told.{Told};
-ghost use Rattle.dl_serve.specs.Went.{AllWent};
+ghost use Rattle.dl_serve.specs.Went.{EachCloseHasCause};
 
 use dl_outside::Link;
 
@@ -34,8 +34,8 @@ pub fn what_was_served_is_its_journal<L: Link>()
     dl_core::client_turns::who_has_an_outbox();
 }
 
-/// The User events of each program outside are all messages of what its link gave, in their order, each once, however the bytes came; and behind them
-/// those of its applications that were there at its end. Where memory was wanting for it they are the first of the messages.
+/// The User events of each external application are all messages of what its link gave, in their order, each once, however the bytes came; and behind
+/// them those of its applications that were there at its end. Where memory ran out for it they are the first of the messages.
 pub fn what_programs_sent_is_admitted<L: Link>()
     ensures { (begun : Begun) (old new : Told L) (full : Bool) (closed : Closed L) → HasOpened L.told begun full old new closed → TellGiven L.told
         → AllAdmitted closed.events.events (map L.told closed.users.links) closed.ends }
@@ -51,14 +51,15 @@ pub fn how_programs_ended<L: Link>()
 /// are those of what its link gave, as the cause says.
 pub fn how_clients_went<L: Link>()
     ensures { (begun : Begun) (old new : Told L) (full : Bool) (closed : Closed L) (first : FolderTold) → IsBegun begun.conf first.files begun.trace
-        → HasOpened L.told begun full old new closed → AllWent L.told (setting begun) closed }
+        → HasOpened L.told begun full old new closed → EachCloseHasCause L.told (setting begun) closed }
 {
     dl_core::laws::what_links_take();
 }
 
-/// Where links tell what they took, that of each program outside took the front of the messages that tell the levels of its applications' contexts, one for
-/// each of their Level events, and one for each accepted registration of a context that owes none, in the journal's order; and all of them where the channel
-/// is open at the end and the link never had to wait. A channel ended as slow only where these messages have more bytes than may wait.
+/// Where links tell what they took, that of each external application took the front of the messages that tell the levels of its applications'
+/// contexts, one for each of their Level events, and one for each accepted registration of a context that owes none, in the journal's order; and all
+/// of them where the channel is open at the end and the link never had to wait. A channel ended as slow only where these messages have more bytes
+/// than may wait.
 pub fn what_programs_took<L: Link>()
     ensures { (begun : Begun) (old new : Told L) (full : Bool) (closed : Closed L) (first : FolderTold) → IsBegun begun.conf first.files begun.trace
         → HasOpened L.told begun full old new closed
@@ -67,7 +68,7 @@ pub fn what_programs_took<L: Link>()
     dl_rounds::laws::a_round_is_its_events::<L>();
 }
 
-/// Links were dropped only where as many clients had come as may be open at once, or as many channels, or memory was wanting.
+/// Links were dropped only where as many clients had come as may be open at once, or as many channels, or memory ran out.
 pub fn why_links_were_dropped<L: Link>()
     ensures { (begun : Begun) (old new : Told L) (full : Bool) (closed : Closed L) (first : FolderTold) → IsBegun begun.conf first.files begun.trace
         → HasOpened L.told begun full old new closed → HasDropped closed }
@@ -79,7 +80,7 @@ pub fn why_links_were_dropped<L: Link>()
 pub fn who_was_handed_out<L: Link>()
     ensures { (begun : Begun) (old new : Told L) (full : Bool) (closed : Closed L) (last : Standing L) → (has : HasOpened L.told begun full old new closed)
         → frames_in (setting begun) last.events ≡ has.run.last.core.hub.admitted → IsServed L.told begun full old.net new.net old.users new.users closed last
-        → full ≡ false → closed.memory ≡ false → NetsStand old new → HasHandedOut L.told begun.rounds last.events old.net new.net old.users new.users closed }
+        → full ≡ false → closed.memory ≡ false → NetsStand old new → HasAcceptedInOrder L.told begun.rounds last.events old.net new.net old.users new.users closed }
 {
     dl_rounds::laws::a_round_is_its_events::<L>();
 }
@@ -98,7 +99,7 @@ pub fn how_each_round_serves<L: Link>()
 }
 
 /// What a status says of serving is what is promised of the whole: the words decide first, and where all is of the form and nothing fails, the report was
-/// written whole, or the journal was full, a frame had no name for its file, or memory was wanted.
+/// written whole, or the journal was full, a frame had no name for its file, or memory ran out.
 pub fn an_end_is_a_serving<L: Link>()
     ensures { (said : List (List ℕ)) (old new : Told L) (err err_now : SinkTold) (status : Status) (closed : Option (Closed L))
         → Ended L.told said old new status closed → Says status err err_now → IsServing L.told said old new err err_now status closed }

@@ -164,7 +164,7 @@ fn served_of<L>(alloc: Global, status: Status, closed: Option<Closed<L>>) -> Ser
     }
 }
 
-/// Serves clients and programs outside, as the words ask: so many rounds, then the closing and the report. It may wait.
+/// Serves clients and external applications, as the words ask: so many rounds, then the closing and the report. It may wait.
 pub fn serve<R: Wait, F: Folder, N: Net, C: Clock, O: Sink, E: Sink>(
     rt: &R,
     alloc: Global,

@@ -2,7 +2,7 @@
 use Rattle.std.proofs.Common.{◌≡◌}
 use Rattle.std.specs.Prelude.{OnErr, OnOk, Result, Ok, Err}
 use Rattle.dl_bytes.specs.declared.moment.Moment.{Moment}
-use Rattle.dl_serving.specs.Rounds.{Scene, StopsAll, StopsSome}
+use Rattle.dl_channels.specs.Rounds.{Scene, StopsAll, StopsSome}
 use Rattle.dl_server.specs.Closing.{ClosesPrograms, ClosesSomePrograms, closing_scene}
 use Rattle.dl_server.specs.State.{State}
 use Rattle.dl_server.proofs.VisitedScenes.{Stays, all_stopped, some_stopped}

@@ -2,7 +2,7 @@
 use Rattle.std.proofs.Common.{◌≡◌, ◌≤◌, Bool, inl, inr, List, [], ◌++◌, length, replicate, refl, sym, ap, subst, arith, append_assoc}
 use Rattle.std.proofs.lemmas.List.{length-replicate}
 use Rattle.dl_bytes.specs.declared.moment.Moment.{Moment}
-use Rattle.dl_desk.specs.Told.{PostTold}
+use Rattle.dl_desk.specs.Told.{ControlTold}
 use Rattle.dl_events.specs.declared.event.Event.{Event}
 use Rattle.dl_hub.specs.State.{Hub}
 use Rattle.dl_loop.specs.Daemon.{TellTaken}
@@ -15,7 +15,7 @@ use Rattle.dl_rounds.specs.Visits.{ClosesAll, HearsAll, Pumped}
 use Rattle.dl_rounds.specs.declared.listener.Listener.{Listener}
 use Rattle.dl_admission.proofs.StandingClients.{as_many}
 use Rattle.dl_server.specs.Closing.{ClosesClients, ClosesPrograms, IsClosed, closing_scene}
-use Rattle.dl_server.specs.Holds.{GoesOn, GoesOut, Holds}
+use Rattle.dl_server.specs.Holds.{GoesOn, GoesOnUntilClosed, Holds}
 use Rattle.dl_server.specs.Round.{AcceptsAll, Hears, IsRound, Pumps}
 use Rattle.dl_server.specs.State.{State, clients_of, scene_of, with_want}
 use Rattle.dl_server.specs.Steps.{HearsClients, HearsClientsIfMay, HearsPrograms, PumpsClients, PumpsClientsIfMay, PumpsPrograms}
@@ -29,7 +29,7 @@ many_stay : (old new : Hub) → Keeps old new → length new.clients ≡ length 
 many_stay old new keeps = as_many keeps.0 old new keeps.1
 
 -- what a pump does not see
-pub no_desk : PostTold
+pub no_desk : ControlTold
 no_desk = record { apps = 0; first = 0; sets = []; pushed = λ app. []; refusals = λ app. 0 }
 
 module _ (Tell Held : Type 0) where
@@ -87,14 +87,14 @@ module _ (Tell Held : Type 0) where
         (goes_both Tell Held pumps.sent pumps.pumped new (pumped_programs pumps.moment pumps.sent pumps.pumped pumps.programs) (parts_on Tell Held pumps.pumped new pumps.parts))
 
   module _ {Tells : Type 0} (closed : (old new : Clients) → ClosesAll Tells old new → AreLater old new) where
-    closed_clients : (old new : State) → ClosesClients Tells old new → GoesOut Tell Held old new
+    closed_clients : (old new : State) → ClosesClients Tells old new → GoesOnUntilClosed Tell Held old new
     closed_clients old new closes =
         let serves = closes.serves in
         let was = clients_of old serves.desk in
         let now = clients_of new serves.desk_now in
         goes_out Tell Held old new was now refl refl refl refl refl refl refl refl (closed was now serves.visits) closes.settled closes.many
 
-    pub all_close : (moment : Moment) (old new : State) → IsClosed Tells moment old new → GoesOut Tell Held old new
+    pub all_close : (moment : Moment) (old new : State) → IsClosed Tells moment old new → GoesOnUntilClosed Tell Held old new
     all_close moment old new closes = λ run events holds.
         let first = closed_programs moment old closes.between closes.programs run events holds in
         let second = closed_clients closes.between new closes.clients run (events ++ first.0) first.1 in

@@ -16,10 +16,10 @@ use Rattle.dl_model.proofs.LongerJournals.{goes_on}
 use Rattle.dl_registry.specs.Kept.{owed_change}
 use Rattle.dl_rounds.specs.Clients.{Clients}
 use Rattle.dl_rounds.specs.Passing.{AreLater, took_all}
-use Rattle.dl_serving.specs.Rounds.{Heard, HearsAll, PumpsAll, Scene, Sent, Stopped, StopsAll, VisitsEach, Visited, seen_by}
+use Rattle.dl_channels.specs.Rounds.{Heard, HearsAll, PumpsAll, Scene, Sent, Stopped, StopsAll, VisitsEach, Visited, seen_by}
 use Rattle.dl_socket.specs.Channels.{Channels, open_in}
-use Rattle.dl_socket.specs.Turns.{Sight}
-use Rattle.dl_server.specs.Holds.{GoesOn, GoesOut, Holds}
+use Rattle.dl_socket.specs.Turns.{ChannelView}
+use Rattle.dl_server.specs.Holds.{GoesOn, GoesOnUntilClosed, Holds}
 use Rattle.dl_server.specs.State.{State}
 use Rattle.dl_server.proofs.LaterChannels.{IsOn, ends_on, hears_on, on_both, on_same, pumps_on}
 use Rattle.dl_loop.proofs.LaterDaemons.{taken_later}
@@ -79,7 +79,7 @@ module _ (Tell Held : Type 0) where
 abbrev pub side_in : Scene → sides.Side
 side_in s = sides.side s.part.core s.channels.outboxes s.part.events s.part.folder
 
-module _ (Visit : ℕ → Bool → List (Option ChannelEnd) → List (Option ChannelEnd) → Sight → Sight → Channels → Channels → Type 0)
+module _ (Visit : ℕ → Bool → List (Option ChannelEnd) → List (Option ChannelEnd) → ChannelView → ChannelView → Channels → Channels → Type 0)
     (one : (channel : ℕ) (moved : Bool) (old new : Scene) → Visited Visit channel moved old new → owed_change old.part.core.registry ≡ None → IsOn (side_in old) (side_in new)) where
   each_on : (channels : List ℕ) (moved : Bool) (old new : Scene) → VisitsEach Visit channels moved old new → owed_change old.part.core.registry ≡ None → IsOn (side_in old) (side_in new)
   each_on [] moved old new visits settled = on_same (side_in old) (side_in new) (ap side_in visits.1) settled
@@ -146,7 +146,7 @@ module _ (Tell Held : Type 0) where
   -- the closing of the clients
   pub goes_out : (old new : State) (was now : Clients) → was.side.core ≡ old.core → was.side.events ≡ old.events → was.side.folder ≡ old.folder → was.links ≡ old.clients
       → now.side.core ≡ new.core → now.side.events ≡ new.events → now.side.folder ≡ new.folder → now.links ≡ new.clients → AreLater was now
-      → owed_change new.core.registry ≡ None → length new.core.hub.clients ≡ length new.clients → GoesOut Tell Held old new
+      → owed_change new.core.registry ≡ None → length new.core.hub.clients ≡ length new.clients → GoesOnUntilClosed Tell Held old new
   goes_out old new was now core events folder clients core_now events_now folder_now clients_now later settled many = λ run all holds.
       let was_after : IsAfter run all holds.took was.side.core = subst (IsAfter run all holds.took) (sym core) holds.after in
       let after = later.after run all holds.took was_after in

@@ -16,10 +16,10 @@ use Rattle.dl_hub.specs.State.{Hub}
 use Rattle.dl_model.specs.declared.registry.LevelChange.{LevelChange}
 use Rattle.dl_outside.specs.declared.link.Gave.{Gave}
 use Rattle.dl_outside.specs.declared.link.Gave.TheVariants as gave
-use Rattle.dl_serving.specs.Visits.{Ends, EndsFor, Hears, HearsOpen, Pumps, side_of}
+use Rattle.dl_channels.specs.Visits.{Ends, EndsFor, Hears, HearsOpen, Pumps, side_of}
 use Rattle.dl_socket.specs.Channels.{Channels}
 use Rattle.dl_socket.specs.Closing.{UnregistersEach}
-use Rattle.dl_socket.specs.Turns.{Sight}
+use Rattle.dl_socket.specs.Turns.{ChannelView}
 use Rattle.dl_user.specs.Channel as cutter
 use Rattle.dl_server.proofs.ReadyListeners.{Keeps}
 
@@ -75,30 +75,30 @@ module _ (channel : ℕ) (moment : Moment) where
   unregisters_keep (apid ∷ apids) old new each =
       keeps_both old.core.hub each.1.core.hub new.core.hub (one_keeps (UnregisterApp apid 0) false old each.1 each.2) (unregisters_keep apids each.1 new each.3)
 
-  pub ends_keep : (closed : Bool) (before after : Sight) (old new : Channels) → Ends channel moment closed before after old new → Keeps before.core.hub after.core.hub
+  pub ends_keep : (closed : Bool) (before after : ChannelView) (old new : Channels) → Ends channel moment closed before after old new → Keeps before.core.hub after.core.hub
   ends_keep true before after old new ends =
       let all = ends.closes.unregistered in
       unregisters_keep all.0 (side_of before old) (record (side_of after new) { outboxes = ends.closes.outboxes }) all.1
   ends_keep false before after old new ends = let all = ends.closes.unregistered in unregisters_keep all.0 (side_of before old) (side_of after new) all.1
 
-  ends_for_keep : (end : Option ChannelEnd) (before after : Sight) (old new : Channels) → EndsFor end channel moment before after old new → Keeps before.core.hub after.core.hub
-  ends_for_keep None before after old new same = keeps_same before.core.hub after.core.hub (ap (λ (s : Sight). s.core.hub) same.0)
+  ends_for_keep : (end : Option ChannelEnd) (before after : ChannelView) (old new : Channels) → EndsFor end channel moment before after old new → Keeps before.core.hub after.core.hub
+  ends_for_keep None before after old new same = keeps_same before.core.hub after.core.hub (ap (λ (s : ChannelView). s.core.hub) same.0)
   ends_for_keep (Some cause) before after old new ends = ends_keep ends.0 before after old new ends.1
 
   -- ---- visits
 
-  hears_open_keep : (end : Option ChannelEnd) (before after : Sight) (old new : Channels) → HearsOpen channel moment end before after old new → Keeps before.core.hub after.core.hub
+  hears_open_keep : (end : Option ChannelEnd) (before after : ChannelView) (old new : Channels) → HearsOpen channel moment end before after old new → Keeps before.core.hub after.core.hub
   hears_open_keep end before after old new hears = elim hears [
     | inl turned ↦ keeps_both before.core.hub turned.0.core.hub after.core.hub (turn_keeps end _ _ turned.2.turn) (ends_for_keep end turned.0 after turned.1 new turned.3)
-    | inr full ↦ keeps_same before.core.hub after.core.hub (ap (λ (s : Sight). s.core.hub) full.2)
+    | inr full ↦ keeps_same before.core.hub after.core.hub (ap (λ (s : ChannelView). s.core.hub) full.2)
   ]
 
-  pub hears_keep : (end end_now : Option ChannelEnd) (before after : Sight) (old new : Channels) → Hears channel moment end end_now before after old new → Keeps before.core.hub after.core.hub
+  pub hears_keep : (end end_now : Option ChannelEnd) (before after : ChannelView) (old new : Channels) → Hears channel moment end end_now before after old new → Keeps before.core.hub after.core.hub
   hears_keep None end_now before after old new hears = hears_open_keep end_now before after old new hears
   hears_keep (Some cause) end_now before after old new hears = ends_keep hears.1 before after old new hears.2
 
-  pub pumps_keep : (end end_now : Option ChannelEnd) (before after : Sight) (old new : Channels) → Pumps channel moment end end_now before after old new → Keeps before.core.hub after.core.hub
+  pub pumps_keep : (end end_now : Option ChannelEnd) (before after : ChannelView) (old new : Channels) → Pumps channel moment end end_now before after old new → Keeps before.core.hub after.core.hub
   pumps_keep None end_now before after old new pumps =
-      keeps_both before.core.hub pumps.0.core.hub after.core.hub (keeps_same before.core.hub pumps.0.core.hub (ap (λ (s : Sight). s.core.hub) pumps.3))
+      keeps_both before.core.hub pumps.0.core.hub after.core.hub (keeps_same before.core.hub pumps.0.core.hub (ap (λ (s : ChannelView). s.core.hub) pumps.3))
       (ends_for_keep end_now pumps.0 after pumps.1 new pumps.4)
-  pumps_keep (Some cause) end_now before after old new pumps = keeps_same before.core.hub after.core.hub (ap (λ (s : Sight). s.core.hub) pumps.1)
+  pumps_keep (Some cause) end_now before after old new pumps = keeps_same before.core.hub after.core.hub (ap (λ (s : ChannelView). s.core.hub) pumps.1)

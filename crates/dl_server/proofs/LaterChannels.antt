@@ -20,10 +20,10 @@ use Rattle.dl_outside.specs.declared.link.Gave.{Gave}
 use Rattle.dl_outside.specs.declared.link.Gave.TheVariants as gave
 use Rattle.dl_model.proofs.LongerJournals.{goes_on}
 use Rattle.dl_registry.specs.Kept.{owed_change}
-use Rattle.dl_serving.specs.Visits.{Ends, EndsFor, Hears, HearsOpen, Pumps, side_of}
+use Rattle.dl_channels.specs.Visits.{Ends, EndsFor, Hears, HearsOpen, Pumps, side_of}
 use Rattle.dl_socket.specs.Channels.{Channels}
 use Rattle.dl_socket.specs.Closing.{UnregistersEach}
-use Rattle.dl_socket.specs.Turns.{Sight}
+use Rattle.dl_socket.specs.Turns.{ChannelView}
 use Rattle.dl_user.specs.Channel as cutter
 use Rattle.dl_core.proofs.InTurn.{user_in_turn}
 use Rattle.dl_channel_turns.proofs.LaterSides.{later_both, later_none, level_later}
@@ -116,7 +116,7 @@ module _ (channel : ℕ) (moment : Moment) where
   without_outboxes : (old new : Side) (outboxes : List (ℕ × Outbox)) → IsOn old (record new { outboxes = outboxes }) → IsOn old new
   without_outboxes old new outboxes on = (record { more = on.0.more; events = on.0.events; running = on.0.running; after = on.0.after; formed = on.0.formed }, on.1)
 
-  pub ends_on : (closed : Bool) (before after : Sight) (old new : Channels) → Ends channel moment closed before after old new → owed_change before.core.registry ≡ None
+  pub ends_on : (closed : Bool) (before after : ChannelView) (old new : Channels) → Ends channel moment closed before after old new → owed_change before.core.registry ≡ None
       → IsOn (side_of before old) (side_of after new)
   ends_on true before after old new ends settled =
       let all = ends.closes.unregistered in
@@ -124,34 +124,34 @@ module _ (channel : ℕ) (moment : Moment) where
       (unregisters_on all.0 (side_of before old) (record (side_of after new) { outboxes = ends.closes.outboxes }) all.1 settled)
   ends_on false before after old new ends settled = let all = ends.closes.unregistered in unregisters_on all.0 (side_of before old) (side_of after new) all.1 settled
 
-  ends_for_on : (end : Option ChannelEnd) (before after : Sight) (old new : Channels) → EndsFor end channel moment before after old new → owed_change before.core.registry ≡ None
+  ends_for_on : (end : Option ChannelEnd) (before after : ChannelView) (old new : Channels) → EndsFor end channel moment before after old new → owed_change before.core.registry ≡ None
       → IsOn (side_of before old) (side_of after new)
   ends_for_on None before after old new same settled =
-      on_same (side_of before old) (side_of after new) (ap (λ (s : Sight). side_of s new) same.0 ∙ ap (λ (c : Channels). side_of before c) same.1) settled
+      on_same (side_of before old) (side_of after new) (ap (λ (s : ChannelView). side_of s new) same.0 ∙ ap (λ (c : Channels). side_of before c) same.1) settled
   ends_for_on (Some cause) before after old new ends settled = ends_on ends.0 before after old new ends.1 settled
 
   -- ---- visits
 
-  hears_open_on : (end : Option ChannelEnd) (before after : Sight) (old new : Channels) → HearsOpen channel moment end before after old new → owed_change before.core.registry ≡ None
+  hears_open_on : (end : Option ChannelEnd) (before after : ChannelView) (old new : Channels) → HearsOpen channel moment end before after old new → owed_change before.core.registry ≡ None
       → IsOn (side_of before old) (side_of after new)
   hears_open_on end before after old new hears settled = elim hears [
     | inl turned ↦
         let first = turn_on end _ _ turned.2.turn settled in
         on_both (side_of before old) (side_of turned.0 turned.1) (side_of after new) first (ends_for_on end turned.0 after turned.1 new turned.3 first.1)
-    | inr full ↦ on_same (side_of before old) (side_of after new) (ap (λ (s : Sight). side_of s new) full.2 ∙ ap (λ (c : Channels). side_of before c) full.3) settled
+    | inr full ↦ on_same (side_of before old) (side_of after new) (ap (λ (s : ChannelView). side_of s new) full.2 ∙ ap (λ (c : Channels). side_of before c) full.3) settled
   ]
 
-  pub hears_on : (end end_now : Option ChannelEnd) (before after : Sight) (old new : Channels) → Hears channel moment end end_now before after old new → owed_change before.core.registry ≡ None
+  pub hears_on : (end end_now : Option ChannelEnd) (before after : ChannelView) (old new : Channels) → Hears channel moment end end_now before after old new → owed_change before.core.registry ≡ None
       → IsOn (side_of before old) (side_of after new)
   hears_on None end_now before after old new hears settled = hears_open_on end_now before after old new hears settled
   hears_on (Some cause) end_now before after old new hears settled = ends_on hears.1 before after old new hears.2 settled
 
-  pub pumps_on : (end end_now : Option ChannelEnd) (before after : Sight) (old new : Channels) → Pumps channel moment end end_now before after old new → owed_change before.core.registry ≡ None
+  pub pumps_on : (end end_now : Option ChannelEnd) (before after : ChannelView) (old new : Channels) → Pumps channel moment end end_now before after old new → owed_change before.core.registry ≡ None
       → IsOn (side_of before old) (side_of after new)
   pumps_on None end_now before after old new pumps settled =
       let sent : IsOn (side_of before old) (side_of pumps.0 pumps.1) =
       without_outboxes (side_of before old) (side_of pumps.0 pumps.1) old.outboxes
-      (on_same (side_of before old) (record (side_of pumps.0 pumps.1) { outboxes = old.outboxes }) (ap (λ (s : Sight). side_of s old) pumps.3) settled) in
+      (on_same (side_of before old) (record (side_of pumps.0 pumps.1) { outboxes = old.outboxes }) (ap (λ (s : ChannelView). side_of s old) pumps.3) settled) in
       on_both (side_of before old) (side_of pumps.0 pumps.1) (side_of after new) sent (ends_for_on end_now pumps.0 after pumps.1 new pumps.4 sent.1)
   pumps_on (Some cause) end_now before after old new pumps settled =
-      on_same (side_of before old) (side_of after new) (ap (λ (s : Sight). side_of s new) pumps.1 ∙ ap (λ (c : Channels). side_of before c) pumps.2) settled
+      on_same (side_of before old) (side_of after new) (ap (λ (s : ChannelView). side_of s new) pumps.1 ∙ ap (λ (c : Channels). side_of before c) pumps.2) settled

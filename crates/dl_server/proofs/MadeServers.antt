@@ -14,9 +14,9 @@ use Rattle.dl_outside.specs.Told.{LinkTold}
 use Rattle.dl_registry.specs.Kept.{made}
 use Rattle.dl_rounds.specs.Partings.{AreShut}
 use Rattle.dl_rounds.specs.Ready.{fresh_listener}
-use Rattle.dl_rounds.specs.Seats.{Seated}
+use Rattle.dl_rounds.specs.ListenerPool.{Seated}
 use Rattle.dl_rounds.specs.declared.listener.Listener.{Listener}
-use Rattle.dl_serving.specs.Accepting.{AreLinked}
+use Rattle.dl_channels.specs.Accepting.{AreLinked}
 use Rattle.dl_model.specs.declared.software.Software.{Software}
 use Rattle.dl_socket.specs.Channels.{Channels, none_opened}
 use Rattle.dl_socket.specs.Listening.{HaveListeners}

@@ -4,12 +4,12 @@ use Rattle.std.specs.Prelude.{IsSome, slice_get}
 use Rattle.dl_bytes.specs.Limits.{message_limit}
 use Rattle.dl_admission.specs.Admission.{KeepsClients}
 use Rattle.dl_core.specs.State.{Core}
-use Rattle.dl_desk.specs.Told.{PostTold}
+use Rattle.dl_desk.specs.Told.{ControlTold}
 use Rattle.dl_events.specs.declared.event.Event.{Event}
 use Rattle.dl_hub.specs.State.{Hub, client_of, outbox_of}
 use Rattle.dl_model.specs.Registry.{IsInOrder}
 use Rattle.dl_rounds.specs.Ready.{AreHeard, fresh_listener}
-use Rattle.dl_rounds.specs.Seats.{HasSeat, Seated}
+use Rattle.dl_rounds.specs.ListenerPool.{HasSeat, Seated}
 use Rattle.dl_rounds.specs.declared.listener.Listener.{Listener}
 use Rattle.dl_admission.proofs.StandingClients.{as_many, replies, same_replies, was_open, served_by}
 use Rattle.dl_socket.specs.Listening.{HaveListeners}
@@ -57,7 +57,7 @@ pub listen_still : (seated : Seated) (old new : Core) → IsInOrder old.registry
 listen_still seated old new order keeps have = listeners_of seated new (ready_still seated old new keeps (ready_of seated old have order))
 
 -- where listeners are those of one core beside a desk, as they were of another, they are so beside each
-pub heard_listen : (seated : Seated) (old new : Core) → IsInOrder old.registry.registry → ((desk : PostTold) → AreHeard seated old desk → AreHeard seated new desk)
+pub heard_listen : (seated : Seated) (old new : Core) → IsInOrder old.registry.registry → ((desk : ControlTold) → AreHeard seated old desk → AreHeard seated new desk)
     → HaveListeners seated old → HaveListeners seated new
 heard_listen seated old new order still have =
     let desk = some_desk old.registry in

@@ -14,9 +14,9 @@ use Rattle.dl_rounds.specs.declared.accepting.Arrival.{Arrival}
 use Rattle.dl_rounds.specs.declared.accepting.Arrival.TheVariants as arrival
 use Rattle.dl_rounds.proofs.OneClient.{but_stop, but_turn}
 use Rattle.dl_loop.proofs.Visited.{visits_keep}
-use Rattle.dl_serving.specs.Accepting.{Enters}
-use Rattle.dl_serving.specs.declared.accepting.Entry.{Entry}
-use Rattle.dl_serving.specs.declared.accepting.Entry.TheVariants as entry
+use Rattle.dl_channels.specs.Accepting.{Enters}
+use Rattle.dl_channels.specs.declared.accepting.Entry.{Entry}
+use Rattle.dl_channels.specs.declared.accepting.Entry.TheVariants as entry
 use Rattle.dl_socket.specs.Channels.{Channels}
 use Rattle.dl_turns.specs.State.{Side}
 use Rattle.dl_server.specs.Server.{HaveLinks}

@@ -1,7 +1,7 @@
 -- There is a desk of each registry, so that what is so for every desk of it is so.
 use Rattle.std.proofs.Common.{◌≡◌, ◌<◌, ℕ, zero, suc, List, [], inl, inr, sym, subst, ◌∙◌, arith}
 use Rattle.std.proofs.lemmas.Bool.{cases_lt}
-use Rattle.dl_desk.specs.Told.{PostTold}
+use Rattle.dl_desk.specs.Told.{ControlTold}
 use Rattle.dl_cells.specs.LevelHistory.{current_version}
 use Rattle.dl_cells.specs.declared.level_history.Change.{Change}
 use Rattle.dl_model.specs.Registry.{IsInOrder}
@@ -31,7 +31,7 @@ set_all version zero slot below = absurd (omega (arith, below))
 set_all version (suc last) slot below = set_one version last slot (set_upto version last) below (λ lower. set_all version last slot lower)
 
 -- what sets levels for this registry
-unfoldable pub some_desk : Kept → PostTold
+unfoldable pub some_desk : Kept → ControlTold
 some_desk kept = told_by (record { outboxes = []; ways = []; sets = set_upto (λ slot. (slots kept slot).version) 1024; refused = [] })
 
 pub is_desk : (kept : Kept) → IsInOrder kept.registry → IsDeskOf kept (some_desk kept)

@@ -2,10 +2,10 @@
 use Rattle.std.proofs.Common.{◌≡◌, ℕ, Bool, true, false, List, [], ◌∷◌, Option, ap, ◌∙◌}
 use Rattle.dl_bytes.specs.declared.moment.Moment.{Moment}
 use Rattle.dl_channel.specs.declared.outcome.ChannelEnd.{ChannelEnd}
-use Rattle.dl_serving.specs.Rounds.{Heard, HearsAll, PumpsAll, Scene, Sent, Stopped, StopsAll, StopsSome, VisitsEach, Visited, seen_by}
-use Rattle.dl_serving.proofs.LeftOpen.{ended_leaves, heard_leaves, pumped_leaves}
+use Rattle.dl_channels.specs.Rounds.{Heard, HearsAll, PumpsAll, Scene, Sent, Stopped, StopsAll, StopsSome, VisitsEach, Visited, seen_by}
+use Rattle.dl_channels.proofs.LeftOpen.{ended_leaves, heard_leaves, pumped_leaves}
 use Rattle.dl_socket.specs.Channels.{Channels, open_in}
-use Rattle.dl_socket.specs.Turns.{Sight}
+use Rattle.dl_socket.specs.Turns.{ChannelView}
 use Rattle.dl_server.proofs.KeptHubs.{ends_keep, hears_keep, keeps_both, keeps_same, pumps_keep}
 use Rattle.dl_server.proofs.ReadyListeners.{Keeps}
 
@@ -29,7 +29,7 @@ stays_both old between new first second = record {
   opened = second.opened ∙ first.opened;
 }
 
-module _ (Visit : ℕ → Bool → List (Option ChannelEnd) → List (Option ChannelEnd) → Sight → Sight → Channels → Channels → Type 0)
+module _ (Visit : ℕ → Bool → List (Option ChannelEnd) → List (Option ChannelEnd) → ChannelView → ChannelView → Channels → Channels → Type 0)
     (one : (channel : ℕ) (moved : Bool) (old new : Scene) → Visited Visit channel moved old new → Stays old new) where
   pub each_stays : (channels : List ℕ) (moved : Bool) (old new : Scene) → VisitsEach Visit channels moved old new → Stays old new
   each_stays [] moved old new visits = stays_same old new visits.1

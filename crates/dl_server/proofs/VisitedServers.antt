@@ -5,7 +5,7 @@ use Rattle.dl_channel.specs.declared.outcome.ChannelEnd.{ChannelEnd}
 use Rattle.dl_core.specs.State.{Core}
 use Rattle.dl_outside.specs.Links.{Links}
 use Rattle.dl_registry.specs.Kept.{owed_change}
-use Rattle.dl_serving.specs.Rounds.{HearsAll, PumpsAll, Scene}
+use Rattle.dl_channels.specs.Rounds.{HearsAll, PumpsAll, Scene}
 use Rattle.dl_admission.proofs.StandingClients.{as_many}
 use Rattle.dl_server.specs.Server.{HaveLinks}
 use Rattle.dl_server.specs.State.{State, scene_of}

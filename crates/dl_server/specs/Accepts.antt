@@ -6,9 +6,9 @@ use Rattle.dl_outside.specs.Told.{LinkTold, NetTold}
 use Rattle.dl_rounds.specs.Arrivals.{Arrives, ConnectsAs}
 use Rattle.dl_rounds.specs.declared.accepting.Arrival.{Arrival}
 use Rattle.dl_rounds.specs.declared.accepting.Arrival.TheVariants as arrival
-use Rattle.dl_serving.specs.Accepting.{Enters}
-use Rattle.dl_serving.specs.declared.accepting.Entry.{Entry}
-use Rattle.dl_serving.specs.declared.accepting.Entry.TheVariants as entry
+use Rattle.dl_channels.specs.Accepting.{Enters}
+use Rattle.dl_channels.specs.declared.accepting.Entry.{Entry}
+use Rattle.dl_channels.specs.declared.accepting.Entry.TheVariants as entry
 use Rattle.dl_server.specs.State.{State, with_want}
 
 -- ---- clients
@@ -58,7 +58,7 @@ AcceptsOne told moved net net_now old new = (came : Arrival) × (moved ≡ has_a
 abbrev pub AcceptsClientIfMay : {L : Type 0} → (L → LinkTold) → Bool → NetTold L → NetTold L → State → State → Type 0
 AcceptsClientIfMay told moved net net_now old new =
     ((old.no_clients ≡ true) × (moved ≡ false) × (net_now ≡ net) × (new ≡ old))
-    ⊎ ((old.no_clients ≡ false) × (moved ≡ false) × (net_now ≡ net) × (new ≡ with_want old) × (old.may_want ≡ true))
+    ⊎ ((old.no_clients ≡ false) × (moved ≡ false) × (net_now ≡ net) × (new ≡ with_want old) × (old.may_run_out ≡ true))
     ⊎ ((old.no_clients ≡ false) × AcceptsOne told moved net net_now old new)
 
 -- ---- programs

@@ -4,7 +4,7 @@ use Rattle.dl_bytes.specs.declared.moment.Moment.{Moment}
 use Rattle.dl_hub.specs.State.{outbox_of}
 use Rattle.dl_registry.specs.Kept.{owed_change}
 use Rattle.dl_rounds.specs.Visits.{ClosesAll}
-use Rattle.dl_serving.specs.Rounds.{Scene, StopsAll, StopsSome}
+use Rattle.dl_channels.specs.Rounds.{Scene, StopsAll, StopsSome}
 use Rattle.dl_socket.specs.Listening.{HaveServed}
 use Rattle.dl_server.specs.State.{State, clients_of, scene_of, with_want}
 
@@ -46,4 +46,4 @@ pub record IsClosed (Tells : Type 0) (moment : Moment) (old new : State) : Type 
 -- Memory was wanting for the end of a channel; or all of them ended, and it was wanting for the Closes of the clients.
 abbrev pub IsHalfClosed : Moment → State → State → Type 0
 IsHalfClosed moment old new =
-    ClosesSomePrograms moment old new ⊎ ((between : State) × ClosesPrograms moment old between × (new ≡ with_want between) × (between.may_want ≡ true))
+    ClosesSomePrograms moment old new ⊎ ((between : State) × ClosesPrograms moment old between × (new ≡ with_want between) × (between.may_run_out ≡ true))

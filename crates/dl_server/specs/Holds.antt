@@ -27,6 +27,6 @@ GoesOn Tell Held old new =
     (run : Run) (events : List Event) → Holds Tell Held (Unit {0}) run events old → (more : List Event) × Holds Tell Held (Unit {0}) run (events ++ more) new
 
 -- the same where the other one runs no longer
-abbrev pub GoesOut : (Tell Held : Type 0) → State → State → Type 0
-GoesOut Tell Held old new =
+abbrev pub GoesOnUntilClosed : (Tell Held : Type 0) → State → State → Type 0
+GoesOnUntilClosed Tell Held old new =
     (run : Run) (events : List Event) → Holds Tell Held (Unit {0}) run events old → (more : List Event) × Holds Tell Held ⊥ run (events ++ more) new

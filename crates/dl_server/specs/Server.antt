@@ -7,7 +7,7 @@ use Rattle.dl_outside.specs.Told.{LinkTold}
 use Rattle.dl_registry.specs.Kept.{owed_change}
 use Rattle.dl_rounds.specs.Partings.{AreShut}
 use Rattle.dl_rounds.specs.Ready.{fresh_listener}
-use Rattle.dl_serving.specs.Accepting.{AreLinked}
+use Rattle.dl_channels.specs.Accepting.{AreLinked}
 use Rattle.dl_socket.specs.Channels.{Channels}
 use Rattle.dl_socket.specs.Listening.{HaveListeners}
 use Rattle.dl_server.specs.declared.server.Server.{Server}

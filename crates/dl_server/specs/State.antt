@@ -3,12 +3,12 @@ use Rattle.std.specs.Prelude.{ℕ, Bool, true, List, map, Option}
 use Rattle.dl_admission.specs.Part.{part}
 use Rattle.dl_channel.specs.declared.outcome.ChannelEnd.{ChannelEnd}
 use Rattle.dl_core.specs.State.{Core}
-use Rattle.dl_desk.specs.Told.{PostTold}
+use Rattle.dl_desk.specs.Told.{ControlTold}
 use Rattle.dl_events.specs.declared.event.Event.{Event}
 use Rattle.dl_outside.specs.Told.{FolderTold, LinkTold}
 use Rattle.dl_rounds.specs.Clients.{Clients}
 use Rattle.dl_rounds.specs.declared.listener.Listener.{Listener}
-use Rattle.dl_serving.specs.Rounds.{Scene}
+use Rattle.dl_channels.specs.Rounds.{Scene}
 use Rattle.dl_socket.specs.Channels.{Channels}
 use Rattle.dl_turns.specs.State.{side}
 use Rattle.dl_server.specs.declared.server.Server.{Server}
@@ -28,12 +28,12 @@ pub record State : Type 0 where
   pub dropped : ℕ
   pub no_clients : Bool
   pub no_programs : Bool
-  pub may_want : Bool
+  pub may_run_out : Bool
   pub wanted : Bool
 
 -- what is seen of a server beside what the folder tells, where these are the words for what links and the journal tell, and for whether the journal may want memory
 abbrev pub seen : {J L : Type 0} → (L → LinkTold) → (J → Option (List Event)) → Bool → FolderTold → Server J L → State
-seen told events may_want folder s = record {
+seen told events may_run_out folder s = record {
   core = s.core;
   events = events s.journal;
   folder = folder;
@@ -45,16 +45,16 @@ seen told events may_want folder s = record {
   dropped = s.dropped;
   no_clients = s.no_clients;
   no_programs = s.no_programs;
-  may_want = may_want;
+  may_run_out = may_run_out;
   wanted = s.wanted;
 }
 
 -- the same with what a folder tells, where this is the word for it
 abbrev pub shown : {J L F : Type 0} → (L → LinkTold) → (J → Option (List Event)) → Bool → (F → FolderTold) → F → Server J L → State
-shown told events may_want folder_told folder s = seen told events may_want (folder_told folder) s
+shown told events may_run_out folder_told folder s = seen told events may_run_out (folder_told folder) s
 
 -- what visits to its clients see, beside what sets levels
-abbrev pub clients_of : State → PostTold → Clients
+abbrev pub clients_of : State → ControlTold → Clients
 clients_of s desk = record { links = s.clients; listeners = s.listeners; side = side s.core desk s.events s.folder }
 
 -- what visits to its channels see

@@ -5,14 +5,14 @@ use Rattle.dl_hub.specs.State.{IsNextOpen}
 use Rattle.dl_registry.specs.Kept.{owed_change}
 use Rattle.dl_rounds.specs.Partings.{ShutsGone}
 use Rattle.dl_rounds.specs.Visits.{HearsAll, PumpsAll}
-use Rattle.dl_serving.specs.Rounds as programs
+use Rattle.dl_channels.specs.Rounds as programs
 use Rattle.dl_socket.specs.Listening.{HaveServed}
 use Rattle.dl_server.specs.State.{State, clients_of, scene_of, with_want}
 
 -- Room was made in the journal; or memory was wanting for it, where it may be, and nothing else has changed.
 abbrev pub MakesRoom : Bool → State → State → Type 0
 MakesRoom true old new = new ≡ old
-MakesRoom false old new = (new ≡ with_want old) × (old.may_want ≡ true)
+MakesRoom false old new = (new ≡ with_want old) × (old.may_run_out ≡ true)
 
 -- Each open client was listened to, and the levels that requests set are told the programs that have their contexts. Each client has its link, and no
 -- Level event is owed then.
@@ -32,7 +32,7 @@ pub record HearsClients (moved : Bool) (old new : State) : Type 0 where
 -- none is open, or some are, and there was no room for their Closes; else they were
 abbrev pub HearsClientsIfMay : Bool → State → State → Type 0
 HearsClientsIfMay moved old new =
-    ((moved ≡ false) × IsNextOpen old.core.hub 0 None × (new ≡ old)) ⊎ ((moved ≡ false) × (new ≡ with_want old) × (IsNextOpen old.core.hub 0 None → ⊥) × (old.may_want ≡ true))
+    ((moved ≡ false) × IsNextOpen old.core.hub 0 None × (new ≡ old)) ⊎ ((moved ≡ false) × (new ≡ with_want old) × (IsNextOpen old.core.hub 0 None → ⊥) × (old.may_run_out ≡ true))
     ⊎ HearsClients moved old new
 
 -- each channel was listened to
@@ -56,7 +56,7 @@ pub record PumpsClients (moved : Bool) (old new : State) : Type 0 where
 
 -- they were not where there was no room for their Closes
 abbrev pub PumpsClientsIfMay : Bool → State → State → Type 0
-PumpsClientsIfMay moved old new = ((moved ≡ false) × (new ≡ with_want old) × (old.may_want ≡ true)) ⊎ PumpsClients moved old new
+PumpsClientsIfMay moved old new = ((moved ≡ false) × (new ≡ with_want old) × (old.may_run_out ≡ true)) ⊎ PumpsClients moved old new
 
 -- each channel was sent what waits for it
 pub record PumpsPrograms (moment : Moment) (old new : State) : Type 0 where

@@ -8,10 +8,10 @@ ghost use Rattle.dl_server.specs.State.{seen};
 ghost use Rattle.dl_server.specs.Steps.{MakesRoom};
 
 use crate::server::Server;
+use dl_channels::{Entry, accept_channel};
 use dl_events::Journal;
 use dl_outside::{Link, Net};
 use dl_rounds::{Arrival, accept_one};
-use dl_serving::{Entry, accept_channel};
 
 /// A Connect and its Close.
 const MORE_EVENTS: u64 = 2;
@@ -30,7 +30,7 @@ fn has_failed(came: Arrival) -> bool
     matches!(came, Arrival::Failed)
 }
 
-/// Whether memory was wanting for a client's link.
+/// Whether memory ran out for a client's link.
 fn has_wanted(came: Arrival) -> bool
     ensures { result ≡ has_wanted came }
 {
@@ -51,7 +51,7 @@ fn has_failed_to_enter(came: Entry) -> bool
     matches!(came, Entry::Failed)
 }
 
-/// Whether memory was wanting for a program's link or for its channel.
+/// Whether memory ran out for a program's link or for its channel.
 fn has_wanted_to_enter(came: Entry) -> bool
     ensures { result ≡ has_wanted_to_enter came }
 {
@@ -61,7 +61,7 @@ fn has_wanted_to_enter(came: Entry) -> bool
 impl<J: Journal, L: Link> Server<J, L> {
     /// Makes room in the journal for a Close of each client that came, and of one more with its Connect. Answers whether it is there.
     pub(crate) fn make_room(&mut self) -> bool
-        ensures makes { (folder : FolderTold) → MakesRoom result (seen L.told J.events J.may_want folder self.old) (seen L.told J.events J.may_want folder self.new) }
+        ensures makes { (folder : FolderTold) → MakesRoom result (seen L.told J.events J.may_run_out folder self.old) (seen L.told J.events J.may_run_out folder self.new) }
         ensures rest { self.new ≡ record self.old { journal = self.new.journal; wanted = self.new.wanted } }
         ensures room { result ≡ true → length self.new.clients.links + 2 ≤ J.spare self.new.journal }
     {
@@ -82,7 +82,7 @@ impl<J: Journal, L: Link> Server<J, L> {
         requires server { IsServer L.told self.old }
         requires room { length self.old.clients.links + 2 ≤ J.spare self.old.journal }
         ensures accepts { (folder : FolderTold) → AcceptsOne L.told result (N.told net.old) (N.told net.new)
-            (seen L.told J.events J.may_want folder self.old) (seen L.told J.events J.may_want folder self.new) }
+            (seen L.told J.events J.may_run_out folder self.old) (seen L.told J.events J.may_run_out folder self.new) }
         ensures server { IsServer L.told self.new }
         ensures limits { SameLimits self.old self.new }
     {
@@ -104,7 +104,7 @@ impl<J: Journal, L: Link> Server<J, L> {
         L: Drop,
         requires server { IsServer L.told self.old }
         ensures accepts { (folder : FolderTold) → AcceptsClientIfMay L.told result (N.told net.old) (N.told net.new)
-            (seen L.told J.events J.may_want folder self.old) (seen L.told J.events J.may_want folder self.new) }
+            (seen L.told J.events J.may_run_out folder self.old) (seen L.told J.events J.may_run_out folder self.new) }
         ensures server { IsServer L.told self.new }
         ensures limits { SameLimits self.old self.new }
     {
@@ -123,7 +123,7 @@ impl<J: Journal, L: Link> Server<J, L> {
         L: Drop,
         requires server { IsServer L.told self.old }
         ensures accepts { (folder : FolderTold) → AcceptsProgramIfMay L.told result (N.told net.old) (N.told net.new)
-            (seen L.told J.events J.may_want folder self.old) (seen L.told J.events J.may_want folder self.new) }
+            (seen L.told J.events J.may_run_out folder self.old) (seen L.told J.events J.may_run_out folder self.new) }
         ensures server { IsServer L.told self.new }
         ensures limits { SameLimits self.old self.new }
     {

@@ -4,13 +4,13 @@ ghost use Rattle.std.specs.Prelude.{◌≤◌, ◌+◌, OnErr, OnOk, length};
 ghost use Rattle.dl_server.specs.Closing.{ClosesClients, ClosesPrograms, ClosesSomePrograms, IsClosed, IsHalfClosed};
 ghost use Rattle.dl_server.specs.Server.{HaveLinks, IsServer, SameLimits};
 ghost use Rattle.dl_server.specs.State.{seen};
-ghost use Rattle.dl_turns.specs.Gone.{TellOver};
+ghost use Rattle.dl_turns.specs.Gone.{TellTheEnd};
 
 use crate::server::Server;
 use dl_bytes::{Moment, OutOfMemory};
+use dl_channels::close_channels;
 use dl_events::Journal;
 use dl_outside::{Folder, Link};
-use dl_serving::close_channels;
 use std::sync::Wait;
 
 impl<J: Journal, L: Link> Server<J, L> {
@@ -21,8 +21,8 @@ impl<J: Journal, L: Link> Server<J, L> {
         folder: &mut F,
     ) -> Result<(), OutOfMemory>
         requires server { IsServer L.told self.old }
-        ensures closed { OnOk result (let s = seen L.told J.events J.may_want in ClosesPrograms moment (s (F.told folder.old) self.old) (s (F.told folder.new) self.new)) }
-        ensures some { OnErr result (let s = seen L.told J.events J.may_want in ClosesSomePrograms moment
+        ensures closed { OnOk result (let s = seen L.told J.events J.may_run_out in ClosesPrograms moment (s (F.told folder.old) self.old) (s (F.told folder.new) self.new)) }
+        ensures some { OnErr result (let s = seen L.told J.events J.may_run_out in ClosesSomePrograms moment
             (s (F.told folder.old) self.old) (s (F.told folder.new) self.new)) }
         ensures server { IsServer L.told self.new }
         ensures limits { SameLimits self.old self.new }
@@ -45,7 +45,7 @@ impl<J: Journal, L: Link> Server<J, L> {
     fn close_clients<R: Wait, F: Folder>(&mut self, rt: &R, folder: &mut F)
         requires server { IsServer L.told self.old }
         requires room { length self.old.clients.links + 2 ≤ J.spare self.old.journal }
-        ensures closes { let s = seen L.told J.events J.may_want in ClosesClients (TellOver L.told) (s (F.told folder.old) self.old) (s (F.told folder.new) self.new) }
+        ensures closes { let s = seen L.told J.events J.may_run_out in ClosesClients (TellTheEnd L.told) (s (F.told folder.old) self.old) (s (F.told folder.new) self.new) }
         ensures linked { HaveLinks self.new.clients self.new.core }
         ensures limits { SameLimits self.old self.new }
     {
@@ -59,7 +59,7 @@ impl<J: Journal, L: Link> Server<J, L> {
         );
     }
 
-    /// The closing: each channel ends, and then each client has its closing turns and its Close. All links are shut. Where memory is wanting for a
+    /// The closing: each channel ends, and then each client has its closing turns and its Close. All links are shut. Where memory runs out for a
     /// channel's end or for the Closes, the rest stays as it is.
     pub fn close<R: Wait, F: Folder>(
         &mut self,
@@ -68,9 +68,9 @@ impl<J: Journal, L: Link> Server<J, L> {
         folder: &mut F,
     ) -> Result<(), OutOfMemory>
         requires server { IsServer L.told self.old }
-        ensures closed { OnOk result (let s = seen L.told J.events J.may_want in IsClosed (TellOver L.told) moment
+        ensures closed { OnOk result (let s = seen L.told J.events J.may_run_out in IsClosed (TellTheEnd L.told) moment
             (s (F.told folder.old) self.old) (s (F.told folder.new) self.new)) }
-        ensures half { OnErr result (let s = seen L.told J.events J.may_want in IsHalfClosed moment (s (F.told folder.old) self.old) (s (F.told folder.new) self.new)) }
+        ensures half { OnErr result (let s = seen L.told J.events J.may_run_out in IsHalfClosed moment (s (F.told folder.old) self.old) (s (F.told folder.new) self.new)) }
         ensures linked { HaveLinks self.new.clients self.new.core }
         ensures limits { SameLimits self.old self.new }
     {

@@ -9,14 +9,14 @@ ghost use Rattle.dl_loop.specs.Daemon.{TellTaken};
 ghost use Rattle.dl_model.specs.declared.software.Software.{Software};
 ghost use Rattle.dl_outside.specs.Told.{NetTold};
 ghost use Rattle.dl_server.specs.Closing.{IsClosed};
-ghost use Rattle.dl_server.specs.Holds.{GoesOn, GoesOut};
+ghost use Rattle.dl_server.specs.Holds.{GoesOn, GoesOnUntilClosed};
 ghost use Rattle.dl_server.specs.Round.{IsRound};
 ghost use Rattle.dl_server.specs.Server.{IsMade, IsServer};
 ghost use Rattle.dl_server.specs.State.{State};
 ghost use Rattle.dl_server.specs.declared.server.Server.{Server};
 ghost use Rattle.dl_socket.specs.Channels.{none_opened};
 ghost use Rattle.dl_trace.specs.State.{Trace};
-ghost use Rattle.dl_turns.specs.Gone.{TellOver};
+ghost use Rattle.dl_turns.specs.Gone.{TellTheEnd};
 
 use dl_events::Journal;
 use dl_outside::Link;
@@ -39,8 +39,8 @@ pub fn a_round_is_its_events<L: Link>()
 
 /// A closing is its events, likewise.
 pub fn a_closing_is_its_events<L: Link>()
-    ensures { (held : Bool) (moment : Moment) (old new : State) → IsClosed (TellOver L.told) moment old new
-        → GoesOut (TellTaken L.told) (held ≡ true) old new }
+    ensures { (held : Bool) (moment : Moment) (old new : State) → IsClosed (TellTheEnd L.told) moment old new
+        → GoesOnUntilClosed (TellTaken L.told) (held ≡ true) old new }
 {
     dl_rounds::laws::a_round_is_its_events::<L>();
 }

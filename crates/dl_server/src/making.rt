@@ -10,7 +10,7 @@ use dl_channel::ChannelEnd;
 use dl_core::Core;
 use dl_events::Journal;
 use dl_outside::{Link, LinkList};
-use dl_rounds::Seats;
+use dl_rounds::ListenerPool;
 use dl_socket::Channels;
 use std::alloc::Global;
 
@@ -30,7 +30,7 @@ fn no_ends(alloc: Global, count: usize) -> Result<Vec<Option<ChannelEnd>>, OutOf
 #[derive(Drop)]
 struct Rooms<L> {
     clients: LinkList<L>,
-    seats: Seats,
+    seats: ListenerPool,
     programs: LinkList<L>,
     ends: Vec<Option<ChannelEnd>>,
 }
@@ -47,7 +47,7 @@ fn make_rooms<L: Drop>(
     ensures ends { IfOk result (λ rooms. rooms.ends.items ≡ replicate most_channels None) }
 {
     let clients = LinkList::make(alloc, most_clients)?;
-    let seats = Seats::make(alloc, most_clients)?;
+    let seats = ListenerPool::make(alloc, most_clients)?;
     let programs = LinkList::make(alloc, u32::from(most_channels))?;
     let ends = no_ends(alloc, usize::from(most_channels))?;
     Ok(Rooms {

@@ -19,7 +19,7 @@ impl<J: Journal, L: Link> Server<J, L> {
         L: Drop,
         requires server { IsServer L.told self.old }
         ensures accepts { (folder : FolderTold) → (accepts : AcceptsAll L.told (N.told net.old) (N.told net.new) (N.told users.old) (N.told users.new)
-            (seen L.told J.events J.may_want folder self.old) (seen L.told J.events J.may_want folder self.new)) × (result ≡ has_come accepts) }
+            (seen L.told J.events J.may_run_out folder self.old) (seen L.told J.events J.may_run_out folder self.new)) × (result ≡ has_come accepts) }
         ensures server { IsServer L.told self.new }
         ensures limits { SameLimits self.old self.new }
     {
@@ -31,7 +31,7 @@ impl<J: Journal, L: Link> Server<J, L> {
     /// Each open client is listened to, and each channel. Answers whether anything moved.
     fn hear<R: Wait, C: Clock, F: Folder>(&mut self, rt: &R, clock: &C, folder: &mut F) -> bool
         requires server { IsServer L.told self.old }
-        ensures hears { let s = seen L.told J.events J.may_want in
+        ensures hears { let s = seen L.told J.events J.may_run_out in
             (hears : Hears (s (F.told folder.old) self.old) (s (F.told folder.new) self.new)) × (result ≡ has_heard hears) }
         ensures server { IsServer L.told self.new }
         ensures limits { SameLimits self.old self.new }
@@ -44,7 +44,7 @@ impl<J: Journal, L: Link> Server<J, L> {
     /// Each open client is sent what waits for it, and each channel; the links of clients that are gone are shut. Answers whether anything moved.
     fn pump<C: Clock, F: Folder>(&mut self, clock: &C, folder: &mut F) -> bool
         requires server { IsServer L.told self.old }
-        ensures pumps { let s = seen L.told J.events J.may_want in
+        ensures pumps { let s = seen L.told J.events J.may_run_out in
             (pumps : Pumps (s (F.told folder.old) self.old) (s (F.told folder.new) self.new)) × (result ≡ pumps.moved) }
         ensures server { IsServer L.told self.new }
         ensures limits { SameLimits self.old self.new }
@@ -56,7 +56,7 @@ impl<J: Journal, L: Link> Server<J, L> {
     }
 
     /// One round: one accept on each net that has not failed; each open client is listened to, and each channel; each open client is sent what waits
-    /// for it, and each channel. Where memory is wanting for the Closes of clients, these are left to the next round. The net of the clients rests
+    /// for it, and each channel. Where memory runs out for the Closes of clients, these are left to the next round. The net of the clients rests
     /// where nothing moved. Answers whether anything did: a link came, a client or a program said something or was closed, or a client's link took
     /// a byte.
     pub fn round<R: Wait, N: Net<L = L>, C: Clock, F: Folder>(
@@ -70,7 +70,7 @@ impl<J: Journal, L: Link> Server<J, L> {
     where
         L: Drop,
         requires server { IsServer L.told self.old }
-        ensures round { let s = shown L.told J.events J.may_want F.told in HasMadeRound L.told result
+        ensures round { let s = shown L.told J.events J.may_run_out F.told in HasMadeRound L.told result
             (N.told net.old) (N.told net.new) (N.told users.old) (N.told users.new) (s folder.old self.old) (s folder.new self.new) }
         ensures server { IsServer L.told self.new }
         ensures limits { SameLimits self.old self.new }

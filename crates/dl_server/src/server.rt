@@ -3,7 +3,7 @@
 use dl_channel::ChannelEnd;
 use dl_core::Core;
 use dl_outside::LinkList;
-use dl_rounds::Seats;
+use dl_rounds::ListenerPool;
 use dl_socket::Channels;
 
 /// A daemon that serves, over a journal and links of one kind.
@@ -13,12 +13,12 @@ pub struct Server<J, L> {
     pub core: Core,
     /// What takes the events.
     pub journal: J,
-    /// The channels of programs outside.
+    /// The channels of external applications.
     pub channels: Channels,
     /// The link of each client that came, by the clients' numbers from 1.
     pub clients: LinkList<L>,
     /// What cuts the bytes of each client that may come.
-    pub seats: Seats,
+    pub seats: ListenerPool,
     /// The link of each channel that came, by the channels' numbers from 1.
     pub programs: LinkList<L>,
     /// Why each channel that may come has ended, where it has.
@@ -29,7 +29,7 @@ pub struct Server<J, L> {
     pub no_clients: bool,
     /// Whether an accept of a program has failed: there are no more.
     pub no_programs: bool,
-    /// Whether memory was wanted for a link, for a channel, or in the journal.
+    /// Whether memory ran out for a link, for a channel, or in the journal.
     pub wanted: bool,
     /// Whether the link of a client that is gone may not be shut yet.
     pub unshut: bool,

@@ -10,12 +10,12 @@ ghost use Rattle.dl_server.specs.Steps.{HearsClients, HearsClientsIfMay, HearsPr
 use crate::server::Server;
 use dl_bytes::Moment;
 use dl_channel_turns::open_clients;
+use dl_channels::{hear_all, pump_channels};
 use dl_core::Core;
 use dl_events::Journal;
 use dl_outside::{Folder, Link};
 use dl_rounds::laws::links_of_gone_clients_are_shut;
 use dl_rounds::{pump_all, shut_gone};
-use dl_serving::{hear_all, pump_channels};
 use std::sync::Wait;
 
 /// Whether no client is open.
@@ -31,7 +31,7 @@ impl<J: Journal, L: Link> Server<J, L> {
     fn serve_clients<R: Wait, F: Folder>(&mut self, rt: &R, folder: &mut F) -> bool
         requires server { IsServer L.told self.old }
         requires room { length self.old.clients.links + 2 ≤ J.spare self.old.journal }
-        ensures hears { let s = seen L.told J.events J.may_want in HearsClients result (s (F.told folder.old) self.old) (s (F.told folder.new) self.new) }
+        ensures hears { let s = seen L.told J.events J.may_run_out in HearsClients result (s (F.told folder.old) self.old) (s (F.told folder.new) self.new) }
         ensures server { IsServer L.told self.new }
         ensures limits { SameLimits self.old self.new }
     {
@@ -49,7 +49,7 @@ impl<J: Journal, L: Link> Server<J, L> {
     /// Listens to each open client, where there is one, and room in the journal. Answers whether anything moved. Without a client nothing is asked.
     pub(crate) fn hear_clients<R: Wait, F: Folder>(&mut self, rt: &R, folder: &mut F) -> bool
         requires server { IsServer L.told self.old }
-        ensures hears { let s = seen L.told J.events J.may_want in HearsClientsIfMay result (s (F.told folder.old) self.old) (s (F.told folder.new) self.new) }
+        ensures hears { let s = seen L.told J.events J.may_run_out in HearsClientsIfMay result (s (F.told folder.old) self.old) (s (F.told folder.new) self.new) }
         ensures server { IsServer L.told self.new }
         ensures limits { SameLimits self.old self.new }
     {
@@ -65,7 +65,7 @@ impl<J: Journal, L: Link> Server<J, L> {
     /// Listens to each channel, and ends those for which there is a cause. Answers whether anything moved.
     pub(crate) fn hear_programs<F: Folder>(&mut self, moment: Moment, folder: &mut F) -> bool
         requires server { IsServer L.told self.old }
-        ensures hears { let s = seen L.told J.events J.may_want in HearsPrograms moment result (s (F.told folder.old) self.old) (s (F.told folder.new) self.new) }
+        ensures hears { let s = seen L.told J.events J.may_run_out in HearsPrograms moment result (s (F.told folder.old) self.old) (s (F.told folder.new) self.new) }
         ensures server { IsServer L.told self.new }
         ensures limits { SameLimits self.old self.new }
     {
@@ -89,7 +89,7 @@ impl<J: Journal, L: Link> Server<J, L> {
     fn send_clients(&mut self) -> bool
         requires server { IsServer L.told self.old }
         requires room { length self.old.clients.links + 2 ≤ J.spare self.old.journal }
-        ensures pumps { (folder : FolderTold) → PumpsClients result (seen L.told J.events J.may_want folder self.old) (seen L.told J.events J.may_want folder self.new) }
+        ensures pumps { (folder : FolderTold) → PumpsClients result (seen L.told J.events J.may_run_out folder self.old) (seen L.told J.events J.may_run_out folder self.new) }
         ensures server { IsServer L.told self.new }
         ensures limits { SameLimits self.old self.new }
     {
@@ -102,7 +102,7 @@ impl<J: Journal, L: Link> Server<J, L> {
     /// Sends each open client what waits for it, where there is room in the journal. Answers whether anything moved.
     pub(crate) fn pump_clients(&mut self) -> bool
         requires server { IsServer L.told self.old }
-        ensures pumps { (folder : FolderTold) → PumpsClientsIfMay result (seen L.told J.events J.may_want folder self.old) (seen L.told J.events J.may_want folder self.new) }
+        ensures pumps { (folder : FolderTold) → PumpsClientsIfMay result (seen L.told J.events J.may_run_out folder self.old) (seen L.told J.events J.may_run_out folder self.new) }
         ensures server { IsServer L.told self.new }
         ensures limits { SameLimits self.old self.new }
     {
@@ -115,7 +115,7 @@ impl<J: Journal, L: Link> Server<J, L> {
     /// Sends each channel what waits for it, and ends those for which there is a cause.
     pub(crate) fn pump_programs<F: Folder>(&mut self, moment: Moment, folder: &mut F)
         requires server { IsServer L.told self.old }
-        ensures pumps { let s = seen L.told J.events J.may_want in PumpsPrograms moment (s (F.told folder.old) self.old) (s (F.told folder.new) self.new) }
+        ensures pumps { let s = seen L.told J.events J.may_run_out in PumpsPrograms moment (s (F.told folder.old) self.old) (s (F.told folder.new) self.new) }
         ensures server { IsServer L.told self.new }
         ensures limits { SameLimits self.old self.new }
     {
@@ -137,7 +137,7 @@ impl<J: Journal, L: Link> Server<J, L> {
     /// Shuts the links of clients that are gone. It goes through them only where one may not be shut yet: the others cost a round nothing.
     pub(crate) fn part_clients(&mut self)
         requires server { IsServer L.told self.old }
-        ensures parts { (folder : FolderTold) → PartsClients (seen L.told J.events J.may_want folder self.old) (seen L.told J.events J.may_want folder self.new) }
+        ensures parts { (folder : FolderTold) → PartsClients (seen L.told J.events J.may_run_out folder self.old) (seen L.told J.events J.may_run_out folder self.new) }
         ensures none { self.new.unshut ≡ false }
         ensures server { IsServer L.told self.new }
         ensures limits { SameLimits self.old self.new }

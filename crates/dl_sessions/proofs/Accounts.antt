@@ -15,10 +15,10 @@ use Rattle.dl_sessions.specs.declared.session.Turn.{Turn}
 use Rattle.dl_sessions.specs.declared.session.Told.{Told}
 use Rattle.dl_sessions.specs.declared.session.Told.TheVariants as told
 use Rattle.dl_sessions.specs.Account.{IsAfter, KeepsContexts, KeepsTotals, NotedContext, NotedSession, hole_at, hole_here, hole_if, holes, sessions}
-use Rattle.dl_sessions.specs.Applications.{AreOf, has_hole, next_number, tally_of}
+use Rattle.dl_sessions.specs.Applications.{AreOf, has_hole, is_first, next_number, tally_of}
 use Rattle.dl_sessions.specs.Gaps.{counted, entries, entry_of, gap_in_session, is_in, latest, source_of, turn_of}
 use Rattle.dl_sessions.proofs.OneMore.{goes_on}
-use Rattle.dl_sessions.proofs.Applying.{passed_by as others_stay}
+use Rattle.dl_sessions.proofs.Applying.{passed_by as others_stay, unstored_by as unstored_stay}
 
 -- ---- one message more
 
@@ -40,22 +40,23 @@ flagged stream e turn step flag t s is =
 pub logged : (stream : List Told) (e : Entry) (old new : Account) (turn : Turn) (step : Step) (number : ℕ) → IsAfter stream old →
     NotedContext (entries stream) e turn new.contexts → NotedSession (entries stream) e step new.totals → number ≡ next_number (tally_of (source_of e.session) stream) → AreOf (stream ++ told.Log e ∷ []) new.applications →
     new.sessions.items ≡ old.sessions.items ++ cond step.is_first (e.session ∷ []) [] → new.messages ≡ counted (old.messages + 1) →
-    new.holes.items ≡ old.holes.items ++ hole_if (record { place = new.messages; number = number; entry = e; by_session = step.by_session; by_context = turn.missing }) →
+    new.holes.items ≡ old.holes.items ++ hole_if (record { place = new.messages; number = number; entry = e; by_session = step.by_session; by_context = turn.missing; open_session = step.unsure; open_context = turn.unsure }) →
     IsAfter (stream ++ told.Log e ∷ []) new
 logged stream e old new turn step number after context session number_is applications first messages hole =
     let more = entries-log stream e in
     let count : new.messages ≡ counted (length stream + 1) = messages ∙ ap (λ (n : ℕ). counted (n + 1)) after.messages_are ∙ sym (goes_on (length stream) 1) in
     let s = session.0 in
+    let o = session.1 in
     let c = context.0 in
-    let here : (let h : Hole = record { place = new.messages; number = number; entry = e; by_session = step.by_session; by_context = turn.missing } in h) ≡ hole_here stream e =
-    λ i. record { place = count i; number = number_is i; entry = e; by_session = s i; by_context = (c i).missing } in
+    let here : (let h : Hole = record { place = new.messages; number = number; entry = e; by_session = step.by_session; by_context = turn.missing; open_session = step.unsure; open_context = turn.unsure } in h) ≡ hole_here stream e =
+    λ i. record { place = count i; number = number_is i; entry = e; by_session = s i; by_context = (c i).missing; open_session = o i; open_context = (c i).unsure } in
     record {
-      totals_are = subst (KeepsTotals new.totals) (sym more) session.2;
+      totals_are = subst (KeepsTotals new.totals) (sym more) session.3;
       contexts_are = subst (KeepsContexts new.contexts) (sym more) context.1;
       applications_are = applications;
-      sessions_are = first ∙ ap (λ (l : List Session). l ++ cond step.is_first (e.session ∷ []) []) after.sessions_are ∙ ap (λ (b : Bool). sessions (entries stream) ++ cond b (e.session ∷ []) []) session.1
+      sessions_are = first ∙ ap (λ (l : List Session). l ++ cond step.is_first (e.session ∷ []) []) after.sessions_are ∙ ap (λ (b : Bool). sessions (entries stream) ++ cond b (e.session ∷ []) []) session.2
           ∙ sym (along-one (λ (before : List Entry) (x : Entry). cond (is_none (latest (is_in x.session) before)) (x.session ∷ []) []) (entries stream) e) ∙ ap sessions (sym more);
-      holes_are = hole ∙ ap (λ (l : List Hole). l ++ hole_if (record { place = new.messages; number = number; entry = e; by_session = step.by_session; by_context = turn.missing })) after.holes_are
+      holes_are = hole ∙ ap (λ (l : List Hole). l ++ hole_if (record { place = new.messages; number = number; entry = e; by_session = step.by_session; by_context = turn.missing; open_session = step.unsure; open_context = turn.unsure })) after.holes_are
           ∙ ap (λ (h : Hole). holes stream ++ hole_if h) here
           ∙ sym (along-one hole_at stream (told.Log e));
       messages_are = messages ∙ ap (λ (n : ℕ). counted (n + 1)) after.messages_are ∙ sym (counted-one stream (told.Log e));
@@ -88,3 +89,11 @@ pub passed_by : (stream : List Told) (old new : Account) → IsAfter stream old 
     new.sessions.items ≡ old.sessions.items → new.holes.items ≡ old.holes.items → new.messages ≡ counted (old.messages + 1) → IsAfter (stream ++ told.Other ∷ []) new
 passed_by stream old new after applications =
     quiet_entries stream told.Other refl refl old new after (applications (others_stay stream old.applications after.applications_are))
+
+-- the record of messages that a trace did not store
+pub unstored_by : (stream : List Told) (count : ℕ) (old new : Account) → IsAfter stream old → (AreOf (stream ++ told.Unstored count ∷ []) old.applications → AreOf (stream ++ told.Unstored count ∷ []) new.applications) →
+    (KeepsTotals old.totals (entries (stream ++ told.Unstored count ∷ [])) → KeepsTotals new.totals (entries (stream ++ told.Unstored count ∷ []))) →
+    (KeepsContexts old.contexts (entries (stream ++ told.Unstored count ∷ [])) → KeepsContexts new.contexts (entries (stream ++ told.Unstored count ∷ []))) →
+    new.sessions.items ≡ old.sessions.items → new.holes.items ≡ old.holes.items → new.messages ≡ counted (old.messages + 1) → IsAfter (stream ++ told.Unstored count ∷ []) new
+unstored_by stream count old new after applications =
+    quiet_entries stream (told.Unstored count) refl refl old new after (applications (unstored_stay stream count old.applications after.applications_are))

@@ -16,7 +16,7 @@ use Rattle.dl_sessions.specs.declared.session.Tally.{Tally}
 use Rattle.dl_sessions.specs.declared.session.Told.{Told}
 use Rattle.dl_sessions.specs.declared.session.Told.TheVariants as told
 use Rattle.dl_sessions.specs.declared.applications.Applications.{Applications}
-use Rattle.dl_sessions.specs.Applications.{AreOf, first_of, has_hole, hole_of, is_heard, is_message_of, is_report_of, last_of, lost_in, no_tally, noted_message, noted_report, owner, same_position, sources, tally_of, told_at, told_for}
+use Rattle.dl_sessions.specs.Applications.{AreOf, first_of, has_hole, hole_of, is_first, is_heard, is_message_of, is_report_of, last_of, lost_in, no_tally, noted_message, noted_report, owner, same_position, session_of, sources, tally_of, told_at, told_for}
 use Rattle.dl_sessions.specs.Gaps.{counted, same_source, source_of}
 use Rattle.dl_sessions.proofs.OneMore.{goes_on, source_is, stands}
 
@@ -39,16 +39,29 @@ hole-one source stream t =
       by_test true = refl
       by_test false = refl
 
+sessions-one : (source : Source) (stream : List Told) (t : Told)
+    → counted (sum (along (session_of source) (stream ++ t ∷ []))) ≡ counted (counted (sum (along (session_of source) stream)) + cond {A = ℕ} (is_message_of source t) (cond {A = ℕ} (is_first stream t) 1 0) 0)
+sessions-one source stream t =
+    let all = along (session_of source) stream in
+    ap (λ (l : List ℕ). counted (sum l)) (along-one (session_of source) stream t) ∙ ap counted (sum_by-append (λ (n : ℕ). n) all (session_of source stream t)) ∙ by_test (is_message_of source t) where
+      by_test : (b : Bool) → counted (sum (along (session_of source) stream) + sum (cond b (cond {A = ℕ} (is_first stream t) 1 0 ∷ []) []))
+          ≡ counted (counted (sum (along (session_of source) stream)) + cond {A = ℕ} b (cond {A = ℕ} (is_first stream t) 1 0) 0)
+      by_test true = omega arith
+      by_test false = omega arith
+
 -- what is counted of an application, with a message of it, a report of it, or neither
-log_tally : Bool → Bool → Tally → Tally
-log_tally b flag t = record { messages = counted (t.messages + cond {A = ℕ} b 1 0); reports = counted (t.reports + 0); lost = counted (t.lost + 0); has_hole = cond b flag t.has_hole }
+log_tally : Bool → Bool → Bool → Tally → Tally
+log_tally b flag first t = record { messages = counted (t.messages + cond {A = ℕ} b 1 0); sessions = counted (t.sessions + cond {A = ℕ} b (cond {A = ℕ} first 1 0) 0); reports = counted (t.reports + 0); lost = counted (t.lost + 0); has_hole = cond b flag t.has_hole }
 
 lost_tally : Bool → ℕ → Tally → Tally
-lost_tally b count t = record { messages = counted (t.messages + 0); reports = counted (t.reports + cond {A = ℕ} b 1 0); lost = counted (t.lost + cond {A = ℕ} b count 0); has_hole = t.has_hole }
+lost_tally b count t = record { messages = counted (t.messages + 0); sessions = counted (t.sessions + 0); reports = counted (t.reports + cond {A = ℕ} b 1 0); lost = counted (t.lost + cond {A = ℕ} b count 0); has_hole = t.has_hole }
 
 module _ (source : Source) (stream : List Told) where
   m_stands : counted (counted (count_by (is_message_of source) stream) + 0) ≡ counted (count_by (is_message_of source) stream)
   m_stands = sym (stands (count_by (is_message_of source) stream))
+
+  s_stands : counted (counted (sum (along (session_of source) stream)) + 0) ≡ counted (sum (along (session_of source) stream))
+  s_stands = sym (stands (sum (along (session_of source) stream)))
 
   r_stands : counted (counted (count_by (is_report_of source) stream) + 0) ≡ counted (count_by (is_report_of source) stream)
   r_stands = sym (stands (count_by (is_report_of source) stream))
@@ -56,41 +69,50 @@ module _ (source : Source) (stream : List Told) where
   l_stands : counted (counted (sum_by (lost_in source) stream) + 0) ≡ counted (sum_by (lost_in source) stream)
   l_stands = sym (stands (sum_by (lost_in source) stream))
 
-  logs : (b flag : Bool) → log_tally b flag (tally_of source stream) ≡ cond b (noted_message (tally_of source stream) flag) (tally_of source stream)
+  logs : (b flag first : Bool) → log_tally b flag first (tally_of source stream) ≡ cond b (noted_message (tally_of source stream) flag first) (tally_of source stream)
   unfolding log_tally
-  logs true flag = λ i. record { messages = counted (counted (count_by (is_message_of source) stream) + 1); reports = r_stands i; lost = l_stands i; has_hole = flag }
-  logs false flag = λ i. record { messages = m_stands i; reports = r_stands i; lost = l_stands i; has_hole = last_of (along (hole_of source) stream) }
+  logs true flag first = λ i. record {
+    messages = counted (counted (count_by (is_message_of source) stream) + 1);
+    sessions = counted (counted (sum (along (session_of source) stream)) + cond {A = ℕ} first 1 0);
+    reports = r_stands i;
+    lost = l_stands i;
+    has_hole = flag;
+  }
+  logs false flag first = λ i. record { messages = m_stands i; sessions = s_stands i; reports = r_stands i; lost = l_stands i; has_hole = last_of (along (hole_of source) stream) }
 
   reports_it : (b : Bool) (count : ℕ) → lost_tally b count (tally_of source stream) ≡ cond b (noted_report (tally_of source stream) count) (tally_of source stream)
   unfolding lost_tally
   reports_it true count = λ i. record {
     messages = m_stands i;
+    sessions = s_stands i;
     reports = counted (counted (count_by (is_report_of source) stream) + 1);
     lost = counted (counted (sum_by (lost_in source) stream) + count);
     has_hole = last_of (along (hole_of source) stream);
   }
-  reports_it false count = λ i. record { messages = m_stands i; reports = r_stands i; lost = l_stands i; has_hole = last_of (along (hole_of source) stream) }
+  reports_it false count = λ i. record { messages = m_stands i; sessions = s_stands i; reports = r_stands i; lost = l_stands i; has_hole = last_of (along (hole_of source) stream) }
 
-  tally-log : (e : Entry) → tally_of source (stream ++ told.Log e ∷ []) ≡ cond (same_source (source_of e.session) source) (noted_message (tally_of source stream) (has_hole stream (told.Log e))) (tally_of source stream)
+  tally-log : (e : Entry) → tally_of source (stream ++ told.Log e ∷ []) ≡ cond (same_source (source_of e.session) source) (noted_message (tally_of source stream) (has_hole stream (told.Log e)) (is_first stream (told.Log e))) (tally_of source stream)
   unfolding log_tally
   tally-log e =
       let t = told.Log e in
       let p = count-one (is_message_of source) stream t in
+      let o = sessions-one source stream t in
       let q = count-one (is_report_of source) stream t in
       let r = lost-one source stream t in
       let u = hole-one source stream t in
-      let all : tally_of source (stream ++ t ∷ []) ≡ log_tally (same_source (source_of e.session) source) (has_hole stream t) (tally_of source stream) = λ i. record { messages = p i; reports = q i; lost = r i; has_hole = u i } in
-      all ∙ logs (same_source (source_of e.session) source) (has_hole stream t)
+      let all : tally_of source (stream ++ t ∷ []) ≡ log_tally (same_source (source_of e.session) source) (has_hole stream t) (is_first stream t) (tally_of source stream) = λ i. record { messages = p i; sessions = o i; reports = q i; lost = r i; has_hole = u i } in
+      all ∙ logs (same_source (source_of e.session) source) (has_hole stream t) (is_first stream t)
 
   tally-lost : (l : Lost) → tally_of source (stream ++ told.Lost l ∷ []) ≡ cond (same_source l.source source) (noted_report (tally_of source stream) l.count) (tally_of source stream)
   unfolding lost_tally
   tally-lost l =
       let t = told.Lost l in
       let p = count-one (is_message_of source) stream t in
+      let o = sessions-one source stream t in
       let q = count-one (is_report_of source) stream t in
       let r = lost-one source stream t in
       let u = hole-one source stream t in
-      let all : tally_of source (stream ++ t ∷ []) ≡ lost_tally (same_source l.source source) l.count (tally_of source stream) = λ i. record { messages = p i; reports = q i; lost = r i; has_hole = u i } in
+      let all : tally_of source (stream ++ t ∷ []) ≡ lost_tally (same_source l.source source) l.count (tally_of source stream) = λ i. record { messages = p i; sessions = o i; reports = q i; lost = r i; has_hole = u i } in
       all ∙ reports_it (same_source l.source source) l.count
 
   tally-other : tally_of source (stream ++ told.Other ∷ []) ≡ tally_of source stream
@@ -98,11 +120,24 @@ module _ (source : Source) (stream : List Told) where
   tally-other =
       let t = told.Other in
       let p = count-one (is_message_of source) stream t in
+      let o = sessions-one source stream t in
       let q = count-one (is_report_of source) stream t in
       let r = lost-one source stream t in
       let u = hole-one source stream t in
-      let all : tally_of source (stream ++ t ∷ []) ≡ log_tally false false (tally_of source stream) = λ i. record { messages = p i; reports = q i; lost = r i; has_hole = u i } in
-      all ∙ logs false false
+      let all : tally_of source (stream ++ t ∷ []) ≡ log_tally false false false (tally_of source stream) = λ i. record { messages = p i; sessions = o i; reports = q i; lost = r i; has_hole = u i } in
+      all ∙ logs false false false
+
+  tally-unstored : (count : ℕ) → tally_of source (stream ++ told.Unstored count ∷ []) ≡ tally_of source stream
+  unfolding log_tally
+  tally-unstored count =
+      let t = told.Unstored count in
+      let p = count-one (is_message_of source) stream t in
+      let o = sessions-one source stream t in
+      let q = count-one (is_report_of source) stream t in
+      let r = lost-one source stream t in
+      let u = hole-one source stream t in
+      let all : tally_of source (stream ++ t ∷ []) ≡ log_tally false false false (tally_of source stream) = λ i. record { messages = p i; sessions = o i; reports = q i; lost = r i; has_hole = u i } in
+      all ∙ logs false false false
 
 -- ---- what was told of a place
 
@@ -142,31 +177,32 @@ kept {K} {V} same same_is none old new who now change before after noted is keep
 
 -- ---- the calls
 
-messaged : (stream : List Told) (e : Entry) (flag : Bool) (tally noted : Tally) (old new : Applications) → AreOf stream old → flag ≡ has_hole stream (told.Log e) → tally ≡ tally_of (source_of e.session) stream
-    → noted ≡ noted_message tally flag → new.sources.items ≡ old.sources.items ++ cond (is_heard tally) [] (source_of e.session ∷ [])
+messaged : (stream : List Told) (e : Entry) (flag first : Bool) (tally noted : Tally) (old new : Applications) → AreOf stream old → flag ≡ has_hole stream (told.Log e) → first ≡ is_first stream (told.Log e) → tally ≡ tally_of (source_of e.session) stream
+    → noted ≡ noted_message tally flag first → new.sources.items ≡ old.sources.items ++ cond (is_heard tally) [] (source_of e.session ∷ [])
     → ((x : Source) → hash.get same_source new.tallies x ≡ cond (same_source (source_of e.session) x) (Some noted) (hash.get same_source old.tallies x))
     → ((x : Position) → hash.get same_position new.told x ≡ hash.get same_position old.told x)
     → AreOf (stream ++ told.Log e ∷ []) new
-messaged stream e flag tally noted old new are flag_is tally_is noted_is first updates same = record {
-  tallies_are = kept same_source source_is no_tally (hash.get same_source old.tallies) (hash.get same_source new.tallies) (source_of e.session) noted (λ (t : Tally). noted_message t (has_hole stream (told.Log e)))
+messaged stream e flag first tally noted old new are flag_is first_is tally_is noted_is adds updates same = record {
+  tallies_are = kept same_source source_is no_tally (hash.get same_source old.tallies) (hash.get same_source new.tallies) (source_of e.session) noted (λ (t : Tally). noted_message t (has_hole stream (told.Log e)) (is_first stream (told.Log e)))
       (λ (x : Source). tally_of x stream) (λ (x : Source). tally_of x (stream ++ told.Log e ∷ [])) updates
-      (noted_is ∙ ap (λ (t : Tally). noted_message t flag) tally_is ∙ ap (noted_message (tally_of (source_of e.session) stream)) flag_is) are.tallies_are (λ x. tally-log x stream e);
+      (noted_is ∙ ap (λ (t : Tally). noted_message t flag first) tally_is ∙ ap (λ (f : Bool). noted_message (tally_of (source_of e.session) stream) f first) flag_is
+      ∙ ap (noted_message (tally_of (source_of e.session) stream) (has_hole stream (told.Log e))) first_is) are.tallies_are (λ x. tally-log x stream e);
   told_are = λ x. ap (λ (o : Option ℕ). unwrap_or o 0) (same x) ∙ are.told_are x ∙ sym (told-quiet x stream (told.Log e) refl);
-  sources_are = first ∙ ap (λ (l : List Source). l ++ cond (is_heard tally) [] (source_of e.session ∷ [])) are.sources_are
+  sources_are = adds ∙ ap (λ (l : List Source). l ++ cond (is_heard tally) [] (source_of e.session ∷ [])) are.sources_are
       ∙ ap (λ (t : Tally). sources stream ++ cond (is_heard t) [] (source_of e.session ∷ [])) tally_is ∙ sym (along-one first_of stream (told.Log e));
 }
 
 -- the same of an application by another name
-pub messaged_by : (stream : List Told) (e : Entry) (flag : Bool) (who : Source) (tally noted : Tally) (old new : Applications) → AreOf stream old → flag ≡ has_hole stream (told.Log e) → source_of e.session ≡ who → tally ≡ tally_of who stream
-    → noted ≡ noted_message tally flag → new.sources.items ≡ old.sources.items ++ cond (is_heard tally) [] (who ∷ [])
+pub messaged_by : (stream : List Told) (e : Entry) (flag first : Bool) (who : Source) (tally noted : Tally) (old new : Applications) → AreOf stream old → flag ≡ has_hole stream (told.Log e) → first ≡ is_first stream (told.Log e) → source_of e.session ≡ who → tally ≡ tally_of who stream
+    → noted ≡ noted_message tally flag first → new.sources.items ≡ old.sources.items ++ cond (is_heard tally) [] (who ∷ [])
     → ((x : Source) → hash.get same_source new.tallies x ≡ cond (same_source who x) (Some noted) (hash.get same_source old.tallies x))
     → ((x : Position) → hash.get same_position new.told x ≡ hash.get same_position old.told x)
     → AreOf (stream ++ told.Log e ∷ []) new
-messaged_by stream e flag who tally noted old new are flag_is is =
-    subst (λ (w : Source). tally ≡ tally_of w stream → noted ≡ noted_message tally flag → new.sources.items ≡ old.sources.items ++ cond (is_heard tally) [] (w ∷ [])
+messaged_by stream e flag first who tally noted old new are flag_is first_is is =
+    subst (λ (w : Source). tally ≡ tally_of w stream → noted ≡ noted_message tally flag first → new.sources.items ≡ old.sources.items ++ cond (is_heard tally) [] (w ∷ [])
     → ((x : Source) → hash.get same_source new.tallies x ≡ cond (same_source w x) (Some noted) (hash.get same_source old.tallies x))
     → ((x : Position) → hash.get same_position new.told x ≡ hash.get same_position old.told x)
-    → AreOf (stream ++ told.Log e ∷ []) new) is (messaged stream e flag tally noted old new are flag_is)
+    → AreOf (stream ++ told.Log e ∷ []) new) is (messaged stream e flag first tally noted old new are flag_is first_is)
 
 place_same : (source : Source) {m n : ℕ} → m ≡ n → ◌≡◌ {A = Position} (record { source = source; number = m }) (record { source = source; number = n })
 place_same source e = λ i. record { source = source; number = e i }
@@ -197,4 +233,11 @@ passed_by stream applications are = record {
   tallies_are = λ x. are.tallies_are x ∙ sym (tally-other x stream);
   told_are = λ x. are.told_are x ∙ sym (told-quiet x stream told.Other refl);
   sources_are = are.sources_are ∙ sym (along-one first_of stream told.Other ∙ append-nil (sources stream));
+}
+
+pub unstored_by : (stream : List Told) (count : ℕ) (applications : Applications) → AreOf stream applications → AreOf (stream ++ told.Unstored count ∷ []) applications
+unstored_by stream count applications are = record {
+  tallies_are = λ x. are.tallies_are x ∙ sym (tally-unstored x stream count);
+  told_are = λ x. are.told_are x ∙ sym (told-quiet x stream (told.Unstored count) refl);
+  sources_are = are.sources_are ∙ sym (along-one first_of stream (told.Unstored count) ∙ append-nil (sources stream));
 }

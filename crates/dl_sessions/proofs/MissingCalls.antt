@@ -14,7 +14,7 @@ use Rattle.dl_sessions.specs.declared.session.Entry.{Entry}
 use Rattle.dl_sessions.specs.declared.session.Latest.{Latest}
 use Rattle.dl_sessions.specs.declared.session.Session.{Session}
 use Rattle.dl_sessions.specs.Account.{gaps, totals_of}
-use Rattle.dl_sessions.specs.Gaps.{anew, anew_at, begins_anew, counted, gap, gap_in_session, is_in, latest, latest_of, same_session}
+use Rattle.dl_sessions.specs.Gaps.{counted, gap_in_session, is_in, latest, latest_of, passed as jumps, same_session}
 use Rattle.dl_sessions.specs.Laws.{Call, FewInRow, HasCalls, MissingAreCalls, PassesIfHere, Recorded, is_lacking, passes}
 use Rattle.dl_sessions.proofs.OneMore.{latest-one, session_is}
 
@@ -51,14 +51,6 @@ mine f session before (e ∷ es) =
           let own : f (latest (is_in e.session) before) e ≡ f (latest (is_in session) before) e = ap (λ (s : Session). f (latest (is_in s) before) e) (session_is e.session session same) in
           omega (arith, own)
       by_test false apart = omega arith
-
--- ---- where nobody begins anew
-
-goes_over : (last : Latest) (e : Entry) → anew (Some last) e ≡ 0 → gap (Some last) e ≡ passed_over last.mcnt e.mcnt
-goes_over last e none = by_test (begins_anew last e) none where
-  by_test : (b : Bool) → cond {A = ℕ} b 1 0 ≡ 0 → cond b 0 (passed_over last.mcnt e.mcnt) ≡ passed_over last.mcnt e.mcnt
-  by_test true is = absurd (omega (arith, is))
-  by_test false is = refl
 
 -- ---- calls
 
@@ -115,7 +107,7 @@ over last mcnt item passed lacking at is same few = let q = at.0 in omega (arith
 -- what the messages of these calls lack, behind a message that is here
 abbrev After : List Call → Type 0
 After calls = (own : List Entry) (last : Latest) (passed lacking : ℕ) → AreCounted passed (map (λ (c : Call). c.made) calls) → AllByRecursion PassesIfHere calls → Mine own calls → FewInRow lacking calls
-    → Stands last passed lacking → along_mine anew (Some last) own ≡ 0 → along_mine gap (Some last) own ≡ lacking_from (Some lacking) calls
+    → Stands last passed lacking → along_mine jumps (Some last) own ≡ lacking_from (Some lacking) calls
 
 module _ (c : Call) (calls : List Call) (later : After calls) (last : Latest) (passed lacking : ℕ) (steps : AreCounted passed (map (λ (x : Call). x.made) (c ∷ calls))) (passing : AllByRecursion PassesIfHere (c ∷ calls))
     (few : FewInRow lacking (c ∷ calls)) (at : Stands last passed lacking) where
@@ -129,36 +121,33 @@ module _ (c : Call) (calls : List Call) (later : After calls) (last : Latest) (p
       (subst (λ (h : Bool). FewInRow (cond {A = ℕ} h 0 (cond {A = ℕ} (passes c) (lacking + 1) lacking)) calls) here few.1)
 
   -- a call that is not here, by whether it passed
-  unheard : (own : List Entry) (f : Bool) → is_answer answer.Filtered c.made.answer ≡ f → c.is_here ≡ false → Mine own calls → along_mine anew (Some last) own ≡ 0
-      → along_mine gap (Some last) own ≡ lacking_from (Some (cond {A = ℕ} (not f) (lacking + 1) lacking)) calls
-  unheard own true is apart has none = later own last passed lacking (counted_on true is) passing.1 has (few_on true false is apart) at none
-  unheard own false is apart has none = later own last (passed + 1) (lacking + 1) (counted_on false is) passing.1 has (few_on false false is apart) (at.0, at.1, omega (arith, at.2)) none
+  unheard : (own : List Entry) (f : Bool) → is_answer answer.Filtered c.made.answer ≡ f → c.is_here ≡ false → Mine own calls → along_mine jumps (Some last) own ≡ lacking_from (Some (cond {A = ℕ} (not f) (lacking + 1) lacking)) calls
+  unheard own true is apart has = later own last passed lacking (counted_on true is) passing.1 has (few_on true false is apart) at
+  unheard own false is apart has = later own last (passed + 1) (lacking + 1) (counted_on false is) passing.1 has (few_on false false is apart) (at.0, at.1, omega (arith, at.2))
 
   heard : (own : List Entry) → c.is_here ≡ true → map (λ (e : Entry). e.mcnt) own ≡ c.made.item.mcnt ∷ map (λ (x : Call). x.made.item.mcnt) (filter (λ (x : Call). x.is_here) calls)
-      → along_mine anew (Some last) own ≡ 0 → along_mine gap (Some last) own ≡ lacking + lacking_from (Some 0) calls
-  heard [] here is quiet = absurd cc
-  heard (e ∷ own) here is quiet =
+      → along_mine jumps (Some last) own ≡ lacking + lacking_from (Some 0) calls
+  heard [] here is = absurd cc
+  heard (e ∷ own) here is =
       let same : e.mcnt ≡ c.made.item.mcnt = cc in
       let more : Mine own calls = cc in
-      let first : anew (Some last) e ≡ 0 = omega (arith, quiet) in
-      let rest : along_mine anew (Some (latest_of e)) own ≡ 0 = omega (arith, quiet) in
       let passing_it : is_answer answer.Filtered c.made.answer ≡ false = not_true (is_answer answer.Filtered c.made.answer) (passing.0 here) in
-      let here_gap = goes_over last e first ∙ over last e.mcnt c.made.item.mcnt passed lacking at steps.0 same (few.0 here) in
-      let behind = later own (latest_of e) (passed + 1) 0 (counted_on false passing_it) passing.1 more (few_on false true passing_it here) (passed, same ∙ steps.0, omega arith) rest in
-      ap (λ (n : ℕ). n + along_mine gap (Some (latest_of e)) own) here_gap ∙ ap (λ (n : ℕ). lacking + n) behind
+      let here_gap = over last e.mcnt c.made.item.mcnt passed lacking at steps.0 same (few.0 here) in
+      let behind = later own (latest_of e) (passed + 1) 0 (counted_on false passing_it) passing.1 more (few_on false true passing_it here) (passed, same ∙ steps.0, omega arith) in
+      ap (λ (n : ℕ). n + along_mine jumps (Some (latest_of e)) own) here_gap ∙ ap (λ (n : ℕ). lacking + n) behind
 
-  by_here : (own : List Entry) (b : Bool) → c.is_here ≡ b → Mine own (c ∷ calls) → along_mine anew (Some last) own ≡ 0 → along_mine gap (Some last) own ≡ lacking_from (Some lacking) (c ∷ calls)
-  by_here own true here has none =
-      heard own here (has ∙ ap (λ (b : Bool). map (λ (x : Call). x.made.item.mcnt) (cond b (c ∷ filter (λ (x : Call). x.is_here) calls) (filter (λ (x : Call). x.is_here) calls))) here) none
+  by_here : (own : List Entry) (b : Bool) → c.is_here ≡ b → Mine own (c ∷ calls) → along_mine jumps (Some last) own ≡ lacking_from (Some lacking) (c ∷ calls)
+  by_here own true here has =
+      heard own here (has ∙ ap (λ (b : Bool). map (λ (x : Call). x.made.item.mcnt) (cond b (c ∷ filter (λ (x : Call). x.is_here) calls) (filter (λ (x : Call). x.is_here) calls))) here)
       ∙ sym (ap (λ (b : Bool). cond b (lacking + lacking_from (Some 0) calls) (lacking_from (Some (cond {A = ℕ} (passes c) (lacking + 1) lacking)) calls)) here)
-  by_here own false apart has none =
-      unheard own (is_answer answer.Filtered c.made.answer) refl apart (has ∙ ap (λ (b : Bool). map (λ (x : Call). x.made.item.mcnt) (cond b (c ∷ filter (λ (x : Call). x.is_here) calls) (filter (λ (x : Call). x.is_here) calls))) apart) none
+  by_here own false apart has =
+      unheard own (is_answer answer.Filtered c.made.answer) refl apart (has ∙ ap (λ (b : Bool). map (λ (x : Call). x.made.item.mcnt) (cond b (c ∷ filter (λ (x : Call). x.is_here) calls) (filter (λ (x : Call). x.is_here) calls))) apart)
       ∙ sym (ap (λ (b : Bool). cond b (lacking + lacking_from (Some 0) calls) (lacking_from (Some (cond {A = ℕ} (passes c) (lacking + 1) lacking)) calls)) apart)
 
 after : (calls : List Call) → After calls
-after [] [] last passed lacking steps passing has few at none = refl
-after [] (e ∷ own) last passed lacking steps passing has few at none = absurd cc
-after (c ∷ calls) own last passed lacking steps passing has few at none = by_here c calls (after calls) last passed lacking steps passing few at own c.is_here refl has none
+after [] [] last passed lacking steps passing has few at = refl
+after [] (e ∷ own) last passed lacking steps passing has few at = absurd cc
+after (c ∷ calls) own last passed lacking steps passing has few at = by_here c calls (after calls) last passed lacking steps passing few at own c.is_here refl has
 
 -- ---- from the beginning
 
@@ -186,16 +175,16 @@ module _ (session : Session) (es : List Entry) (before middle behind : List Call
   abbrev here : Call → Bool
   here c = c.is_here
 
-  from_first : (es : List Entry) → map (λ (e : Entry). e.mcnt) es ≡ first.made.item.mcnt ∷ map (λ (c : Call). c.made.item.mcnt) (filter here rest) → along_mine anew None es ≡ 0 → along_mine gap None es ≡ lacking_from (Some 0) rest
-  from_first [] is none = absurd cc
-  from_first (e ∷ es) is none =
+  from_first : (es : List Entry) → map (λ (e : Entry). e.mcnt) es ≡ first.made.item.mcnt ∷ map (λ (c : Call). c.made.item.mcnt) (filter here rest) → along_mine jumps None es ≡ lacking_from (Some 0) rest
+  from_first [] is = absurd cc
+  from_first (e ∷ es) is =
       let n = skipped before (first ∷ rest) 0 r.counted in
       let passing = all_behind before (first ∷ rest) r.passed in
       let passed_it : is_answer answer.Filtered first.made.answer ≡ false = not_true (is_answer answer.Filtered first.made.answer) (passing.0 r.first_here) in
       let same : e.mcnt ≡ first.made.item.mcnt = cc in
       let more : Mine es rest = cc in
       let later = after rest es (latest_of e) (n.0 + 1) 0 (subst (λ (f : Bool). AreCounted (cond {A = ℕ} f n.0 (n.0 + 1)) (map (λ (c : Call). c.made) rest)) passed_it n.1.1) passing.1 more (few_more middle behind last 0 r.none_behind few)
-      (n.0, same ∙ n.1.0, omega arith) (omega (arith, none)) in
+      (n.0, same ∙ n.1.0, omega arith) in
       omega (arith, later)
 
   pub missing_are : (totals_of session es).by_session ≡ counted (count_by is_lacking middle)
@@ -204,6 +193,5 @@ module _ (session : Session) (es : List Entry) (before middle behind : List Call
       let has : map (λ (e : Entry). e.mcnt) own ≡ first.made.item.mcnt ∷ map (λ (c : Call). c.made.item.mcnt) (filter here rest) =
       r.has ∙ ap (map (λ (c : Call). c.made.item.mcnt)) (none_kept before (first ∷ rest) r.none_before)
       ∙ ap (λ (b : Bool). map (λ (c : Call). c.made.item.mcnt) (cond b (first ∷ filter here rest) (filter here rest))) r.first_here in
-      let quiet : along_mine anew None own ≡ 0 = sym (mine anew session [] es) ∙ r.goes_on in
-      let all = mine gap session [] es ∙ from_first own has quiet ∙ counts middle behind last 0 r.last_here r.none_behind in
+      let all = mine jumps session [] es ∙ from_first own has ∙ counts middle behind last 0 r.last_here r.none_behind in
       ap counted (all ∙ omega arith)

@@ -15,7 +15,7 @@ use Rattle.dl_sessions.specs.declared.session.Since.{Since}
 use Rattle.dl_sessions.specs.declared.session.Told.{Told}
 use Rattle.dl_sessions.specs.declared.session.Told.TheVariants as told
 use Rattle.dl_sessions.specs.Gaps.{context_of, counted, entries, entry_of}
-use Rattle.dl_sessions.specs.Ledger.{IsLedgerOf, KeepsSince, Notes, about, account_here, account_line, account_text, since_of, with_message}
+use Rattle.dl_sessions.specs.Ledger.{IsLedgerOf, KeepsSince, Notes, about, account_here, account_line, account_text, since_of, unstored_text, with_message}
 use Rattle.dl_sessions.proofs.OneMore.{goes_on}
 
 pub entries-log : (before : List Told) (e : Entry) → entries (before ++ told.Log e ∷ []) ≡ entries before ++ e ∷ []
@@ -27,6 +27,13 @@ pub quiet_notes : {S : Type 0} (kept : hash.HashMap Context Since S) (text : Lis
 quiet_notes kept text t none no_line before keeps =
     let same = filter_map-append entry_of before (t ∷ []) ∙ ap (λ (l : List Entry). entries before ++ l) none ∙ append-nil (entries before) in
     (sym (ap (λ (l : List ℕ). text ++ l) (no_line before) ∙ append-nil text), subst (KeepsSince kept) (sym same) keeps)
+
+-- the record of messages that were not stored
+pub unstored_notes : {S : Type 0} (kept : hash.HashMap Context Since S) (text text_now : List ℕ) (before : List Told) (count place : ℕ) → place ≡ counted (length before + 1)
+    → text_now ≡ text ++ unstored_text place count → KeepsSince kept (entries before) → Notes before (told.Unstored count) kept text text_now
+unstored_notes kept text text_now before count place at line keeps =
+    let same = filter_map-append entry_of before (told.Unstored count ∷ []) ∙ append-nil (entries before) in
+    (line ∙ ap (λ (n : ℕ). text ++ unstored_text n count) at, subst (KeepsSince kept) (sym same) keeps)
 
 -- a message of a session that is no account
 pub no_account : (before : List Told) (e : Entry) (text : List ℕ) → calls_in e.calls ≡ None → text ≡ text ++ account_line before (told.Log e)

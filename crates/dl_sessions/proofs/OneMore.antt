@@ -16,7 +16,7 @@ use Rattle.dl_sessions.specs.declared.session.Session.{Session}
 use Rattle.dl_sessions.specs.declared.session.Source.{Source}
 use Rattle.dl_sessions.specs.declared.session.Totals.{Totals}
 use Rattle.dl_sessions.specs.Account.{gaps, no_totals, noted, totals_of}
-use Rattle.dl_sessions.specs.Gaps.{anew_at, context_counts, context_of, counted, gap_in_context, gap_in_session, is_in, is_of, latest, latest_of, same_context, same_session, same_source, session_counts, turn_of}
+use Rattle.dl_sessions.specs.Gaps.{context_counts, context_of, counted, gap_in_context, gap_in_session, is_in, is_of, latest, latest_of, open_in_context, open_in_session, same_context, same_session, same_source, session_counts, turn_of}
 
 -- ---- counts
 
@@ -75,7 +75,7 @@ session_is a b e =
     λ i. record { ecu = p i; apid = q i; seid = r i }
 
 pub source_self : (a : Source) → same_source a a ≡ true
-source_self a = both_true (bytes_eq a.ecu a.ecu) (bytes_eq a.apid a.apid) (bytes_self a.ecu) (bytes_self a.apid)
+source_self a = bytes_self a.apid
 
 pub session_self : (a : Session) → same_session a a ≡ true
 session_self a =
@@ -106,8 +106,9 @@ here es e =
     let v = here_sum gap_in_context es e in
     let w = here_sum session_counts es e in
     let x = here_sum context_counts es e in
-    let y = here_sum anew_at es e in
-    λ i. record { messages = p i; first = q i; last = r i; by_session = u i; by_context = v i; of_session = w i; of_context = x i; anew = y i }
+    let y = here_sum open_in_session es e in
+    let z = here_sum open_in_context es e in
+    λ i. record { messages = p i; first = q i; last = r i; by_session = u i; by_context = v i; open_session = y i; open_context = z i; of_session = w i; of_context = x i }
 
 -- those of another one
 elsewhere : (session : Session) (es : List Entry) (e : Entry) → is_in session e ≡ false → totals_of session (es ++ e ∷ []) ≡ totals_of session es
@@ -120,8 +121,9 @@ elsewhere s es e not =
     let v = elsewhere_sum gap_in_context s es e not in
     let w = elsewhere_sum session_counts s es e not in
     let x = elsewhere_sum context_counts s es e not in
-    let y = elsewhere_sum anew_at s es e not in
-    λ i. record { messages = p i; first = q i; last = r i; by_session = u i; by_context = v i; of_session = w i; of_context = x i; anew = y i }
+    let y = elsewhere_sum open_in_session s es e not in
+    let z = elsewhere_sum open_in_context s es e not in
+    λ i. record { messages = p i; first = q i; last = r i; by_session = u i; by_context = v i; open_session = y i; open_context = z i; of_session = w i; of_context = x i }
 
 pub totals-one : (session : Session) (es : List Entry) (e : Entry) (old : Option Totals) → unwrap_or old no_totals ≡ totals_of session es →
     unwrap_or (cond (same_session e.session session) (Some (noted (totals_of e.session es) e (turn_of es e))) old) no_totals ≡ totals_of session (es ++ e ∷ [])
@@ -145,10 +147,8 @@ totals_kept old new es e now noted_so is keeps s =
 
 pub source_is : (a b : Source) → same_source a b ≡ true → a ≡ b
 source_is a b e =
-    let parts = both (bytes_eq a.ecu b.ecu) (bytes_eq a.apid b.apid) e in
-    let p = bytes_same a.ecu b.ecu parts.0 in
-    let q = bytes_same a.apid b.apid parts.1 in
-    λ i. record { ecu = p i; apid = q i }
+    let p = bytes_same a.apid b.apid e in
+    λ i. record { apid = p i }
 
 -- ---- an answer told the other way round
 

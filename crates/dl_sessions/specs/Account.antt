@@ -4,7 +4,7 @@ use Rattle.std.specs.Option.{option_map, option_or}
 use Rattle.std.specs.HashMap as hash
 use Rattle.dl_model.specs.Along.{along}
 use Rattle.dl_sessions.specs.Applications.{AreOf, next_number, tally_of}
-use Rattle.dl_sessions.specs.Gaps.{anew, anew_at, context_counts, counted, entries, gap, gap_in_context, gap_in_session, is_in, is_of, latest, latest_of, of_context, of_session, same_context, same_session, session_counts, source_of, turn_of}
+use Rattle.dl_sessions.specs.Gaps.{context_counts, counted, entries, gap_in_context, gap_in_session, is_in, is_of, latest, latest_of, of_context, of_session, unsure, open_in_context, open_in_session, passed, same_context, same_session, session_counts, source_of, turn_of}
 use Rattle.dl_sessions.specs.declared.account.Account.{Account}
 use Rattle.dl_sessions.specs.declared.account.Step.{Step}
 use Rattle.dl_sessions.specs.declared.session.Context.{Context}
@@ -30,9 +30,10 @@ totals_of session es = record {
   last = latest (is_in session) es;
   by_session = counted (sum (gaps gap_in_session session es));
   by_context = counted (sum (gaps gap_in_context session es));
+  open_session = counted (sum (gaps open_in_session session es));
+  open_context = counted (sum (gaps open_in_context session es));
   of_session = counted (sum (gaps session_counts session es));
   of_context = counted (sum (gaps context_counts session es));
-  anew = counted (sum (gaps anew_at session es));
 }
 
 -- the sessions, in the order of their first messages
@@ -54,6 +55,8 @@ hole_here before e = record {
   entry = e;
   by_session = gap_in_session (entries before) e;
   by_context = gap_in_context (entries before) e;
+  open_session = open_in_session (entries before) e;
+  open_context = open_in_context (entries before) e;
 }
 
 abbrev pub hole_at : List Told → Told → List Hole
@@ -66,7 +69,7 @@ holes stream = along hole_at stream
 -- ---- one message more
 
 abbrev pub no_totals : Totals
-no_totals = record { messages = 0; first = None; last = None; by_session = 0; by_context = 0; of_session = 0; of_context = 0; anew = 0 }
+no_totals = record { messages = 0; first = None; last = None; by_session = 0; by_context = 0; open_session = 0; open_context = 0; of_session = 0; of_context = 0 }
 
 -- what is counted of a session with one message more, which is this to its context
 abbrev pub noted : Totals → Entry → Turn → Totals
@@ -74,11 +77,12 @@ noted t e turn = record {
   messages = counted (t.messages + 1);
   first = option_or t.first (Some (latest_of e));
   last = Some (latest_of e);
-  by_session = counted (t.by_session + gap t.last e);
+  by_session = counted (t.by_session + passed t.last e);
   by_context = counted (t.by_context + turn.missing);
+  open_session = counted (t.open_session + unsure t.last e);
+  open_context = counted (t.open_context + turn.unsure);
   of_session = counted (t.of_session + of_session t.last turn.goes_on e);
   of_context = counted (t.of_context + of_context t.last turn.goes_on e);
-  anew = counted (t.anew + anew t.last e);
 }
 
 -- what is kept of contexts and of sessions
@@ -94,7 +98,7 @@ NotedContext es e turn contexts = (turn ≡ turn_of es e) × KeepsContexts conte
 
 abbrev pub NotedSession : {S : Type 0} → List Entry → Entry → Step → hash.HashMap Session Totals S → Type 0
 NotedSession es e step totals =
-    (step.by_session ≡ gap_in_session es e) × (step.is_first ≡ is_none (latest (is_in e.session) es)) × KeepsTotals totals (es ++ e ∷ [])
+    (step.by_session ≡ gap_in_session es e) × (step.unsure ≡ open_in_session es e) × (step.is_first ≡ is_none (latest (is_in e.session) es)) × KeepsTotals totals (es ++ e ∷ [])
 
 -- The account of a stream.
 pub record IsAfter (stream : List Told) (account : Account) : Type 0 where

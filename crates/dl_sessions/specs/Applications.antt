@@ -1,5 +1,5 @@
 -- What a stream of messages has of each application: its messages, and what its reports tell of lost ones.
-use Rattle.std.specs.Prelude.{◌≡◌, ℕ, ◌+◌, ◌==◌, ◌&&◌, not, Bool, false, List, [], ◌∷◌, fold, sum, sum_by, count_by, Option, Some, None, unwrap_or, if◌then◌else◌}
+use Rattle.std.specs.Prelude.{◌≡◌, ℕ, ◌+◌, ◌==◌, ◌&&◌, not, is_none, Bool, false, List, [], ◌∷◌, fold, sum, sum_by, count_by, Option, Some, None, unwrap_or, if◌then◌else◌}
 use Rattle.std.specs.Option.{option_map_or}
 use Rattle.std.specs.HashMap as hash
 use Rattle.dl_model.specs.Along.{along}
@@ -9,7 +9,7 @@ use Rattle.dl_sessions.specs.declared.session.Source.{Source}
 use Rattle.dl_sessions.specs.declared.session.Tally.{Tally}
 use Rattle.dl_sessions.specs.declared.session.Told.{Told}
 use Rattle.dl_sessions.specs.declared.session.Told.TheVariants as told
-use Rattle.dl_sessions.specs.Gaps.{counted, entries, gap_in_context, gap_in_session, same_source, source_of}
+use Rattle.dl_sessions.specs.Gaps.{counted, entries, gap_in_context, gap_in_session, is_in, latest, same_source, source_of}
 
 -- ---- what is counted of an application
 
@@ -17,7 +17,7 @@ use Rattle.dl_sessions.specs.Gaps.{counted, entries, gap_in_context, gap_in_sess
 abbrev pub source_in : Told → Option Source
 source_in (told.Log e) = Some (source_of e.session)
 source_in (told.Lost l) = Some l.source
-source_in told.Other = None
+source_in _ = None
 
 abbrev pub is_message_of : Source → Told → Bool
 is_message_of source (told.Log e) = same_source (source_of e.session) source
@@ -41,19 +41,29 @@ has_hole before _ = false
 abbrev pub hole_of : Source → List Told → Told → List Bool
 hole_of source before t = if is_message_of source t then has_hole before t ∷ [] else []
 
+-- whether a message is the first of its session
+abbrev pub is_first : List Told → Told → Bool
+is_first before (told.Log e) = is_none (latest (is_in e.session) (entries before))
+is_first before _ = false
+
+-- 1 at each first message of a session of an application
+abbrev pub session_of : Source → List Told → Told → List ℕ
+session_of source before t = if is_message_of source t then (if is_first before t then 1 else 0) ∷ [] else []
+
 abbrev pub last_of : List Bool → Bool
 last_of flags = fold (λ so_far flag. flag) false flags
 
 abbrev pub tally_of : Source → List Told → Tally
 tally_of source stream = record {
   messages = counted (count_by (is_message_of source) stream);
+  sessions = counted (sum (along (session_of source) stream));
   reports = counted (count_by (is_report_of source) stream);
   lost = counted (sum_by (lost_in source) stream);
   has_hole = last_of (along (hole_of source) stream);
 }
 
 abbrev pub no_tally : Tally
-no_tally = record { messages = 0; reports = 0; lost = 0; has_hole = false }
+no_tally = record { messages = 0; sessions = 0; reports = 0; lost = 0; has_hole = false }
 
 -- the number of an application's next message
 abbrev pub next_number : Tally → ℕ
@@ -92,8 +102,9 @@ sources stream = along first_of stream
 
 -- ---- what is kept
 
-abbrev pub noted_message : Tally → Bool → Tally
-noted_message tally flag = record tally { messages = next_number tally; has_hole = flag }
+-- a message more: messages are missing before it or not, and it is the first of its session or not
+abbrev pub noted_message : Tally → Bool → Bool → Tally
+noted_message tally flag first = record tally { messages = next_number tally; sessions = counted (tally.sessions + (if first then 1 else 0)); has_hole = flag }
 
 abbrev pub noted_report : Tally → ℕ → Tally
 noted_report tally count = record tally { reports = counted (tally.reports + 1); lost = counted (tally.lost + count) }

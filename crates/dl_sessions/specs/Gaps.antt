@@ -16,8 +16,9 @@ use Rattle.dl_sessions.specs.declared.session.Turn.{Turn}
 
 -- ---- who is who
 
+-- an application is known by its APID alone: a program may name another ECU than the daemon that writes records of it
 abbrev pub same_source : Source → Source → Bool
-same_source a b = bytes_eq a.ecu b.ecu && bytes_eq a.apid b.apid
+same_source a b = bytes_eq a.apid b.apid
 
 abbrev pub same_session : Session → Session → Bool
 same_session a b = bytes_eq a.ecu b.ecu && (bytes_eq a.apid b.apid && a.seid == b.seid)
@@ -27,7 +28,7 @@ same_context a b = bytes_eq a.ecu b.ecu && (bytes_eq a.apid b.apid && (a.seid ==
 
 -- the application of a session
 abbrev pub source_of : Session → Source
-source_of session = record { ecu = session.ecu; apid = session.apid }
+source_of session = record { apid = session.apid }
 
 -- the context of a message
 abbrev pub context_of : Entry → Context
@@ -66,16 +67,36 @@ begins_anew last e = nat_lt e.ticks last.ticks && e.mcnt == 0
 abbrev pub gap : Option Latest → Entry → ℕ
 gap last e = option_map_or (λ l. if begins_anew l e then 0 else passed_over l.mcnt e.mcnt) last 0
 
+-- all counters that were passed over since the last message
+abbrev pub passed : Option Latest → Entry → ℕ
+passed last e = option_map_or (λ l. passed_over l.mcnt e.mcnt) last 0
+
+-- Who counts may have begun anew with a message, since another counter was due: this one is 0, or the timestamp falls back. Else messages are missing.
+-- The bytes don't tell which.
+abbrev pub may_begin : Latest → Entry → Bool
+may_begin l e = not (passed_over l.mcnt e.mcnt == 0) && (e.mcnt == 0 || nat_lt e.ticks l.ticks)
+
+-- the counters that were passed over where who counts may have begun anew
+abbrev pub unsure : Option Latest → Entry → ℕ
+unsure last e = option_map_or (λ l. if may_begin l e then passed_over l.mcnt e.mcnt else 0) last 0
+
 -- the last message that passes a test
 abbrev pub latest : (Entry → Bool) → List Entry → Option Latest
 latest test es = option_map latest_of (last_that test es)
 
--- how many are missing before a message, after those before it: where its session counts, and where its context does
+-- how many counters were passed over before a message, after those before it: where its session counts, and where its context does
 abbrev pub gap_in_session : List Entry → Entry → ℕ
-gap_in_session before e = gap (latest (is_in e.session) before) e
+gap_in_session before e = passed (latest (is_in e.session) before) e
 
 abbrev pub gap_in_context : List Entry → Entry → ℕ
-gap_in_context before e = gap (latest (is_of (context_of e)) before) e
+gap_in_context before e = passed (latest (is_of (context_of e)) before) e
+
+-- how many of them where it may have begun anew
+abbrev pub open_in_session : List Entry → Entry → ℕ
+open_in_session before e = unsure (latest (is_in e.session) before) e
+
+abbrev pub open_in_context : List Entry → Entry → ℕ
+open_in_context before e = unsure (latest (is_of (context_of e)) before) e
 
 -- ---- who counts
 
@@ -84,7 +105,7 @@ abbrev pub goes_on : Option Latest → Entry → Bool
 goes_on last e = gap last e == 0 && (if is_some last then true else e.mcnt == 0)
 
 abbrev pub turn : Option Latest → Entry → Turn
-turn last e = record { missing = gap last e; goes_on = goes_on last e }
+turn last e = record { missing = passed last e; unsure = unsure last e; goes_on = goes_on last e }
 
 abbrev pub turn_of : List Entry → Entry → Turn
 turn_of before e = turn (latest (is_of (context_of e)) before) e
@@ -98,15 +119,8 @@ of_session last in_context e = if is_some last && (gap last e == 0 && not in_con
 abbrev pub of_context : Option Latest → Bool → Entry → ℕ
 of_context last in_context e = if (nat_le 127 (gap last e) && in_context) || e.calls.are_told then 1 else 0
 
--- 1 where who counts has begun anew
-abbrev pub anew : Option Latest → Entry → ℕ
-anew last e = if option_map_or (λ l. begins_anew l e) last false then 1 else 0
-
 abbrev pub session_counts : List Entry → Entry → ℕ
 session_counts before e = of_session (latest (is_in e.session) before) (goes_on (latest (is_of (context_of e)) before) e) e
 
 abbrev pub context_counts : List Entry → Entry → ℕ
 context_counts before e = of_context (latest (is_in e.session) before) (goes_on (latest (is_of (context_of e)) before) e) e
-
-abbrev pub anew_at : List Entry → Entry → ℕ
-anew_at before e = anew (latest (is_in e.session) before) e

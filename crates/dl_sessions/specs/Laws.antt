@@ -1,5 +1,5 @@
 -- What the account of a stream says of a writer's calls.
-use Rattle.std.specs.Prelude.{◌≡◌, ℕ, ◌+◌, ◌<◌, ◌&&◌, not, Bool, true, false, List, [], ◌∷◌, ◌++◌, count_by, map, sum, if◌then◌else◌}
+use Rattle.std.specs.Prelude.{◌≡◌, ℕ, ◌+◌, ◌<◌, ◌&&◌, not, Bool, true, false, List, [], ◌∷◌, ◌++◌, count_by, map, if◌then◌else◌}
 use Rattle.std.specs.List.{filter, list_any, AllByRecursion}
 use Rattle.dl_events.specs.declared.record.Record.{Record}
 use Rattle.dl_events.specs.declared.record.Answer.TheVariants as answer
@@ -7,8 +7,8 @@ use Rattle.dl_model.specs.Accounts.{AreCounted}
 use Rattle.dl_model.specs.Report.{is_answer}
 use Rattle.dl_sessions.specs.declared.session.Entry.{Entry}
 use Rattle.dl_sessions.specs.declared.session.Session.{Session}
-use Rattle.dl_sessions.specs.Account.{gaps, totals_of}
-use Rattle.dl_sessions.specs.Gaps.{anew_at, counted, is_in}
+use Rattle.dl_sessions.specs.Account.{totals_of}
+use Rattle.dl_sessions.specs.Gaps.{counted, is_in}
 
 -- a call of a writer, and whether a stream has its message
 pub record Call : Type 0 where
@@ -45,11 +45,8 @@ pub record Recorded (session : Session) (es : List Entry) (before middle behind 
   pub none_behind : list_any (λ c. c.is_here) behind ≡ false
   pub first_here : first.is_here ≡ true
   pub last_here : last.is_here ≡ true
-  -- no session begins anew in it
-  pub goes_on : sum (gaps anew_at session es) ≡ 0
 
--- What is said to be missing of a session are the calls of its span that passed their levels and are not here, where fewer than 256 of them stand
--- in a row.
+-- What was passed over of a session are the calls of its span that passed their levels and are not here, where fewer than 256 of them stand in a row.
 abbrev pub MissingAreCalls : Type 0
 MissingAreCalls = (session : Session) (es : List Entry) (before middle behind : List Call) (first last : Call) → Recorded session es before middle behind first last
     → FewInRow 0 (middle ++ last ∷ []) → (totals_of session es).by_session ≡ counted (count_by is_lacking middle)

@@ -1,5 +1,5 @@
 -- The accounts that programs give of their own calls, beside what a stream has of these.
-use Rattle.std.specs.Prelude.{◌≡◌, ℕ, ◌+◌, ◌-◌, ◌==◌, not, nat_lt, Bool, false, List, [], ◌∷◌, ◌++◌, length, sum, count_by, codes, Some, None, unwrap_or, if◌then◌else◌}
+use Rattle.std.specs.Prelude.{◌≡◌, ℕ, ◌+◌, ◌-◌, ◌==◌, not, nat_le, nat_lt, Bool, false, List, [], ◌∷◌, ◌++◌, length, sum, count_by, codes, Some, None, unwrap_or, if◌then◌else◌}
 use Rattle.std.specs.Fmt.{decimal}
 use Rattle.std.specs.HashMap as hash
 use Rattle.std.specs.List.{after_last}
@@ -64,7 +64,7 @@ accounts_missing before e = (with_message (since_of (context_of e) before) e).mi
 abbrev pub verdict_text : Calls → Since → ℕ → List ℕ
 verdict_text calls since lacking =
     if since.accounts == 0 then codes "; the first one here"
-    else if not (lacking == 0) then codes "; one before it is missing"
+    else if not (lacking == 0) then codes "; one before it is missing, or it began anew"
     else if nat_lt calls.queued since.messages then codes "; refused: " ++ decimal since.messages ++ codes " here since the one before"
     else if nat_lt (calls.queued + calls.lost) (since.messages + since.missing) then codes "; refused: counters of " ++ decimal (since.messages + since.missing) ++ codes " since the one before"
     else codes "; " ++ decimal since.messages ++ codes " here since the one before, " ++ decimal (calls.queued - since.messages) ++ codes " missing behind the program"
@@ -96,11 +96,27 @@ abbrev pub account_here : List Told → Entry → Calls → List ℕ
 account_here before e calls =
     account_text (counted (length before + 1)) e calls (since_of (about e calls) (entries before)) (accounts_missing (entries before) e)
 
+-- ---- what is said of messages that were not stored
+
+-- A trace that is begun anew begins with the record: what it tells of would stand between the message before it and the record itself.
+unfoldable pub ahead_words : ℕ → List ℕ
+ahead_words place =
+    if nat_le place 1 then codes " messages before this record"
+    else codes " messages between message " ++ decimal (place - 1) ++ codes " and this record"
+
+-- the number of the record in the stream, and how many messages were not stored there
+unfoldable pub record_text : ℕ → ℕ → List ℕ
+record_text place count = codes "unstored " ++ decimal place ++ codes ": " ++ decimal count ++ ahead_words place
+
+abbrev pub unstored_text : ℕ → ℕ → List ℕ
+unstored_text place count = record_text place count ++ codes ", of all applications: the trace had ended\n"
+
 abbrev pub account_line : List Told → Told → List ℕ
 account_line before (told.Log e) = option_map_or (account_here before e) (calls_in e.calls) []
+account_line before (told.Unstored count) = unstored_text (counted (length before + 1)) count
 account_line before _ = []
 
--- The lines of a stream's accounts, in their order.
+-- The lines of a stream's accounts and of its records of messages that were not stored, in their order.
 abbrev pub accounts_text : List Told → List ℕ
 accounts_text stream = along account_line stream
 

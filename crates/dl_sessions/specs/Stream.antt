@@ -65,23 +65,23 @@ entry_in standard extended payload ecu ticks =
     option_map_or (λ head. entry_by standard.session standard.mcnt head.apid head.ctid ecu ticks (calls_by head.msin head.noar head.ctid payload)) extended told.Other
 
 -- what a report of lost messages tells: with APID DA1 and CTID TRCE those were not stored, and no ring or buffer was full
-abbrev pub lost_by : (apid ctid ecu : List ℕ) → ℕ → Told
-lost_by apid ctid ecu counter =
-    if bytes_eq apid daemon_apid && bytes_eq ctid (codes "TRCE") then told.Other
-    else told.Lost (record { source = record { ecu = ecu; apid = apid }; count = counter })
+abbrev pub lost_by : (apid ctid : List ℕ) → ℕ → Told
+lost_by apid ctid counter =
+    if bytes_eq apid daemon_apid && bytes_eq ctid (codes "TRCE") then told.Unstored counter
+    else told.Lost (record { source = record { apid = apid }; count = counter })
 
 -- the report of lost messages, or any other message
-abbrev pub told_by : Kind → (context ecu : List ℕ) → Told → Told
-told_by (Overflow apid counter) context ecu entry = lost_by apid context ecu counter
-told_by (Log seid mcnt apid ctid len) context ecu entry = entry
-told_by (Other len) context ecu entry = entry
+abbrev pub told_by : Kind → (context : List ℕ) → Told → Told
+told_by (Overflow apid counter) context entry = lost_by apid context counter
+told_by (Log seid mcnt apid ctid len) context entry = entry
+told_by (Other len) context entry = entry
 
 -- CTID, where HTYP says that an extended header is there
 abbrev pub context_of : List ℕ → List ℕ
 context_of message = if has_extended (htyp_of message) then ctid_of message else zero_id
 
 abbrev pub told_of : List ℕ → List ℕ → Told
-told_of ecu message = told_by (kind_of message) (context_of message) (ecu_of ecu message) (entry_at (ecu_of ecu message) (ticks_of message) message)
+told_of ecu message = told_by (kind_of message) (context_of message) (entry_at (ecu_of ecu message) (ticks_of message) message)
 
 -- ---- where messages stand
 

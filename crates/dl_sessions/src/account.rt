@@ -3,10 +3,10 @@
 ghost use Rattle.std.specs.Prelude.{◌≡◌, ◌++◌, ◌∷◌, ◌&&◌, [], List, IfOk, OnOk, nat_eq, not, unwrap_or, if◌then◌else◌};
 ghost use Rattle.std.specs.HashMap as hash;
 ghost use Rattle.std.specs.List.{flat_map};
-ghost use Rattle.dl_sessions.specs.Printing.{application_by, hole_by, losses_by, missing_by, missing_of, session_by};
+ghost use Rattle.dl_sessions.specs.Printing.{application_by, hole_by, losses_by, missing_by, missing_of, open_by, open_of, session_by};
 ghost use Rattle.dl_sessions.specs.Text.{printed};
 ghost use Rattle.dl_sessions.specs.Account.{IsAfter, KeepsContexts, KeepsTotals, NotedContext, NotedSession, hole_if, holes, noted, no_totals, sessions, totals_of};
-ghost use Rattle.dl_sessions.specs.Gaps.{anew, begins_anew, entries, gap, goes_on, latest_of, of_context, of_session, same_session, same_source, source_of, turn, turn_of};
+ghost use Rattle.dl_sessions.specs.Gaps.{begins_anew, entries, gap, goes_on, latest_of, may_begin, of_context, of_session, unsure, passed, same_session, same_source, source_of, turn, turn_of};
 ghost use Rattle.dl_sessions.specs.declared.session.Entry.{Entry};
 ghost use Rattle.dl_sessions.specs.declared.session.Told.{Told};
 ghost use Rattle.dl_sessions.specs.declared.session.Told.TheVariants as told;
@@ -16,7 +16,8 @@ use crate::session::{
     Context, Entry, Hole, Latest, Losses, Position, Session, Source, Told, Totals, Turn,
 };
 use crate::text::{
-    missing, push_application as push_application_line, push_hole as push_hole_line, push_totals,
+    is_open, missing, push_application as push_application_line, push_hole as push_hole_line,
+    push_totals, told_alone,
 };
 use dl_bytes::{Id, OutOfMemory};
 use std::alloc::Global;
@@ -65,7 +66,35 @@ pub fn gap(last: Option<Latest>, entry: &Entry) -> u8
 {
     match last {
         Some(last) if begins_anew(last, entry) => 0,
+        Some(last) => passed(Some(last), entry),
+        None => 0,
+    }
+}
+
+/// All counters that were passed over since the last message.
+fn passed(last: Option<Latest>, entry: &Entry) -> u8
+    ensures { result ≡ passed last entry.now }
+{
+    match last {
         Some(last) => entry.mcnt.wrapping_sub(last.mcnt).wrapping_sub(1),
+        None => 0,
+    }
+}
+
+/// Whether who counts may have begun anew with a message: another counter was due, and this one is 0 or its timestamp falls back.
+fn may_begin(last: Latest, entry: &Entry) -> bool
+    ensures { result ≡ may_begin last entry.now }
+{
+    passed(Some(last), entry) != 0 && (entry.mcnt == 0 || entry.ticks < last.ticks)
+}
+
+/// The counters that were passed over since the last message, where who counts may have begun anew.
+fn unsure(last: Option<Latest>, entry: &Entry) -> u8
+    ensures { result ≡ unsure last entry.now }
+{
+    match last {
+        Some(last) if may_begin(last, entry) => passed(Some(last), entry),
+        Some(_) => 0,
         None => 0,
     }
 }
@@ -82,7 +111,8 @@ fn turn(last: Option<Latest>, entry: &Entry) -> Turn
     ensures { result ≡ turn last entry.now }
 {
     Turn {
-        missing: gap(last, entry),
+        missing: passed(last, entry),
+        unsure: unsure(last, entry),
         goes_on: goes_on(last, entry),
     }
 }
@@ -109,17 +139,6 @@ pub fn of_context(last: Option<Latest>, in_context: bool, entry: &Entry) -> u64
     }
 }
 
-/// Whether who counts has begun anew.
-fn anew(last: Option<Latest>, entry: &Entry) -> u64
-    ensures { result ≡ anew last entry.now }
-{
-    match last {
-        Some(last) if begins_anew(last, entry) => 1,
-        Some(_) => 0,
-        None => 0,
-    }
-}
-
 /// What is counted of a session that has no message.
 fn no_totals() -> Totals
     ensures { result ≡ no_totals }
@@ -130,9 +149,10 @@ fn no_totals() -> Totals
         last: None,
         by_session: 0,
         by_context: 0,
+        open_session: 0,
+        open_context: 0,
         of_session: 0,
         of_context: 0,
-        anew: 0,
     }
 }
 
@@ -147,19 +167,24 @@ fn noted(totals: &Totals, entry: &Entry, turn: Turn) -> Totals
         messages: totals.messages.saturating_add(1),
         first: totals.first.or(Some(latest_of(entry))),
         last: Some(latest_of(entry)),
-        by_session: totals.by_session.saturating_add(gap(last, entry) as u64),
+        by_session: totals.by_session.saturating_add(passed(last, entry) as u64),
         by_context: totals.by_context.saturating_add(turn.missing as u64),
+        open_session: totals
+            .open_session
+            .saturating_add(unsure(last, entry) as u64),
+        open_context: totals.open_context.saturating_add(turn.unsure as u64),
         of_session: totals.of_session.saturating_add(of_session),
         of_context: totals.of_context.saturating_add(of_context),
-        anew: totals.anew.saturating_add(anew(last, entry)),
     }
 }
 
 /// What a message is to its session.
 #[derive(Clone, Copy)]
 struct Step {
-    /// How many are missing before it, where the session counts its messages.
+    /// How many counters were passed over before it, where the session counts its messages.
     by_session: u8,
+    /// The same where the session may have begun anew; else 0.
+    unsure: u8,
     /// Whether it is the first of its session.
     is_first: bool,
 }
@@ -198,7 +223,8 @@ fn note_session(
 {
     let old = totals_so_far(totals, &entry.session);
     let step = Step {
-        by_session: gap(old.last, entry),
+        by_session: passed(old.last, entry),
+        unsure: unsure(old.last, entry),
         is_first: old.last.is_none(),
     };
     totals.insert(entry.session, noted(&old, entry, turn))?;
@@ -250,8 +276,9 @@ fn push_holes(
             source: source_of(&hole.entry.session),
             number: hole.number,
         };
-        let told = applications.told(&position);
         let counted = totals_so_far(totals, &hole.entry.session);
+        let tally = applications.tally(&position.source);
+        let told = told_alone(&counted, &tally, applications.told(&position));
         push_hole_line(text, &counted, hole, told)?;
     }
     Ok(())
@@ -275,7 +302,7 @@ fn push_sessions(
 fn is_of_source(source: &Source, session: &Session) -> bool
     ensures { result ≡ same_source (source_of session.now) source.now }
 {
-    session.ecu == source.ecu && session.apid == source.apid
+    session.apid == source.apid
 }
 
 /// How many messages of a session are missing, where it is of this application.
@@ -300,13 +327,34 @@ fn missing_in(totals: &HashMap<Session, Totals>, source: &Source, sessions: &[Se
     total
 }
 
-/// What was told of an application's lost messages, and of those that the buffer of its ECU refused.
+/// 1 for a session that is of this application, and of which what is missing is open.
+fn open_of(totals: &HashMap<Session, Totals>, source: &Source, session: &Session) -> u64
+    ensures { result ≡ open_of totals.now source.now session.now }
+{
+    if is_of_source(source, session) && is_open(&totals_so_far(totals, session)) {
+        1
+    } else {
+        0
+    }
+}
+
+/// How many sessions of an application are open.
+fn open_in(totals: &HashMap<Session, Totals>, source: &Source, sessions: &[Session]) -> u64
+    ensures { result ≡ open_by totals.now source.now sessions.now }
+{
+    let mut total: u64 = 0;
+    for session in sessions {
+        total = total.saturating_add(open_of(totals, source, session));
+    }
+    total
+}
+
+/// What was told of an application's lost messages, and of those that the buffer refused.
 fn losses_of(applications: &Applications, source: &Source) -> Losses
     ensures { result ≡ losses_by applications.now source.now }
 {
     let tally = applications.tally(source);
     let buffer = Source {
-        ecu: source.ecu,
         apid: Id::from_bytes(DAEMON),
     };
     let first = Position {
@@ -319,6 +367,7 @@ fn losses_of(applications: &Applications, source: &Source) -> Losses
     };
     Losses {
         messages: tally.messages,
+        sessions: tally.sessions,
         told: tally.lost,
         before: applications.told(&first),
         behind: applications.told(&next),
@@ -349,7 +398,9 @@ impl Account {
         let step = note_session(&mut self.totals, entry, turn)?;
         push_first(&mut self.sessions, step.is_first, &entry.session)?;
         let is_behind_hole = is_missing(step.by_session, turn.missing);
-        let number = self.applications.note_message(entry, is_behind_hole)?;
+        let number = self
+            .applications
+            .note_message(entry, is_behind_hole, step.is_first)?;
         self.messages = self.messages.saturating_add(1);
         let hole = Hole {
             place: self.messages,
@@ -357,6 +408,8 @@ impl Account {
             entry: *entry,
             by_session: step.by_session,
             by_context: turn.missing,
+            open_session: step.unsure,
+            open_context: turn.unsure,
         };
         push_hole(&mut self.holes, hole)
     }
@@ -370,6 +423,10 @@ impl Account {
             Told::Lost(report) => {
                 self.messages = self.messages.saturating_add(1);
                 self.applications.note_report(report)
+            }
+            Told::Unstored(_) => {
+                self.messages = self.messages.saturating_add(1);
+                Ok(())
             }
             Told::Other => {
                 self.messages = self.messages.saturating_add(1);
@@ -404,8 +461,9 @@ impl Account {
         ensures { OnOk result (text.new.items ≡ text.old.items ++ application_by self.now source.now) }
     {
         let missing = missing_in(&self.totals, source, &self.sessions);
+        let unsure = open_in(&self.totals, source, &self.sessions);
         let losses = losses_of(&self.applications, source);
-        push_application_line(text, source, missing, &losses)
+        push_application_line(text, source, missing, unsure, &losses)
     }
 
     /// Adds the lines of applications.

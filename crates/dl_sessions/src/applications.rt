@@ -2,7 +2,7 @@
 
 ghost use Rattle.std.specs.Prelude.{◌≡◌, ◌++◌, ◌∷◌, [], List, IfOk, OnOk, not, unwrap_or, if◌then◌else◌};
 ghost use Rattle.std.specs.HashMap as hash;
-ghost use Rattle.dl_sessions.specs.Applications.{AreOf, has_hole, is_heard, next_number, no_tally, noted_message, noted_report, owner, same_position, tally_by, tally_of, told_by};
+ghost use Rattle.dl_sessions.specs.Applications.{AreOf, has_hole, is_first as is_first_of, is_heard, next_number, no_tally, noted_message, noted_report, owner, same_position, tally_by, tally_of, told_by};
 ghost use Rattle.dl_sessions.specs.Gaps.{same_source, source_of};
 ghost use Rattle.dl_sessions.specs.declared.session.Told.{Told};
 ghost use Rattle.dl_sessions.specs.declared.session.Told.TheVariants as told;
@@ -27,10 +27,7 @@ pub struct Applications {
 pub fn source_of(session: &Session) -> Source
     ensures { result ≡ source_of session.now }
 {
-    Source {
-        ecu: session.ecu,
-        apid: session.apid,
-    }
+    Source { apid: session.apid }
 }
 
 /// What is counted of an application that has no message.
@@ -39,6 +36,7 @@ fn no_tally() -> Tally
 {
     Tally {
         messages: 0,
+        sessions: 0,
         reports: 0,
         lost: 0,
         has_hole: false,
@@ -52,12 +50,13 @@ pub fn next_number(tally: &Tally) -> u64
     tally.messages.saturating_add(1)
 }
 
-/// What is counted of an application with one message more, before which messages are missing or not.
-fn noted_message(tally: &Tally, is_behind_hole: bool) -> Tally
-    ensures { result ≡ noted_message tally.now is_behind_hole }
+/// What is counted of an application with one message more, before which messages are missing or not, and which is the first of its session or not.
+fn noted_message(tally: &Tally, is_behind_hole: bool, is_first: bool) -> Tally
+    ensures { result ≡ noted_message tally.now is_behind_hole is_first }
 {
     Tally {
         messages: next_number(tally),
+        sessions: tally.sessions.saturating_add(if is_first { 1 } else { 0 }),
         has_hole: is_behind_hole,
         ..*tally
     }
@@ -135,15 +134,21 @@ impl Applications {
         }
     }
 
-    /// Notes a message, before which messages are missing or not. Answers its number among those of its application.
-    pub fn note_message(&mut self, entry: &Entry, is_behind_hole: bool) -> Result<u64, OutOfMemory>
-        ensures { (stream : List Told) → AreOf stream self.old → is_behind_hole ≡ has_hole stream (told.Log entry.now)
+    /// Notes a message, before which messages are missing or not, and which is the first of its session or not. Answers its number among those of its
+    /// application.
+    pub fn note_message(
+        &mut self,
+        entry: &Entry,
+        is_behind_hole: bool,
+        is_first: bool,
+    ) -> Result<u64, OutOfMemory>
+        ensures { (stream : List Told) → AreOf stream self.old → is_behind_hole ≡ has_hole stream (told.Log entry.now) → is_first ≡ is_first_of stream (told.Log entry.now)
             → IfOk result (λ number. (number ≡ next_number (tally_of (source_of entry.now.session) stream)) × AreOf (stream ++ told.Log entry.now ∷ []) self.new) }
     {
         let source = source_of(&entry.session);
         let tally = tally_so_far(&self.tallies, &source);
         push_first(&mut self.sources, &tally, source)?;
-        let noted = noted_message(&tally, is_behind_hole);
+        let noted = noted_message(&tally, is_behind_hole, is_first);
         self.tallies.insert(source, noted)?;
         Ok(noted.messages)
     }

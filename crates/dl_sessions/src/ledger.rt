@@ -1,10 +1,10 @@
-//! The accounts that programs give of their own calls, beside what a stream has of these.
+//! The accounts that programs give of their own calls, beside what a stream has of these, and the daemon's records of messages that were not stored.
 
 ghost use Rattle.std.specs.Prelude.{◌≡◌, ◌+◌, ◌++◌, ◌∷◌, [], List, IfOk, OnOk, Some, None, length, unwrap_or, if◌then◌else◌};
 ghost use Rattle.std.specs.HashMap as hash;
 ghost use Rattle.dl_sessions.specs.Calls.{calls_in};
 ghost use Rattle.dl_sessions.specs.Gaps.{context_of, counted, entries, same_context};
-ghost use Rattle.dl_sessions.specs.Ledger.{HasPut, IsLedgerOf, KeepsSince, Notes, about, about_text, account_text, accounts_text, calls_text, filtered_text, heading_text, no_since, place_text, queued_text, verdict_text, with_account, with_message};
+ghost use Rattle.dl_sessions.specs.Ledger.{HasPut, IsLedgerOf, KeepsSince, Notes, about, about_text, account_text, accounts_text, ahead_words, calls_text, filtered_text, heading_text, no_since, place_text, queued_text, record_text, unstored_text, verdict_text, with_account, with_message};
 ghost use Rattle.dl_sessions.specs.declared.session.Entry.{Entry};
 ghost use Rattle.dl_sessions.specs.declared.session.Told.{Told};
 ghost use Rattle.dl_sessions.specs.declared.session.Told.TheVariants as told;
@@ -111,7 +111,7 @@ fn push_verdict(
         return text.extend_from_slice(b"; the first one here");
     }
     if lacking != 0 {
-        return text.extend_from_slice(b"; one before it is missing");
+        return text.extend_from_slice(b"; one before it is missing, or it began anew");
     }
     if calls.queued < since.messages {
         push_number(text, b"; refused: ", since.messages)?;
@@ -208,6 +208,40 @@ fn push_account(
     text.extend_from_slice(b"\n")
 }
 
+/// Adds between which messages those stand that were not stored.
+#[tactic(auto, unfolding(crate::specs::Ledger::ahead_words))]
+fn push_ahead(text: &mut Vec<u8>, place: u64) -> Result<(), OutOfMemory>
+    ensures { OnOk result (text.new.items ≡ text.old.items ++ ahead_words place) }
+{
+    if place <= 1 {
+        return text.extend_from_slice(b" messages before this record");
+    }
+    push_counted(
+        text,
+        b" messages between message ",
+        place - 1,
+        b" and this record",
+    )
+}
+
+/// Adds the number in the stream of a record of messages that were not stored, and how many these are.
+#[tactic(auto, unfolding(crate::specs::Ledger::record_text))]
+fn push_record(text: &mut Vec<u8>, place: u64, count: u32) -> Result<(), OutOfMemory>
+    ensures { OnOk result (text.new.items ≡ text.old.items ++ record_text place count) }
+{
+    push_number(text, b"unstored ", place)?;
+    push_number(text, b": ", count as u64)?;
+    push_ahead(text, place)
+}
+
+/// Adds the line of a record of messages that were not stored.
+fn push_unstored(text: &mut Vec<u8>, place: u64, count: u32) -> Result<(), OutOfMemory>
+    ensures { OnOk result (text.new.items ≡ text.old.items ++ unstored_text place count) }
+{
+    push_record(text, place, count)?;
+    text.extend_from_slice(b", of all applications: the trace had ended\n")
+}
+
 /// Notes a message of its context. Answers what came since the context's last account, with it.
 fn note_message(kept: &mut HashMap<Context, Since>, entry: &Entry) -> Result<Since, OutOfMemory>
     ensures value { IfOk result (λ since. since ≡ with_message (unwrap_or (hash.get same_context kept.old (context_of entry.now)) no_since) entry.now) }
@@ -260,7 +294,7 @@ fn note_entry(
     }
 }
 
-/// Notes a message with this place in the stream, and adds its line where it is an account.
+/// Notes a message with this place in the stream, and adds its line where it is an account, or a record of messages that were not stored.
 fn note(
     kept: &mut HashMap<Context, Since>,
     text: &mut Vec<u8>,
@@ -272,6 +306,7 @@ fn note(
 {
     match told {
         Told::Log(entry) => note_entry(kept, text, place, entry),
+        Told::Unstored(count) => push_unstored(text, place, *count),
         Told::Lost(_) => Ok(()),
         Told::Other => Ok(()),
     }

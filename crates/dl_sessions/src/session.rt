@@ -2,11 +2,9 @@
 
 use dl_bytes::Id;
 
-/// Who sends messages: an application of an ECU.
+/// Who sends messages: an application, in whatever ECU. The messages of a program and the daemon's records of it need not name the same one.
 #[derive(Clone, Copy, PartialEq, Eq, Hash)]
 pub struct Source {
-    /// The ECU.
-    pub ecu: Id,
     /// APID: the application.
     pub apid: Id,
 }
@@ -114,6 +112,8 @@ pub enum Told {
     Log(Entry),
     /// The report of lost messages.
     Lost(Lost),
+    /// The record of messages that a trace did not store while it had ended: how many.
+    Unstored(u32),
     /// A message that tells no session: nothing.
     Other,
 }
@@ -121,8 +121,10 @@ pub enum Told {
 /// What a message is to its context.
 #[derive(Clone, Copy, PartialEq, Eq)]
 pub struct Turn {
-    /// How many are missing before it, where each context counts its own: modulo 256.
+    /// How many counters were passed over before it, where each context counts its own: modulo 256.
     pub missing: u8,
+    /// The same where its context may have begun anew; else 0.
+    pub unsure: u8,
     /// Whether its counter goes on from the context's last one, or is the first, 0, of a new context.
     pub goes_on: bool,
 }
@@ -136,16 +138,18 @@ pub struct Totals {
     pub first: Option<Latest>,
     /// The last.
     pub last: Option<Latest>,
-    /// How many are missing, where the session counts its messages.
+    /// How many counters were passed over, where the session counts its messages.
     pub by_session: u64,
-    /// How many are missing, where each context counts its own.
+    /// How many, where each context counts its own.
     pub by_context: u64,
+    /// How many of the first were passed over where the session may have begun anew.
+    pub open_session: u64,
+    /// How many of the second were passed over where the context may have begun anew.
+    pub open_context: u64,
     /// How many messages go on from the session's last counter, and not from their context's.
     pub of_session: u64,
     /// How many messages go on from their context's last counter, and step back or stand still in the session.
     pub of_context: u64,
-    /// How often who counts has begun anew.
-    pub anew: u64,
 }
 
 /// What is counted of an application.
@@ -153,6 +157,8 @@ pub struct Totals {
 pub struct Tally {
     /// How many messages it has.
     pub messages: u64,
+    /// In how many sessions.
+    pub sessions: u64,
     /// How many reports of lost messages.
     pub reports: u64,
     /// How many messages these tell as lost.
@@ -166,13 +172,15 @@ pub struct Tally {
 pub struct Losses {
     /// How many messages it has.
     pub messages: u64,
+    /// In how many sessions.
+    pub sessions: u64,
     /// How many were reported as lost.
     pub told: u64,
     /// How many of these before its first message.
     pub before: u64,
     /// How many of these behind its last one.
     pub behind: u64,
-    /// How many messages the buffer of its ECU's daemon was reported to have refused.
+    /// How many messages of all applications the daemon's buffer was reported to have refused.
     pub buffer: u64,
 }
 
@@ -185,8 +193,12 @@ pub struct Hole {
     pub number: u64,
     /// What that message tells.
     pub entry: Entry,
-    /// How many are missing, where the session counts its messages: modulo 256.
+    /// How many counters were passed over, where the session counts its messages: modulo 256.
     pub by_session: u8,
-    /// How many are missing, where each context counts its own: modulo 256.
+    /// How many, where each context counts its own: modulo 256.
     pub by_context: u8,
+    /// The first number, where the session may have begun anew; else 0.
+    pub open_session: u8,
+    /// The second number, where the context may have begun anew; else 0.
+    pub open_context: u8,
 }

@@ -82,24 +82,24 @@ fn context_in(extended: Option<Extended>) -> Id
 }
 
 /// What a report of lost messages tells. With APID `DA1` and CTID `TRCE` those were not stored, and no ring or buffer was full.
-fn lost_by(apid: Id, ctid: Id, ecu: Id, count: u32) -> Told
-    ensures { result ≡ lost_by apid ctid ecu count }
+fn lost_by(apid: Id, ctid: Id, count: u32) -> Told
+    ensures { result ≡ lost_by apid ctid count }
 {
     if apid == Id::from_bytes(DAEMON) && ctid == Id::from_bytes(UNSTORED) {
-        return Told::Other;
+        return Told::Unstored(count);
     }
     Told::Lost(Lost {
-        source: Source { ecu, apid },
+        source: Source { apid },
         count,
     })
 }
 
-/// What a message of this kind tells, of this context and this ECU: the report of lost messages, or the entry that any other one is.
-fn told_by(kind: Kind, context: Id, ecu: Id, entry: Told) -> Told
-    ensures { result ≡ told_by kind context ecu entry }
+/// What a message of this kind tells, of this context: the report of lost messages, or the entry that any other one is.
+fn told_by(kind: Kind, context: Id, entry: Told) -> Told
+    ensures { result ≡ told_by kind context entry }
 {
     match kind {
-        Kind::Overflow { apid, counter } => lost_by(apid, context, ecu, counter),
+        Kind::Overflow { apid, counter } => lost_by(apid, context, counter),
         Kind::Log { .. } => entry,
         Kind::Other { .. } => entry,
     }
@@ -119,5 +119,5 @@ pub fn told_of(ecu: Id, message: &[u8]) -> Told
     let ticks = standard.ticks.unwrap_or(0);
     let payload = behind(message, parts.start);
     let entry = entry_in(&standard, parts.extended, payload, own, ticks);
-    told_by(kind_of(message), context_in(parts.extended), own, entry)
+    told_by(kind_of(message), context_in(parts.extended), entry)
 }

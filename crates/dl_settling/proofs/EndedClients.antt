@@ -25,7 +25,7 @@ use Rattle.dl_taking.specs.Drained.{GivesTook, IsDrain}
 use Rattle.dl_taking.specs.Draining.{closing_took}
 use Rattle.dl_taking.specs.Took.{Took}
 use Rattle.dl_taking.proofs.DrainedEvents.{all_drain}
-use Rattle.dl_turns.specs.Gone.{TellOver}
+use Rattle.dl_turns.specs.Gone.{TellTheEnd}
 use Rattle.dl_turns.specs.Later.{LeavesSo}
 use Rattle.dl_rounds.specs.Clients.{Clients}
 use Rattle.dl_rounds.specs.Passing.{AreLater, took_all}
@@ -49,10 +49,10 @@ all_served : (hub : Hub) (number : ℕ) (c : HubClient) → client_of hub number
 all_served hub number c at served = subst (λ (o : Option HubClient). IsSomeAnd o (λ k. k.replies ≡ request_limit)) at served
 
 module _ {L : Type 0} (told : L → LinkTold) (dropped : ℕ) (old : Stopping L) (account : AccountState) (links : Links L) (folder folder_now : FolderTold)
-    (on : (was now : Clients) → ClosesAll (TellOver told) was now → ShowWhy (TellOver told) was → ShowWhy (TellOver told) now)
-    (events_of : (was now : Clients) → ClosesAll (TellOver told) was now → AreLater was now) (settles : Settles told dropped old account links folder folder_now)
+    (on : (was now : Clients) → ClosesAll (TellTheEnd told) was now → ShowWhy (TellTheEnd told) was → ShowWhy (TellTheEnd told) now)
+    (events_of : (was now : Clients) → ClosesAll (TellTheEnd told) was now → AreLater was now) (settles : Settles told dropped old account links folder folder_now)
     (run : Run) (gives : GivesTook account.apps (account_took account) run) (taken : ℕ → List ℕ) (is : IsAfter run old.journal.events taken old.core)
-    (shown : AllShowWhy (TellOver told) old.journal.events old.core.hub (map told old.links.links)) where
+    (shown : AllShowWhy (TellTheEnd told) old.journal.events old.core.hub (map told old.links.links)) where
   abbrev drained : Stopping L
   drained = settles.drained
 
@@ -78,17 +78,17 @@ module _ {L : Type 0} (told : L → LinkTold) (dropped : ℕ) (old : Stopping L)
     events_so : drained.journal.events ≡ old.journal.events ++ first.more
     events_so = cc first.events
 
-  shown_drained : AllShowWhy (TellOver told) drained.journal.events drained.core.hub (map told drained.links.links)
+  shown_drained : AllShowWhy (TellTheEnd told) drained.journal.events drained.core.hub (map told drained.links.links)
   shown_drained =
-      subst (λ (ls : Links L). AllShowWhy (TellOver told) drained.journal.events drained.core.hub (map told ls.links)) (sym settles.drains.links)
-      (subst (λ (es : List Event). AllShowWhy (TellOver told) es drained.core.hub (map told old.links.links)) drained_events
+      subst (λ (ls : Links L). AllShowWhy (TellTheEnd told) drained.journal.events drained.core.hub (map told ls.links)) (sym settles.drains.links)
+      (subst (λ (es : List Event). AllShowWhy (TellTheEnd told) es drained.core.hub (map told old.links.links)) drained_events
       (shown_drain run old.journal.events taken old.closing.apps (taking_of old folder) (taking_of drained settles.between) first gives_so is (map told old.links.links) shown))
 
   after_drained : IsAfter run drained.journal.events taken drained.core
   after_drained = subst (λ (es : List Event). IsAfter run es taken drained.core) drained_events (first.after run old.journal.events taken gives_so is).0
 
   -- once each client was closed
-  shown_closed : AllShowWhy (TellOver told) closed.journal.events closed.core.hub (map told closed.links.links)
+  shown_closed : AllShowWhy (TellTheEnd told) closed.journal.events closed.core.hub (map told closed.links.links)
   shown_closed = on (clients_of told drained settles.between) (clients_of told closed folder_now) settles.closes.closes shown_drained
 
   abbrev taken_now : ℕ → List ℕ
@@ -109,7 +109,7 @@ module _ {L : Type 0} (told : L → LinkTold) (dropped : ℕ) (old : Stopping L)
 
   -- and once the links were shut
   ended_one : (place : ℕ) (link : LinkTold) (end : LinkEnd) → slice_get (map told links.links) place ≡ Some link → slice_get (ends_in closed.core.hub) place ≡ Some end
-      → HasEnded (TellOver told) run.setting closed.journal.events (place + 1) link end
+      → HasEnded (TellTheEnd told) run.setting closed.journal.events (place + 1) link end
   ended_one place link end at end_is =
       let between = there_too (map told closed.links.links) (map told links.links) place link settles.shuts.many at in
       let shut = shut_at closed.core.hub (map told closed.links.links) (map told links.links) settles.shuts settles.closes.none_open place between.0 link between.1 at in
@@ -125,7 +125,7 @@ module _ {L : Type 0} (told : L → LinkTold) (dropped : ℕ) (old : Stopping L)
       let its : end_in closed.core.hub (place + 1) ≡ end =
       one_is (end_in closed.core.hub (place + 1)) end (slice_get (ends_in closed.core.hub) place)
       (end_at (end_in closed.core.hub) 1 (length closed.core.hub.clients) place below ∙ ap (λ (n : ℕ). Some (end_in closed.core.hub n)) number) end_is in
-      subst (HasEnded (TellOver told) run.setting closed.journal.events (place + 1) link) its (record {
+      subst (HasEnded (TellTheEnd told) run.setting closed.journal.events (place + 1) link) its (record {
         before = shows.before;
         cause = shows.cause;
         after = shows.after;
@@ -140,9 +140,9 @@ module _ {L : Type 0} (told : L → LinkTold) (dropped : ℕ) (old : Stopping L)
         over = shows.over;
       })
 
-  pub all_ended : HaveEnded (TellOver told) run.setting account.events (map told links.links) account.outcome.links
+  pub all_ended : HaveEnded (TellTheEnd told) run.setting account.events (map told links.links) account.outcome.links
   all_ended = λ place link end at end_is.
-      subst (λ (es : List Event). HasEnded (TellOver told) run.setting es (place + 1) link end) (sym (ap (λ (a : AccountState). a.events) settles.account_is))
+      subst (λ (es : List Event). HasEnded (TellTheEnd told) run.setting es (place + 1) link end) (sym (ap (λ (a : AccountState). a.events) settles.account_is))
       (ended_one place link end at (ap (λ (ends : List LinkEnd). slice_get ends place) (sym (ap (λ (a : AccountState). a.outcome.links) settles.account_is)) ∙ end_is))
 
 -- ---- whether all was taken

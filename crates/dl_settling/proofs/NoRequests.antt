@@ -5,8 +5,8 @@ use Rattle.dl_events.specs.declared.event.Event.{Event}
 use Rattle.dl_events.specs.declared.event.Event.TheVariants as event
 use Rattle.dl_bytes.specs.declared.item.Injection.{Injection}
 use Rattle.dl_model.specs.Setting.{Setting}
-use Rattle.dl_desk.specs.Told.{PostTold}
-use Rattle.dl_turns.specs.Injected.{AreRefusedFull, HasPosted, injected_at, injected_by, refused_at, refused_by}
+use Rattle.dl_desk.specs.Told.{ControlTold}
+use Rattle.dl_turns.specs.Injected.{AreRefusedFull, HasInjected, injected_at, injected_by, refused_at, refused_by}
 
 -- an event is no request
 abbrev pub AsksNothing : Event → Type 0
@@ -51,8 +51,8 @@ none_injected setting app past (e ∷ events) none = one_none setting app past e
   by_event (event.Close client why) none = (refl, refl)
 
 -- the queues tell the same before and after them
-pub posted_none : (setting : Setting) (past events : List Event) (app : ℕ) (old new : PostTold) → AllByRecursion AsksNothing events
-    → new.pushed app ≡ old.pushed app → new.refusals app ≡ old.refusals app → HasPosted setting past events app old new
+pub posted_none : (setting : Setting) (past events : List Event) (app : ℕ) (old new : ControlTold) → AllByRecursion AsksNothing events
+    → new.pushed app ≡ old.pushed app → new.refusals app ≡ old.refusals app → HasInjected setting past events app old new
 posted_none setting past events app old new taken pushed refusals =
     let none = none_injected setting app past events taken in record {
       took = pushed ∙ sym (ap (λ is. old.pushed app ++ is) none.injected ∙ search rules);

@@ -8,7 +8,7 @@ use Rattle.dl_events.specs.declared.event.Event.{Event}
 use Rattle.dl_events.specs.declared.event.Why.{Why}
 use Rattle.dl_model.specs.Report.{why_of}
 use Rattle.dl_outside.specs.Links.{Links}
-use Rattle.dl_desk.specs.Told.{PostTold}
+use Rattle.dl_desk.specs.Told.{ControlTold}
 use Rattle.dl_registry.specs.Kept.{owed_change}
 use Rattle.dl_hub.specs.State.{Client, Hub, client_of, outbox_of, replies_of}
 use Rattle.dl_core.specs.State.{Core}
@@ -16,7 +16,7 @@ use Rattle.dl_admission.specs.Admission.{KeepsClients}
 use Rattle.dl_admission.proofs.StandingClients.{as_many, same_replies, served_by, was_open}
 use Rattle.dl_turns.specs.Events.{HasServed, IsDeskOf}
 use Rattle.dl_rounds.specs.Ready.{AreHeard, AreLinked, open_clients}
-use Rattle.dl_rounds.specs.Seats.{Seated}
+use Rattle.dl_rounds.specs.ListenerPool.{Seated}
 
 pub linked_still : {L : Type 0} (noted : List Event) (links : Links L) (old new : Core) (spare spare_now : ℕ) → AreLinked links old spare → KeepsClients noted old.hub new.hub
     → owed_change new.registry ≡ None → open_clients new.hub ≤ spare_now → AreLinked links new spare_now
@@ -31,7 +31,7 @@ linked_still noted links old new spare spare_now linked keeps settled room = rec
 served_still : (noted : List Event) (number served : ℕ) (old new : Core) → KeepsClients noted old.hub new.hub → HasServed number served old → HasServed number served new
 served_still noted number served old new keeps has = served_by served (client_of old.hub number) (client_of new.hub number) (same_replies old.hub new.hub number keeps.replies) has
 
-pub heard_still : (noted : List Event) (seated : Seated) (old new : Core) (desk desk_now : PostTold) → AreHeard seated old desk → KeepsClients noted old.hub new.hub → IsDeskOf new.registry desk_now
+pub heard_still : (noted : List Event) (seated : Seated) (old new : Core) (desk desk_now : ControlTold) → AreHeard seated old desk → KeepsClients noted old.hub new.hub → IsDeskOf new.registry desk_now
     → AreHeard seated new desk_now
 heard_still noted seated old new desk desk_now heard keeps desk_so = record {
   enough = omega (arith, heard.enough, keeps.same.limit);

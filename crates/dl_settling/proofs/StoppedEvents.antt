@@ -17,7 +17,7 @@ use Rattle.dl_outside.specs.Links.{Links}
 use Rattle.dl_outside.specs.Outside.{Grows, Stays}
 use Rattle.dl_hub.specs.State.{Hub, outbox_of}
 use Rattle.dl_outside.specs.Told.{FolderTold, LinkTold}
-use Rattle.dl_desk.specs.Told.{PostTold}
+use Rattle.dl_desk.specs.Told.{ControlTold}
 use Rattle.dl_account.specs.Known.{taken_of}
 use Rattle.dl_account.specs.Settled.{account_of}
 use Rattle.dl_account.specs.State.{AccountState, ClosingState}
@@ -29,7 +29,7 @@ use Rattle.dl_taking.specs.Draining.{closing_told, closing_took}
 use Rattle.dl_taking.specs.Takes.{TellAllTaken}
 use Rattle.dl_taking.specs.Took.{Took}
 use Rattle.dl_taking.proofs.DrainedEvents.{all_drain}
-use Rattle.dl_turns.specs.Gone.{TellOver}
+use Rattle.dl_turns.specs.Gone.{TellTheEnd}
 use Rattle.dl_turns.specs.Later.{level_in}
 use Rattle.dl_turns.proofs.PostedSides.{posted_both}
 use Rattle.dl_rounds.specs.Clients.{Clients}
@@ -151,7 +151,7 @@ module _ {L : Type 0} (told : L → LinkTold) (old drained closed : Stopping L) 
             (stays_formed drained.core later.more later.formed run (past ++ first.more) taken one.0 (first.formed run past taken (gives_so run gives) is there running well));
         posted = λ app. posted_both run.setting past first.more later.more app (closing_told old.closing) (closing_told drained.closing) (closing_told closed.closing)
             (posted_none run.setting past first.more app (closing_told old.closing) (closing_told drained.closing) (of_drain first.more first.kinds).asks
-            (ap (λ (t : PostTold). t.pushed app) first.desk) (ap (λ (t : PostTold). t.refusals app) first.desk))
+            (ap (λ (t : ControlTold). t.pushed app) first.desk) (ap (λ (t : ControlTold). t.refusals app) first.desk))
             (later.posts run (past ++ first.more) taken one.0 app);
       }
 
@@ -177,10 +177,10 @@ module _ {L : Type 0} (told : L → LinkTold) (old drained closed : Stopping L) 
         subst (λ (t : Took). TellAllTaken (past ++ events_more) t) (sym took_so)
         (subst (λ (es : List Event). TellAllTaken es (closing_took drained.closing)) (append_assoc past first.more later.more)
         (tells_on (past ++ first.more) later.more (closing_took drained.closing) (of_clients later.more later.of_clients) (first.told past tells)));
-    sets = later.desk.sets ∙ ap (λ (t : PostTold). t.sets ++ filter_map level_in later.more) first.desk
+    sets = later.desk.sets ∙ ap (λ (t : ControlTold). t.sets ++ filter_map level_in later.more) first.desk
         ∙ append_assoc old.closing.handles.levels.sets (filter_map level_in first.more) (filter_map level_in later.more)
         ∙ ap (λ (cs : List Change). old.closing.handles.levels.sets ++ cs) (sym (filter_map-append level_in first.more later.more));
-    first = later.desk.first ∙ ap (λ (t : PostTold). t.first) first.desk;
+    first = later.desk.first ∙ ap (λ (t : ControlTold). t.first) first.desk;
     others = λ app beyond.
         let so = first.others app (subst (λ (specs : List AppSpec). length specs ≤ app) apps_so beyond) in (
           ap (λ (t : Took). t.taken app) took_so ∙ so.0,
@@ -194,7 +194,7 @@ module _ {L : Type 0} (told : L → LinkTold) (old drained closed : Stopping L) 
   }
 
 pub is_stop : {L : Type 0} (told : L → LinkTold) (dropped : ℕ) (old : Stopping L) (account : AccountState) (links : Links L) (folder folder_now : FolderTold)
-    → ((was now : Clients) → ClosesAll (TellOver told) was now → StayAsNoted was now) → (settles : Settles told dropped old account links folder folder_now) → IsStop told dropped settles.closed.core old account links folder folder_now
+    → ((was now : Clients) → ClosesAll (TellTheEnd told) was now → StayAsNoted was now) → (settles : Settles told dropped old account links folder folder_now) → IsStop told dropped settles.closed.core old account links folder folder_now
 is_stop {L} told dropped old account links folder folder_now stay settles =
     subst (λ (a : AccountState). IsStop told dropped settles.closed.core old a links folder folder_now) (sym settles.account_is)
     (stop_so told old settles.drained settles.closed folder settles.between folder_now settles.drains settles.closes

@@ -25,7 +25,7 @@ use Rattle.dl_taking.specs.Drained.{GivesTook, IsDrain}
 use Rattle.dl_taking.specs.Draining.{closing_took}
 use Rattle.dl_taking.specs.Took.{Took}
 use Rattle.dl_taking.proofs.DrainedEvents.{all_drain}
-use Rattle.dl_turns.specs.Gone.{TellOver}
+use Rattle.dl_turns.specs.Gone.{TellTheEnd}
 use Rattle.dl_rounds.specs.Clients.{Client, Clients}
 use Rattle.dl_rounds.specs.Passing.{AreAsNoted, Did, IsOverIfLeft, StayAsNoted, TellFrom, took_all}
 use Rattle.dl_rounds.specs.Visits.{ClosesAll, IsShut}
@@ -118,7 +118,7 @@ did_before was now did shut given taken tells = record {
 -- ---- all of it
 
 module _ {L : Type 0} (told : L → LinkTold) (dropped : ℕ) (old : Stopping L) (account : AccountState) (links : Links L) (folder folder_now : FolderTold)
-    (stay : (was now : Clients) → ClosesAll (TellOver told) was now → StayAsNoted was now) (settles : Settles told dropped old account links folder folder_now) (bytes : TellBytes told)
+    (stay : (was now : Clients) → ClosesAll (TellTheEnd told) was now → StayAsNoted was now) (settles : Settles told dropped old account links folder folder_now) (bytes : TellBytes told)
     (run : Run) (gives : GivesTook account.apps (account_took account) run) (taken : ℕ → List ℕ) (noted : AreAsNoted run old.journal.events taken (clients_of told old folder)) where
   drained : Stopping L
   drained = settles.drained

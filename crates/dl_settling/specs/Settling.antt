@@ -2,13 +2,13 @@
 use Rattle.std.specs.Prelude.{◌≡◌, ℕ, map, None}
 use Rattle.dl_outside.specs.Links.{Links}
 use Rattle.dl_outside.specs.Told.{FolderTold, LinkTold}
-use Rattle.dl_desk.specs.Posting.{rest_of}
+use Rattle.dl_desk.specs.QueuedInjections.{rest_of}
 use Rattle.dl_account.specs.Known.{IsDrained}
 use Rattle.dl_account.specs.Settled.{account_of}
 use Rattle.dl_account.specs.State.{AccountState, ClosingState}
 use Rattle.dl_hub.specs.State.{outbox_of}
 use Rattle.dl_taking.specs.Draining.{DrainsAll, SameButTaken, closing_told}
-use Rattle.dl_turns.specs.Gone.{TellOver}
+use Rattle.dl_turns.specs.Gone.{TellTheEnd}
 use Rattle.dl_rounds.specs.Partings.{ShutsGone}
 use Rattle.dl_rounds.specs.Ready.{AreHeard, AreLinked}
 use Rattle.dl_rounds.specs.Visits.{ClosesAll}
@@ -30,7 +30,7 @@ pub record Drains {L : Type 0} (old new : Stopping L) (folder folder_now : Folde
 
 -- Each open client had its closing turns and its Close, in the order of their numbers; then none is open. Each has a link and a listener.
 pub record Closes {L : Type 0} (told : L → LinkTold) (old new : Stopping L) (folder folder_now : FolderTold) : Type 0 where
-  pub closes : ClosesAll (TellOver told) (clients_of told old folder) (clients_of told new folder_now)
+  pub closes : ClosesAll (TellTheEnd told) (clients_of told old folder) (clients_of told new folder_now)
   pub none_open : (number : ℕ) → outbox_of new.core.hub number ≡ None
   pub same : SameButSet old.closing new.closing
   pub linked : AreLinked new.links new.core new.journal.spare

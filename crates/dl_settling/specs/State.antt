@@ -10,7 +10,7 @@ use Rattle.dl_taking.specs.Draining.{closing_told, closing_took}
 use Rattle.dl_taking.specs.Side as taking
 use Rattle.dl_turns.specs.State.{side}
 use Rattle.dl_rounds.specs.Clients.{Clients}
-use Rattle.dl_rounds.specs.Seats.{Seated}
+use Rattle.dl_rounds.specs.ListenerPool.{Seated}
 use Rattle.dl_rounds.specs.declared.listener.Listener.{Listener}
 use Rattle.dl_settling.specs.declared.parts.Parts.{Parts}
 

@@ -9,7 +9,7 @@ use Rattle.dl_model.specs.Journal.{IsRunning, IsWellFormed}
 use Rattle.dl_outside.specs.Links.{Links}
 use Rattle.dl_outside.specs.Outside.{Grows}
 use Rattle.dl_outside.specs.Told.{FolderTold, LinkTold}
-use Rattle.dl_desk.specs.Told.{PostTold, told_by}
+use Rattle.dl_desk.specs.Told.{ControlTold, told_by}
 use Rattle.dl_account.specs.State.{AccountState}
 use Rattle.dl_hub.specs.State.{outbox_of}
 use Rattle.dl_core.specs.Follows.{HoldsTrace, IsAfter, Run, source_of}
@@ -18,7 +18,7 @@ use Rattle.dl_taking.specs.Drained.{GivesTook}
 use Rattle.dl_taking.specs.Draining.{closing_told, closing_took}
 use Rattle.dl_taking.specs.Takes.{AreThere, TellAllTaken}
 use Rattle.dl_taking.specs.Took.{Took, took_by}
-use Rattle.dl_turns.specs.Injected.{HasPosted}
+use Rattle.dl_turns.specs.Injected.{HasInjected}
 use Rattle.dl_turns.specs.Later.{level_in}
 use Rattle.dl_rounds.specs.Passing.{took_all}
 use Rattle.dl_settling.specs.Ends.{ends_of}
@@ -34,17 +34,17 @@ IsOfStop other = Unit {0}
 abbrev pub account_took : AccountState → Took
 account_took account = took_by account.handles
 
-abbrev pub account_told : AccountState → PostTold
+abbrev pub account_told : AccountState → ControlTold
 account_told account = told_by (length account.apps) account.handles
 
 -- A run goes on with these events, and these bytes more that the links took: it makes of one core the other, and of one folder the other; a
 -- well-formed journal stays so where the desk's applications are there and no client was stopped before; and the queues of injections took and
 -- refused those of the requests.
-pub record RunsOn (run : Run) (past more : List Event) (taken sent : ℕ → List ℕ) (old new : Core) (folder folder_now : FolderTold) (told told_now : PostTold) : Type 0 where
+pub record RunsOn (run : Run) (past more : List Event) (taken sent : ℕ → List ℕ) (old new : Core) (folder folder_now : FolderTold) (told told_now : ControlTold) : Type 0 where
   pub after : IsAfter run (past ++ more) (took_all taken sent) new
   pub holds : HoldsTrace run past old folder → HoldsTrace run (past ++ more) new folder_now
   pub formed : AreThere told.apps old.registry → IsRunning past → IsWellFormed run.setting (source_of run) past → IsWellFormed run.setting (source_of run) (past ++ more)
-  pub posted : (app : ℕ) → HasPosted run.setting past more app told told_now
+  pub posted : (app : ℕ) → HasInjected run.setting past more app told told_now
 
 -- A stop after which the core is this one is its events: the journal is longer by them, and each run that gives what was taken goes on with them. A
 -- journal that told just what was taken does so with them, and the levels that were set are those of its Level events. No client is open in the end,

@@ -17,7 +17,7 @@ ghost use Rattle.dl_core.specs.State.{Core};
 ghost use Rattle.dl_taking.specs.Drained.{GivesTook, IsDrain};
 ghost use Rattle.dl_taking.specs.Draining.{all_claims_left, all_to_note, closing_took};
 ghost use Rattle.dl_taking.specs.Side.{Side};
-ghost use Rattle.dl_turns.specs.Gone.{TellOver};
+ghost use Rattle.dl_turns.specs.Gone.{TellTheEnd};
 ghost use Rattle.dl_rounds.specs.Passing.{AreAsNoted};
 ghost use Rattle.dl_rounds.specs.Shown.{AllShowWhy};
 ghost use Rattle.dl_rounds.specs.declared.listener.Listener.{Listener};
@@ -67,8 +67,8 @@ pub fn how_clients_went<L: Link>()
 pub fn how_clients_ended<L: Link>()
     ensures { (run : Run) (taken : ℕ → List ℕ) (dropped : ℕ) (old : Stopping L) (account : AccountState) (links : Links L) (folder folder_now : FolderTold)
         → Settles L.told dropped old account links folder folder_now → GivesTook account.apps (account_took account) run → IsAfter run old.journal.events taken old.core
-        → AllShowWhy (TellOver L.told) old.journal.events old.core.hub (map L.told old.links.links)
-        → HaveEnded (TellOver L.told) run.setting account.events (map L.told links.links) account.outcome.links }
+        → AllShowWhy (TellTheEnd L.told) old.journal.events old.core.hub (map L.told old.links.links)
+        → HaveEnded (TellTheEnd L.told) run.setting account.events (map L.told links.links) account.outcome.links }
 {
     dl_rounds::laws::gone_clients_show_why::<L>();
     dl_rounds::laws::a_round_is_its_events::<L>();
@@ -77,11 +77,11 @@ pub fn how_clients_ended<L: Link>()
 /// A stopped client's link took all of its stream, and a stuck one's did not. A slow one's did exactly where its outbox had the room that an empty
 /// one has.
 pub fn which_ends_are_complete<L: Link>()
-    ensures stopped { (setting : Setting) (events : List Event) (number : ℕ) (link : LinkTold) (end : LinkEnd) (ended : HasEnded (TellOver L.told) setting events number link end)
+    ensures stopped { (setting : Setting) (events : List Event) (number : ℕ) (link : LinkTold) (end : LinkEnd) (ended : HasEnded (TellTheEnd L.told) setting events number link end)
         → ended.cause ≡ Stopped → end.complete ≡ true }
-    ensures stuck { (setting : Setting) (events : List Event) (number bytes : ℕ) (link : LinkTold) (end : LinkEnd) (ended : HasEnded (TellOver L.told) setting events number link end)
+    ensures stuck { (setting : Setting) (events : List Event) (number bytes : ℕ) (link : LinkTold) (end : LinkEnd) (ended : HasEnded (TellTheEnd L.told) setting events number link end)
         → ended.cause ≡ Stuck bytes → end.complete ≡ false }
-    ensures slow { (setting : Setting) (events : List Event) (number room need : ℕ) (link : LinkTold) (end : LinkEnd) (ended : HasEnded (TellOver L.told) setting events number link end)
+    ensures slow { (setting : Setting) (events : List Event) (number room need : ℕ) (link : LinkTold) (end : LinkEnd) (ended : HasEnded (TellTheEnd L.told) setting events number link end)
         → ended.cause ≡ Slow room need → end.complete ≡ (room == outbox_limit setting.buffer) }
 {}
 

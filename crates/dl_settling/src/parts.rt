@@ -5,7 +5,7 @@ use dl_account::Closing;
 use dl_core::Core;
 use dl_events::Kept;
 use dl_outside::LinkList;
-use dl_rounds::Seats;
+use dl_rounds::ListenerPool;
 use dl_taking::Batch;
 
 /// The parts of a daemon whose writers are back.
@@ -20,7 +20,7 @@ pub struct Parts<L> {
     /// The link of each client that came, by the clients' numbers from 1.
     pub links: LinkList<L>,
     /// What cuts the bytes of each client that may come.
-    pub seats: Seats,
+    pub seats: ListenerPool,
     /// Room for calls that are taken together.
     pub batch: Batch,
     /// Room for what became of each link.

@@ -3,7 +3,7 @@ use Rattle.std.specs.Prelude.{◌≡◌, ◌==◌, ◌<◌, ◌-◌, ◌^◌, �
 use Rattle.dl_bytes.specs.Limits.{app_limit, injection_limit}
 use Rattle.dl_bytes.specs.declared.item.Injection.{Injection}
 use Rattle.dl_channel.specs.State.{Outbox}
-use Rattle.dl_desk.specs.Told.{PostTold}
+use Rattle.dl_desk.specs.Told.{ControlTold}
 use Rattle.dl_cells.specs.LevelHistory.{current_version}
 use Rattle.dl_cells.specs.declared.level_history.Change.{Change}
 use Rattle.dl_socket.specs.declared.ways.Way.{Way}
@@ -31,7 +31,7 @@ refusals_in [] other = 0
 refusals_in (app ∷ refused) other = if other == app then refusals_in refused other + 1 else refusals_in refused other
 
 -- it tells of all applications that there can be
-abbrev pub told_by : Messenger → PostTold
+abbrev pub told_by : Messenger → ControlTold
 told_by messenger = record {
   apps = app_limit;
   first = 0;

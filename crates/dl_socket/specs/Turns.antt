@@ -8,7 +8,7 @@ use Rattle.dl_channel_turns.specs.Pumping.{PumpsOne}
 use Rattle.dl_channel_turns.specs.State.{Side, Stage, side}
 use Rattle.dl_channel_turns.specs.Turns as one
 use Rattle.dl_core.specs.State.{Core}
-use Rattle.dl_desk.specs.Told.{PostTold}
+use Rattle.dl_desk.specs.Told.{ControlTold}
 use Rattle.dl_events.specs.declared.event.Event.{Event}
 use Rattle.dl_events.specs.declared.event.Why.{Why}
 use Rattle.dl_cells.specs.declared.level_history.Change.{Change}
@@ -23,17 +23,17 @@ use Rattle.dl_socket.specs.Channels.{Channels, inbox_of, with_turn}
 use Rattle.dl_socket.specs.Messenger.{full_queue}
 
 -- what a call sees and changes beside the channels: a link, the core, the events of the journal where it keeps them, and what the folder tells
-pub record Sight : Type 0 where
+pub record ChannelView : Type 0 where
   pub link : LinkTold
   pub core : Core
   pub events : Option (List Event)
   pub folder : FolderTold
 
-abbrev pub sight : LinkTold → Core → Option (List Event) → FolderTold → Sight
+abbrev pub sight : LinkTold → Core → Option (List Event) → FolderTold → ChannelView
 sight link core events folder = record { link = link; core = core; events = events; folder = folder }
 
 -- the same of a link, a journal and a folder, by what these tell
-abbrev pub seen : {L J F : Type 0} → (L → LinkTold) → (J → Option (List Event)) → (F → FolderTold) → L → Core → J → F → Sight
+abbrev pub seen : {L J F : Type 0} → (L → LinkTold) → (J → Option (List Event)) → (F → FolderTold) → L → Core → J → F → ChannelView
 seen link_told events folder_told link core journal folder = sight (link_told link) core (events journal) (folder_told folder)
 
 -- the daemon's side with what waits for channels, by what a journal and a folder tell
@@ -41,14 +41,14 @@ abbrev pub side_of : {J F : Type 0} → (J → Option (List Event)) → (F → F
 side_of events folder_told core channels journal folder = side core channels.outboxes (events journal) (folder_told folder)
 
 -- what a channel's turn sees before it, and after it
-abbrev pub stage_before : Sight → cutter.Channel → Channels → Stage
+abbrev pub stage_before : ChannelView → cutter.Channel → Channels → Stage
 stage_before before inbox old = record { link = before.link; inbox = inbox; side = side before.core old.outboxes before.events before.folder }
 
-abbrev pub stage_after : Sight → cutter.Channel → Channels → Stage
+abbrev pub stage_after : ChannelView → cutter.Channel → Channels → Stage
 stage_after after inbox new = record { link = after.link; inbox = inbox; side = side after.core new.outboxes after.events after.folder }
 
 -- A channel had its turn: what it holds of what its program sent is as that leaves it, and so is what waits for all channels.
-pub record HasTurned (channel : ℕ) (moment : Moment) (end : Option ChannelEnd) (before after : Sight) (old new : Channels) : Type 0 where
+pub record HasTurned (channel : ℕ) (moment : Moment) (end : Option ChannelEnd) (before after : ChannelView) (old new : Channels) : Type 0 where
   pub inbox : cutter.Channel
   pub inbox_now : cutter.Channel
   pub was : inbox_of old.inboxes channel ≡ Some inbox
@@ -68,9 +68,9 @@ told_each registry (c ∷ changes) outboxes = told_each registry changes (told r
 
 -- A client had its turn: the levels that its requests set are told the programs that have their contexts, in order. What sets the levels has the
 -- versions of the registry before it, and no queue took an injection.
-pub record HasAsked (number : ℕ) (why : Option Why) (cutter cutter_now : Cutting) (before after : Sight) (old new : Channels) : Type 0 where
-  pub desk : PostTold
-  pub desk_now : PostTold
+pub record HasAsked (number : ℕ) (why : Option Why) (cutter cutter_now : Cutting) (before after : ChannelView) (old new : Channels) : Type 0 where
+  pub desk : ControlTold
+  pub desk_now : ControlTold
   pub desk_so : IsDeskOf before.core.registry desk
   pub turn : client.IsTurn number why (stage before.link cutter before.core desk before.events before.folder)
       (stage after.link cutter_now after.core desk_now after.events after.folder)

@@ -1,4 +1,4 @@
-//! The channels of programs outside.
+//! The channels of external applications.
 
 ghost use Rattle.std.specs.Prelude.{◌≡◌, ◌<◌, ◌≤◌, ◌+◌, ◌^◌, ℕ, length, nat_eq, None, IfErr, IfNone, IfOk, IfSome, IsSome, OnErr, OnOk, OnSome, slice_get};
 ghost use Rattle.std.specs.List.{IsDistinct};
@@ -22,14 +22,14 @@ use dl_core::Core;
 use dl_events::{Journal, Why};
 use dl_message::Cutter;
 use dl_outside::{Folder, Link, LinkList};
-use dl_rounds::{Seats, close_all, listen_all};
+use dl_rounds::{ListenerPool, close_all, listen_all};
 use dl_turns::client_turn;
 use indexmap::IndexMap;
 use std::alloc::Global;
 use std::marker::Model;
 use std::sync::Wait;
 
-/// The channels that are open, each of a program outside this process that logs over a link. They have the numbers 1, 2 and so on, each used once.
+/// The channels that are open, each of an external application, which logs over a connection. They have the numbers 1, 2 and so on, each used once.
 #[derive(Drop)]
 pub struct Channels {
     alloc: Global,
@@ -181,7 +181,7 @@ impl Channels {
     }
 
     /// Ends a channel that is open: each of its applications that is there is unregistered first, in the order in which they came, as if the program
-    /// had done it with pid 0. Where memory was wanting the channel stays open, and the next call does the rest.
+    /// had done it with pid 0. Where memory ran out the channel stays open, and the next call does the rest.
     pub fn close<J: Journal, F: Folder>(
         &mut self,
         core: &mut Core,
@@ -209,7 +209,7 @@ impl Channels {
     /// The turn of a client of the daemon that is open: its link is asked once for at most 4096 bytes, and the requests that they make whole are
     /// served in order, each with the Level events that it owes, which are put for their channels. The client is closed where its link has ended or
     /// failed, where a request is refused, and where a bad header stands behind the requests. The answer is the cause, and none where the client is
-    /// still open. No program outside is sent an injection.
+    /// still open. No external application is sent an injection.
     pub fn request_turn<R: Wait, J: Journal, L: Link, F: Folder>(
         &mut self,
         rt: &R,
@@ -258,7 +258,7 @@ impl Channels {
         core: &mut Core,
         journal: &mut J,
         links: &mut LinkList<L>,
-        seats: &mut Seats,
+        seats: &mut ListenerPool,
         folder: &mut F,
     ) -> bool
         requires linked { AreLinked links.old core.old (J.spare journal.old) }
@@ -291,7 +291,7 @@ impl Channels {
         core: &mut Core,
         journal: &mut J,
         links: &mut LinkList<L>,
-        seats: &mut Seats,
+        seats: &mut ListenerPool,
         folder: &mut F,
     )
         requires linked { AreLinked links.old core.old (J.spare journal.old) }

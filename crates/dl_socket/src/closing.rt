@@ -12,7 +12,7 @@ use dl_core::Core;
 use dl_events::Journal;
 use dl_outside::Folder;
 
-/// Unregisters all applications of a channel, in the order in which they came. Where memory was wanting the first ones were.
+/// Unregisters all applications of a channel, in the order in which they came. Where memory ran out the first ones were.
 pub fn unregister_all<J: Journal, F: Folder>(
     core: &mut Core,
     messenger: &mut Messenger,

@@ -19,7 +19,7 @@ use dl_cells::Worn;
 use dl_channel::{ChannelEnd, Inbox, Outbox};
 use dl_channel_turns::{Gathered, Outboxes, hear, serve_one};
 use dl_core::Core;
-use dl_desk::Post;
+use dl_desk::WriterControl;
 use dl_events::Journal;
 use dl_outside::{Folder, Link};
 use dl_registry::Registry;
@@ -145,7 +145,7 @@ impl Messenger {
         )
     }
 
-    /// Takes in a message of a channel. The Level events that it owes are put for their channels. Where memory is wanting nothing is done.
+    /// Takes in a message of a channel. The Level events that it owes are put for their channels. Where memory runs out nothing is done.
     pub fn take_in<J: Journal, F: Folder>(
         &mut self,
         core: &mut Core,
@@ -199,7 +199,7 @@ fn no_ways(alloc: Global, count: usize) -> Result<Vec<Option<Way>>, OutOfMemory>
     Ok(ways)
 }
 
-impl Post for Messenger {
+impl WriterControl for Messenger {
     ghost use Rattle.dl_socket.specs.Messenger.{HasSent, told_by};
     ghost use Rattle.dl_socket.specs.SentLevels.{none_sent, more_sent};
 

@@ -12,7 +12,7 @@ use Rattle.dl_model.specs.TraceFiles.{StoredFile}
 use Rattle.dl_outside.specs.Folder.{Files}
 use Rattle.dl_outside.specs.Outside.{HasRisen}
 use Rattle.dl_trace.specs.Made.{IsMade}
-use Rattle.dl_trace.specs.Stands.{HasFiles}
+use Rattle.dl_trace.specs.InFolder.{HasFiles}
 use Rattle.dl_trace.specs.State.{Trace, IsAfter}
 use Rattle.dl_startup.specs.declared.setup.SetupError.{SetupError}
 use Rattle.dl_startup.specs.declared.setup.SetupError.TheVariants.{Fault, Folder, OutOfMemory}

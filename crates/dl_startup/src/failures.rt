@@ -20,7 +20,7 @@ pub struct Failures {
     pub journal_full: bool,
     /// The report was not written whole.
     pub output: bool,
-    /// Some part of the work wanted memory.
+    /// Some part of the work ran out of memory.
     pub memory: bool,
 }
 

@@ -6,7 +6,7 @@ use Rattle.dl_bytes.specs.declared.outcome.TraceEnd.TheVariants.{Failed, Spent, 
 use Rattle.dl_outside.specs.Folder.{Files}
 use Rattle.dl_outside.specs.Told.{FolderTold}
 use Rattle.dl_model.specs.TraceFiles.{StoredFile, is_spent, trace_files}
-use Rattle.dl_trace.specs.Stands.{ChangesTraceFiles, HasFiles}
+use Rattle.dl_trace.specs.InFolder.{ChangesTraceFiles, HasFiles}
 use Rattle.dl_trace.specs.State.{Trace}
 use Rattle.dl_storage.specs.declared.filter.Filter.{Filter}
 use Rattle.dl_storage.specs.Beginning.{IsFiltersTrace}

@@ -11,7 +11,7 @@ use Rattle.dl_events.specs.declared.event.Event.{Event}
 use Rattle.dl_events.specs.declared.record.Record.{Record}
 use Rattle.dl_outside.specs.Folder.{Files}
 use Rattle.dl_model.specs.TraceFiles.{StoredFile, six_digits, trace_files, trace_name}
-use Rattle.dl_trace.specs.Stands.{ChangesTraceFiles, HasFiles, IsTraceName}
+use Rattle.dl_trace.specs.InFolder.{ChangesTraceFiles, HasFiles, IsTraceName}
 use Rattle.dl_storage.specs.FiltersApart.{are_apart, names_of}
 use Rattle.dl_storage.specs.declared.filter.Filter.{Filter}
 use Rattle.dl_storage.specs.Ended.{EndHasCause}

@@ -15,7 +15,7 @@ use Rattle.dl_outside.specs.Told.{FolderTold}
 use Rattle.dl_model.specs.Backlog.{size_of}
 use Rattle.dl_model.specs.TraceFiles.{StoredFile, is_spent, trace_files}
 use Rattle.dl_trace.specs.Pieces.{pieces, frames_in, room_of}
-use Rattle.dl_trace.specs.Stands.{ChangesTraceFiles, HasFiles}
+use Rattle.dl_trace.specs.InFolder.{ChangesTraceFiles, HasFiles}
 use Rattle.dl_trace.specs.State.{IsAfter, IsSameTrace, Trace, files_after, number_after}
 use Rattle.dl_trace.specs.Storing.{HasCause, IsStored, Leaves, Stops}
 use Rattle.dl_events.specs.declared.event.Event.{Event}

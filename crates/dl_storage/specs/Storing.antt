@@ -9,7 +9,7 @@ use Rattle.dl_events.specs.declared.record.Record.{Record}
 use Rattle.dl_outside.specs.Folder.{Files}
 use Rattle.dl_model.specs.Backlog.{size_of}
 use Rattle.dl_model.specs.TraceFiles.{StoredFile, is_spent, trace_files}
-use Rattle.dl_trace.specs.Stands.{HasFiles, IsTraceName}
+use Rattle.dl_trace.specs.InFolder.{HasFiles, IsTraceName}
 use Rattle.dl_storage.specs.declared.filter.Filter.{Filter}
 use Rattle.dl_storage.specs.Ended.{EndHasCause}
 use Rattle.dl_storage.specs.Passing.{directory_of, frames_for}

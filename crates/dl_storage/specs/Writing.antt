@@ -8,7 +8,7 @@ use Rattle.dl_outside.specs.Outside.{Stays}
 use Rattle.dl_outside.specs.Told.{FolderTold}
 use Rattle.dl_model.specs.Backlog.{size_of}
 use Rattle.dl_model.specs.TraceFiles.{StoredFile, is_spent, trace_files}
-use Rattle.dl_trace.specs.Stands.{ChangesTraceFiles, HasFiles}
+use Rattle.dl_trace.specs.InFolder.{ChangesTraceFiles, HasFiles}
 use Rattle.dl_trace.specs.State.{IsAfter, IsSameTrace, Trace}
 use Rattle.dl_trace.specs.Storing.{StoresOrStops}
 use Rattle.dl_storage.specs.Ended.{EndHasCause}

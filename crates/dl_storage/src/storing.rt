@@ -1,7 +1,7 @@
 //! The log storage as a whole: each filter's messages into the filter's own files.
 
 ghost use Rattle.std.specs.Prelude.{◌≡◌, ℕ, Some, IfOk, IfErr};
-ghost use Rattle.dl_trace.specs.Stands.{ChangesTraceFiles};
+ghost use Rattle.dl_trace.specs.InFolder.{ChangesTraceFiles};
 ghost use Rattle.dl_storage.specs.Ended.{EndHasCause};
 ghost use Rattle.dl_storage.specs.Passing.{directory_of, frames_for};
 ghost use Rattle.dl_outside.specs.Outside.{Stays};

@@ -4,7 +4,7 @@ ghost use Rattle.std.specs.Prelude.{◌≡◌, ◌≤◌, ◌∷◌, [], ℕ, Li
 ghost use Rattle.dl_message.specs.Frames.{log_message};
 ghost use Rattle.dl_model.specs.Frames.{stored};
 ghost use Rattle.dl_outside.specs.Told.{FolderTold};
-ghost use Rattle.dl_trace.specs.Stands.{ChangesTraceFiles};
+ghost use Rattle.dl_trace.specs.InFolder.{ChangesTraceFiles};
 ghost use Rattle.dl_model.specs.TraceFiles.{StoredFile};
 ghost use Rattle.dl_storage.specs.Passing.{frame_for, frames_for};
 ghost use Rattle.dl_storage.specs.Writing.{Begins, IsAfterFrames, IsSized, IsUntouched, Writes, WritesAny};

@@ -5,7 +5,7 @@ use Rattle.std.specs.List.{AllByRecursion}
 use Rattle.dl_bytes.specs.Claim.{Claimed}
 use Rattle.dl_events.specs.Journal.{one_more}
 use Rattle.dl_model.specs.Registry.{claimed}
-use Rattle.dl_desk.specs.Told.{PostTold}
+use Rattle.dl_desk.specs.Told.{ControlTold}
 use Rattle.dl_registry.specs.Kept.{Claims, Kept, owed_change, slots, with_registry}
 use Rattle.dl_core.specs.Admission.{more_noted}
 use Rattle.dl_core.specs.Waiting.{waiting}
@@ -16,7 +16,7 @@ use Rattle.dl_taking.specs.Takes.{owed_by}
 use Rattle.dl_taking.proofs.StayingApps.{claim_numbers}
 
 -- the desk is that of the registry, also after a claim: its applications have their numbers, and no slot another version
-pub desk_claimed : (claim : Claimed) (old new : Kept) (told : PostTold) → Claims claim old new → IsDeskOf old told → IsDeskOf new told
+pub desk_claimed : (claim : Claimed) (old new : Kept) (told : ControlTold) → Claims claim old new → IsDeskOf old told → IsDeskOf new told
 desk_claimed claim old new told claims desk = record {
   numbered = subst (AllByRecursion (λ (n : ℕ). n < told.apps)) (sym (claim_numbers claim old new claims)) desk.numbered;
   versions = λ slot within. ap (λ (k : Kept). (slots k slot).version) claims ∙ desk.versions slot within;

@@ -13,7 +13,7 @@ use Rattle.dl_ring.specs.declared.item.RingItem.TheVariants.{Log, Register}
 use Rattle.dl_ring.specs.Items.{calls_in, claims_in}
 use Rattle.dl_ring.proofs.Items.{calls_in-append, claims_in-append, length-calls_in}
 use Rattle.dl_cells.specs.Views.{bit}
-use Rattle.dl_desk.specs.Told.{PostTold}
+use Rattle.dl_desk.specs.Told.{ControlTold}
 use Rattle.dl_writer.specs.State.{BookState}
 use Rattle.dl_account.specs.Books.{lost_of, items_pushed_of}
 use Rattle.dl_account.specs.Known.{AreGathered, IsEmpty, IsTold, taken_of}

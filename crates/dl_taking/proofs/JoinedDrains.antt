@@ -10,7 +10,7 @@ use Rattle.dl_model.specs.Journal.{IsWellFormed}
 use Rattle.dl_ring.specs.declared.item.RingItem.{RingItem}
 use Rattle.dl_ring.specs.Items.{calls_in}
 use Rattle.dl_ring.proofs.Items.{calls_in-append}
-use Rattle.dl_desk.specs.Told.{PostTold}
+use Rattle.dl_desk.specs.Told.{ControlTold}
 use Rattle.dl_core.specs.Admission.{GivesFrame, GivesFrames}
 use Rattle.dl_core.specs.Follows.{Run, source_of}
 use Rattle.dl_core.specs.State.{Core}
@@ -82,7 +82,7 @@ drain_both specs old between new first second = record {
   clients = clients_both first.more second.more old.part.core.hub between.part.core.hub new.part.core.hub first.clients second.clients;
   trace = trace_both old.part.core.trace between.part.core.trace new.part.core.trace old.part.folder between.part.folder new.part.folder first.trace second.trace;
   rest = second.rest ∙ ap (λ (k : Core). record k { registry = new.part.core.registry; hub = new.part.core.hub; trace = new.part.core.trace }) first.rest;
-  desk = second.desk ∙ ap (λ (d : PostTold). record d { sets = d.sets ++ filter_map level_in second.more }) first.desk
+  desk = second.desk ∙ ap (λ (d : ControlTold). record d { sets = d.sets ++ filter_map level_in second.more }) first.desk
       ∙ ap (λ (cs : List Change). record old.desk { sets = cs })
       (append_assoc old.desk.sets (filter_map level_in first.more) (filter_map level_in second.more) ∙ ap (λ (cs : List Change). old.desk.sets ++ cs) (sym (filter_map-append level_in first.more second.more)));
   told = λ past told. subst (λ (events : List Event). TellAllTaken events new.took) (append_assoc past first.more second.more) (second.told (past ++ first.more) (first.told past told));

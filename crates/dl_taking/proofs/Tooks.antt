@@ -14,7 +14,7 @@ use Rattle.dl_ring.specs.Items.{calls_in, claims_in}
 use Rattle.dl_desk.specs.declared.app_handles.AppHandles.{AppHandles}
 use Rattle.dl_desk.specs.Handles.{HandlesState, with_empty_take, with_item, with_report}
 use Rattle.dl_desk.specs.Lists.{changed_at}
-use Rattle.dl_desk.specs.Posting.{without_pushes}
+use Rattle.dl_desk.specs.QueuedInjections.{without_pushes}
 use Rattle.dl_desk.specs.State.{DeskState}
 use Rattle.dl_desk.specs.Told.{told_by}
 use Rattle.dl_desk.proofs.Places.{map-changed_at}

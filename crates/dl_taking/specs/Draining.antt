@@ -5,7 +5,7 @@ use Rattle.dl_bytes.specs.declared.conf.AppSpec.{AppSpec}
 use Rattle.dl_cells.specs.Losses.{reported_of}
 use Rattle.dl_ring.specs.Items.{calls_in, claims_in}
 use Rattle.dl_cells.specs.Views.{total}
-use Rattle.dl_desk.specs.Told.{PostTold, told_by}
+use Rattle.dl_desk.specs.Told.{ControlTold, told_by}
 use Rattle.dl_writer.specs.State.{BookState}
 use Rattle.dl_account.specs.Books.{books_of, lost_of}
 use Rattle.dl_account.specs.State.{ClosingState}
@@ -20,7 +20,7 @@ abbrev pub closing_took : ClosingState → Took
 closing_took closing = took_by closing.handles
 
 -- what it tells of levels and injections
-abbrev pub closing_told : ClosingState → PostTold
+abbrev pub closing_told : ClosingState → ControlTold
 closing_told closing = told_by (length closing.apps) closing.handles
 
 -- nothing has changed but what was taken, and what is told of levels and injections

@@ -1,9 +1,9 @@
--- What was taken stays where levels are set and injections are put: what `Taker` asks of the desk, and of what stands for it.
+-- What was taken stays where levels are set and injections are put: what `CallSource` asks of the desk, and of what stands for it.
 use Rattle.std.specs.Prelude.{◌≡◌, ℕ, zero, suc, List, [], ◌∷◌, map, slice_get, unwrap_or, refl}
 use Rattle.std.specs.Option.{option_map}
 use Rattle.dl_desk.specs.declared.app_handles.AppHandles.{AppHandles}
 use Rattle.dl_desk.specs.Handles.{HandlesState}
-use Rattle.dl_desk.specs.Posting.{rest_of, without_pushes}
+use Rattle.dl_desk.specs.QueuedInjections.{rest_of, without_pushes}
 use Rattle.dl_taking.specs.Took.{empties_of, took_by}
 
 taken_still : (apps : List AppHandles) (app : ℕ)

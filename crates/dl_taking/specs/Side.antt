@@ -2,7 +2,7 @@
 use Rattle.std.specs.Prelude.{ℕ, List, Option}
 use Rattle.dl_events.specs.declared.event.Event.{Event}
 use Rattle.dl_outside.specs.Told.{FolderTold}
-use Rattle.dl_desk.specs.Told.{PostTold}
+use Rattle.dl_desk.specs.Told.{ControlTold}
 use Rattle.dl_core.specs.State.{Core}
 use Rattle.dl_admission.specs.Part.{Part, part}
 use Rattle.dl_turns.specs.State as turns
@@ -14,12 +14,12 @@ use Rattle.dl_taking.specs.Took.{Took}
 pub record Side : Type 0 where
   pub part : Part
   pub took : Took
-  pub desk : PostTold
+  pub desk : ControlTold
   pub noted : ℕ
   pub spare : ℕ
 
 -- the side of a core, a journal, a folder and a desk, where these are the words for what they tell
-abbrev pub seen : {J F D : Type 0} → (J → Option (List Event)) → (J → ℕ) → (J → ℕ) → (F → FolderTold) → (D → Took) → (D → PostTold) → Core → J → F → D → Side
+abbrev pub seen : {J F D : Type 0} → (J → Option (List Event)) → (J → ℕ) → (J → ℕ) → (F → FolderTold) → (D → Took) → (D → ControlTold) → Core → J → F → D → Side
 seen events noted spare folder_told took told core journal folder desk = record {
   part = part core (events journal) (folder_told folder);
   took = took desk;

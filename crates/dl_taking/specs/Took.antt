@@ -6,7 +6,7 @@ use Rattle.dl_cells.specs.declared.loss_keeper.Report.{Report}
 use Rattle.dl_ring.specs.declared.item.RingItem.{RingItem}
 use Rattle.dl_desk.specs.declared.app_handles.AppHandles.{AppHandles}
 use Rattle.dl_desk.specs.Handles.{HandlesState}
-use Rattle.dl_desk.specs.Posting.{rest_of}
+use Rattle.dl_desk.specs.QueuedInjections.{rest_of}
 use Rattle.dl_account.specs.Books.{lost_of}
 use Rattle.dl_account.specs.Known.{taken_of}
 use Rattle.dl_account.specs.State.{ClosingState}

@@ -5,7 +5,7 @@ ghost use Rattle.dl_ring.specs.declared.item.Taken.TheVariants.{Nothing};
 ghost use Rattle.dl_taking.specs.Filling.{FillsOne};
 ghost use Rattle.dl_taking.specs.Took.{with_empty};
 
-use crate::taker::Taker;
+use crate::call_source::CallSource;
 use dl_bytes::{BATCH_LIMIT, Id, Item, OutOfMemory, Payload, Severity};
 use dl_desk::Taken;
 use std::alloc::Global;
@@ -66,7 +66,7 @@ impl Batch {
 
     /// Takes the oldest of an application's ring: a call to the end of the batch, as the application's own, and a claim into the answer. Nothing
     /// came only where the ring was found empty.
-    pub fn take<R: Wait, D: Taker>(&mut self, rt: &R, desk: &mut D, app: u8) -> Taken
+    pub fn take<R: Wait, D: CallSource>(&mut self, rt: &R, desk: &mut D, app: u8) -> Taken
         requires app { app < length (D.specs desk.old) }
         requires room { length self.old < 64 }
         ensures takes { FillsOne app result (D.took desk.old) (D.took desk.new) self.old self.new }

@@ -10,12 +10,12 @@ ghost use Rattle.dl_taking.specs.Takes.{NotesWithLevels, owed_by, owned_claim};
 
 use dl_bytes::{Claim, Moment};
 use dl_core::Core;
-use dl_desk::Post;
+use dl_desk::WriterControl;
 use dl_events::Journal;
 use dl_turns::note_levels;
 
 /// Notes a claim as one of this application, in whose ring it lay; and after it the Level event that it owes, whose level word is set.
-pub fn note_claim<D: Post, J: Journal>(
+pub fn note_claim<D: WriterControl, J: Journal>(
     core: &mut Core,
     desk: &mut D,
     journal: &mut J,

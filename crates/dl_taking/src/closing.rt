@@ -1,12 +1,12 @@
 //! What stands for the desk once the writers are back.
 
-use crate::taker::Taker;
+use crate::call_source::CallSource;
 use dl_account::Closing;
 use dl_bytes::{Id, Item};
 use dl_desk::Taken;
 use std::sync::Wait;
 
-impl Taker for Closing {
+impl CallSource for Closing {
     ghost use Rattle.std.specs.Prelude.{◌≡◌, refl};
     ghost use Rattle.std.proofs.Common.{ap, sym, ◌∙◌};
     ghost use Rattle.dl_account.specs.Known.{IsEmpty, IsTold};

@@ -1,11 +1,11 @@
 //! The desk, while the writers log.
 
-use crate::taker::Taker;
+use crate::call_source::CallSource;
 use dl_bytes::{Id, Item};
 use dl_desk::{Desk, Taken};
 use std::sync::Wait;
 
-impl Taker for Desk {
+impl CallSource for Desk {
     ghost use Rattle.std.specs.Prelude.{◌≡◌, refl};
     ghost use Rattle.std.proofs.Common.{ap, sym, ◌∙◌};
     ghost use Rattle.dl_desk.specs.State.{DeskState};

@@ -6,14 +6,14 @@ ghost use Rattle.dl_taking.specs.Filling.{Fills};
 ghost use Rattle.dl_taking.specs.Took.{empties_now};
 
 use crate::batch::Batch;
-use crate::taker::Taker;
+use crate::call_source::CallSource;
 use dl_bytes::Claim;
 use dl_desk::Taken;
 use std::sync::Wait;
 
 /// Takes the oldest of an application's ring, so many at most: calls, which make the batch, up to the first claim, which is the answer. Without
 /// one they are fewer only where it found the ring empty.
-pub fn fill<R: Wait, D: Taker>(
+pub fn fill<R: Wait, D: CallSource>(
     rt: &R,
     desk: &mut D,
     batch: &mut Batch,

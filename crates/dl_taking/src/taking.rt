@@ -10,9 +10,9 @@ ghost use Rattle.dl_taking.specs.Takes.{Reports, TakesSome, found_none};
 ghost use Rattle.dl_taking.specs.Took.{empties_now};
 
 use crate::batch::Batch;
+use crate::call_source::CallSource;
 use crate::claiming::note_claim;
 use crate::filling::fill;
-use crate::taker::Taker;
 use dl_admission::{log_items, tell};
 use dl_core::Core;
 use dl_events::Journal;
@@ -31,7 +31,7 @@ pub struct Got {
 /// Takes the oldest of an application's ring, so many at most and never more than 64: calls, which are admitted as calls of this moment, up to
 /// the first claim, which is noted after them with its Level event. Answers what it took: without a claim, fewer only where it found the ring
 /// empty.
-pub fn take_some<R: Wait, D: Taker, J: Journal, C: Clock, F: Folder>(
+pub fn take_some<R: Wait, D: CallSource, J: Journal, C: Clock, F: Folder>(
     rt: &R,
     core: &mut Core,
     desk: &mut D,
@@ -79,7 +79,7 @@ pub fn take_some<R: Wait, D: Taker, J: Journal, C: Clock, F: Folder>(
 }
 
 /// Takes the losses of an application, and tells them in a report of this moment; of none it tells nothing. Answers how many.
-pub fn report_losses<D: Taker, J: Journal, C: Clock, F: Folder>(
+pub fn report_losses<D: CallSource, J: Journal, C: Clock, F: Folder>(
     core: &mut Core,
     desk: &mut D,
     journal: &mut J,

@@ -23,7 +23,7 @@ use Rattle.dl_timeline.specs.declared.timeline.SpotMark.{SpotMark}
 use Rattle.dl_timeline.specs.declared.timeline.Timeline.{Timeline}
 use Rattle.dl_sessions.specs.Account.{holes, sessions, totals_of}
 use Rattle.dl_sessions.specs.Gaps.{entries, same_session, same_source, source_of}
-use Rattle.dl_sessions.specs.Text.{buffer_of, missing, missing_here, missing_words, time_text}
+use Rattle.dl_sessions.specs.Text.{buffer, lack_words, missing_here, time_text}
 
 -- ---- time
 
@@ -50,7 +50,7 @@ abbrev pub message_mark : Axis → Told → List SpotMark
 message_mark axis (told.Log e) = record { spot = record { session = e.session; column = column_of axis e.ticks }; bin = record no_bin { messages = 1 } } ∷ []
 message_mark axis _ = []
 
--- what is missing counts at the time of the message behind it, by the counting that the session follows
+-- what is missing counts at the time of the message behind it, by the counting that the session follows; what is not known counts nothing
 abbrev pub hole_mark : Axis → (Session → Totals) → Hole → SpotMark
 hole_mark axis totals hole = record {
   spot = record { session = hole.entry.session; column = column_of axis hole.entry.ticks };
@@ -99,11 +99,11 @@ reported spot reports = fold (with_report spot) no_bin reports
 
 -- ---- the picture
 
--- what a column of a session shows: its messages, its holes, and the reports of its application and of its daemon's buffer
+-- what a column of a session shows: its messages, its holes, and the reports of its application and of the buffer
 abbrev pub bin_of : List Told → Session → ℕ → Bin
 bin_of stream session column =
     joined (marked (record { session = session; column = column }) (marks_of stream))
-    (joined (reported (record { source = source_of session; column = column }) (reports_of stream)) (reported (record { source = buffer_of (source_of session); column = column }) (reports_of stream)))
+    (joined (reported (record { source = source_of session; column = column }) (reports_of stream)) (reported (record { source = buffer; column = column }) (reports_of stream)))
 
 -- a session by its name
 abbrev pub name_text : Session → List ℕ
@@ -111,7 +111,7 @@ name_text session = id_text session.ecu ++ codes " " ++ id_text session.apid ++ 
 
 -- how many messages it has, and how many are missing
 abbrev pub note_text : Totals → List ℕ
-note_text totals = decimal totals.messages ++ codes " messages, " ++ missing_words (missing totals)
+note_text totals = decimal totals.messages ++ codes " messages, " ++ lack_words totals
 
 abbrev pub row_of : List Told → Session → ChartRow
 row_of stream session = record {

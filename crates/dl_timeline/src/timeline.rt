@@ -16,7 +16,7 @@ ghost use Rattle.dl_timeline.specs.declared.timeline.SpotMark.{SpotMark};
 use dl_bytes::{Id, OutOfMemory};
 use dl_picture::{Axis, Bin, COLUMNS, Picture, Row, joined, no_bin};
 use dl_sessions::{
-    Account, Hole, Session, Source, Told, Totals, missing, missing_here, push_missing, push_number,
+    Account, Hole, Session, Source, Told, Totals, missing_here, push_lacking, push_number,
     push_time,
 };
 use dl_text::push_id;
@@ -223,6 +223,7 @@ fn column_behind(axis: Axis, column: u64, told: &Told) -> u64
     match told {
         Told::Log(entry) => axis.column(entry.ticks as u64),
         Told::Lost(_) => column,
+        Told::Unstored(_) => column,
         Told::Other => column,
     }
 }
@@ -263,10 +264,10 @@ impl Timeline {
     }
 
     /// What a column of an application has of reports.
-    fn reported(&self, ecu: Id, apid: Id, column: u64) -> Bin
-        ensures { (stream : List Told) → IsTimeline stream self.now → result ≡ reported (record { source = record { ecu = ecu; apid = apid }; column = column }) (reports_of stream) }
+    fn reported(&self, apid: Id, column: u64) -> Bin
+        ensures { (stream : List Told) → IsTimeline stream self.now → result ≡ reported (record { source = record { apid = apid }; column = column }) (reports_of stream) }
     {
-        let source = Source { ecu, apid };
+        let source = Source { apid };
         report_so_far(&self.reports, &ReportSpot { source, column })
     }
 
@@ -278,8 +279,8 @@ impl Timeline {
             session: *session,
             column,
         };
-        let ring = self.reported(session.ecu, session.apid, column);
-        let buffer = self.reported(session.ecu, Id::from_bytes(DAEMON), column);
+        let ring = self.reported(session.apid, column);
+        let buffer = self.reported(Id::from_bytes(DAEMON), column);
         joined(&spot_so_far(&self.spots, &spot), &joined(&ring, &buffer))
     }
 
@@ -340,7 +341,7 @@ fn push_note(text: &mut Vec<u8>, totals: &Totals) -> Result<(), OutOfMemory>
 {
     push_number(text, b"", totals.messages)?;
     text.extend_from_slice(b" messages, ")?;
-    push_missing(text, missing(totals))
+    push_lacking(text, totals)
 }
 
 /// The time with which a column begins, as text.

@@ -4,7 +4,7 @@ use Rattle.std.proofs.lemmas.Bool.Decides.{leb_tells}
 use Rattle.std.proofs.lemmas.Bool.{eq-eqb}
 use Rattle.dl_outside.specs.Folder.{Files}
 use Rattle.dl_model.specs.TraceFiles.{StoredFile, number_limit}
-use Rattle.dl_trace.specs.Stands.{bytes_of, AreRising, HasFiles}
+use Rattle.dl_trace.specs.InFolder.{bytes_of, AreRising, HasFiles}
 use Rattle.dl_trace.proofs.Holding.{below_none, test_other}
 use Rattle.dl_trace.proofs.Trail.{file_of}
 

@@ -16,7 +16,7 @@ use Rattle.std.proofs.lemmas.Bool.Decides.{eqb_tells, leb_tells}
 use Rattle.std.proofs.lemmas.Slice.Eq.{bytes_eq-Decides}
 use Rattle.dl_outside.specs.Folder.{Files, names_with}
 use Rattle.dl_model.specs.TraceFiles.{StoredFile, number_limit, six_digits, trace_name}
-use Rattle.dl_trace.specs.Stands.{bytes_of, AreRising, HasFiles, IsTraceName}
+use Rattle.dl_trace.specs.InFolder.{bytes_of, AreRising, HasFiles, IsTraceName}
 use Rattle.dl_trace.specs.Found.{Found}
 use Rattle.dl_trace.proofs.Names.{value, value_of_digits}
 use Rattle.dl_trace.proofs.Holding.{name_same}

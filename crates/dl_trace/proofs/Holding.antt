@@ -13,7 +13,7 @@ use Rattle.std.proofs.lemmas.Bool.Decides.{eqb_tells}
 use Rattle.std.proofs.lemmas.Bool.{eq-eqb}
 use Rattle.dl_outside.specs.Folder.{Files, with_more}
 use Rattle.dl_model.specs.TraceFiles.{StoredFile, number_limit, six_digits, trace_name}
-use Rattle.dl_trace.specs.Stands.{bytes_of, AreRising, HasFiles, HasFilesBut}
+use Rattle.dl_trace.specs.InFolder.{bytes_of, AreRising, HasFiles, HasFilesBut}
 use Rattle.dl_trace.specs.Steps.{without}
 use Rattle.dl_trace.proofs.Names.{value_of_digits}
 use Rattle.dl_trace.proofs.Trail.{file_of}

@@ -8,7 +8,7 @@ use Rattle.dl_bytes.specs.declared.outcome.TraceEnd.TheVariants.{Spent}
 use Rattle.dl_outside.specs.Folder.{Files}
 use Rattle.dl_model.specs.TraceFiles.{StoredFile, greatest, segments, trace_files, is_spent}
 use Rattle.dl_trace.specs.State.{Trace, IsAfter, IsSameTrace, counted, files_after, number_after}
-use Rattle.dl_trace.specs.Stands.{HasFiles, ChangesTraceFiles}
+use Rattle.dl_trace.specs.InFolder.{HasFiles, ChangesTraceFiles}
 use Rattle.dl_trace.specs.Pieces.{pieces, pieces_from, pieces_of, frames_in}
 use Rattle.dl_trace.specs.Storing.{IsStored, Stops, Leaves}
 

@@ -9,7 +9,7 @@ use Rattle.dl_outside.specs.Folder.{Files, names_with}
 use Rattle.dl_outside.specs.Outside.{Stays}
 use Rattle.dl_model.specs.TraceFiles.{StoredFile, is_spent, number_limit, six_digits, trace_files, trace_name}
 use Rattle.dl_trace.specs.State.{Trace, IsAfter, listed}
-use Rattle.dl_trace.specs.Stands.{HasFiles, IsTraceName}
+use Rattle.dl_trace.specs.InFolder.{HasFiles, IsTraceName}
 use Rattle.dl_bytes.specs.declared.conf.Conf.{Conf}
 use Rattle.dl_trace.specs.Made.{HasBegun, IsMade}
 use Rattle.dl_trace.specs.Storing.{IsStored}

@@ -11,7 +11,7 @@ use Rattle.dl_outside.specs.Folder.{Files, with_more}
 use Rattle.dl_outside.specs.Outside.{Stays}
 use Rattle.dl_trace.specs.State.{Trace}
 use Rattle.dl_trace.specs.Kept.{IsSound}
-use Rattle.dl_trace.specs.Stands.{IsTraceName, ChangesTraceFiles}
+use Rattle.dl_trace.specs.InFolder.{IsTraceName, ChangesTraceFiles}
 use Rattle.dl_trace.specs.Steps.{names_of, without, HasFront, StopsRemoving, Extends, Begins, Places, last_name, next_name, going_of}
 use Rattle.dl_trace.proofs.Holding.{put_other, gone_other}
 

@@ -14,7 +14,7 @@ use Rattle.dl_outside.specs.Outside.{Stays}
 use Rattle.dl_model.specs.Backlog.{size_of}
 use Rattle.dl_model.specs.TraceFiles.{StoredFile, number_limit, trace_name, kept, is_spent}
 use Rattle.dl_trace.specs.State.{Trace, IsAfter, counted, listed, files_after, number_after}
-use Rattle.dl_trace.specs.Stands.{HasFiles}
+use Rattle.dl_trace.specs.InFolder.{HasFiles}
 use Rattle.dl_trace.specs.Pieces.{frames_in, pieces_of, room_of}
 use Rattle.dl_trace.specs.Steps.{going, going_of, closed_limit, last_name, next_name, names_of, without, HasFront, StopsRemoving, Extends, Begins, with_file}
 use Rattle.dl_trace.specs.Storing.{IsStored, Stops, IsCutShort, IsUnremoved, Leaves}

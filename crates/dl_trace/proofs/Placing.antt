@@ -13,7 +13,7 @@ use Rattle.dl_model.specs.Backlog.{size_of}
 use Rattle.dl_model.specs.TraceFiles.{StoredFile, number_limit, trace_name, greatest, kept, total_size}
 use Rattle.dl_model.proofs.Rotation.{newest_stands}
 use Rattle.dl_trace.specs.State.{Trace, IsAfter, listed, files_after, number_after}
-use Rattle.dl_trace.specs.Stands.{HasFiles, AreRising}
+use Rattle.dl_trace.specs.InFolder.{HasFiles, AreRising}
 use Rattle.dl_trace.specs.Pieces.{last_size, room_of}
 use Rattle.dl_trace.specs.Steps.{bytes_in, going, closed_limit, grown_last, last_name, names_of, Extends, extended}
 use Rattle.dl_trace.specs.Storing.{IsStored}

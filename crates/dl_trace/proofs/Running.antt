@@ -5,7 +5,7 @@ use Rattle.std.proofs.lemmas.List.{append-nil}
 use Rattle.dl_outside.specs.Folder.{Files}
 use Rattle.dl_model.specs.TraceFiles.{StoredFile, trace_files}
 use Rattle.dl_trace.specs.State.{Trace, IsAfter, files_after}
-use Rattle.dl_trace.specs.Stands.{HasFiles}
+use Rattle.dl_trace.specs.InFolder.{HasFiles}
 use Rattle.dl_trace.specs.Pieces.{frames_in}
 use Rattle.dl_trace.specs.Storing.{IsStored}
 use Rattle.dl_trace.specs.Runs.{Ran}

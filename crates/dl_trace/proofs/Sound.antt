@@ -12,7 +12,7 @@ use Rattle.dl_bytes.specs.Conf.{is_printable}
 use Rattle.dl_bytes.specs.declared.outcome.TraceFile.{TraceFile}
 use Rattle.dl_model.specs.TraceFiles.{number_limit, six_digits, trace_name}
 use Rattle.dl_trace.specs.State.{Trace}
-use Rattle.dl_trace.specs.Stands.{IsTraceName}
+use Rattle.dl_trace.specs.InFolder.{IsTraceName}
 use Rattle.dl_trace.specs.Pieces.{last_size, room_of}
 use Rattle.dl_trace.specs.Steps.{grown_last, last_name, going_of, next_name, extended, with_file}
 use Rattle.dl_trace.specs.Kept.{IsSound}

@@ -5,7 +5,7 @@ use Rattle.dl_bytes.specs.declared.outcome.TraceFile.{TraceFile}
 use Rattle.dl_outside.specs.Folder.{Files, size_in}
 use Rattle.dl_model.specs.TraceFiles.{StoredFile, greatest, number_limit, six_digits, trace_name}
 use Rattle.dl_trace.specs.State.{listed}
-use Rattle.dl_trace.specs.Stands.{IsTraceName}
+use Rattle.dl_trace.specs.InFolder.{IsTraceName}
 
 -- the file of this name has so many bytes
 abbrev pub IsSize : Option Files → List ℕ → ℕ → Type 0

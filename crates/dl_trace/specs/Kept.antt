@@ -5,7 +5,7 @@ use Rattle.dl_bytes.specs.Conf.{is_printable}
 use Rattle.dl_bytes.specs.declared.outcome.TraceFile.{TraceFile}
 use Rattle.dl_model.specs.TraceFiles.{number_limit}
 use Rattle.dl_trace.specs.State.{Trace}
-use Rattle.dl_trace.specs.Stands.{IsTraceName}
+use Rattle.dl_trace.specs.InFolder.{IsTraceName}
 use Rattle.dl_trace.specs.Pieces.{last_size}
 
 -- sizes are in their ranges, numbers have six digits, and what is told of are trace files of the directory

@@ -1,5 +1,5 @@
 pub mod State
-pub mod Stands
+pub mod InFolder
 pub mod Pieces
 pub mod Storing
 pub mod Steps

@@ -8,7 +8,7 @@ use Rattle.dl_outside.specs.Outside.{HasRisen}
 use Rattle.dl_outside.specs.Told.{FolderTold}
 use Rattle.dl_model.specs.TraceFiles.{StoredFile, is_spent, trace_name}
 use Rattle.dl_trace.specs.State.{Trace, IsAfter, IsSameTrace, counted, files_after, number_after}
-use Rattle.dl_trace.specs.Stands.{HasFiles, HasFilesBut}
+use Rattle.dl_trace.specs.InFolder.{HasFiles, HasFilesBut}
 use Rattle.dl_trace.specs.Pieces.{pieces_of, frames_in}
 
 -- the folder's count of faults rose where the trace failed, and stands with every other answer

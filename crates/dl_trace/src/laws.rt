@@ -5,7 +5,7 @@ ghost use Rattle.dl_outside.specs.Folder.{Files};
 ghost use Rattle.dl_model.specs.TraceFiles.{StoredFile};
 ghost use Rattle.dl_trace.specs.Pieces.{frames_in};
 ghost use Rattle.dl_trace.specs.Runs.{Ran};
-ghost use Rattle.dl_trace.specs.Stands.{HasFiles};
+ghost use Rattle.dl_trace.specs.InFolder.{HasFiles};
 ghost use Rattle.dl_trace.specs.State.{Trace, IsAfter, files_after};
 
 /// After any calls that stored their frames, the trace files of the folder are those of the definition over all frames

@@ -7,7 +7,7 @@ ghost use Rattle.dl_trace.specs.Batch.{AreSizes, IsNext, fit, parted};
 ghost use Rattle.dl_trace.specs.Found.{AreFound, IsNoFile, IsSize};
 ghost use Rattle.dl_trace.specs.Made.{HasFailed, IsMade, fault_of};
 ghost use Rattle.dl_trace.specs.Pieces.{pieces_of, room_of};
-ghost use Rattle.dl_trace.specs.Stands.{ChangesTraceFiles, HasFiles};
+ghost use Rattle.dl_trace.specs.InFolder.{ChangesTraceFiles, HasFiles};
 ghost use Rattle.dl_trace.specs.State.{IsAfter, missing};
 ghost use Rattle.dl_trace.specs.Steps.{BeginsFile, ExtendsTrace, Places};
 ghost use Rattle.dl_trace.specs.Storing.{HasCause, Stops, StoresNext, StoresOrStops};

@@ -6,7 +6,7 @@ use Rattle.dl_outside.specs.Outside.{Stays}
 use Rattle.dl_outside.specs.Told.{FolderTold}
 use Rattle.dl_outside.specs.declared.folder.FolderFault.{FolderFault}
 use Rattle.dl_outside.proofs.Staying.{stays_same}
-use Rattle.dl_trace_files.specs.Left.{IsLeft, Looks}
+use Rattle.dl_trace_files.specs.Left.{IsLeft, ReadsFolder}
 
 -- an answer of the same files, later
 pub later : {T : Type 0} (old mid : Option Files) (r : Result T FolderFault) (of : Files → T) → Stays old mid → Answers mid r of → Answers old r of
@@ -25,7 +25,7 @@ left_same told = record { files = stays_same told.files; changes = refl }
 pub left_on : (old mid new : FolderTold) → IsLeft old mid → IsLeft mid new → IsLeft old new
 left_on old mid new first second = record { files = stays_on old.files mid.files new.files first.files second.files; changes = second.changes ∙ first.changes }
 
-pub looks_on : {T : Type 0} (old mid new : FolderTold) (r : Result T FolderFault) → IsLeft old mid → mid.faults ≡ old.faults → Looks mid new r → Looks old new r
+pub looks_on : {T : Type 0} (old mid new : FolderTold) (r : Result T FolderFault) → IsLeft old mid → mid.faults ≡ old.faults → ReadsFolder mid new r → ReadsFolder old new r
 looks_on old mid new r left well looks = record {
   left = left_on old mid new left looks.left;
   cause = subst (λ (n : ℕ). HasCause n new.faults r) well looks.cause;

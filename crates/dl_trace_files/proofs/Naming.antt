@@ -9,7 +9,7 @@ use Rattle.dl_outside.specs.Outside.{Stays}
 use Rattle.dl_outside.specs.Told.{FolderTold}
 use Rattle.dl_outside.specs.declared.folder.FolderFault.{FolderFault}
 use Rattle.dl_trace_files.specs.Files.{files_of, front_in, is_file, listed, or_itself, plain, with_name, with_names}
-use Rattle.dl_trace_files.specs.Left.{IsLeft, Looks}
+use Rattle.dl_trace_files.specs.Left.{IsLeft, ReadsFolder}
 use Rattle.dl_trace_files.proofs.Looking.{later, left_on, left_same}
 
 -- the files of a name, by whether a file has it
@@ -66,7 +66,7 @@ more (Some files) all files_named all_now names name so_far new is =
     is ∙ ap (λ (l : List (List ℕ)). l ++ files_named) so_far ∙ ap (λ (l : List (List ℕ)). flat_map (files_of files) names ++ l) (new ∙ sym (append-nil (files_of files name)))
     ∙ sym (flat_map-append (files_of files) names (name ∷ []))
 
-pub one_more : (old mid new : FolderTold) (all files_named all_now names : List (List ℕ)) (name : List ℕ) → SoFar old mid all names → Looks {T = List (List ℕ)} mid new (Ok files_named)
+pub one_more : (old mid new : FolderTold) (all files_named all_now names : List (List ℕ)) (name : List ℕ) → SoFar old mid all names → ReadsFolder {T = List (List ℕ)} mid new (Ok files_named)
     → IfSome mid.files (λ files. files_named ≡ files_of files name) → all_now ≡ all ++ files_named → SoFar old new all_now (names ++ name ∷ [])
 one_more old mid new all files_named all_now names name so_far looks found is = record {
   left = left_on old mid new so_far.left looks.left;

@@ -11,6 +11,6 @@ pub record IsLeft (old new : FolderTold) : Type 0 where
   pub changes : new.changes ≡ old.changes
 
 -- It was looked into: it is left as it was, and its count of faults rose where the look failed, and only there.
-pub record Looks {T : Type 0} (old new : FolderTold) (result : Result T FolderFault) : Type 0 where
+pub record ReadsFolder {T : Type 0} (old new : FolderTold) (result : Result T FolderFault) : Type 0 where
   pub left : IsLeft old new
   pub cause : HasCause old.faults new.faults result

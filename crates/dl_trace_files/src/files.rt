@@ -5,7 +5,7 @@ ghost use Rattle.std.specs.List.{flat_map, list_all, list_any};
 ghost use Rattle.std.specs.Str.{bytes_eq};
 ghost use Rattle.dl_outside.specs.Folder.{Answers};
 ghost use Rattle.dl_trace_files.specs.Files.{files_asked, files_of, front_in, is_digit, is_file, is_numbered, is_trace_name, listed, or_itself, plain, with_name, with_names};
-ghost use Rattle.dl_trace_files.specs.Left.{Looks};
+ghost use Rattle.dl_trace_files.specs.Left.{ReadsFolder};
 
 use crate::names::{TRACE_FRONT, front_in, plain};
 use dl_bytes::{OutOfMemory, Sequence};
@@ -53,7 +53,7 @@ fn numbered(front: &str, names: NameList) -> NameList
 /// The trace files whose names begin so, in the order of their numbers.
 fn listed<F: Folder>(folder: &mut F, front: &str) -> Result<NameList, FolderFault>
     ensures found { Answers (F.told folder.old).files result (λ all. listed all front.now) }
-    ensures looks { Looks (F.told folder.old) (F.told folder.new) result }
+    ensures looks { ReadsFolder (F.told folder.old) (F.told folder.new) result }
 {
     match folder.names(front) {
         Ok(names) => Ok(numbered(front, names)),
@@ -71,7 +71,7 @@ pub fn has(names: &[Name], name: &str) -> bool
 /// Whether a file has this name.
 fn is_file<F: Folder>(folder: &mut F, name: &str) -> Result<bool, FolderFault>
     ensures found { Answers (F.told folder.old).files result (λ all. is_file all name.now) }
-    ensures looks { Looks (F.told folder.old) (F.told folder.new) result }
+    ensures looks { ReadsFolder (F.told folder.old) (F.told folder.new) result }
 {
     match folder.names(name) {
         Ok(names) => Ok(has(names.all(), name)),
@@ -107,7 +107,7 @@ fn in_folder<F: Folder>(
     name: &str,
 ) -> Result<NameList, FolderFault>
     ensures found { Answers (F.told folder.old).files result (λ all. or_itself name.now (listed all (front_in plain_name.now))) }
-    ensures looks { Looks (F.told folder.old) (F.told folder.new) result }
+    ensures looks { ReadsFolder (F.told folder.old) (F.told folder.new) result }
 {
     let Ok(front) = front_in(alloc, plain_name) else {
         return Err(FolderFault::OutOfMemory);
@@ -131,7 +131,7 @@ fn files_by<F: Folder>(
 ) -> Result<NameList, FolderFault>
     requires { plain_name.now ≡ plain name.now }
     ensures found { Answers (F.told folder.old).files result (λ all. files_of all name.now) }
-    ensures looks { Looks (F.told folder.old) (F.told folder.new) result }
+    ensures looks { ReadsFolder (F.told folder.old) (F.told folder.new) result }
 {
     match is_file(folder, plain_name) {
         Ok(true) => match alone(alloc, plain_name) {
@@ -146,7 +146,7 @@ fn files_by<F: Folder>(
 /// The files that a name stands for.
 fn files_of<F: Folder>(alloc: Global, folder: &mut F, name: &str) -> Result<NameList, FolderFault>
     ensures found { Answers (F.told folder.old).files result (λ all. files_of all name.now) }
-    ensures looks { Looks (F.told folder.old) (F.told folder.new) result }
+    ensures looks { ReadsFolder (F.told folder.old) (F.told folder.new) result }
 {
     match plain(alloc, name) {
         Ok(plain_name) => files_by(alloc, folder, plain_name.as_str(), name),
@@ -165,7 +165,7 @@ fn add(all: &mut Vec<Name>, names: NameList) -> Result<(), OutOfMemory>
 /// The files that these names stand for, in their order.
 fn named<F: Folder>(alloc: Global, folder: &mut F, names: &[&str]) -> Result<NameList, FolderFault>
     ensures found { Answers (F.told folder.old).files result (λ all. flat_map (files_of all) (map (λ name. name.now) names.now)) }
-    ensures looks { Looks (F.told folder.old) (F.told folder.new) result }
+    ensures looks { ReadsFolder (F.told folder.old) (F.told folder.new) result }
 {
     let mut all = Vec::new(alloc);
     for name in names {
@@ -209,7 +209,7 @@ fn named_once<F: Folder>(
     names: &[&str],
 ) -> Result<NameList, FolderFault>
     ensures found { Answers (F.told folder.old).files result (λ all. with_names [] (flat_map (files_of all) (map (λ name. name.now) names.now))) }
-    ensures looks { Looks (F.told folder.old) (F.told folder.new) result }
+    ensures looks { ReadsFolder (F.told folder.old) (F.told folder.new) result }
 {
     let files = match named(alloc, folder, names) {
         Ok(files) => files,
@@ -228,7 +228,7 @@ pub fn files_asked<F: Folder>(
     names: &[&str],
 ) -> Result<NameList, FolderFault>
     ensures found { Answers (F.told folder.old).files result (λ all. files_asked all (map (λ name. name.now) names.now)) }
-    ensures looks { Looks (F.told folder.old) (F.told folder.new) result }
+    ensures looks { ReadsFolder (F.told folder.old) (F.told folder.new) result }
 {
     if names.is_empty() {
         listed(folder, TRACE_FRONT)

@@ -3,13 +3,13 @@
 ghost use Rattle.std.specs.Prelude.{◌≡◌, ◌++◌, ℕ, List, OnOk};
 ghost use Rattle.dl_sessions.specs.Follows.{Follows, IsAt};
 ghost use Rattle.dl_sessions.specs.declared.session.Told.{Told};
-ghost use Rattle.dl_trace_files.specs.Left.{IsLeft, Looks};
+ghost use Rattle.dl_trace_files.specs.Left.{IsLeft, ReadsFolder};
 ghost use Rattle.dl_trace_why.specs.Reading.{called, within_words};
 ghost use Rattle.dl_trace_why.specs.Reads.{AddsFile, EndsFile, Reads, ReadsNames, ReadsPieces};
 ghost use Rattle.dl_trace_why.specs.Wanted.{files_wanted};
 
 use crate::status::{Status, fault_status};
-use crate::wanted::{Which, names_wanted};
+use crate::wanted::{FilesWanted, names_wanted};
 use dl_bytes::OutOfMemory;
 use dl_outside::{FolderFault, Name, NameList};
 use dl_pieces::ReadAt;
@@ -58,7 +58,7 @@ fn read_pieces<F: ReadAt>(
     name: &str,
 ) -> Result<Option<u64>, FolderFault>
     ensures read { (before : List Told) → IsAt before follower.old → ReadsPieces before name.now (F.told folder.old).files follower.new result }
-    ensures looks { Looks (F.told folder.old) (F.told folder.new) result }
+    ensures looks { ReadsFolder (F.told folder.old) (F.told folder.new) result }
 {
     let mut piece = [0; PIECE];
     let mut place = 0;
@@ -170,7 +170,7 @@ fn read_some<F: ReadAt>(
 pub fn read_wanted<F: ReadAt>(
     alloc: Global,
     folder: &mut F,
-    files: Which<'_>,
+    files: FilesWanted<'_>,
     keeps: bool,
 ) -> Result<Reading, Status>
     ensures reads { Reads (files_wanted files.entry) (F.told folder.old) (F.told folder.new) result }

@@ -1,7 +1,7 @@
 //! Whose account is wanted, and which files that are.
 
 ghost use Rattle.dl_outside.specs.Folder.{Answers};
-ghost use Rattle.dl_trace_files.specs.Left.{Looks};
+ghost use Rattle.dl_trace_files.specs.Left.{ReadsFolder};
 ghost use Rattle.dl_trace_why.specs.Wanted.{files_wanted};
 
 use dl_outside::{Folder, FolderFault, NameList};
@@ -10,7 +10,7 @@ use std::alloc::Global;
 
 /// Which files are to be read.
 #[derive(Clone, Copy)]
-pub enum Which<'a> {
+pub enum FilesWanted<'a> {
     /// The trace files that these names of files and folders stand for, in their order; without a name those of the current folder.
     Traces(&'a [&'a str]),
     /// The file of this name alone.
@@ -21,7 +21,7 @@ pub enum Which<'a> {
 #[derive(Clone, Copy)]
 pub struct Wanted<'a> {
     /// The files whose account it is.
-    pub files: Which<'a>,
+    pub files: FilesWanted<'a>,
     /// The name of the file that a picture goes into, where one is wanted.
     pub picture: Option<&'a str>,
 }
@@ -30,14 +30,14 @@ pub struct Wanted<'a> {
 pub fn names_wanted<F: Folder>(
     alloc: Global,
     folder: &mut F,
-    files: Which<'_>,
+    files: FilesWanted<'_>,
 ) -> Result<NameList, FolderFault>
     ensures found { Answers (F.told folder.old).files result (files_wanted files.entry) }
-    ensures looks { Looks (F.told folder.old) (F.told folder.new) result }
+    ensures looks { ReadsFolder (F.told folder.old) (F.told folder.new) result }
 {
     match files {
-        Which::Traces(names) => files_asked(alloc, folder, names),
-        Which::Stream(name) => match alone(alloc, name) {
+        FilesWanted::Traces(names) => files_asked(alloc, folder, names),
+        FilesWanted::Stream(name) => match alone(alloc, name) {
             Ok(names) => Ok(names),
             Err(_) => Err(FolderFault::OutOfMemory),
         },

@@ -17,7 +17,7 @@ use Rattle.dl_model.specs.declared.context.Context.{Context}
 use Rattle.dl_model.specs.declared.registry.Slot.{Slot}
 use Rattle.dl_model.proofs.Changes.{served_makes}
 use Rattle.dl_model.proofs.Order.{app_of_found, releveled_numbers}
-use Rattle.dl_desk.specs.Told.{PostTold}
+use Rattle.dl_desk.specs.Told.{ControlTold}
 use Rattle.dl_registry.specs.Kept.{slots}
 use Rattle.dl_services.specs.Wish.{removes, sends, wanted}
 use Rattle.dl_services.specs.declared.wish.Want.{Want}
@@ -34,7 +34,7 @@ KeepsNumbers old new = numbers new.apps ≡ numbers old.apps
 served-keeps : (s : Setting) (slots : ℕ → Slot) (r : Registry) (request : Result Request RequestFault) (answer : Done) → KeepsNumbers r (served s slots r request answer)
 served-keeps s slots r = served_makes (KeepsNumbers r) r refl (λ level relevel. releveled_numbers relevel r.apps) (λ new stored is. is) s slots
 
-pub desk_served : (core : Core) (frame : List ℕ) (answer : Done) (told : PostTold) → IsDeskOf core.registry told → IsDeskOf (served_now core frame answer) told
+pub desk_served : (core : Core) (frame : List ℕ) (answer : Done) (told : ControlTold) → IsDeskOf core.registry told → IsDeskOf (served_now core frame answer) told
 desk_served core frame answer told desk = record {
   numbered = subst (AllByRecursion (λ (n : ℕ). n < told.apps)) (sym (served-keeps (seen core) (slots core.registry) core.registry.registry (asked frame) answer)) desk.numbered;
   versions = desk.versions;
@@ -77,6 +77,6 @@ module _ (apps : ℕ) where
     wanted_within setting slots apid ctid (Ok (Inject service body)) = sent_within service body apid ctid setting.injection
     wanted_within setting slots apid ctid _ = tt
 
-pub injection_within : (core : Core) (frame : List ℕ) (wants : Want) (told : PostTold) → wants ≡ wanted_now core frame → IsDeskOf core.registry told → IsWithin told.apps wants
+pub injection_within : (core : Core) (frame : List ℕ) (wants : Want) (told : ControlTold) → wants ≡ wanted_now core frame → IsDeskOf core.registry told → IsWithin told.apps wants
 injection_within core frame wants told is desk =
     subst (IsWithin told.apps) (sym is) (wanted_within told.apps core.registry.registry desk.numbered (seen core) (slots core.registry) (apid_of frame) (ctid_of frame) (asked frame))

@@ -10,7 +10,7 @@ use Rattle.dl_events.specs.declared.event.Why.{Why}
 use Rattle.dl_cells.specs.declared.level_history.Change.{Change}
 use Rattle.dl_model.specs.declared.registry.LevelChange.{LevelChange}
 use Rattle.dl_outside.specs.Told.{FolderTold}
-use Rattle.dl_desk.specs.Told.{PostTold}
+use Rattle.dl_desk.specs.Told.{ControlTold}
 use Rattle.dl_outside.specs.declared.link.Gave.{Gave}
 use Rattle.dl_outside.specs.declared.link.Gave.TheVariants as gave
 use Rattle.dl_hub.specs.Follows.{took_more}
@@ -73,7 +73,7 @@ pub calm_both : (client : ℕ) (first second : List Event) → AllByRecursion (I
 calm_both client [] second one two = two
 calm_both client (e ∷ first) second one two = (one.0, calm_both client first second one.1 two)
 
-pub desk_both : (some others : List Event) (a b c : PostTold) → IsDeskLater some a b → IsDeskLater others b c → IsDeskLater (some ++ others) a c
+pub desk_both : (some others : List Event) (a b c : ControlTold) → IsDeskLater some a b → IsDeskLater others b c → IsDeskLater (some ++ others) a c
 desk_both some others a b c one two = record {
   sets = two.sets ∙ ap (λ (cs : List Change). cs ++ filter_map level_in others) one.sets ∙ append_assoc a.sets (filter_map level_in some) (filter_map level_in others)
       ∙ ap (λ (cs : List Change). a.sets ++ cs) (sym (filter_map-append level_in some others));
@@ -171,9 +171,9 @@ later_sets client next old new sets = record {
   formed = one_comes old.core (event.Level next.slot next.level) (level_in_turn old.core next [] sets.owed);
   after = sends_none client (event.Level next.slot next.level ∷ []) old new
       (subst (λ (f : FolderTold). Adds (event.Level next.slot next.level ∷ []) (λ run. Unit {0}) old.core new.core old.folder f) (sym sets.folder) (sets.after old.folder));
-  desk = record { sets = ap (λ (d : PostTold). d.sets) sets.desk; apps = ap (λ (d : PostTold). d.apps) sets.desk; first = ap (λ (d : PostTold). d.first) sets.desk };
+  desk = record { sets = ap (λ (d : ControlTold). d.sets) sets.desk; apps = ap (λ (d : ControlTold). d.apps) sets.desk; first = ap (λ (d : ControlTold). d.first) sets.desk };
   posts = λ run past taken was app.
-      posted_level run.setting past app old.desk new.desk (ap (λ (d : PostTold). d.pushed app) sets.desk) (ap (λ (d : PostTold). d.refusals app) sets.desk) next.slot next.level;
+      posted_level run.setting past app old.desk new.desk (ap (λ (d : ControlTold). d.pushed app) sets.desk) (ap (λ (d : ControlTold). d.refusals app) sets.desk) next.slot next.level;
   leaves = tt;
   others = λ other apart. ap (λ (c : Core). client_of c.hub other) sets.core;
 }
@@ -190,12 +190,12 @@ later_closes client why old new comes closes = record {
   after = sends_none client (event.Close client why ∷ []) old new
       (subst (λ (f : FolderTold). Adds (event.Close client why ∷ []) (λ run. Unit {0}) old.core new.core old.folder f) (sym closes.folder) (closes.after old.folder));
   desk = record {
-    sets = ap (λ (d : PostTold). d.sets) closes.desk ∙ sym (append-nil old.desk.sets);
-    apps = ap (λ (d : PostTold). d.apps) closes.desk;
-    first = ap (λ (d : PostTold). d.first) closes.desk;
+    sets = ap (λ (d : ControlTold). d.sets) closes.desk ∙ sym (append-nil old.desk.sets);
+    apps = ap (λ (d : ControlTold). d.apps) closes.desk;
+    first = ap (λ (d : ControlTold). d.first) closes.desk;
   };
   posts = λ run past taken was app.
-      posted_close run.setting past app old.desk new.desk (ap (λ (d : PostTold). d.pushed app) closes.desk) (ap (λ (d : PostTold). d.refusals app) closes.desk) client why;
+      posted_close run.setting past app old.desk new.desk (ap (λ (d : ControlTold). d.pushed app) closes.desk) (ap (λ (d : ControlTold). d.refusals app) closes.desk) client why;
   leaves = has_left client why old new closes;
   others = λ other apart. others_by old.core.hub new.core.hub client shut (ap (λ (c : Core). c.hub) closes.core) other apart;
 }

@@ -16,11 +16,11 @@ use Rattle.dl_core.specs.Admission.{AddsEach}
 use Rattle.dl_core.specs.Follows.{HoldsTrace, IsAfter, Run, source_of}
 use Rattle.dl_core.specs.State.{Core}
 use Rattle.dl_turns.specs.Events.{Closes}
-use Rattle.dl_turns.specs.Injected.{HasPosted}
+use Rattle.dl_turns.specs.Injected.{HasInjected}
 use Rattle.dl_turns.specs.Later.{HasHeard, IsDeskLater, IsLater, IsLaterStage, IsOpenWith}
 use Rattle.dl_turns.specs.Sent.{HasCut}
 use Rattle.dl_turns.specs.State.{Side, Stage}
-use Rattle.dl_turns.specs.Stopping.{IsClosedIn, IsStop, IsWoundUp, TurnsOn}
+use Rattle.dl_turns.specs.Stopping.{IsClosedIn, IsStop, HasClosingTurns, TurnsOn}
 use Rattle.dl_turns.specs.Turns.{IsPump, IsTurn, Listens, SendsRightly, heard}
 use Rattle.dl_turns.proofs.ClosesInTurn.{comes, heeds_end, sends_end, stop_ends}
 use Rattle.dl_turns.proofs.GrownBytes.{gives_heard, stays_grow, stays_same}
@@ -149,7 +149,7 @@ module _ (takes : WhatLinksTake) where
               λ held. subst (λ (es : List Event). HoldsTrace run es pump.between.core pump.between.folder) none (subst (λ (s : Side). HoldsTrace run past s.core s.folder) (sym pump.rest) held),
             );
         desk = subst (λ (s : Side). IsDeskLater [] old.desk s.desk) (sym pump.rest) same.desk;
-        posts = λ run past taken was app. subst (λ (s : Side). HasPosted run.setting past [] app old.desk s.desk) (sym pump.rest) (same.posts run past taken was app);
+        posts = λ run past taken was app. subst (λ (s : Side). HasInjected run.setting past [] app old.desk s.desk) (sym pump.rest) (same.posts run past taken was app);
         leaves = tt;
         others = λ other apart. others_by old.core.hub pump.between.core.hub client (without count) pump.pumps.left other apart;
       }
@@ -212,7 +212,7 @@ module _ (takes : WhatLinksTake) where
       let goes = turns.1 in
       stages_both client why old turns.0 new (stage_goes client old turns.0 goes.heard goes.listens None goes.pumps goes.cutter) (stage_behind client count why turns.0 last new turns.2 later)
 
-  pub stage_wound_up : (client : ℕ) (why : Why) (old new : Stage) → IsWoundUp client why old new → IsLaterStage client (Some why) old new
+  pub stage_wound_up : (client : ℕ) (why : Why) (old new : Stage) → HasClosingTurns client why old new → IsLaterStage client (Some why) old new
   stage_wound_up client why old new wound =
       let last = wound.last in
       stage_behind client wound.count (Some why) old last new wound.turns (elim wound.ends [

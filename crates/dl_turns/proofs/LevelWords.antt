@@ -17,7 +17,7 @@ use Rattle.dl_cells.specs.LevelHistory.{change}
 use Rattle.dl_cells.specs.declared.level_keeper.Worn.{Worn}
 use Rattle.dl_cells.proofs.LevelHistories.{current_version-other, current_version-same}
 use Rattle.dl_outside.specs.Told.{FolderTold}
-use Rattle.dl_desk.specs.Told.{PostTold, with_set}
+use Rattle.dl_desk.specs.Told.{ControlTold, with_set}
 use Rattle.dl_bytes.specs.Limits.{last_version}
 use Rattle.dl_model.specs.Registry.{App, Registry, effective, level_at, numbers}
 use Rattle.dl_model.specs.declared.context.Context.{Context}
@@ -55,12 +55,12 @@ slot_within registry slot apps found level all =
     let below = number_below (slot / 64) apps registry.apps (app_there _ _ registry.level found level) all in
     omega (arith, below, div-add-mod slot 64, mod_below slot 64 (omega arith))
 
-pub owed_within : (kept : Kept) (next : LevelChange) (told : PostTold) → owed_change kept ≡ Some next → IsDeskOf kept told → next.slot < 64 * told.apps
+pub owed_within : (kept : Kept) (next : LevelChange) (told : ControlTold) → owed_change kept ≡ Some next → IsDeskOf kept told → next.slot < 64 * told.apps
 owed_within kept next told owed desk = slot_within kept.registry next.slot told.apps next.level (change_is_level kept next owed).1 desk.numbered
 
 -- ---- one level is set in both
 
-module _ (kept : Kept) (next : LevelChange) (told : PostTold) (all : length kept.held ≡ 1024) (owed : owed_change kept ≡ Some next) (desk : IsDeskOf kept told) where
+module _ (kept : Kept) (next : LevelChange) (told : ControlTold) (all : length kept.held ≡ 1024) (owed : owed_change kept ≡ Some next) (desk : IsDeskOf kept told) where
   raised_here : (slots (with_change kept (Some next)) next.slot).version ≡ (slots kept next.slot).version + 1
   raised_here = ap (λ (s : Slot). s.version) (get_or-set_same kept.held next.slot (raised (slots kept next.slot) next.level) (unset kept.first) (omega (arith, (change_is_level kept next owed).0, all)))
 
@@ -83,7 +83,7 @@ module _ (kept : Kept) (next : LevelChange) (told : PostTold) (all : length kept
   desk_after = record { numbered = desk.numbered; versions = version_here }
 
   -- a slot that is not worn in the registry is not worn in its word
-  pub is_set : (result : Result (Unit {0}) Worn) (told_now : PostTold) → (slots kept next.slot).version < last_version
+  pub is_set : (result : Result (Unit {0}) Worn) (told_now : ControlTold) → (slots kept next.slot).version < last_version
       → (IsErr result ↔ (words.current_version told.first next.slot told.sets ≡ 72057594037927935)) → OnOk result (told_now ≡ with_set next.slot next.level told)
       → told_now ≡ with_set next.slot next.level told
   is_set (Ok done) told_now fresh worn set = set
@@ -92,7 +92,7 @@ module _ (kept : Kept) (next : LevelChange) (told : PostTold) (all : length kept
       absurd (omega (arith, fresh, last, desk.versions next.slot (owed_within kept next told owed desk)))
 
 -- the next Level event is noted, and its level is set
-pub sets_level : (old new : Core) (next : LevelChange) (desk desk_now : PostTold) (events events_now : Option (List Event))
+pub sets_level : (old new : Core) (next : LevelChange) (desk desk_now : ControlTold) (events events_now : Option (List Event))
     → owed_change old.registry ≡ Some next → new ≡ record old { registry = with_change old.registry (Some next) } → AddsAlone (event.Level next.slot next.level ∷ []) old new
     → notes.Adds events events_now (event.Level next.slot next.level) → desk_now ≡ with_set next.slot next.level desk
     → (folder : FolderTold) → SetsLevel next (side old desk events folder) (side new desk_now events_now folder)
@@ -106,7 +106,7 @@ sets_level old new next desk desk_now events events_now owed core after noted se
 }
 
 -- the same desk by other names
-pub desk_as : (kept kept_now : Kept) (told told_now : PostTold) → kept_now ≡ kept → told_now ≡ told → IsDeskOf kept told → IsDeskOf kept_now told_now
+pub desk_as : (kept kept_now : Kept) (told told_now : ControlTold) → kept_now ≡ kept → told_now ≡ told → IsDeskOf kept told → IsDeskOf kept_now told_now
 desk_as kept kept_now told told_now kept_is told_is desk =
     subst (λ (k : Kept). IsDeskOf k told_now) (sym kept_is) (subst (IsDeskOf kept) (sym told_is) desk)
 

@@ -17,7 +17,7 @@ use Rattle.dl_model.specs.Setting.{Setting}
 use Rattle.dl_model.specs.declared.registry.Slot.{Slot}
 use Rattle.dl_model.proofs.Lists.{along_from-append}
 use Rattle.dl_outside.specs.Told.{FolderTold}
-use Rattle.dl_desk.specs.Told.{PostTold, with_pushed, with_refused}
+use Rattle.dl_desk.specs.Told.{ControlTold, with_pushed, with_refused}
 use Rattle.dl_services.specs.Wish.{wanted}
 use Rattle.dl_services.specs.declared.wish.Want.{Want}
 use Rattle.dl_services.specs.declared.wish.Want.TheVariants as want
@@ -26,7 +26,7 @@ use Rattle.dl_core.specs.Serving.{Answers, wanted_now}
 use Rattle.dl_core.specs.Settings.{seen}
 use Rattle.dl_core.specs.State.{Core}
 use Rattle.dl_turns.specs.Events.{Posts}
-use Rattle.dl_turns.specs.Injected.{AreRefusedFull, HasPosted, injected_at, injected_by, refused_at, refused_by, refused_of, sent_to, taken_of, wanted_after}
+use Rattle.dl_turns.specs.Injected.{AreRefusedFull, HasInjected, injected_at, injected_by, refused_at, refused_by, refused_of, sent_to, taken_of, wanted_after}
 
 -- ---- a request wants the same by the core and by the journal
 
@@ -44,7 +44,7 @@ wanted_is run past taken core frame after =
 -- ---- one request
 
 -- the queue of an application took or refused what the answer says
-record IsPosted (app : ℕ) (answer : Done) (wants : Want) (old new : PostTold) : Type 0 where
+record IsPosted (app : ℕ) (answer : Done) (wants : Want) (old new : ControlTold) : Type 0 where
   took : new.pushed app ≡ old.pushed app ++ taken_of app answer wants
   refused : new.refusals app ≡ old.refusals app + length (refused_of app answer wants)
   full : 0 < length (refused_of app answer wants) → 16 ≤ length (old.pushed app)
@@ -59,20 +59,20 @@ none_refused app did.Yes wants none = refl
 none_refused app did.Failed wants none = none
 none_refused app did.NoMemory wants none = refl
 
-module _ (app : ℕ) (old new : PostTold) where
+module _ (app : ℕ) (old new : ControlTold) where
   posted_quiet : (answer : Done) (wants : Want) → sent_to app wants ≡ [] → new ≡ old → IsPosted app answer wants old new
   posted_quiet answer wants none same =
       let nothing = none_refused app answer wants none in
       record {
-        took = ap (λ (d : PostTold). d.pushed app) same ∙ sym (append-nil (old.pushed app)) ∙ ap (λ (xs : List Injection). old.pushed app ++ xs) (sym (none_taken app answer wants none));
-        refused = ap (λ (d : PostTold). d.refusals app) same ∙ sym (add-zero (old.refusals app)) ∙ ap (λ (xs : List Injection). old.refusals app + length xs) (sym nothing);
+        took = ap (λ (d : ControlTold). d.pushed app) same ∙ sym (append-nil (old.pushed app)) ∙ ap (λ (xs : List Injection). old.pushed app ++ xs) (sym (none_taken app answer wants none));
+        refused = ap (λ (d : ControlTold). d.refusals app) same ∙ sym (add-zero (old.refusals app)) ∙ ap (λ (xs : List Injection). old.refusals app + length xs) (sym nothing);
         full = λ some. absurd (omega (arith, some, ap length nothing));
       }
 
   posted_pushed : (other : ℕ) (item : Injection) → new ≡ with_pushed other item old → IsPosted app did.Yes (want.Inject other item) old new
   posted_pushed other item is = record {
-    took = ap (λ (d : PostTold). d.pushed app) is ∙ by (app == other);
-    refused = ap (λ (d : PostTold). d.refusals app) is ∙ sym (add-zero (old.refusals app));
+    took = ap (λ (d : ControlTold). d.pushed app) is ∙ by (app == other);
+    refused = ap (λ (d : ControlTold). d.refusals app) is ∙ sym (add-zero (old.refusals app));
     full = λ some. absurd (omega (arith, some));
   } where
     by : (b : Bool) → cond b (old.pushed app ++ item ∷ []) (old.pushed app) ≡ old.pushed app ++ cond b (item ∷ []) []
@@ -81,8 +81,8 @@ module _ (app : ℕ) (old new : PostTold) where
 
   posted_refused : (other : ℕ) (item : Injection) → new ≡ with_refused other old → 16 ≤ length (old.pushed other) → IsPosted app did.Failed (want.Inject other item) old new
   posted_refused other item is many = record {
-    took = ap (λ (d : PostTold). d.pushed app) is ∙ sym (append-nil (old.pushed app));
-    refused = ap (λ (d : PostTold). d.refusals app) is ∙ by (app == other);
+    took = ap (λ (d : ControlTold). d.pushed app) is ∙ sym (append-nil (old.pushed app));
+    refused = ap (λ (d : ControlTold). d.refusals app) is ∙ by (app == other);
     full = λ some. elim (eqb_tells app other) [
       | inl same ↦ subst (λ (n : ℕ). 16 ≤ length (old.pushed n)) (sym same.1) many
       | inr apart ↦ absurd (omega (arith, some, ap (λ (b : Bool). length (cond b (item ∷ []) [])) apart.0))
@@ -104,8 +104,8 @@ module _ (app : ℕ) (old new : PostTold) where
 
 -- its Request event says so
 pub posted_request : (run : Run) (past : List Event) (taken : ℕ → List ℕ) (core : Core) → IsAfter run past taken core → (client : ℕ) (frame : List ℕ) (wants : Want) (pushed : Bool) (answer : Done)
-    (folder folder_now : FolderTold) (old new : PostTold) → wants ≡ wanted_now core frame → Answers wants pushed answer folder folder_now → Posts wants pushed old new
-    → (app : ℕ) → HasPosted run.setting past (event.Request client frame answer ∷ []) app old new
+    (folder folder_now : FolderTold) (old new : ControlTold) → wants ≡ wanted_now core frame → Answers wants pushed answer folder folder_now → Posts wants pushed old new
+    → (app : ℕ) → HasInjected run.setting past (event.Request client frame answer ∷ []) app old new
 posted_request run past taken core after client frame wants pushed answer folder folder_now old new is acts posts app =
     let one = posted_by app old new wants pushed answer folder folder_now acts posts in
     let same = is ∙ wanted_is run past taken core frame after in
@@ -118,27 +118,27 @@ posted_request run past taken core after client frame wants pushed answer folder
     }
 
 -- which levels were set and which applications there are is as before
-pub posts_keep : (wants : Want) (pushed : Bool) (old new : PostTold) → Posts wants pushed old new → (new.sets ≡ old.sets) × (new.apps ≡ old.apps) × (new.first ≡ old.first)
-posts_keep (want.Inject other item) true old new is = (ap (λ (d : PostTold). d.sets) is, ap (λ (d : PostTold). d.apps) is, ap (λ (d : PostTold). d.first) is)
-posts_keep (want.Inject other item) false old new is = (ap (λ (d : PostTold). d.sets) is.0, ap (λ (d : PostTold). d.apps) is.0, ap (λ (d : PostTold). d.first) is.0)
-posts_keep want.Nothing pushed old new is = (ap (λ (d : PostTold). d.sets) is, ap (λ (d : PostTold). d.apps) is, ap (λ (d : PostTold). d.first) is)
-posts_keep (want.Put text stored) pushed old new is = (ap (λ (d : PostTold). d.sets) is, ap (λ (d : PostTold). d.apps) is, ap (λ (d : PostTold). d.first) is)
-posts_keep want.Remove pushed old new is = (ap (λ (d : PostTold). d.sets) is, ap (λ (d : PostTold). d.apps) is, ap (λ (d : PostTold). d.first) is)
+pub posts_keep : (wants : Want) (pushed : Bool) (old new : ControlTold) → Posts wants pushed old new → (new.sets ≡ old.sets) × (new.apps ≡ old.apps) × (new.first ≡ old.first)
+posts_keep (want.Inject other item) true old new is = (ap (λ (d : ControlTold). d.sets) is, ap (λ (d : ControlTold). d.apps) is, ap (λ (d : ControlTold). d.first) is)
+posts_keep (want.Inject other item) false old new is = (ap (λ (d : ControlTold). d.sets) is.0, ap (λ (d : ControlTold). d.apps) is.0, ap (λ (d : ControlTold). d.first) is.0)
+posts_keep want.Nothing pushed old new is = (ap (λ (d : ControlTold). d.sets) is, ap (λ (d : ControlTold). d.apps) is, ap (λ (d : ControlTold). d.first) is)
+posts_keep (want.Put text stored) pushed old new is = (ap (λ (d : ControlTold). d.sets) is, ap (λ (d : ControlTold). d.apps) is, ap (λ (d : ControlTold). d.first) is)
+posts_keep want.Remove pushed old new is = (ap (λ (d : ControlTold). d.sets) is, ap (λ (d : ControlTold). d.apps) is, ap (λ (d : ControlTold). d.first) is)
 
 -- ---- other events, and many
 
-module _ (setting : Setting) (past : List Event) (app : ℕ) (old new : PostTold) (pushed : new.pushed app ≡ old.pushed app) (refusals : new.refusals app ≡ old.refusals app) where
-  pub posted_none : HasPosted setting past [] app old new
+module _ (setting : Setting) (past : List Event) (app : ℕ) (old new : ControlTold) (pushed : new.pushed app ≡ old.pushed app) (refusals : new.refusals app ≡ old.refusals app) where
+  pub posted_none : HasInjected setting past [] app old new
   posted_none = record { took = pushed ∙ sym (append-nil (old.pushed app)); refused = refusals ∙ sym (add-zero (old.refusals app)); full = tt }
 
-  pub posted_level : (slot level : ℕ) → HasPosted setting past (event.Level slot level ∷ []) app old new
+  pub posted_level : (slot level : ℕ) → HasInjected setting past (event.Level slot level ∷ []) app old new
   posted_level slot level = record {
     took = pushed ∙ sym (append-nil (old.pushed app));
     refused = refusals ∙ sym (add-zero (old.refusals app));
     full = (λ some. absurd (omega (arith, some)), tt);
   }
 
-  pub posted_close : (client : ℕ) (why : Why) → HasPosted setting past (event.Close client why ∷ []) app old new
+  pub posted_close : (client : ℕ) (why : Why) → HasInjected setting past (event.Close client why ∷ []) app old new
   posted_close client why = record {
     took = pushed ∙ sym (append-nil (old.pushed app));
     refused = refusals ∙ sym (add-zero (old.refusals app));
@@ -159,8 +159,8 @@ full_both setting app count past (e ∷ first) second one two =
           (subst (λ (n : ℕ). AreRefusedFull setting app n (past ++ e ∷ first) second) all two)),
     )
 
-pub posted_both : (setting : Setting) (past first second : List Event) (app : ℕ) (a b c : PostTold) → HasPosted setting past first app a b → HasPosted setting (past ++ first) second app b c
-    → HasPosted setting past (first ++ second) app a c
+pub posted_both : (setting : Setting) (past first second : List Event) (app : ℕ) (a b c : ControlTold) → HasInjected setting past first app a b → HasInjected setting (past ++ first) second app b c
+    → HasInjected setting past (first ++ second) app a c
 posted_both setting past first second app a b c one two =
     let taken = along_from-append (injected_at setting app) past first second in
     let refused = along_from-append (refused_at setting app) past first second in

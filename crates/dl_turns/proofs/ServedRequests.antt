@@ -12,7 +12,7 @@ use Rattle.dl_message.specs.Cutting.{Cutting}
 use Rattle.dl_message.specs.Requests.{requests}
 use Rattle.dl_message.proofs.Cuts.{all_of_both, concat_both, its_cut, one_cut}
 use Rattle.dl_outside.specs.Told.{FolderTold}
-use Rattle.dl_desk.specs.Told.{PostTold}
+use Rattle.dl_desk.specs.Told.{ControlTold}
 use Rattle.dl_services.specs.declared.wish.Want.{Want}
 use Rattle.dl_services.specs.declared.wish.Want.TheVariants as want
 use Rattle.dl_registry.specs.Kept.{Kept, owed_change}
@@ -108,7 +108,7 @@ module _ (client : ℕ) (bytes : List ℕ) where
 
 -- ---- one request
 
-reply_opens : (o : Option Waiting) (frame : List ℕ) → IsSome o → IsSome (option_map (added frame) o)
+reply_opens : (o : Option Waiting) (frame : List ℕ) → IsSome o → IsSome (option_map (added frame ((length frame, 0) ∷ [])) o)
 reply_opens None frame there = absurd cc
 reply_opens (Some w) frame there = refl
 
@@ -116,7 +116,7 @@ pub open_served : (hub new : Hub) (client : ℕ) (frame : List ℕ) → new ≡ 
 open_served hub new client frame is there =
     subst (λ (h : Hub). IsSome (outbox_of h client)) (sym is) (still_open hub client (with_reply frame) (λ c open_so. reply_opens c.outbox frame open_so) there)
 
-pub asks : (client : ℕ) (frame : List ℕ) (ready : Ready) (pushed : Bool) (old before new : Core) (spare spare_now : ℕ) (desk desk_now : PostTold)
+pub asks : (client : ℕ) (frame : List ℕ) (ready : Ready) (pushed : Bool) (old before new : Core) (spare spare_now : ℕ) (desk desk_now : ControlTold)
     (events events_now : Option (List Event)) (folder folder_now : FolderTold)
     → IsFor client frame old spare spare_now ready → owed_change old.registry ≡ None → before ≡ old
     → Posts ready.want pushed desk desk_now → Serves ready pushed before new folder folder_now events events_now
@@ -137,7 +137,7 @@ asks client frame ready pushed old before new spare spare_now desk desk_now even
 }
 
 -- the desk is that of the registry, also once an injection was posted
-pub desk_posted : (kept : Kept) (wants : Want) (pushed : Bool) (old new : PostTold) → Posts wants pushed old new → IsDeskOf kept old → IsDeskOf kept new
+pub desk_posted : (kept : Kept) (wants : Want) (pushed : Bool) (old new : ControlTold) → Posts wants pushed old new → IsDeskOf kept old → IsDeskOf kept new
 desk_posted kept (want.Inject app item) true old new is desk = subst (IsDeskOf kept) (sym is) (record { numbered = desk.numbered; versions = desk.versions })
 desk_posted kept (want.Inject app item) false old new is desk = subst (IsDeskOf kept) (sym is.0) (record { numbered = desk.numbered; versions = desk.versions })
 desk_posted kept (want.Put text stored) pushed old new is desk = subst (IsDeskOf kept) (sym is) desk
@@ -164,7 +164,7 @@ hub_as client client_now frame frame_now core core_now new answer client_is fram
     ∙ ap (λ (n : ℕ). changed n (with_reply (reply_now core frame answer)) core.hub) client_is
 
 -- the side serves on
-pub serves_on : (client served : ℕ) (core new : Core) (hub : Hub) (told : PostTold) (frame : List ℕ) → new.hub ≡ hub → hub ≡ changed client (with_reply frame) core.hub
+pub serves_on : (client served : ℕ) (core new : Core) (hub : Hub) (told : ControlTold) (frame : List ℕ) → new.hub ≡ hub → hub ≡ changed client (with_reply frame) core.hub
     → IsSome (outbox_of core.hub client) → HasServed client served core → served < request_limit → owed_change new.registry ≡ None → IsDeskOf new.registry told → IsServing client (served + 1) new told
 serves_on client served core new hub told frame same is open_so has few settled desk = record {
   open_so = open_served core.hub new.hub client frame (same ∙ is) open_so;
@@ -173,5 +173,5 @@ serves_on client served core new hub told frame same is open_so has few settled 
   desk_so = desk;
 }
 
-pub serving_as : (client served : ℕ) (core new : Core) (told : PostTold) → new ≡ core → IsServing client served core told → IsServing client served new told
+pub serving_as : (client served : ℕ) (core new : Core) (told : ControlTold) → new ≡ core → IsServing client served core told → IsServing client served new told
 serving_as client served core new told same serving = subst (λ (k : Core). IsServing client served k told) (sym same) serving

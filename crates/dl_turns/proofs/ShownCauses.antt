@@ -11,7 +11,7 @@ use Rattle.dl_outside.specs.declared.link.Gave.TheVariants as gave
 use Rattle.dl_core.specs.State.{Core}
 use Rattle.dl_turns.specs.Gone.{IsShown, ShowsCause, Tells}
 use Rattle.dl_turns.specs.State.{Side, Stage}
-use Rattle.dl_turns.specs.Stopping.{HasStopCause, HasTried, IsClosedIn, IsStop, IsWoundUp}
+use Rattle.dl_turns.specs.Stopping.{HasStopCause, HasTried, IsClosedIn, IsStop, HasClosingTurns}
 use Rattle.dl_turns.specs.Turns.{Hears, Heeds, IsPump, IsTurn, Listens, Refuses, SendsRightly, ServesEach}
 use Rattle.dl_turns.proofs.StopCauses.{stop_cause_of}
 
@@ -80,7 +80,7 @@ module _ (did : LinkDid) where
   closed_shown client why old new (inl turn) faults over = by_turn client why old new turn faults over
   closed_shown client why old new (inr pumped) faults over = by_pump client why pumped.0.link new.link pumped.0.side new.side pumped.2 faults
 
-  by_stop : (client : ℕ) (why : Why) (old new : Stage) → IsWoundUp client why old new → Tells old.link new.link did → (why ≡ Left → did.is_over ≡ true) → IsShown did why
+  by_stop : (client : ℕ) (why : Why) (old new : Stage) → HasClosingTurns client why old new → Tells old.link new.link did → (why ≡ Left → did.is_over ≡ true) → IsShown did why
   by_stop client why old new wound tells over = elim wound.ends [
     | inl closed ↦ closed_shown client why wound.last new closed.1 tells.faults over
     | inr stopped ↦ stop_shown why old.link new.link stopped.2 (stop_cause_of client why old new wound) tells
@@ -94,7 +94,7 @@ turn_shows client why old new did turn tells over = by_turn did client why old n
 pub pump_shows : (client : ℕ) (why : Why) (old new : Stage) (did : LinkDid) → IsPump client (Some why) old.link new.link old.side new.side → Tells old.link new.link did → IsShown did why
 pump_shows client why old new did pump tells = by_pump did client why old.link new.link old.side new.side pump tells.faults
 
-pub stop_shows : (client : ℕ) (why : Why) (old new : Stage) (did : LinkDid) → IsWoundUp client why old new → Tells old.link new.link did → (why ≡ Left → did.is_over ≡ true) → IsShown did why
+pub stop_shows : (client : ℕ) (why : Why) (old new : Stage) (did : LinkDid) → HasClosingTurns client why old new → Tells old.link new.link did → (why ≡ Left → did.is_over ≡ true) → IsShown did why
 stop_shows client why old new did wound tells over = by_stop did client why old new wound tells over
 
 -- a client left only where its link was over, if it tells that
@@ -155,7 +155,7 @@ turn_counts client why old new turn = by_counts new.link why (by_turn (counted n
 pub pump_counts : (client : ℕ) (why : Why) (old new : Stage) → IsPump client (Some why) old.link new.link old.side new.side → ShowsCause new.link why
 pump_counts client why old new pump = by_counts new.link why (by_pump (counted new.link) client why old.link new.link old.side new.side pump refl)
 
-pub stop_counts : (client : ℕ) (why : Why) (old new : Stage) → IsWoundUp client why old new → ShowsCause new.link why
+pub stop_counts : (client : ℕ) (why : Why) (old new : Stage) → HasClosingTurns client why old new → ShowsCause new.link why
 stop_counts client why old new wound = elim wound.ends [
   | inl closed ↦ by_counts new.link why (closed_shown (counted new.link) client why wound.last new closed.1 refl (λ left. refl))
   | inr stopped ↦ by_cause old.link new.link why stopped.2 (stop_cause_of client why old new wound)

@@ -12,7 +12,7 @@ use Rattle.dl_outside.specs.declared.link.Gave.TheVariants as gave
 use Rattle.dl_hub.specs.State.{Waiting, outbox_of}
 use Rattle.dl_core.specs.State.{Core}
 use Rattle.dl_turns.specs.State.{Side, Stage}
-use Rattle.dl_turns.specs.Stopping.{GoesOn, HasStopCause, HasTried, IsClosedIn, IsEmpty, IsStop, IsWoundUp, TurnsOn}
+use Rattle.dl_turns.specs.Stopping.{GoesOn, HasStopCause, HasTried, IsClosedIn, IsEmpty, IsStop, HasClosingTurns, TurnsOn}
 use Rattle.dl_turns.specs.Turns.{HasSent, Heeds, Refuses, SendsRightly, ServesEach, heard}
 use Rattle.dl_turns.proofs.GrownBytes.{gives_heard, stays_grow, stays_same}
 
@@ -150,7 +150,7 @@ filled None left long some none = absurd none
 filled (Some b) left long some none = absurd (omega (arith, long, some, ap length none))
 
 module _ (client : ℕ) (old new : Stage) where
-  is_stopped : IsWoundUp client Stopped old new → HasRisen old.link.idles new.link.idles ⊎ HasTried 1000 old.link new.link
+  is_stopped : HasClosingTurns client Stopped old new → HasRisen old.link.idles new.link.idles ⊎ HasTried 1000 old.link new.link
   is_stopped wound = elim wound.ends [
     | inl closed ↦ absurd (never_closed client Stopped wound.last new tt closed.1)
     | inr stopped ↦ elim stopped.1 [
@@ -166,7 +166,7 @@ module _ (client : ℕ) (old new : Stage) where
     ]
   ]
 
-  is_stuck : (left : ℕ) → IsWoundUp client (Stuck left) old new → HasRisen old.link.waits new.link.waits × HasTried 1000 old.link new.link
+  is_stuck : (left : ℕ) → HasClosingTurns client (Stuck left) old new → HasRisen old.link.waits new.link.waits × HasTried 1000 old.link new.link
   is_stuck left wound = elim wound.ends [
     | inl closed ↦ absurd (never_closed client (Stuck left) wound.last new tt closed.1)
     | inr stopped ↦
@@ -182,7 +182,7 @@ module _ (client : ℕ) (old new : Stage) where
         ]
   ]
 
-pub stop_cause_of : (client : ℕ) (why : Why) (old new : Stage) → IsWoundUp client why old new → HasStopCause why old.link new.link
+pub stop_cause_of : (client : ℕ) (why : Why) (old new : Stage) → HasClosingTurns client why old new → HasStopCause why old.link new.link
 stop_cause_of client Stopped old new wound = is_stopped client old new wound
 stop_cause_of client (Stuck left) old new wound = is_stuck client old new left wound
 stop_cause_of client _ old new wound = tt

@@ -8,7 +8,7 @@ use Rattle.dl_outside.specs.Outside.{HasRisen, Stays}
 use Rattle.dl_outside.specs.Told.{LinkTold}
 use Rattle.dl_hub.specs.State.{Waiting, outbox_of}
 use Rattle.dl_turns.specs.State.{Side, Stage}
-use Rattle.dl_turns.specs.Stopping.{GoesOn, IsQuiet, IsWoundUp, TurnsOn}
+use Rattle.dl_turns.specs.Stopping.{GoesOn, IsQuiet, HasClosingTurns, TurnsOn}
 use Rattle.dl_turns.specs.Turns.{HasGiven, HasSent}
 
 pub empty_outbox : (o : Option Waiting) → IsSomeAnd o (λ b. length b.bytes ≡ 0) → IsSomeAnd o (λ b. b.bytes ≡ [])
@@ -50,5 +50,5 @@ goes_by client quiet old link link_now cutter now same goes = subst (λ (l : Lin
 
 -- the same by another name of the cutter
 pub wound_by : (client : ℕ) (why : Why) (old : Stage) (link : LinkTold) (cutter cutter_now : Cutting) (now : Side) → cutter_now ≡ cutter
-    → IsWoundUp client why old (record { link = link; cutter = cutter; side = now }) → IsWoundUp client why old (record { link = link; cutter = cutter_now; side = now })
-wound_by client why old link cutter cutter_now now same wound = subst (λ (c : Cutting). IsWoundUp client why old (record { link = link; cutter = c; side = now })) (sym same) wound
+    → HasClosingTurns client why old (record { link = link; cutter = cutter; side = now }) → HasClosingTurns client why old (record { link = link; cutter = cutter_now; side = now })
+wound_by client why old link cutter cutter_now now same wound = subst (λ (c : Cutting). HasClosingTurns client why old (record { link = link; cutter = c; side = now })) (sym same) wound

@@ -9,7 +9,7 @@ use Rattle.dl_events.specs.declared.event.Why.{Why}
 use Rattle.dl_events.specs.declared.event.Why.TheVariants.{Left, Broken, Slow, Malformed, TooMany, NoMemory, Stuck, Stopped}
 use Rattle.dl_message.specs.Cutting.{Cutting}
 use Rattle.dl_outside.specs.Told.{FolderTold, LinkTold}
-use Rattle.dl_desk.specs.Told.{PostTold}
+use Rattle.dl_desk.specs.Told.{ControlTold}
 use Rattle.dl_outside.specs.declared.link.Gave.{Gave}
 use Rattle.dl_outside.specs.declared.link.Gave.TheVariants as gave
 use Rattle.dl_model.specs.Backlog.{outbox_limit}
@@ -58,7 +58,7 @@ may_end client unread gave.Failed into why old new heeds = may_plain new.core.hu
 
 -- ---- the Close
 
-pub closes : (client : ℕ) (why : Why) (old new : Core) (desk : PostTold) (events events_now : Option (List Event)) (folder : FolderTold)
+pub closes : (client : ℕ) (why : Why) (old new : Core) (desk : ControlTold) (events events_now : Option (List Event)) (folder : FolderTold)
     → MayEnd old.hub client why → IsSomeAnd (outbox_of old.hub client) (λ outbox. outbox.capacity ≡ outbox_limit old.hub.buffer) → owed_change old.registry ≡ None
     → new ≡ record old { hub = changed client shut old.hub } → AddsAlone (event.Close client why ∷ []) old new
     → notes.Adds events events_now (event.Close client why)

@@ -9,7 +9,7 @@ use Rattle.dl_cells.specs.LevelHistory.{current_version}
 use Rattle.dl_model.specs.Backlog.{outbox_limit}
 use Rattle.dl_model.specs.Registry.{numbers}
 use Rattle.dl_model.specs.declared.registry.LevelChange.{LevelChange}
-use Rattle.dl_desk.specs.Told.{PostTold, with_pushed, with_refused, with_set}
+use Rattle.dl_desk.specs.Told.{ControlTold, with_pushed, with_refused, with_set}
 use Rattle.dl_registry.specs.Kept.{Kept, owed_change, slots, with_change}
 use Rattle.dl_services.specs.declared.wish.Want.{Want}
 use Rattle.dl_services.specs.declared.wish.Want.TheVariants as want
@@ -26,7 +26,7 @@ use Rattle.dl_turns.specs.State.{Side}
 
 -- The desk has each application of the registry, by its number, and the level word of each slot has the version that the slot has in
 -- the registry.
-pub record IsDeskOf (kept : Kept) (desk : PostTold) : Type 0 where
+pub record IsDeskOf (kept : Kept) (desk : ControlTold) : Type 0 where
   pub numbered : AllByRecursion (λ number. number < desk.apps) (numbers kept.registry.apps)
   pub versions : (slot : ℕ) → slot < 64 * desk.apps → (slots kept slot).version ≡ current_version desk.first slot desk.sets
 
@@ -34,7 +34,7 @@ pub record IsDeskOf (kept : Kept) (desk : PostTold) : Type 0 where
 
 -- The injection that a request wants was put into the queue of its application; or that queue refused it, which it does only where it
 -- took 16 before.
-abbrev pub Posts : Want → Bool → PostTold → PostTold → Type 0
+abbrev pub Posts : Want → Bool → ControlTold → ControlTold → Type 0
 Posts (want.Inject app injection) true old new = new ≡ with_pushed app injection old
 Posts (want.Inject app injection) false old new = (new ≡ with_refused app old) × (16 ≤ length (old.pushed app))
 Posts other pushed old new = new ≡ old
@@ -45,7 +45,7 @@ HasServed client served core = IsSomeAnd (client_of core.hub client) (λ c. (c.r
 
 -- Between two steps of a turn the client is open, so many of its requests were served, no Level event is owed, and the desk is that of
 -- the registry.
-pub record IsServing (client served : ℕ) (core : Core) (desk : PostTold) : Type 0 where
+pub record IsServing (client served : ℕ) (core : Core) (desk : ControlTold) : Type 0 where
   pub open_so : IsSome (outbox_of core.hub client)
   pub served_so : HasServed client served core
   pub settled_so : owed_change core.registry ≡ None

@@ -15,8 +15,8 @@ pub record Tells (link link_now : LinkTold) (did : LinkDid) : Type 0 where
   pub waits : link_now.waits ≡ did.waits
 
 -- every link of a kind tells whether it is over
-abbrev pub TellOver : {L : Type 0} → (L → LinkTold) → Type 0
-TellOver {L} told = (link : L) → IsSome (told link).over
+abbrev pub TellTheEnd : {L : Type 0} → (L → LinkTold) → Type 0
+TellTheEnd {L} told = (link : L) → IsSome (told link).over
 
 -- What a link did shows why its client went: it is over, it failed, it took nothing, or it had nothing to give. Other causes are shown by the
 -- bytes and the journal.

@@ -9,7 +9,7 @@ use Rattle.dl_model.specs.Along.{along_from}
 use Rattle.dl_model.specs.Journal.{registry_of, slots_of}
 use Rattle.dl_model.specs.Reply.{apid_of, asked, ctid_of}
 use Rattle.dl_model.specs.Setting.{Setting}
-use Rattle.dl_desk.specs.Told.{PostTold}
+use Rattle.dl_desk.specs.Told.{ControlTold}
 use Rattle.dl_services.specs.Wish.{wanted}
 use Rattle.dl_services.specs.declared.wish.Want.{Want}
 use Rattle.dl_services.specs.declared.wish.Want.TheVariants as want
@@ -56,7 +56,7 @@ AreRefusedFull setting app count before (one ∷ events) =
     × AreRefusedFull setting app (count + length (injected_at setting app before one)) (before ++ one ∷ []) events
 
 -- The queue of an application took and refused just the injections of these events, which come after a journal.
-pub record HasPosted (setting : Setting) (before events : List Event) (app : ℕ) (old new : PostTold) : Type 0 where
+pub record HasInjected (setting : Setting) (before events : List Event) (app : ℕ) (old new : ControlTold) : Type 0 where
   pub took : new.pushed app ≡ old.pushed app ++ injected_by setting app before events
   pub refused : new.refusals app ≡ old.refusals app + length (refused_by setting app before events)
   pub full : AreRefusedFull setting app (length (old.pushed app)) before events

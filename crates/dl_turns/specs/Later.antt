@@ -13,13 +13,13 @@ use Rattle.dl_model.specs.Backlog.{outbox_limit}
 use Rattle.dl_model.specs.ClientEnds.{HasAsked, IsMalformed, asked_by}
 use Rattle.dl_model.specs.Frames.{FrameSource}
 use Rattle.dl_outside.specs.Outside.{Grows}
-use Rattle.dl_desk.specs.Told.{PostTold}
+use Rattle.dl_desk.specs.Told.{ControlTold}
 use Rattle.dl_hub.specs.Follows.{took_more}
 use Rattle.dl_hub.specs.State.{Hub, client_of}
 use Rattle.dl_core.specs.Admission.{AddsEach}
 use Rattle.dl_core.specs.Follows.{HoldsTrace, IsAfter, Run, source_of}
 use Rattle.dl_core.specs.Next.{ComeInTurn}
-use Rattle.dl_turns.specs.Injected.{HasPosted}
+use Rattle.dl_turns.specs.Injected.{HasInjected}
 use Rattle.dl_turns.specs.Sent.{HasCut}
 use Rattle.dl_turns.specs.State.{Side, Stage}
 
@@ -42,7 +42,7 @@ close_of client None = []
 close_of client (Some why) = event.Close client why ∷ []
 
 -- the desk is later by these events of a turn: its levels follow the Level events, and it has the same applications
-pub record IsDeskLater (more : List Event) (old new : PostTold) : Type 0 where
+pub record IsDeskLater (more : List Event) (old new : ControlTold) : Type 0 where
   pub sets : new.sets ≡ old.sets ++ filter_map level_in more
   pub apps : new.apps ≡ old.apps
   pub first : new.first ≡ old.first
@@ -78,7 +78,7 @@ pub record IsLater (client : ℕ) (why : Option Why) (sent : List ℕ) (old new 
   pub after : AddsSending client more sent old new
   pub desk : IsDeskLater more old.desk new.desk
   pub posts : (run : Run) (past : List Event) (taken : ℕ → List ℕ) → IsAfter run past taken old.core
-      → (app : ℕ) → HasPosted run.setting past more app old.desk new.desk
+      → (app : ℕ) → HasInjected run.setting past more app old.desk new.desk
   pub leaves : IfSome why (λ cause. HasLeft client cause new.core.hub)
   pub others : (other : ℕ) → other ≢ client → client_of new.core.hub other ≡ client_of old.core.hub other
 

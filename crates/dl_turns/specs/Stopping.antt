@@ -45,7 +45,7 @@ IsStop other = ⊥
 
 -- Closing turns go on until one is quiet, at most 1000, or until the client is closed in one. A client that is still open is then stopped
 -- where nothing waits for it, and stuck where something does.
-pub record IsWoundUp (client : ℕ) (why : Why) (old new : Stage) : Type 0 where
+pub record HasClosingTurns (client : ℕ) (why : Why) (old new : Stage) : Type 0 where
   pub count : ℕ
   pub last : Stage
   pub turns : TurnsOn client count old last

@@ -13,7 +13,7 @@ use crate::client::Client;
 use crate::serving::serve_each;
 use dl_bytes::LINK_PIECE;
 use dl_core::Core;
-use dl_desk::Post;
+use dl_desk::WriterControl;
 use dl_events::{Journal, Why};
 use dl_outside::{Folder, Gave, Link};
 use std::alloc::Global;
@@ -21,7 +21,7 @@ use std::sync::Wait;
 
 /// Asks a client's link once for at most 4096 bytes, and serves the requests that they make whole. Answers whether the link gave any;
 /// an error is the cause to close the client.
-pub fn listen<R: Wait, D: Post, J: Journal, L: Link, F: Folder>(
+pub fn listen<R: Wait, D: WriterControl, J: Journal, L: Link, F: Folder>(
     rt: &R,
     alloc: Global,
     core: &mut Core,

@@ -8,7 +8,7 @@ ghost use Rattle.dl_outside.specs.Outside.{HasRisen};
 ghost use Rattle.dl_turns.specs.Gone.{IsShown, ShowsCause, Tells};
 ghost use Rattle.dl_turns.specs.Later.{IsLaterStage};
 ghost use Rattle.dl_turns.specs.State.{Stage};
-ghost use Rattle.dl_turns.specs.Stopping.{IsWoundUp};
+ghost use Rattle.dl_turns.specs.Stopping.{HasClosingTurns};
 ghost use Rattle.dl_turns.specs.Turns.{HasGiven, IsPump, IsTurn};
 
 /// A turn is its events and the bytes that the client's link gave: the core, the folder, the level words and the queues are afterwards those of
@@ -33,7 +33,7 @@ pub fn why_a_client_stays()
 
 /// What the daemon's stop does to a client, its closing turns and its Close, is its events and the bytes that its link gave and took.
 pub fn a_stop_is_its_events()
-    ensures { (client : ℕ) (why : Why) (old new : Stage) → IsWoundUp client why old new → IsLaterStage client (Some why) old new }
+    ensures { (client : ℕ) (why : Why) (old new : Stage) → HasClosingTurns client why old new → IsLaterStage client (Some why) old new }
 {
     dl_core::laws::what_links_take();
 }
@@ -45,7 +45,7 @@ pub fn links_show_why_clients_went()
         → (why ≡ Left → did.is_over ≡ true) → IsShown did why }
     ensures pump { (client : ℕ) (why : Why) (old new : Stage) (did : LinkDid) → IsPump client (Some why) old.link new.link old.side new.side
         → Tells old.link new.link did → IsShown did why }
-    ensures stop { (client : ℕ) (why : Why) (old new : Stage) (did : LinkDid) → IsWoundUp client why old new → Tells old.link new.link did
+    ensures stop { (client : ℕ) (why : Why) (old new : Stage) (did : LinkDid) → HasClosingTurns client why old new → Tells old.link new.link did
         → (why ≡ Left → did.is_over ≡ true) → IsShown did why }
     ensures left { (client : ℕ) (old new : Stage) → IsTurn client (Some Left) old new → IsSome old.link.over → new.link.over ≡ Some true }
 {}
@@ -54,5 +54,5 @@ pub fn links_show_why_clients_went()
 pub fn counts_show_why_clients_went()
     ensures turn { (client : ℕ) (why : Why) (old new : Stage) → IsTurn client (Some why) old new → ShowsCause new.link why }
     ensures pump { (client : ℕ) (why : Why) (old new : Stage) → IsPump client (Some why) old.link new.link old.side new.side → ShowsCause new.link why }
-    ensures stop { (client : ℕ) (why : Why) (old new : Stage) → IsWoundUp client why old new → ShowsCause new.link why }
+    ensures stop { (client : ℕ) (why : Why) (old new : Stage) → HasClosingTurns client why old new → ShowsCause new.link why }
 {}

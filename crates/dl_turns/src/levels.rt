@@ -11,11 +11,11 @@ ghost use Rattle.dl_turns.specs.Events.{HaveSetLevels, IsDeskOf, SetsLevel};
 ghost use Rattle.dl_turns.specs.State.{side};
 
 use dl_core::Core;
-use dl_desk::Post;
+use dl_desk::WriterControl;
 use dl_events::Journal;
 
 /// Notes the next Level event that is owed, and sets the level word of its slot. Answers whether there was one.
-fn note_level<D: Post, J: Journal>(core: &mut Core, desk: &mut D, journal: &mut J) -> bool
+fn note_level<D: WriterControl, J: Journal>(core: &mut Core, desk: &mut D, journal: &mut J) -> bool
     requires spare { waiting core.old.registry ≤ J.spare journal.old }
     requires desk { IsDeskOf core.old.registry (D.told desk.old) }
     ensures sets { result ≡ true → (folder : FolderTold) → (next : LevelChange) × SetsLevel next
@@ -41,7 +41,7 @@ fn note_level<D: Post, J: Journal>(core: &mut Core, desk: &mut D, journal: &mut 
 }
 
 /// Notes all Level events that are owed, and sets the level words of their slots.
-pub fn note_levels<D: Post, J: Journal>(core: &mut Core, desk: &mut D, journal: &mut J)
+pub fn note_levels<D: WriterControl, J: Journal>(core: &mut Core, desk: &mut D, journal: &mut J)
     requires spare { waiting core.old.registry ≤ J.spare journal.old }
     requires desk { IsDeskOf core.old.registry (D.told desk.old) }
     ensures levels { (folder : FolderTold) → HaveSetLevels

@@ -17,14 +17,14 @@ use crate::cutting::{Next, next_request};
 use crate::levels::note_levels;
 use dl_bytes::Bytes;
 use dl_core::{Core, Ready};
-use dl_desk::Post;
+use dl_desk::WriterControl;
 use dl_events::{Journal, Why};
 use dl_outside::Folder;
 use std::alloc::Global;
 use std::sync::Wait;
 
 /// Puts the injection that a request wants into its application's queue. Answers whether the queue took one.
-fn push_injection<R: Wait, D: Post>(rt: &R, desk: &mut D, ready: &Ready) -> bool
+fn push_injection<R: Wait, D: WriterControl>(rt: &R, desk: &mut D, ready: &Ready) -> bool
     requires { IfSome (injection_in ready.now.want) (λ i. i.0 < (D.told desk.old).apps) }
     ensures posts { Posts ready.now.want result (D.told desk.old) (D.told desk.new) }
     ensures rest { D.same_rest desk.old desk.new }
@@ -84,7 +84,7 @@ fn prepare<J: Journal>(
 }
 
 /// Serves a request of a client that is open, unless something forbids it. An error is the cause to close the client.
-fn serve_one<R: Wait, D: Post, J: Journal, F: Folder>(
+fn serve_one<R: Wait, D: WriterControl, J: Journal, F: Folder>(
     rt: &R,
     alloc: Global,
     core: &mut Core,
@@ -116,7 +116,7 @@ fn serve_one<R: Wait, D: Post, J: Journal, F: Folder>(
 
 /// Serves the requests that a piece of a client's stream makes whole, in order. An error is the cause to close the client: a
 /// request that is refused, or a bad header behind them.
-pub fn serve_each<R: Wait, D: Post, J: Journal, F: Folder>(
+pub fn serve_each<R: Wait, D: WriterControl, J: Journal, F: Folder>(
     rt: &R,
     alloc: Global,
     core: &mut Core,

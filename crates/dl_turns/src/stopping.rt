@@ -4,21 +4,21 @@ ghost use Rattle.std.specs.Prelude.{◌≡◌, ◌≤◌, ◌<◌, ◌+◌, ◌�
 ghost use Rattle.dl_bytes.specs.Limits.{message_limit};
 ghost use Rattle.dl_events.specs.declared.event.Why.TheVariants.{Left};
 ghost use Rattle.dl_outside.specs.Told.{FolderTold};
-ghost use Rattle.dl_desk.specs.Told.{PostTold};
+ghost use Rattle.dl_desk.specs.Told.{ControlTold};
 ghost use Rattle.dl_registry.specs.Kept.{owed_change};
 ghost use Rattle.dl_hub.specs.State.{outbox_of};
 ghost use Rattle.dl_core.specs.Closing.{MayEnd};
 ghost use Rattle.dl_turns.specs.Clients.{IsSame};
 ghost use Rattle.dl_turns.specs.Events.{Closes, HasServed, IsDeskOf, IsServing};
-ghost use Rattle.dl_turns.specs.Gone.{TellOver};
+ghost use Rattle.dl_turns.specs.Gone.{TellTheEnd};
 ghost use Rattle.dl_turns.specs.State.{seen, side};
-ghost use Rattle.dl_turns.specs.Stopping.{GoesOn, IsClosedIn, IsStop, IsWoundUp};
+ghost use Rattle.dl_turns.specs.Stopping.{GoesOn, IsClosedIn, IsStop, HasClosingTurns};
 
 use crate::client::Client;
 use crate::hearing::listen;
 use crate::turns::pump_turn;
 use dl_core::Core;
-use dl_desk::Post;
+use dl_desk::WriterControl;
 use dl_events::{Journal, Why};
 use dl_message::Cutter;
 use dl_outside::{Folder, Link};
@@ -47,7 +47,7 @@ fn stop<J: Journal>(core: &mut Core, journal: &mut J, client: u32) -> Why
     requires settled { owed_change core.old.registry ≡ None }
     requires spare { 1 ≤ J.spare journal.old }
     ensures stop { IsStop result }
-    ensures closes { (desk : PostTold) (folder : FolderTold) → Closes client result (side core.old desk (J.events journal.old) folder) (side core.new desk (J.events journal.new) folder) }
+    ensures closes { (desk : ControlTold) (folder : FolderTold) → Closes client result (side core.old desk (J.events journal.old) folder) (side core.new desk (J.events journal.new) folder) }
     ensures served { (served : ℕ) → HasServed client served core.old → HasServed client served core.new }
     ensures registry { core.new.registry ≡ core.old.registry }
     ensures spare { J.spare journal.new + 1 ≡ J.spare journal.old }
@@ -82,7 +82,7 @@ fn rest_if_stuck<L: Link>(core: &Core, client: u32, link: &mut L, gave: bool, be
 
 /// One closing turn: the client is listened to, and then what waits is sent. Answers whether the link gave nothing and nothing is left to
 /// send; an error is the cause for which the client was closed.
-fn closing_turn<R: Wait, D: Post, J: Journal, L: Link, F: Folder>(
+fn closing_turn<R: Wait, D: WriterControl, J: Journal, L: Link, F: Folder>(
     rt: &R,
     alloc: Global,
     core: &mut Core,
@@ -108,7 +108,7 @@ fn closing_turn<R: Wait, D: Post, J: Journal, L: Link, F: Folder>(
     ensures desk { IsDeskOf core.new.registry (D.told desk.new) }
     ensures spare { OnOk result (J.spare journal.old ≤ J.spare journal.new) }
     ensures noted { OnErr result (J.spare journal.old ≤ J.spare journal.new + 1) }
-    ensures left { result ≡ Err Left → TellOver L.told → (L.told link.new).over ≡ Some true }
+    ensures left { result ≡ Err Left → TellTheEnd L.told → (L.told link.new).over ≡ Some true }
     ensures same { IsSame client.old client.new }
     ensures rest { D.same_rest desk.old desk.new }
 {
@@ -134,7 +134,7 @@ fn closing_turn<R: Wait, D: Post, J: Journal, L: Link, F: Folder>(
 /// as in a turn, and what waits for it is sent. They end after the first one in which its link gave nothing and nothing is left to send,
 /// or in which the client was closed. One that is still open is stopped, or is stuck where its link did not take all. The link rests after a
 /// turn in which nothing moved.
-pub fn close_turn<R: Wait, D: Post, J: Journal, L: Link, F: Folder>(
+pub fn close_turn<R: Wait, D: WriterControl, J: Journal, L: Link, F: Folder>(
     rt: &R,
     alloc: Global,
     core: &mut Core,
@@ -149,7 +149,7 @@ pub fn close_turn<R: Wait, D: Post, J: Journal, L: Link, F: Folder>(
     requires limit { cutter.old.limit ≡ message_limit }
     requires serving { IsServing client served.old core.old (D.told desk.old) }
     requires spare { 1 ≤ J.spare journal.old }
-    ensures wound_up { let s = seen L.told D.told J.events F.told in IsWoundUp client result
+    ensures wound_up { let s = seen L.told D.told J.events F.told in HasClosingTurns client result
         (s link.old cutter.old core.old desk.old journal.old folder.old)
         (s link.new cutter.new core.new desk.new journal.new folder.new) }
     ensures limit { cutter.new.limit ≡ message_limit }
@@ -157,7 +157,7 @@ pub fn close_turn<R: Wait, D: Post, J: Journal, L: Link, F: Folder>(
     ensures settled { owed_change core.new.registry ≡ None }
     ensures desk { IsDeskOf core.new.registry (D.told desk.new) }
     ensures noted { J.spare journal.old ≤ J.spare journal.new + 1 }
-    ensures left { result ≡ Left → TellOver L.told → (L.told link.new).over ≡ Some true }
+    ensures left { result ≡ Left → TellTheEnd L.told → (L.told link.new).over ≡ Some true }
     ensures rest { D.same_rest desk.old desk.new }
 {
     let mut own = Client {

@@ -3,7 +3,7 @@
 ghost use Rattle.std.specs.Prelude.{◌≡◌, ◌≤◌, ◌+◌, ℕ, IsSome, IfNone, OnSome};
 ghost use Rattle.dl_bytes.specs.Limits.{message_limit};
 ghost use Rattle.dl_outside.specs.Told.{FolderTold};
-ghost use Rattle.dl_desk.specs.Told.{PostTold};
+ghost use Rattle.dl_desk.specs.Told.{ControlTold};
 ghost use Rattle.dl_registry.specs.Kept.{owed_change};
 ghost use Rattle.dl_hub.specs.State.{outbox_of};
 ghost use Rattle.dl_turns.specs.Events.{HasServed, IsDeskOf, IsServing};
@@ -13,7 +13,7 @@ ghost use Rattle.dl_turns.specs.Turns.{IsPump, IsTurn};
 use crate::client::Client;
 use crate::hearing::listen;
 use dl_core::Core;
-use dl_desk::Post;
+use dl_desk::WriterControl;
 use dl_events::{Journal, Why};
 use dl_hub::Pumped;
 use dl_message::Cutter;
@@ -27,7 +27,7 @@ use std::sync::Wait;
 ///
 /// The levels that are set and the injections go to the desk, or to what stands for it once the writers are back. `served` is the number
 /// of the client's requests so far, and the cutter holds what it sent and is no whole message yet.
-pub fn client_turn<R: Wait, D: Post, J: Journal, L: Link, F: Folder>(
+pub fn client_turn<R: Wait, D: WriterControl, J: Journal, L: Link, F: Folder>(
     rt: &R,
     alloc: Global,
     core: &mut Core,
@@ -79,7 +79,7 @@ pub fn pump_turn<J: Journal, L: Link>(
     requires open { IsSome (outbox_of core.old.hub client) }
     requires settled { owed_change core.old.registry ≡ None }
     requires spare { 1 ≤ J.spare journal.old }
-    ensures pump { (desk : PostTold) (folder : FolderTold)
+    ensures pump { (desk : ControlTold) (folder : FolderTold)
         → IsPump client result (L.told link.old) (L.told link.new) (side core.old desk (J.events journal.old) folder) (side core.new desk (J.events journal.new) folder) }
     ensures open { IfNone result (IsSome (outbox_of core.new.hub client)) }
     ensures settled { owed_change core.new.registry ≡ None }

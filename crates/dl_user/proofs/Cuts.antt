@@ -13,7 +13,7 @@ use Rattle.dl_user.specs.declared.fault.Stop.TheVariants.{NeedMore, Bad}
 use Rattle.dl_user.specs.declared.cutter.UserCut.TheVariants as cuts
 use Rattle.dl_user.specs.Layout.{marker, uint32}
 use Rattle.dl_user.specs.Reading.{little, Reading, kind_at, message_at}
-use Rattle.dl_user.specs.Faults.{BeginsWith, Shows, other_marker, other_kind, bad_front, long_message, long_app_text, long_context_text, long_body, context_level, set_level}
+use Rattle.dl_user.specs.Faults.{BeginsWith, ProvesFault, other_marker, other_kind, bad_front, long_message, long_app_text, long_context_text, long_body, context_level, set_level}
 use Rattle.dl_user.specs.Cut.{IsSpelled, Begins, Stops, IsCut, with_others, behind, messages_within, rest_within, messages_of, rest_of}
 use Rattle.dl_user.specs.Channel.{Channel, unfed}
 use Rattle.dl_user.specs.declared.cutter.UserCut.{UserCut}
@@ -40,10 +40,10 @@ no_other a b x y m n p q e =
     let fronts : a ++ x ≡ b ++ x = e ∙ ap (λ (z : List ℕ). b ++ z) (sym same.1) in
     (append_cancel_right a b x fronts, same.0)
 
-pub no_fault_there : (bytes after : List ℕ) (msg : UserMsg) (fault : UserFault) → Begins bytes msg after → Shows bytes fault → ⊥
+pub no_fault_there : (bytes after : List ℕ) (msg : UserMsg) (fault : UserFault) → Begins bytes msg after → ProvesFault bytes fault → ⊥
 no_fault_there bytes after msg fault b shown = let read = begins_read bytes after msg b in cc (sym read ∙ refuses bytes fault shown)
 
-pub fault_once : (bytes : List ℕ) (f g : UserFault) → Shows bytes f → Shows bytes g → f ≡ g
+pub fault_once : (bytes : List ℕ) (f g : UserFault) → ProvesFault bytes f → ProvesFault bytes g → f ≡ g
 fault_once bytes f g p q = let same : ◌≡◌ {A = Reading (UserMsg × At)} (Err (Bad f)) (Err (Bad g)) = sym (refuses bytes f p) ∙ refuses bytes g q in cc
 
 begins_stops : (bytes after : List ℕ) (msg : UserMsg) (stop : Stop) → Begins bytes msg after → Stops bytes stop → ⊥
@@ -62,7 +62,7 @@ begins_with_more : (bytes more front : List ℕ) (kind : ℕ) → BeginsWith byt
 begins_with_more bytes more front kind b =
     (b.0 ++ more, ap (λ (x : List ℕ). x ++ more) b.1 ∙ append_assoc (marker ++ uint32 kind) (front ++ b.0) more ∙ ap (λ (x : List ℕ). marker ++ uint32 kind ++ x) (append_assoc front b.0 more))
 
-pub fault_stays : (bytes more : List ℕ) (fault : UserFault) → Shows bytes fault → Shows (bytes ++ more) fault
+pub fault_stays : (bytes more : List ℕ) (fault : UserFault) → ProvesFault bytes fault → ProvesFault (bytes ++ more) fault
 fault_stays bytes more _ (other_marker front rest e len other) = other_marker front (rest ++ more) (ap (λ (x : List ℕ). x ++ more) e ∙ append_assoc front rest more) len other
 fault_stays bytes more _ (other_kind kind b h outside) = other_kind kind (begins_with_more bytes more [] kind b) h outside
 fault_stays bytes more _ (bad_front head fault b len front) = bad_front head fault (begins_with_more bytes more head 1 b) len front
@@ -183,7 +183,7 @@ cut_goes_on a b fits =
     let same = cut_once (a ++ b) (messages_of (a ++ b)) (messages_of a ++ messages_of (rest_of a ++ b)) (rest_of (a ++ b)) (rest_of (rest_of a ++ b)) whole.0 second.0 whole.1 (joined, second.1.1) in
     (same.0, same.1)
 
-pub cut_ended : (a b : List ℕ) (fault : UserFault) → IsBytes (a ++ b) → Shows (rest_of a) fault → messages_of (a ++ b) ≡ messages_of a
+pub cut_ended : (a b : List ℕ) (fault : UserFault) → IsBytes (a ++ b) → ProvesFault (rest_of a) fault → messages_of (a ++ b) ≡ messages_of a
 cut_ended a b fault fits shown =
     let first = cut_is_there a (IsBytes-front a b fits) in
     let whole = cut_is_there (a ++ b) fits in

@@ -18,7 +18,7 @@ use Rattle.dl_user.specs.declared.fields.ServiceFields.{ServiceFields}
 use Rattle.dl_user.specs.Layout.{marker, uint32}
 use Rattle.dl_user.specs.Reading.{little, inner_len, limited_at, registered_level, log_at, register_app_at, register_context_at, log_level_at, injection_at, kind_at, fields_at, message_at}
 use Rattle.dl_user.specs.Fronts.{IsApp, IsContext, IsSetting, IsService}
-use Rattle.dl_user.specs.Faults.{BeginsWith, IsRegistered, Shows, other_marker, other_kind, bad_front, long_message, long_app_text, long_context_text, long_body, context_level, set_level}
+use Rattle.dl_user.specs.Faults.{BeginsWith, IsRegistered, ProvesFault, other_marker, other_kind, bad_front, long_message, long_app_text, long_context_text, long_body, context_level, set_level}
 use Rattle.dl_user.proofs.Readers.{Then}
 use Rattle.dl_user.proofs.Numbers.{AreBytes, bytes_field}
 use Rattle.dl_user.proofs.Groups.{app_field, context_field, setting_field, injection_field}
@@ -115,7 +115,7 @@ kind_refuses : (bytes front : List ℕ) (kind : ℕ) (fault : UserFault) (b : Be
 kind_refuses bytes front kind fault b h e = rw b.1 (at_fields kind (front ++ b.0) h ∙ e)
 
 -- What shows a fault is refused for it.
-pub refuses : (bytes : List ℕ) (fault : UserFault) → Shows bytes fault → message_at (little bytes) ≡ Err (Bad fault)
+pub refuses : (bytes : List ℕ) (fault : UserFault) → ProvesFault bytes fault → message_at (little bytes) ≡ Err (Bad fault)
 unfolding fields_at
 refuses bytes _ (other_marker front more e len other) = rw e (marker_refuses front more len other)
 refuses bytes _ (other_kind kind b h outside) = kind_refuses bytes [] kind (Kind kind) b h (other_kind_refuses kind (little b.0) outside)

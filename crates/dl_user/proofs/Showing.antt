@@ -17,7 +17,7 @@ use Rattle.dl_headers.proofs.Fronts.{good_again}
 use Rattle.dl_user.specs.Layout.{marker, uint32}
 use Rattle.dl_user.specs.Fields.{app_at, context_at, setting_at, service_at, unregister_app_at, unregister_context_at, overflow_at}
 use Rattle.dl_user.specs.Reading.{little, Reading, ◌>>=◌, wait, inner_len, limited_at, registered_level, log_at, register_app_at, register_context_at, log_level_at, injection_at, kind_at, fields_at, message_at}
-use Rattle.dl_user.specs.Faults.{BeginsWith, IsRegistered, Shows, other_marker, other_kind, bad_front, long_message, long_app_text, long_context_text, long_body, context_level, set_level}
+use Rattle.dl_user.specs.Faults.{BeginsWith, IsRegistered, ProvesFault, other_marker, other_kind, bad_front, long_message, long_app_text, long_context_text, long_body, context_level, set_level}
 use Rattle.dl_bytes.specs.Bytes.{IsBytes}
 use Rattle.dl_user.proofs.Readers.{IsBytes-rest, TakesSpelled, bind_bad}
 use Rattle.dl_user.proofs.FieldReaders.{Fields, wait_some, wait_bad}
@@ -57,7 +57,7 @@ behind_shows limit len c f fault e =
       | inr b ↦ let never = b.2 in absurd cc
     ]
 
-register_app_shows : (bytes rest : List ℕ) (fault : UserFault) → bytes ≡ marker ++ uint32 2 ++ rest → IsBytes rest → register_app_at (little rest) ≡ Err (Bad fault) → Shows bytes fault
+register_app_shows : (bytes rest : List ℕ) (fault : UserFault) → bytes ≡ marker ++ uint32 2 ++ rest → IsBytes rest → register_app_at (little rest) ≡ Err (Bad fault) → ProvesFault bytes fault
 unfolding register_app_at
 register_app_shows bytes rest fault p fits e =
     elim (bind_bad (wait (app_at (little rest))) _ (Bad fault) e) [
@@ -65,10 +65,10 @@ register_app_shows bytes rest fault p fits e =
       | inr b ↦
           let t = there app_at _ app_field rest b.0 fits b.1 in
           let s = behind_shows 255 b.0.0.len b.0.1 _ fault b.2 in
-          subst (λ (f : UserFault). Shows bytes f) (sym s.1) (long_app_text t.text b.0.0 (front_of bytes rest 2 t.text b.0.1.rest p t.parts) t.spells s.0)
+          subst (λ (f : UserFault). ProvesFault bytes f) (sym s.1) (long_app_text t.text b.0.0 (front_of bytes rest 2 t.text b.0.1.rest p t.parts) t.spells s.0)
     ]
 
-injection_shows : (bytes rest : List ℕ) (fault : UserFault) → bytes ≡ marker ++ uint32 7 ++ rest → IsBytes rest → injection_at (little rest) ≡ Err (Bad fault) → Shows bytes fault
+injection_shows : (bytes rest : List ℕ) (fault : UserFault) → bytes ≡ marker ++ uint32 7 ++ rest → IsBytes rest → injection_at (little rest) ≡ Err (Bad fault) → ProvesFault bytes fault
 unfolding injection_at
 injection_shows bytes rest fault p fits e =
     elim (bind_bad (wait (service_at (little rest))) _ (Bad fault) e) [
@@ -76,7 +76,7 @@ injection_shows bytes rest fault p fits e =
       | inr b ↦
           let t = there service_at _ injection_field rest b.0 fits b.1 in
           let s = behind_shows 1390 b.0.0.len b.0.1 _ fault b.2 in
-          subst (λ (f : UserFault). Shows bytes f) (sym s.1) (long_body t.text b.0.0 (front_of bytes rest 7 t.text b.0.1.rest p t.parts) t.spells s.0)
+          subst (λ (f : UserFault). ProvesFault bytes f) (sym s.1) (long_body t.text b.0.0 (front_of bytes rest 7 t.text b.0.1.rest p t.parts) t.spells s.0)
     ]
 
 registered_within : (z : ℤ) (level : Option ℕ) → registered_level z ≡ Ok level → IsRegistered z
@@ -96,7 +96,7 @@ registered_shows z fault e =
     let outside : IsRegistered z → ⊥ = λ h. let level = registered_gives z h in cc (sym e ∙ level.1) in
     (outside, same_fault {A = Option ℕ} _ _ (sym (registered_refuses z outside) ∙ e))
 
-register_context_shows : (bytes rest : List ℕ) (fault : UserFault) → bytes ≡ marker ++ uint32 4 ++ rest → IsBytes rest → register_context_at (little rest) ≡ Err (Bad fault) → Shows bytes fault
+register_context_shows : (bytes rest : List ℕ) (fault : UserFault) → bytes ≡ marker ++ uint32 4 ++ rest → IsBytes rest → register_context_at (little rest) ≡ Err (Bad fault) → ProvesFault bytes fault
 unfolding register_context_at
 register_context_shows bytes rest fault p fits e =
     elim (bind_bad (wait (context_at (little rest))) _ (Bad fault) e) [
@@ -107,14 +107,14 @@ register_context_shows bytes rest fault p fits e =
           elim (bind_bad (registered_level b.0.0.level) _ (Bad fault) b.2) [
             | inl bad ↦
                 let s = registered_shows b.0.0.level fault bad in
-                subst (λ (f : UserFault). Shows bytes f) (sym s.1) (context_level t.text b.0.0 begins t.spells s.0)
+                subst (λ (f : UserFault). ProvesFault bytes f) (sym s.1) (context_level t.text b.0.0 begins t.spells s.0)
             | inr l ↦
                 let s = behind_shows 255 b.0.0.len b.0.1 _ fault l.2 in
-                subst (λ (f : UserFault). Shows bytes f) (sym s.1) (long_context_text t.text b.0.0 begins t.spells (registered_within b.0.0.level l.0 l.1) s.0)
+                subst (λ (f : UserFault). ProvesFault bytes f) (sym s.1) (long_context_text t.text b.0.0 begins t.spells (registered_within b.0.0.level l.0 l.1) s.0)
           ]
     ]
 
-log_level_shows : (bytes rest : List ℕ) (fault : UserFault) → bytes ≡ marker ++ uint32 6 ++ rest → IsBytes rest → log_level_at (little rest) ≡ Err (Bad fault) → Shows bytes fault
+log_level_shows : (bytes rest : List ℕ) (fault : UserFault) → bytes ≡ marker ++ uint32 6 ++ rest → IsBytes rest → log_level_at (little rest) ≡ Err (Bad fault) → ProvesFault bytes fault
 unfolding log_level_at
 log_level_shows bytes rest fault p fits e =
     elim (bind_bad (wait (setting_at (little rest))) _ (Bad fault) e) [
@@ -126,23 +126,23 @@ log_level_shows bytes rest fault p fits e =
             | inr a ↦
                 let test = a.0 in
                 let above : 6 < b.0.0.level = leb-false b.0.0.level 6 test in
-                subst (λ (f : UserFault). Shows bytes f) (sym (same_fault _ _ a.1)) (set_level t.text b.0.0 (front_of bytes rest 6 t.text b.0.1.rest p t.parts) t.spells above)
+                subst (λ (f : UserFault). ProvesFault bytes f) (sym (same_fault _ _ a.1)) (set_level t.text b.0.0 (front_of bytes rest 6 t.text b.0.1.rest p t.parts) t.spells above)
           ]
     ]
 
 -- ---- kind 1
 
 -- what is wrong with the first four bytes of a message
-head_shows : (bytes head : List ℕ) (fault : UserFault) → BeginsWith bytes 1 head → length head ≡ 4 → inner_len head ≡ Err (Bad fault) → Shows bytes fault
+head_shows : (bytes head : List ℕ) (fault : UserFault) → BeginsWith bytes 1 head → length head ≡ 4 → inner_len head ≡ Err (Bad fault) → ProvesFault bytes fault
 head_shows bytes head fault begins len e =
     elim (inner_case head) [
       | too_few h is ↦ absurd (omega (arith, h, len))
-      | bad_head f h front is ↦ subst (λ (x : UserFault). Shows bytes x) (same_fault {A = ℕ} fault (Inner f) (sym e ∙ is)) (bad_front head f begins len front)
-      | too_long front above is ↦ subst (λ (x : UserFault). Shows bytes x) (same_fault {A = ℕ} fault (TooLong (len_of head)) (sym e ∙ is)) (long_message head begins len (good_again head front) above)
+      | bad_head f h front is ↦ subst (λ (x : UserFault). ProvesFault bytes x) (same_fault {A = ℕ} fault (Inner f) (sym e ∙ is)) (bad_front head f begins len front)
+      | too_long front above is ↦ subst (λ (x : UserFault). ProvesFault bytes x) (same_fault {A = ℕ} fault (TooLong (len_of head)) (sym e ∙ is)) (long_message head begins len (good_again head front) above)
       | within_limit front within is ↦ absurd (cc (sym is ∙ e))
     ]
 
-log_shows : (bytes rest : List ℕ) (fault : UserFault) → bytes ≡ marker ++ uint32 1 ++ rest → log_at (little rest) ≡ Err (Bad fault) → Shows bytes fault
+log_shows : (bytes rest : List ℕ) (fault : UserFault) → bytes ≡ marker ++ uint32 1 ++ rest → log_at (little rest) ≡ Err (Bad fault) → ProvesFault bytes fault
 unfolding log_at
 log_shows bytes rest fault p e =
     elim (bind_bad (inner_len rest) _ (Bad fault) e) [
@@ -165,7 +165,7 @@ log_shows bytes rest fault p e =
 at_kind : (bytes rest : List ℕ) (kind k : ℕ) → eqb kind k ≡ true → bytes ≡ marker ++ uint32 kind ++ rest → bytes ≡ marker ++ uint32 k ++ rest
 at_kind bytes rest kind k e p = subst (λ (n : ℕ). bytes ≡ marker ++ uint32 n ++ rest) (eqb-true kind k e) p
 
-fields_show : (bytes rest : List ℕ) (kind : ℕ) (fault : UserFault) → bytes ≡ marker ++ uint32 kind ++ rest → kind < 2 ^ 32 → IsBytes rest → fields_at kind (little rest) ≡ Err (Bad fault) → Shows bytes fault
+fields_show : (bytes rest : List ℕ) (kind : ℕ) (fault : UserFault) → bytes ≡ marker ++ uint32 kind ++ rest → kind < 2 ^ 32 → IsBytes rest → fields_at kind (little rest) ≡ Err (Bad fault) → ProvesFault bytes fault
 unfolding fields_at
 fields_show bytes rest kind fault p below fits e =
     elim (chosen (eqb kind 1) _ _ _ e) [
@@ -200,7 +200,7 @@ fields_show bytes rest kind fault p below fits e =
                                                             absurd (omega (arith, eqb-false kind 1 a1.0, eqb-false kind 2 a2.0, eqb-false kind 3 a3.0, eqb-false kind 4 a4.0, eqb-false kind 5 a5.0, eqb-false kind 6 a6.0, eqb-false kind 7 a7.0, eqb-false kind 8 a8.0))
                                                       ]
                                                     ] in
-                                                    subst (λ (f : UserFault). Shows bytes f) (sym (same_fault {A = UserMsg × At} _ _ a8.1)) (other_kind kind (rest, p) below outside)
+                                                    subst (λ (f : UserFault). ProvesFault bytes f) (sym (same_fault {A = UserMsg × At} _ _ a8.1)) (other_kind kind (rest, p) below outside)
                                               ]
                                         ]
                                   ]
@@ -210,7 +210,7 @@ fields_show bytes rest kind fault p below fits e =
           ]
     ]
 
-marker_shows : (bytes : List ℕ) (fault : UserFault) → IsBytes bytes → kind_at (little bytes) ≡ Err (Bad fault) → Shows bytes fault
+marker_shows : (bytes : List ℕ) (fault : UserFault) → IsBytes bytes → kind_at (little bytes) ≡ Err (Bad fault) → ProvesFault bytes fault
 unfolding kind_at
 marker_shows bytes fault fits e =
     elim (bind_bad (wait (bytes_at 4 (little bytes))) _ (Bad fault) e) [
@@ -222,12 +222,12 @@ marker_shows bytes fault fits e =
             | inr a ↦
                 let parts : bytes ≡ b.0.0 ++ b.0.1.rest = t.parts ∙ ap (λ (x : List ℕ). x ++ b.0.1.rest) t.spells.0 in
                 let other : b.0.0 ≢ marker = λ same. false≢true (sym a.0 ∙ (bytes_eq-Decides b.0.0 marker).1 same) in
-                subst (λ (f : UserFault). Shows bytes f) (sym (same_fault {A = ℕ × At} _ _ a.1)) (other_marker b.0.0 b.0.1.rest parts t.spells.1 other)
+                subst (λ (f : UserFault). ProvesFault bytes f) (sym (same_fault {A = ℕ × At} _ _ a.1)) (other_marker b.0.0 b.0.1.rest parts t.spells.1 other)
           ]
     ]
 
 -- What is refused for a fault shows it.
-pub shows : (bytes : List ℕ) (fault : UserFault) → IsBytes bytes → message_at (little bytes) ≡ Err (Bad fault) → Shows bytes fault
+pub shows : (bytes : List ℕ) (fault : UserFault) → IsBytes bytes → message_at (little bytes) ≡ Err (Bad fault) → ProvesFault bytes fault
 unfolding message_at
 shows bytes fault fits e =
     elim (bind_bad (kind_at (little bytes)) _ (Bad fault) e) [

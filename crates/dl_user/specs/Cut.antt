@@ -11,7 +11,7 @@ use Rattle.dl_user.specs.declared.fault.Stop.{Stop}
 use Rattle.dl_user.specs.declared.fault.Stop.TheVariants.{NeedMore, Bad}
 use Rattle.dl_user.specs.Layout.{Spells}
 use Rattle.dl_user.specs.Reading.{Reading, little, message_at}
-use Rattle.dl_user.specs.Faults.{Shows}
+use Rattle.dl_user.specs.Faults.{ProvesFault}
 
 -- what the types of the fields hold: four bytes in an id, numbers of four bytes, levels up to 6, a signed byte
 abbrev pub HasRanges : UserMsg → Type 0
@@ -38,12 +38,12 @@ Begins bytes msg after = (piece : List ℕ) × IsSpelled piece msg × (bytes ≡
 -- too few bytes to tell: no message stands at the front, and no fault shows
 pub record IsOpen (bytes : List ℕ) : Type 0 where
   pub no_message : (msg : UserMsg) (after : List ℕ) → Begins bytes msg after → ⊥
-  pub no_fault : (fault : UserFault) → Shows bytes fault → ⊥
+  pub no_fault : (fault : UserFault) → ProvesFault bytes fault → ⊥
 
 -- why no message is given
 abbrev pub Stops : List ℕ → Stop → Type 0
 Stops bytes NeedMore = IsOpen bytes
-Stops bytes (Bad fault) = Shows bytes fault
+Stops bytes (Bad fault) = ProvesFault bytes fault
 
 -- The cut of a channel's bytes: messages, and a rest that is open or shows a fault
 abbrev pub IsCut : List ℕ → List UserMsg → List ℕ → Stop → Type 0

@@ -23,23 +23,23 @@ abbrev pub IsRegistered : ℤ → Type 0
 IsRegistered z = (negsuc 1 ≤ℤ z) × (z ≤ℤ pos 6)
 
 -- A rule for each fault, with the bytes that show it. In kinds 2, 4, 6 and 7 these are all fields of a known length.
-pub data Shows (bytes : List ℕ) : UserFault → Type 0 where
-  other_marker : (front more : List ℕ) → bytes ≡ front ++ more → length front ≡ 4 → front ≢ marker → Shows bytes Marker
-  other_kind : (kind : ℕ) → BeginsWith bytes kind [] → kind < 2 ^ 32 → (kind < 1) ⊎ (8 < kind) → Shows bytes (Kind kind)
+pub data ProvesFault (bytes : List ℕ) : UserFault → Type 0 where
+  other_marker : (front more : List ℕ) → bytes ≡ front ++ more → length front ≡ 4 → front ≢ marker → ProvesFault bytes Marker
+  other_kind : (kind : ℕ) → BeginsWith bytes kind [] → kind < 2 ^ 32 → (kind < 1) ⊎ (8 < kind) → ProvesFault bytes (Kind kind)
   -- kind 1, by the first four bytes of the message inside
   bad_front : (head : List ℕ) (fault : HeaderFault) → BeginsWith bytes 1 head → length head ≡ 4
-      → front_fault head ≡ Some fault → Shows bytes (Inner fault)
+      → front_fault head ≡ Some fault → ProvesFault bytes (Inner fault)
   long_message : (head : List ℕ) → BeginsWith bytes 1 head → length head ≡ 4
-      → front_fault head ≡ None → frame_limit < len_of head → Shows bytes (TooLong (len_of head))
+      → front_fault head ≡ None → frame_limit < len_of head → ProvesFault bytes (TooLong (len_of head))
   -- kinds 2, 4 and 7, by the length of the text or the body
   long_app_text : (front : List ℕ) (app : AppFields) → BeginsWith bytes 2 front → IsApp front app
-      → text_limit < app.len → Shows bytes (TooLong app.len)
+      → text_limit < app.len → ProvesFault bytes (TooLong app.len)
   long_context_text : (front : List ℕ) (context : ContextFields) → BeginsWith bytes 4 front → IsContext front context
-      → IsRegistered context.level → text_limit < context.len → Shows bytes (TooLong context.len)
+      → IsRegistered context.level → text_limit < context.len → ProvesFault bytes (TooLong context.len)
   long_body : (front : List ℕ) (injection : ServiceFields) → BeginsWith bytes 7 front → IsService front injection
-      → payload_limit < injection.len → Shows bytes (TooLong injection.len)
+      → payload_limit < injection.len → ProvesFault bytes (TooLong injection.len)
   -- kinds 4 and 6, by the level
   context_level : (front : List ℕ) (context : ContextFields) → BeginsWith bytes 4 front → IsContext front context
-      → (IsRegistered context.level → ⊥) → Shows bytes (Level context.level)
+      → (IsRegistered context.level → ⊥) → ProvesFault bytes (Level context.level)
   set_level : (front : List ℕ) (setting : SettingFields) → BeginsWith bytes 6 front → IsSetting front setting
-      → 6 < setting.level → Shows bytes (Level (cast_signed w8 setting.level))
+      → 6 < setting.level → ProvesFault bytes (Level (cast_signed w8 setting.level))

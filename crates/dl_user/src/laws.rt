@@ -6,7 +6,7 @@ ghost use Rattle.dl_bytes.specs.Cutting.{Call, Runs, fed_by, given_by, AreCut};
 ghost use Rattle.dl_bytes.specs.declared.user.UserMsg.{UserMsg};
 ghost use Rattle.dl_user.specs.declared.fault.UserFault.{UserFault};
 ghost use Rattle.dl_user.specs.declared.fault.Stop.{Stop};
-ghost use Rattle.dl_user.specs.Faults.{Shows};
+ghost use Rattle.dl_user.specs.Faults.{ProvesFault};
 ghost use Rattle.dl_user.specs.Cut.{IsSpelled, Begins, Stops, IsCut, messages_of, rest_of};
 ghost use Rattle.dl_user.specs.Channel.{Channel, unfed};
 ghost use Rattle.dl_user.specs.declared.cutter.UserCut.{UserCut};
@@ -20,17 +20,17 @@ pub fn no_spelling_begins_another()
 
 /// Bytes that begin with a message show no fault, whatever follows it. So what was written is given again.
 pub fn a_message_shows_no_fault()
-    ensures { (bytes after : List ℕ) (msg : UserMsg) (fault : UserFault) → Begins bytes msg after → Shows bytes fault → ⊥ }
+    ensures { (bytes after : List ℕ) (msg : UserMsg) (fault : UserFault) → Begins bytes msg after → ProvesFault bytes fault → ⊥ }
 {}
 
 /// Bytes that show a fault show this one alone.
 pub fn there_is_one_fault()
-    ensures { (bytes : List ℕ) (f g : UserFault) → Shows bytes f → Shows bytes g → f ≡ g }
+    ensures { (bytes : List ℕ) (f g : UserFault) → ProvesFault bytes f → ProvesFault bytes g → f ≡ g }
 {}
 
 /// Bytes that show a fault show it whatever follows them. So they become no message.
 pub fn a_fault_stays()
-    ensures { (bytes more : List ℕ) (fault : UserFault) → Shows bytes fault → Shows (bytes ++ more) fault }
+    ensures { (bytes more : List ℕ) (fault : UserFault) → ProvesFault bytes fault → ProvesFault (bytes ++ more) fault }
 {}
 
 /// The bytes of a channel have one cut, so its messages don't depend on how the bytes came.
@@ -45,7 +45,7 @@ pub fn there_is_one_cut()
 pub fn a_cut_goes_on()
     ensures more { (a b : List ℕ) → IsBytes (a ++ b) → (messages_of (a ++ b) ≡ messages_of a ++ messages_of (rest_of a ++ b))
         × (rest_of (a ++ b) ≡ rest_of (rest_of a ++ b)) }
-    ensures bad { (a b : List ℕ) (fault : UserFault) → IsBytes (a ++ b) → Shows (rest_of a) fault
+    ensures bad { (a b : List ℕ) (fault : UserFault) → IsBytes (a ++ b) → ProvesFault (rest_of a) fault
         → messages_of (a ++ b) ≡ messages_of a }
 {}
 

@@ -8,7 +8,7 @@ use Rattle.dl_model.specs.TraceFiles.{StoredFile, greatest, number_limit}
 use Rattle.dl_outside.specs.Folder.{Files}
 use Rattle.dl_startup.specs.Setup.{IsBegun}
 use Rattle.dl_fates.specs.declared.stored_calls.Rotation.{Rotation}
-use Rattle.dl_trace.specs.Stands.{AreRising}
+use Rattle.dl_trace.specs.InFolder.{AreRising}
 use Rattle.dl_trace.specs.State.{Trace, listed}
 use Rattle.dl_why.specs.Program.{Standing}
 use Rattle.dl_fates.specs.Written.{IsRotating}

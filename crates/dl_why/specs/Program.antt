@@ -23,7 +23,7 @@ use Rattle.dl_fates.specs.declared.stored_calls.Rotation.{Rotation}
 use Rattle.dl_find_words.specs.Asking.{question_of}
 use Rattle.dl_find.specs.Found.{Finds}
 use Rattle.dl_find_words.specs.declared.question.Question.{Question}
-use Rattle.dl_trace.specs.Stands.{HasFiles}
+use Rattle.dl_trace.specs.InFolder.{HasFiles}
 use Rattle.dl_trace_files.specs.Files.{files_asked}
 use Rattle.dl_trace_why.specs.Account as trace
 use Rattle.dl_trace_why.specs.Account.{Sides, Spares, sides}

@@ -142,7 +142,7 @@ pub struct Explanation {
 }
 
 /// The explanation of a script's run: each Store and each Reset goes to a folder in memory, and nothing is stored of the trace. Where a trace is kept,
-/// the rotation says into which files its frames would go. More memory than such a folder has, or than there is, is want of memory.
+/// the rotation says into which files its frames would go. More memory than such a folder has, or than there is, is out of memory.
 pub fn explain(
     alloc: Global,
     setup: Setup,

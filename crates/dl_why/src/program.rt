@@ -29,7 +29,7 @@ use dl_pieces::ReadAt;
 use dl_script::ScriptKind;
 use dl_startup::{CONF_NAME, Setup, Status, set_up, trace_over};
 use dl_trace::{Trace, TraceFault};
-use dl_trace_why::{Wanted, Which, account};
+use dl_trace_why::{FilesWanted, Wanted, account};
 use dl_why_words::{WhyFault, WhyWords, why_words};
 use std::alloc::Global;
 
@@ -284,7 +284,7 @@ fn run_traces<F: ReadAt, O: Sink, E: Sink>(
     ensures { Runs (λ files. files_asked files (map (λ name. name.now) names.now)) (option_map (λ name. name.now) picture.entry)
         (sides (F.told folder.old) (O.told out.old)) (sides (F.told folder.new) (O.told out.new)) (E.told err.old) (E.told err.new) result }
 {
-    let files = Which::Traces(names);
+    let files = FilesWanted::Traces(names);
     account(alloc, Wanted { files, picture }, folder, out, err)
 }
 
@@ -300,7 +300,7 @@ fn run_stream<F: ReadAt, O: Sink, E: Sink>(
     ensures { Runs (λ files. name.now ∷ []) (option_map (λ name. name.now) picture.entry)
         (sides (F.told folder.old) (O.told out.old)) (sides (F.told folder.new) (O.told out.new)) (E.told err.old) (E.told err.new) result }
 {
-    let files = Which::Stream(name);
+    let files = FilesWanted::Stream(name);
     account(alloc, Wanted { files, picture }, folder, out, err)
 }
 
@@ -317,7 +317,14 @@ fn run_find<F: ReadAt, O: Sink, E: Sink>(
         (E.told err.old) (E.told err.new) result }
 {
     match asked {
-        Some(question) => find(alloc, Which::Traces(names), question, folder, out, err),
+        Some(question) => find(
+            alloc,
+            FilesWanted::Traces(names),
+            question,
+            folder,
+            out,
+            err,
+        ),
         None => answer_fault(WhyFault::Refused, out, err),
     }
 }

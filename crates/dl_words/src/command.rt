@@ -64,7 +64,7 @@ pub fn run_command<'a>(alloc: Global) -> Result<Command<'a>, AllocError>
         .arg(scenario(alloc))
 }
 
-/// The command of `dlt_run` that serves programs outside, for the words from `--serve` on.
+/// The command of `dlt_run` that serves external applications, for the words from `--serve` on.
 pub fn serve_command<'a>(alloc: Global) -> Result<Command<'a>, AllocError>
     ensures { IfOk result (λ command. app_of command ≡ serve_command) }
 {

@@ -14,7 +14,7 @@ use Rattle.dl_user.specs.Channel.{Channel, unfed}
 use Rattle.dl_user.specs.Reading.{little, kind_at, message_at}
 use Rattle.dl_user.specs.Cut.{Begins, HasRanges, IsOpen, Stops, messages_of, rest_of}
 use Rattle.dl_user.specs.Cutter.{Cuts, Feeds}
-use Rattle.dl_user.specs.Faults.{Shows}
+use Rattle.dl_user.specs.Faults.{ProvesFault}
 use Rattle.dl_user.specs.declared.cutter.UserCut.TheVariants.{NeedMore, Bad}
 use Rattle.dl_user.specs.declared.fault.Stop.{Stop}
 use Rattle.dl_user.specs.declared.fault.Stop.TheVariants as stops
@@ -143,8 +143,8 @@ module _ (stream bytes : List ℕ) (are_bytes : IsBytes bytes) (old new : Channe
     | inr ignored ↦ ignored
   ]
 
-  shows_there : Shows (rest_of ignored_is.part) ignored_is.bad.0
-  shows_there = subst (λ (r : List ℕ). Shows r ignored_is.bad.0) ignored_is.rest ignored_is.bad.1
+  shows_there : ProvesFault (rest_of ignored_is.part) ignored_is.bad.0
+  shows_there = subst (λ (r : List ℕ). ProvesFault r ignored_is.bad.0) ignored_is.rest ignored_is.bad.1
 
   same_unread : new.unread ≡ old.unread
   same_unread = feeds.unread ∙ append-nil old.unread
@@ -163,7 +163,7 @@ module _ (stream bytes : List ℕ) (are_bytes : IsBytes bytes) (old new : Channe
       untaken = ignored_is.untaken ++ bytes;
       stream_is = parts;
       rest = same_unread ∙ ignored_is.rest;
-      bad = (ignored_is.bad.0, subst (λ (r : List ℕ). Shows r ignored_is.bad.0) (sym same_unread) ignored_is.bad.1);
+      bad = (ignored_is.bad.0, subst (λ (r : List ℕ). ProvesFault r ignored_is.bad.0) (sym same_unread) ignored_is.bad.1);
       full = omega (arith, feeds.room, ignored_is.full);
     });
   }

@@ -120,7 +120,7 @@ module _ (run : Run) (done : List Mark) (w : World) (after : IsAfter run done w)
   stream_as number = rw (after.so_far.core_so.set_to.unit, after.so_far.core_so.set_to.buffer) refl
 
   abbrev nobody : state.Client
-  nobody = record { outbox = None; frames = 0; bytes = 0; replies = 0; left = 0 }
+  nobody = record { outbox = None; frames = 0; bytes = 0; replies = 0; left = 0; messages = 0 }
 
   link_left : (place : ℕ) → place < length w.core.hub.clients → link_after run done (1 + place) ≡ link_in w.core.hub (1 + place)
   link_left place below =

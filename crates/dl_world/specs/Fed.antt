@@ -10,7 +10,7 @@ use Rattle.dl_message.specs.Requests.{requests}
 use Rattle.dl_laws.specs.FrameLengths.{HasId}
 use Rattle.dl_user.specs.Channel.{Channel, longest}
 use Rattle.dl_user.specs.Cut as user
-use Rattle.dl_user.specs.Faults.{Shows}
+use Rattle.dl_user.specs.Faults.{ProvesFault}
 use Rattle.dl_user.specs.declared.fault.UserFault.{UserFault}
 
 -- ---- clients
@@ -67,7 +67,7 @@ pub record IsIgnored (stream : List ℕ) (channel : Channel) : Type 0 where
   pub untaken : List ℕ
   pub stream_is : stream ≡ part ++ untaken
   pub rest : channel.unread ≡ user.rest_of part
-  pub bad : (fault : UserFault) × Shows channel.unread fault
+  pub bad : (fault : UserFault) × ProvesFault channel.unread fault
   pub full : channel.room ≡ 0
 
 -- these bytes came on a channel, and all messages that they make whole were given
@@ -78,7 +78,7 @@ pub record IsHeardBy (stream : List ℕ) (channel : Channel) : Type 0 where
 -- the cutter gives no more: it waits for more of a message, with room for it, or it met one that is wrong
 abbrev pub StandsStill : Channel → Type 0
 StandsStill channel = (user.IsOpen channel.unread × (channel.room ≡ longest - length channel.unread) × (0 < channel.room))
-    ⊎ (((fault : UserFault) × Shows channel.unread fault) × (channel.room ≡ 0))
+    ⊎ (((fault : UserFault) × ProvesFault channel.unread fault) × (channel.room ≡ 0))
 
 -- the messages that more bytes make whole
 abbrev pub told_by : List ℕ → List ℕ → List UserMsg

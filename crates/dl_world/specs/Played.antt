@@ -19,7 +19,7 @@ use Rattle.dl_script_model.specs.Steps.{run}
 use Rattle.dl_outside.specs.Folder.{Files}
 use Rattle.dl_outside.specs.Told.{FolderTold}
 use Rattle.dl_trace.specs.State.{IsAfter, Trace, listed}
-use Rattle.dl_trace.specs.Stands.{HasFiles}
+use Rattle.dl_trace.specs.InFolder.{HasFiles}
 use Rattle.dl_core.specs.Serving.{stored_name}
 use Rattle.dl_core.specs.Settings.{setting_of}
 use Rattle.dl_core.specs.Later.{trace_failures}

@@ -14,7 +14,7 @@ use dl_events::{Journal, Kept};
 use std::alloc::Global;
 
 /// Looks whether there is room for an event that admits this many frames with this many bytes together, and makes it in the journal. Since outboxes
-/// are empty before each event, and no script has so many calls, want of room is want of memory.
+/// are empty before each event, and no script has so many calls, lack of room is out of memory.
 pub fn make_room(
     core: &Core,
     journal: &mut Kept,

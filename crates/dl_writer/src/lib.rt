@@ -21,6 +21,17 @@
 //!
 //! A context that wasn't declared before the writer was made is claimed by the writer (`Book::register`, `Writer::register`).
 //! The claim waits where the ring is full, and goes into it by a later `announce`.
+//!
+//! Proved: `Writer::log` and `send` make one load and are filtered exactly where that level doesn't let the severity through; else they make one
+//! push, and the call is lost only where that met a full ring, counted once (`after`, `Sends`); a call is refused for its exact cause (`call_fault`).
+//! A record tells what became of its call (`Tells`), and the records and claims of a whole book all that its writer did (`TellAll`; laws
+//! `records_are_an_account`, `losses_are_lost_calls`). `register` makes one claim step, whose number is the context's place, or is refused with the
+//! exact cause (`Registers`, `IsTableFull`), and `announce` puts waiting claims into the ring in order (`Announces`).
+//!
+//! Not said: that the ring was full at a moment that something later is tied to, as for rings.
+//!
+//! Chosen: a book is *whole* where it has as many records as its writer made calls. The message counter is how many items the writer pushed and how
+//! many losses it counted, modulo 256. All records are made, blank, with the book, and a call fills the next one where it lies.
 #![tactic(auto)]
 
 mod book;

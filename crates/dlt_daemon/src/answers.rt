@@ -27,7 +27,8 @@ Serves clients and programs of DLT version 1 in the current folder, until it is 
   --help              this
   --version           which version it is
 
-DLT_BIND_ADDRESS of the environment is the address to listen on; 127.0.0.1 where it is not set.";
+DLT_BIND_ADDRESS of the environment is the address to listen on; 127.0.0.1 where it is not set.
+DLT_USERS_ADDRESS is the same for programs that log.";
 
 /// The words of the command line, where there is memory for them. No words stand for such as are no text.
 fn words(rt: &(impl Env + AllocGlobal)) -> Option<Vec<String>> {

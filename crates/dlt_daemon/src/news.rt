@@ -1,8 +1,11 @@
 //! What is said on standard error while the daemon runs: of its trace always; of clients and programs where that is asked for. Where standard error takes
 //! nothing now, a line is left out: nothing waits for it.
 
+use crate::causes::{Count, closed, ended, trace_cause};
+use crate::idle::Idle;
+use crate::session::NewSession;
 use dl_bytes::{Moment, TraceEnd};
-use dl_daemon::{ChannelEnds, Passed, Server, figures_of};
+use dl_daemon::{ChannelEnds, Figures, Passed, Server, closes_behind, ends_behind, figures_of};
 use dl_events::{Closes, Unkept};
 use dl_outside::Link;
 use dl_real::has_room;
@@ -26,13 +29,16 @@ pub struct News {
     // faults of the ports, and when they were told last, in seconds since the beginning of 1970
     faults: u64,
     told: u32,
+    // what the sessions before this one counted
+    counted: Figures,
     // of clients and programs
     clients: u32,
     closes: Option<Closes>,
     programs: u32,
     open_programs: usize,
     ends: Option<ChannelEnds>,
-    dropped: u32,
+    dropped: u64,
+    idle: Idle,
 }
 
 /// Says that one has connected, by its number.
@@ -49,12 +55,22 @@ fn say_risen<R: Eprint + AllocGlobal>(rt: &R, what: &str, before: u64, now: u64)
     }
 }
 
-/// Why a trace ended, in words.
-fn cause(end: TraceEnd) -> &'static str {
-    match end {
-        TraceEnd::Failed => "a file could not be written",
-        TraceEnd::Spent => "file 999999 is full",
-        TraceEnd::NoMemory => "out of memory",
+/// Says how many have disconnected for each cause of which there are more now.
+fn say_disconnected<R: Eprint + AllocGlobal>(rt: &R, who: &str, counts: &[Count]) {
+    for count in counts {
+        if count.now > count.before && has_room(STANDARD_ERROR) {
+            let (why, now) = (count.cause.words(), count.now);
+            let _ = eprintln!(rt; "dlt_daemon: {who} disconnected, {why}: {now}");
+        }
+    }
+}
+
+/// Says that the trace was begun anew, and how many messages it lacks.
+fn say_restarted<R: Eprint + AllocGlobal>(rt: &R, lacks: u64) {
+    if has_room(STANDARD_ERROR) {
+        let _ = eprintln!(rt;
+            "dlt_daemon: offline trace restarted: {lacks} messages since it ended are in no trace file"
+        );
     }
 }
 
@@ -80,12 +96,17 @@ impl News {
             unstored: 0,
             faults: 0,
             told: 0,
+            counted: Figures::nothing(),
             clients: 0,
             closes: None,
             programs: 0,
             open_programs: 0,
             ends: None,
             dropped: 0,
+            idle: Idle {
+                clients: 0,
+                programs: 0,
+            },
         }
     }
 
@@ -98,18 +119,14 @@ impl News {
     ) {
         if passed.renewed != self.renewed {
             let lacks = passed.unstored.saturating_sub(self.unstored);
-            if has_room(STANDARD_ERROR) {
-                let _ = eprintln!(rt;
-                    "dlt_daemon: offline trace restarted: {lacks} messages since it ended are in no trace file"
-                );
-            }
+            say_restarted(rt, lacks);
             self.renewed = passed.renewed;
             self.unstored = passed.unstored;
             self.has_ended = false;
         }
         if let Some(end) = end {
             if !self.has_ended && has_room(STANDARD_ERROR) {
-                let why = cause(end);
+                let why = trace_cause(end);
                 let _ = eprintln!(rt;
                     "dlt_daemon: offline trace ended, {why}: messages from now on are in no trace file"
                 );
@@ -131,36 +148,12 @@ impl News {
     /// Says which clients came, and how clients went.
     fn tell_clients<R: Eprint + AllocGlobal>(&mut self, rt: &R, came: u32, now: Closes) {
         for client in self.clients..came {
-            say_connected(rt, "client", client as u64 + 1);
+            let number = self.counted.clients.saturating_add(client as u64);
+            say_connected(rt, "client", number.saturating_add(1));
         }
         self.clients = came;
         if let Some(before) = self.closes {
-            say_risen(rt, "clients disconnected, left", before.left, now.left);
-            say_risen(
-                rt,
-                "clients disconnected, broken",
-                before.broken,
-                now.broken,
-            );
-            say_risen(rt, "clients disconnected, too slow", before.slow, now.slow);
-            say_risen(
-                rt,
-                "clients disconnected, malformed header",
-                before.malformed,
-                now.malformed,
-            );
-            say_risen(
-                rt,
-                "clients disconnected, too many requests",
-                before.too_many,
-                now.too_many,
-            );
-            say_risen(
-                rt,
-                "clients disconnected, out of memory",
-                before.no_memory,
-                now.no_memory,
-            );
+            say_disconnected(rt, "clients", &closed(before, now));
         }
         self.closes = Some(now);
     }
@@ -168,36 +161,7 @@ impl News {
     /// Says how programs went.
     fn tell_ends<R: Eprint + AllocGlobal>(&mut self, rt: &R, now: ChannelEnds) {
         if let Some(before) = self.ends {
-            say_risen(
-                rt,
-                "external applications disconnected, left",
-                before.left,
-                now.left,
-            );
-            say_risen(
-                rt,
-                "external applications disconnected, broken",
-                before.broken,
-                now.broken,
-            );
-            say_risen(
-                rt,
-                "external applications disconnected, bad message",
-                before.bad,
-                now.bad,
-            );
-            say_risen(
-                rt,
-                "external applications disconnected, too slow",
-                before.slow,
-                now.slow,
-            );
-            say_risen(
-                rt,
-                "external applications disconnected, out of memory",
-                before.no_memory,
-                now.no_memory,
-            );
+            say_disconnected(rt, "external applications", &ended(before, now));
         }
         self.ends = Some(now);
     }
@@ -211,14 +175,64 @@ impl News {
     ) {
         let came = server.programs.len();
         for program in self.programs..came {
-            say_connected(rt, "external application", program as u64 + 1);
+            let number = self.counted.channels.saturating_add(program as u64);
+            say_connected(rt, "external application", number.saturating_add(1));
         }
         let open = open_channels(server);
         if self.ends.is_none() || came != self.programs || open != self.open_programs {
-            self.tell_ends(rt, figures_of(server, *passed).ends);
+            let before = self.counted.ends;
+            let now = figures_of(server, *passed).ends;
+            self.tell_ends(rt, ends_behind(&before, &now));
         }
         self.programs = came;
         self.open_programs = open;
+    }
+
+    /// Says that a session begins behind one that counted this, and behind the others, which with it counted all this.
+    pub fn begin_session<R: Eprint + AllocGlobal>(
+        &mut self,
+        rt: &R,
+        session: &NewSession,
+        last: &Figures,
+        counted: &Figures,
+    ) {
+        if last.ended {
+            say_restarted(rt, last.unstored.saturating_sub(self.unstored));
+        }
+        if has_room(STANDARD_ERROR) {
+            let (number, lost) = (session.number, session.lost);
+            let (clients, programs) = (session.clients, session.programs);
+            let _ = eprintln!(rt;
+                "dlt_daemon: session {number} begins, few numbers were left: {clients} clients and {programs} external applications are disconnected, {lost} messages that waited for a client are lost"
+            );
+        }
+        self.has_ended = false;
+        self.renewed = 0;
+        self.unstored = 0;
+        self.counted = *counted;
+        self.clients = 0;
+        self.closes = None;
+        self.programs = 0;
+        self.open_programs = 0;
+        self.ends = None;
+    }
+
+    /// Says how many were disconnected, since nothing went through their connections, for others that came.
+    fn tell_idle<R: Eprint + AllocGlobal>(&mut self, rt: &R, now: Idle) {
+        let before = self.idle;
+        say_risen(
+            rt,
+            "clients disconnected for others, idle",
+            before.clients,
+            now.clients,
+        );
+        say_risen(
+            rt,
+            "external applications disconnected for others, idle",
+            before.programs,
+            now.programs,
+        );
+        self.idle = now;
     }
 
     /// Says what has happened since it was called last.
@@ -227,21 +241,27 @@ impl News {
         rt: &R,
         server: &Server<Unkept, L>,
         passed: &Passed,
+        idle: Idle,
         now: Moment,
     ) {
         let end = server.core.trace_state().and_then(|state| state.end);
         self.tell_trace(rt, end, passed);
         self.tell_faults(rt, passed, now.secs);
         if self.is_verbose {
-            self.tell_clients(rt, server.clients.len(), server.journal.closes());
+            let before = self.counted.closes;
+            let now = server.journal.closes();
+            let closes = closes_behind(&before, &now);
+            self.tell_clients(rt, server.clients.len(), closes);
             self.tell_programs(rt, server, passed);
+            let dropped = self.counted.dropped.saturating_add(server.dropped as u64);
             say_risen(
                 rt,
                 "connections refused, no place free",
-                self.dropped as u64,
-                server.dropped as u64,
+                self.dropped,
+                dropped,
             );
-            self.dropped = server.dropped;
+            self.dropped = dropped;
+            self.tell_idle(rt, idle);
         }
     }
 }

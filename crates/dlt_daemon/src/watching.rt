@@ -5,16 +5,20 @@ ghost use Rattle.std.specs.Prelude.{◌≡◌};
 
 use crate::asked::Asked;
 use crate::ending::Ending;
+use crate::idle::IdleCounts;
 use crate::news::News;
+use crate::own::Own;
+use crate::session::Sessions;
 use crate::status_output::{StatusFile, StatusOutput};
 use dl_bytes::Moment;
-use dl_daemon::{Passed, Server, Teller, Watch, Watched};
+use dl_daemon::{Figures, Passed, Server, Teller, Watch, Watched};
 use dl_events::Unkept;
 use dl_outside::{Link, Sink};
 use dl_real::Taken;
-use dl_real_daemon::{InputEnd, PromptOutput, Tidings, TraceSync};
+use dl_real_daemon::{InputEnd, PromptOutput, Readiness, TraceSync};
 use std::fs::Files;
 use std::io::Eprint;
+use std::net::{Net, TcpListener, TcpStream};
 
 /// What the program looks after at the begin of each round.
 #[derive(Drop)]
@@ -33,8 +37,14 @@ pub struct Watching<R, O> {
     pub sync: Option<TraceSync>,
     /// How often a trace file was taken away.
     pub taken: Taken,
+    /// How many connections made room for others.
+    pub idle: IdleCounts,
     /// What was said of the trace, and of clients and programs.
     pub news: News,
+    /// What the daemon logs as a program of its own, where it does.
+    pub own: Option<Own>,
+    /// Which session runs, and whether it ends.
+    pub sessions: Sessions,
 }
 
 impl Watching<HostRuntime, StatusOutput<HostRuntime, PromptOutput>> {
@@ -43,8 +53,10 @@ impl Watching<HostRuntime, StatusOutput<HostRuntime, PromptOutput>> {
         rt: HostRuntime,
         asked: &Asked,
         begins: Option<String>,
+        own: Option<Own>,
         taken: Taken,
-        tidings: Option<&Tidings>,
+        idle: IdleCounts,
+        tidings: Option<&Readiness>,
         moment: Moment,
     ) -> Watching<HostRuntime, StatusOutput<HostRuntime, PromptOutput>> {
         let file = match &asked.status_file {
@@ -70,8 +82,27 @@ impl Watching<HostRuntime, StatusOutput<HostRuntime, PromptOutput>> {
             ending: None,
             sync,
             taken,
+            idle,
             news: News::none(asked.is_verbose),
+            own,
+            sessions: Sessions::first(),
         }
+    }
+}
+
+impl<R: Eprint + AllocGlobal, O> Watching<R, O> {
+    /// Begins the next session, where the last one, which counted this, ended for its numbers. Answers whether one begins.
+    pub fn begins_session(&mut self, last: &Figures) -> bool {
+        let Some(session) = self.sessions.next() else {
+            return false;
+        };
+        let counted = last.behind(&self.teller.before);
+        self.news.begin_session(&self.rt, &session, last, &counted);
+        if let Some(own) = &mut self.own {
+            own.begin_session(session, &counted);
+        }
+        self.teller.before = counted;
+        true
     }
 }
 
@@ -96,7 +127,10 @@ impl<R, O> Watching<R, O> {
     }
 }
 
-impl<R: Files + Eprint + AllocGlobal, O: Sink> Watch for Watching<R, O> {
+impl<R, O: Sink> Watch for Watching<R, O>
+where
+    R: Files + Eprint + AllocGlobal + Net<Stream = TcpStream, Listener = TcpListener>,
+{
     ghost watched = { λ w. w.watched };
 
     fn begin(&mut self, every: Option<u32>) {
@@ -122,9 +156,14 @@ impl<R: Files + Eprint + AllocGlobal, O: Sink> Watch for Watching<R, O> {
             taken: self.taken.count(),
             ..passed
         };
-        self.news.tell(&self.rt, server, &passed, moment);
+        let idle = self.idle.now();
+        self.news.tell(&self.rt, server, &passed, idle, moment);
+        if let Some(own) = &mut self.own {
+            own.turn(&self.rt, server, &passed, idle, moment);
+        }
         let goes_on = self.teller.goes_on(server, passed, moment)
-            && !self.is_over(moment.ticks, server.core.hub().admitted());
+            && !self.is_over(moment.ticks, server.core.hub().admitted())
+            && !self.sessions.is_over(server, self.own.as_ref());
         self.watched.answer(goes_on);
         goes_on
     }

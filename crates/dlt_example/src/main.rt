@@ -1,6 +1,8 @@
 //! How a program logs, and what becomes of each call: an application whose ring holds two calls, and a context at level info. Of four calls
 //! one is filtered by the level, two are queued, and one finds the ring full. The daemon's side, here in the same thread, takes what was
 //! queued and is told what was lost. Each thread that logs has a writer of its own.
+//!
+//! Proved: that it is safe and ends, where calls that may wait return. No clause says what it prints; a stored run does.
 #![tactic(auto)]
 
 ghost use Rattle.std.specs.Prelude.{◌≡◌, ◌<◌, [], IfOk, IfSome, length};

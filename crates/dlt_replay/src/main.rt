@@ -1,5 +1,8 @@
 //! `dlt_replay steps` plays the script of standard input, and `dlt_replay generate NUMBER CALLS` one that a number makes. It
 //! prints what came of it. The configuration and the trace files are those of the current folder.
+//!
+//! Proved: that `main` is safe and ends; what it writes is promised by `replay` of `dl_replay`. Rests on tests: one stored run, `tests/programs`,
+//! `tests/rows`.
 #![tactic(auto)]
 
 use dl_real::{Directory, Reading, Writing, say_troubles};

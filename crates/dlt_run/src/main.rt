@@ -1,7 +1,12 @@
 //! `dlt_run SCENARIO` plays a scenario: its writers log in threads of their own beside the daemon, its clients dial in, and what came of it
-//! is printed. `dlt_run --serve` serves programs outside instead, which log over a second port, and the clients that dial in, for a number of rounds.
+//! is printed. `dlt_run --serve` serves external applications instead, which log over a second port, and the clients that dial in, for a number of rounds.
 //! The configuration and the trace files are those of the current folder. The daemon listens on loopback, or on the address that `DLT_BIND_ADDRESS`
 //! of the environment gives.
+//!
+//! Proved: that `main` is safe; what it does is promised by `run` of `dl_live` and `serve` of `dl_serve`. Rests on tests: one stored run,
+//! `tests/live`, `tests/serve`.
+//!
+//! Chosen: a `DLT_BIND_ADDRESS` that is no address is refused with status 8 before the words are looked at, since the net is made first.
 #![tactic(auto)]
 
 use dl_live::{Status, run};

@@ -1,6 +1,9 @@
 //! `dlt_why steps [FILE]` plays the script of a file or of standard input, and prints what became of each of its log calls. `dlt_why trace [FOLDER|FILE]..` reads
 //! trace files, and `dlt_why stream FILE` a stream as a client recorded it, and prints which messages are missing of each session, where, and
 //! what the traces tell of the cause. No file is changed but that of a picture.
+//!
+//! Proved: that `main` is safe and ends; what it writes is promised by `tell_why` of `dl_why`. Rests on tests: one stored run, `tests/programs`,
+//! `tests/day`, `tests/find`.
 #![tactic(auto)]
 
 use dl_real::{Directory, Reading, Writing, say_troubles};

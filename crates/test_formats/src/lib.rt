@@ -1,5 +1,7 @@
 //! Bytes and texts of each format by its tables, and what other programs wrote: arguments, messages, requests, user messages and stored configurations; and a
 //! registry whose slots are worn. It is compiled for its tests alone.
+//!
+//! Tested alone: eight streams of a real dlt-daemon, cut in any pieces: what they say is to the letter what an independent decoder printed.
 #![tactic(auto)]
 
 #[cfg(test)]

@@ -60,7 +60,7 @@ fn asks(level: i8) -> Result<Request, RequestFault> {
     Ok(Request::SetLogLevel { apid, ctid, level })
 }
 
-/// The status of the reply to a request, of a daemon whose default level is this one; 255 where memory is wanted.
+/// The status of the reply to a request, of a daemon whose default level is this one; 255 where memory runs out.
 fn status_of(
     alloc: Global,
     registry: &mut Registry,

@@ -2,7 +2,7 @@
 
 use dl_memory::{Failing, MemoryFolder, MemorySink};
 use dl_outside::Folder;
-use dl_trace_why::{Wanted, Which, account};
+use dl_trace_why::{FilesWanted, Wanted, account};
 use std::alloc::Global;
 
 /// The name of the trace.
@@ -17,7 +17,7 @@ const MESSAGES: u32 = 4000;
 
 /// What is said of it.
 const SAID: &[u8] =
-    b"session ECU1 LOG1 7 4000 0.0000 0.0000 by session: none missing between, or a multiple of 256; before: not recorded here, the first counter is 0; behind: not known\napplication ECU1 LOG1: none missing between, or a multiple of 256; none told\n";
+    b"session ECU1 LOG1 7 4000 0.0000 0.0000 by session: none missing between, or a multiple of 256; before: not recorded here, the first counter is 0; behind: not known\napplication LOG1: none missing between, or a multiple of 256; none told\n";
 
 /// The trace, none of whose messages is missing.
 fn trace(alloc: Global) -> Option<Vec<u8>> {
@@ -47,7 +47,7 @@ fn ends(alloc: Global, call: u64, wanted: (u8, &[u8], &[u8])) -> Option<bool> {
     let mut out = MemorySink::make(alloc, 1000);
     let mut err = MemorySink::make(alloc, 1000);
     let asked = Wanted {
-        files: Which::Stream(NAME),
+        files: FilesWanted::Stream(NAME),
         picture: None,
     };
     let status = account(alloc, asked, &mut folder, &mut out, &mut err);

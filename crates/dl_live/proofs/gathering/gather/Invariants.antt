@@ -1,5 +1,5 @@
 use Rattle.std.proofs.Common.{◌≡◌, ◌+◌, ◌-◌, ◌*◌, ◌<◌, ◌≤◌, false, length, IfSome}
-use Rattle.dl_loop.specs.Coming.{HaveCome}
+use Rattle.dl_loop.specs.Coming.{HasWaited, HaveCome}
 use Rattle.dl_loop.specs.Later.{GoesRound}
 use Rattle.dl_loop.specs.Scene.{scene}
 use Rattle.dl_live.proofs.gathering.gather.Given as goal
@@ -11,6 +11,8 @@ invariant-loop-came g l = record {
   come : HaveCome l.came (g.N.Net.told l.fn.net) (g.N.Net.told l.net) l.fn.daemon l.daemon;
   failed : l.daemon.failed ≡ false;
   wanted : l.daemon.wanted ≡ false;
+  waited : HasWaited g.N.L.Link.told l.nobody (g.N.Net.told l.net) (scene l.daemon (g.F.Folder.told l.folder));
+  few : l.nobody ≤ 1000;
   nobody : 0 < l.nobody → IfSome (g.N.Net.told l.fn.net).waiting (λ links. length links ≤ l.came);
 }
 

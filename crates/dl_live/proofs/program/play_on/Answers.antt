@@ -51,7 +51,7 @@ returns-clause-played g c = λ first before left can out.
     has_played first c.args.players c.args.launched before (g.N.Net.told c.args.net.now) left (g.F.Folder.told c.args.folder.now) can out
     (scene c.gather-gathered.new.daemon (g.F.Folder.told c.gather-gathered.new.folder)) (scene c.beside-late.new.daemon (g.F.Folder.told c.beside-late.new.folder))
     (g.N.Net.told c.gather-gathered.new.net) (g.N.Net.told c.beside-late.new.net) c.gather-gathered.ensures.rounds.goes c.beside-late.ensures.goes.goes c.beside-late.new.books c.beside-late.ensures.played
-    g.N.L.Link.told c.gather-gathered.result c.gather-gathered.ensures c.beside-late.ensures.goes c.beside-late.result c.in-Ok.account c.in-Ok.links (g.F.Folder.told c.stop.new.folder) c.in-Ok.ensures.stops
+    g.N.L.Link.told c.gather-gathered.result c.gather-gathered.ensures c.beside-late.ensures.goes c.beside-late.result c.beside-late.ensures.wanted c.in-Ok.account c.in-Ok.links (g.F.Folder.told c.stop.new.folder) c.in-Ok.ensures.stops
     c.all.result.now c.all.ensures c.either-failed.result c.either-failed.ensures c.either-wanted.result c.either-wanted.ensures (g.N.Net.told c.stop.new.net) (ap (λ n. g.N.Net.told n) c.stop.ensures.net)
 
 pub returns-clause-leaves : goal.returns-clause-leaves

@@ -18,5 +18,5 @@ loop-place-preserved g c =
       place = omega (arith, so.place, c.greet_app.ensures.place);
       apps = c.greet_app.ensures.apps ∙ so.apps;
       spare = omega (arith, so.spare, c.greet_app.ensures.spare);
-      same = g.met.D.Post.rest_trans c.args.desk.now was.desk now.desk so.same c.greet_app.ensures.rest;
+      same = g.met.D.WriterControl.rest_trans c.args.desk.now was.desk now.desk so.same c.greet_app.ensures.rest;
     }

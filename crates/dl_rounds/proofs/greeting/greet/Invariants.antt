@@ -7,10 +7,10 @@ use Rattle.dl_rounds.proofs.greeting.greet.Given as goal
 abbrev pub invariant-loop-place : goal.invariant-loop-place
 invariant-loop-place g l = let s = side in record {
   greets : GreetsEach l.fn.moment (hello_of (take l.place l.fn.apps))
-      (s l.fn.core (g.D.Post.told l.fn.desk) (g.J.Journal.events l.fn.journal) (g.F.Folder.told l.fn.folder)) (s l.core (g.D.Post.told l.desk) (g.J.Journal.events l.journal) (g.F.Folder.told l.folder));
-  may : MayGreet l.core (g.D.Post.told l.desk) (g.J.Journal.spare l.journal);
+      (s l.fn.core (g.D.WriterControl.told l.fn.desk) (g.J.Journal.events l.fn.journal) (g.F.Folder.told l.fn.folder)) (s l.core (g.D.WriterControl.told l.desk) (g.J.Journal.events l.journal) (g.F.Folder.told l.folder));
+  may : MayGreet l.core (g.D.WriterControl.told l.desk) (g.J.Journal.spare l.journal);
   place : registered l.core ≤ registered l.fn.core + l.place;
-  apps : (g.D.Post.told l.desk).apps ≡ (g.D.Post.told l.fn.desk).apps;
+  apps : (g.D.WriterControl.told l.desk).apps ≡ (g.D.WriterControl.told l.fn.desk).apps;
   spare : g.J.Journal.spare l.fn.journal ≤ g.J.Journal.spare l.journal;
-  same : g.D.Post.same_rest l.fn.desk l.desk;
+  same : g.D.WriterControl.same_rest l.fn.desk l.desk;
 }

@@ -2,7 +2,7 @@ use Rattle.std.proofs.Common.{◌-◌, Bool, false, Some, None, List, length, re
 use Rattle.std.specs.Prelude.{slice_get, ◌||◌, IsSome}
 use Rattle.dl_hub.specs.State.{Hub, IsNextOpen, outbox_of}
 use Rattle.dl_rounds.specs.declared.listener.Listener.{Listener}
-use Rattle.dl_rounds.specs.Seats.{HasSeat}
+use Rattle.dl_rounds.specs.ListenerPool.{HasSeat}
 use Rattle.dl_rounds.specs.Clients.{Clients, HaveVisited}
 use Rattle.dl_rounds.specs.Rounds.{seen}
 use Rattle.dl_rounds.specs.Visits.{Heard}
@@ -47,9 +47,9 @@ listen_to-moved-requires-clause-serving g c =
     let client = c.in-Some.client in
     let seats = c.seat.new.self in
     let next = subst (λ (h : Hub). IsNextOpen h was.last (Some client)) c.hub.ensures c.in-Some.ensures in
-    let seated = heard_seated was.seats seats was.core (g.D.Post.told was.desk) was.invariant.heard c.seat.ensures.listeners
+    let seated = heard_seated was.seats seats was.core (g.D.WriterControl.told was.desk) was.invariant.heard c.seat.ensures.listeners
     (λ number. subst (λ (h : Hub). IsSome (outbox_of h number) → HasSeat number was.seats → HasSeat number seats) c.hub-in-Some.ensures (c.seat.ensures.stay number)) in
-    serves_on client was.links seats c.of_mut-listener.result.now was.core (g.D.Post.told was.desk) (g.J.Journal.spare was.journal) was.invariant.linked seated next.1 c.of_mut-listener.ensures.value
+    serves_on client was.links seats c.of_mut-listener.result.now was.core (g.D.WriterControl.told was.desk) (g.J.Journal.spare was.journal) was.invariant.linked seated next.1 c.of_mut-listener.ensures.value
 
 pub loop-client-smaller : goal.loop-client-smaller
 loop-client-smaller g c =
@@ -70,29 +70,29 @@ loop-client-preserved g c =
     let but = but_turn client heard.why _ _ heard.turn in
     let seats = c.seat.new.self in
     let listener = c.of_mut-listener.result.now in
-    let seated = heard_seated was.seats seats was.core (g.D.Post.told was.desk) so.heard c.seat.ensures.listeners
+    let seated = heard_seated was.seats seats was.core (g.D.WriterControl.told was.desk) so.heard c.seat.ensures.listeners
     (λ number. subst (λ (h : Hub). IsSome (outbox_of h number) → HasSeat number was.seats → HasSeat number seats) c.hub-in-Some.ensures (c.seat.ensures.stay number)) in
     record {
       behind = λ later new rest.
-          subst (λ (b : Bool). HaveVisited Heard 0 b (seen g.L.Link.told g.D.Post.told g.J.Journal.events g.F.Folder.told c.args.links.now c.args.seats.now.listeners c.args.core.now c.args.desk.now c.args.journal.now c.args.folder.now) new)
+          subst (λ (b : Bool). HaveVisited Heard 0 b (seen g.L.Link.told g.D.WriterControl.told g.J.Journal.events g.F.Folder.told c.args.links.now c.args.seats.now.listeners c.args.core.now c.args.desk.now c.args.journal.now c.args.folder.now) new)
           (sym (moved_or was.moved c.listen_to-moved.result later))
           (so.behind (c.listen_to-moved.result || later) new
-          (subst (λ (ls : List Listener). HaveVisited Heard was.last (c.listen_to-moved.result || later) (seen g.L.Link.told g.D.Post.told g.J.Journal.events g.F.Folder.told was.links ls was.core was.desk was.journal was.folder) new)
+          (subst (λ (ls : List Listener). HaveVisited Heard was.last (c.listen_to-moved.result || later) (seen g.L.Link.told g.D.WriterControl.told g.J.Journal.events g.F.Folder.told was.links ls was.core was.desk was.journal was.folder) new)
           c.seat.ensures.listeners
-          (visited_next g.L.Link.told g.D.Post.told g.J.Journal.events g.F.Folder.told Heard was.last client c.listen_to-moved.result later was.links c.of_mut-link.result.now now.link
+          (visited_next g.L.Link.told g.D.WriterControl.told g.J.Journal.events g.F.Folder.told Heard was.last client c.listen_to-moved.result later was.links c.of_mut-link.result.now now.link
           seats.listeners listener now.listener was.core now.core was.desk now.desk was.journal now.journal was.folder now.folder new next c.of_mut-link.ensures.value c.of_mut-listener.ensures.value heard rest)));
       linked = linked_again client was.links _ was.core now.core _ _ so.linked but (set_length was.links.links (client - 1) now.link) refl c.listen_to-moved.ensures.settled c.listen_to-moved.ensures.spare;
       heard = heard_again client seats listener now.listener was.core now.core _ _ seated c.of_mut-listener.ensures.value c.seat.ensures.has within.0 within.1 but c.listen_to-moved.ensures.limit heard.served
           c.listen_to-moved.ensures.desk;
       room = omega (arith, so.room, c.listen_to-moved.ensures.spare);
       same = same_hub-later _ _ _ so.same but.same;
-      same_rest = g.met.D.Post.rest_trans c.args.desk.now was.desk now.desk so.same_rest c.listen_to-moved.ensures.rest;
+      same_rest = g.met.D.WriterControl.rest_trans c.args.desk.now was.desk now.desk so.same_rest c.listen_to-moved.ensures.rest;
     }
 
 pub returns-clause-visits : goal.returns-clause-visits
 returns-clause-visits g c =
     let was = c.loop-client in
-    let told = seen g.L.Link.told g.D.Post.told g.J.Journal.events g.F.Folder.told in
+    let told = seen g.L.Link.told g.D.WriterControl.told g.J.Journal.events g.F.Folder.told in
     let end : Clients = told was.links was.seats.listeners was.core was.desk was.journal was.folder in
     let none = subst (λ (h : Hub). IsNextOpen h was.last None) c.hub.ensures c.in_default.ensures in
     subst (λ (b : Bool). HaveVisited Heard 0 b (told c.args.links.now c.args.seats.now.listeners c.args.core.now c.args.desk.now c.args.journal.now c.args.folder.now) end) (or_false was.moved)

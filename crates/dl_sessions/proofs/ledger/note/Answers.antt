@@ -1,10 +1,16 @@
 use Rattle.std.proofs.Common.{◌≡◌, ◌+◌, List, length, refl, sym, subst}
+use Rattle.std.proofs.lemmas.Result.{on_ok_weaker}
 use Rattle.dl_sessions.specs.Gaps.{counted, entries}
 use Rattle.dl_sessions.specs.Ledger.{KeepsSince, Notes}
 use Rattle.dl_sessions.specs.declared.session.Told.{Told}
 use Rattle.dl_sessions.specs.declared.session.Told.TheVariants as told
-use Rattle.dl_sessions.proofs.Noting.{quiet_notes}
+use Rattle.dl_sessions.proofs.Noting.{quiet_notes, unstored_notes}
 use Rattle.dl_sessions.proofs.ledger.note.Goals as goal
+
+pub returns-in-Unstored : goal.returns-in-Unstored
+returns-in-Unstored c = λ before keeps place.
+    on_ok_weaker c.push_unstored.result (λ line. subst (λ (t : Told). Notes before t c.args.kept.now c.args.text.now.items c.push_unstored.new.text.items) (sym c.in-Unstored.is)
+    (unstored_notes c.args.kept.now c.args.text.now.items c.push_unstored.new.text.items before c.in-Unstored.count c.args.place place line keeps)) c.push_unstored.ensures
 
 pub returns-in-Lost : goal.returns-in-Lost
 returns-in-Lost c =

@@ -21,8 +21,6 @@ returns c =
     ∙ ap (λ (e : List ℕ). entry_in parts.standard parts.extended m.payload e c.unwrap_or-ticks.result) own
     ∙ ap (entry_in parts.standard parts.extended m.payload (ecu_of c.args.ecu bytes)) ticks ∙ sym (entry_read m bytes is behind (ecu_of c.args.ecu bytes) (ticks_of bytes)) in
     let context = c.context_in.ensures ∙ sym (context_read m bytes is) in
-    let own_id : List ℕ = c.unwrap_or-own.result in
-    c.told_by.ensures ∙ ap (λ (k : Kind). told_by k c.context_in.result own_id c.entry_in-entry.result) c.kind_of.ensures
-    ∙ ap (λ (x : List ℕ). told_by (kind_of bytes) x own_id c.entry_in-entry.result) context
-    ∙ ap (λ (e : List ℕ). told_by (kind_of bytes) (context_of bytes) e c.entry_in-entry.result) own
-    ∙ ap (λ (t : Told). told_by (kind_of bytes) (context_of bytes) (ecu_of c.args.ecu bytes) t) entry
+    c.told_by.ensures ∙ ap (λ (k : Kind). told_by k c.context_in.result c.entry_in-entry.result) c.kind_of.ensures
+    ∙ ap (λ (x : List ℕ). told_by (kind_of bytes) x c.entry_in-entry.result) context
+    ∙ ap (λ (t : Told). told_by (kind_of bytes) (context_of bytes) t) entry

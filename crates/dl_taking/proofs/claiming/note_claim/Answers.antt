@@ -8,12 +8,12 @@ use Rattle.dl_taking.proofs.Claims.{desk_claimed, none_wait, noted_both, owed_wa
 use Rattle.dl_taking.proofs.claiming.note_claim.Goals as goal
 
 pub note_levels-requires-clause-desk : goal.note_levels-requires-clause-desk
-note_levels-requires-clause-desk g c = desk_claimed c.own_claim.result c.args.core.now.registry c.claim.new.self.registry (g.D.Post.told c.args.desk.now) c.claim.ensures.claims c.requires.desk
+note_levels-requires-clause-desk g c = desk_claimed c.own_claim.result c.args.core.now.registry c.claim.new.self.registry (g.D.WriterControl.told c.args.desk.now) c.claim.ensures.claims c.requires.desk
 
 pub returns-clause-notes : goal.returns-clause-notes
 returns-clause-notes g c = λ folder. record {
   settled = c.requires.settled;
-  between = side c.claim.new.self (g.D.Post.told c.args.desk.now) (g.J.Journal.events c.claim.new.journal) folder;
+  between = side c.claim.new.self (g.D.WriterControl.told c.args.desk.now) (g.J.Journal.events c.claim.new.journal) folder;
   notes = subst (λ (claim : Claimed). NotesClaim c.args.moment claim c.args.core.now c.claim.new.self (g.J.Journal.events c.args.journal.now) (g.J.Journal.events c.claim.new.journal)) c.own_claim.ensures
       c.claim.ensures.notes;
   claims = subst (λ (claim : Claimed). Claims claim c.args.core.now.registry c.claim.new.self.registry) c.own_claim.ensures c.claim.ensures.claims;

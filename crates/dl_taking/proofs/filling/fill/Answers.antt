@@ -10,7 +10,7 @@ loop-batch-preserved g c =
       fills = fills_more c.args.app c.args.most _ _ _ _ _ one.0 so.fills one.1 one.2 (omega (arith, c.loop-batch-test.true));
       empties = c.in-Call.ensures.full (λ none. cc none) ∙ so.empties;
       told = c.take.ensures.told ∙ so.told;
-      same = g.met.D.Taker.taken_trans c.args.desk.now c.loop-batch.desk c.take.new.desk so.same c.take.ensures.rest;
+      same = g.met.D.CallSource.taken_trans c.args.desk.now c.loop-batch.desk c.take.new.desk so.same c.take.ensures.rest;
     }
 
 pub returns-in-Claim-clause-fills : goal.returns-in-Claim-clause-fills

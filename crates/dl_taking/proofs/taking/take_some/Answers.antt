@@ -16,8 +16,8 @@ returns-in-Some-clause-takes g c =
     let one = c.note_claim.ensures in
     let between : Side = record {
       part = now;
-      took = with_items c.args.app (map Log fills.items) (g.D.Taker.took c.args.desk.now);
-      desk = g.D.Post.told c.fill-claim.new.desk;
+      took = with_items c.args.app (map Log fills.items) (g.D.CallSource.took c.args.desk.now);
+      desk = g.D.WriterControl.told c.fill-claim.new.desk;
       noted = g.J.Journal.noted c.log_items.new.journal;
       spare = g.J.Journal.spare c.log_items.new.journal;
     } in
@@ -26,7 +26,7 @@ returns-in-Some-clause-takes g c =
     (subst (λ (xs : List Item). Uses (length xs) c.args.core.now.hub c.log_items.new.core.hub (g.J.Journal.noted c.args.journal.now) (g.J.Journal.noted c.log_items.new.journal)
     (g.J.Journal.spare c.args.journal.now) (g.J.Journal.spare c.log_items.new.journal)) c.items.ensures c.log_items.ensures.uses) c.fill-claim.ensures.told (record {
       claim = c.in-Some.claim;
-      took = g.met.D.Taker.rest_took c.fill-claim.new.desk c.note_claim.new.desk one.rest ∙ with_claim_behind c.args.app c.args.most c.in-Some.claim _ _ c.fill-claim.new.batch fills;
+      took = g.met.D.CallSource.rest_took c.fill-claim.new.desk c.note_claim.new.desk one.rest ∙ with_claim_behind c.args.app c.args.most c.in-Some.claim _ _ c.fill-claim.new.batch fills;
       notes = one.notes (g.F.Folder.told c.log_items.new.folder);
       few = one.few;
       noted_so = one.noted;
@@ -44,11 +44,11 @@ returns-in-None-clause-takes g c =
 
 pub returns-in-Some-clause-empties : goal.returns-in-Some-clause-empties
 returns-in-Some-clause-empties g c =
-    g.met.D.Taker.rest_empties c.fill-claim.new.desk c.note_claim.new.desk c.note_claim.ensures.rest ∙ c.in-Some.ensures.empties
-    ∙ ap (λ (b : Bool). empties_now c.args.app b (g.D.Taker.empties c.args.desk.now)) (sym (none_claimed c.args.most c.len-calls.result))
+    g.met.D.CallSource.rest_empties c.fill-claim.new.desk c.note_claim.new.desk c.note_claim.ensures.rest ∙ c.in-Some.ensures.empties
+    ∙ ap (λ (b : Bool). empties_now c.args.app b (g.D.CallSource.empties c.args.desk.now)) (sym (none_claimed c.args.most c.len-calls.result))
 
 pub returns-in-None-clause-empties : goal.returns-in-None-clause-empties
 returns-in-None-clause-empties g c =
     c.in-None.ensures.empties
-    ∙ ap (λ (b : Bool). empties_now c.args.app b (g.D.Taker.empties c.args.desk.now))
+    ∙ ap (λ (b : Bool). empties_now c.args.app b (g.D.CallSource.empties c.args.desk.now))
     (ap (λ (n : ℕ). nat_lt n c.args.most) (sym c.len-calls.ensures) ∙ sym (none_unclaimed c.args.most c.len-calls.result))

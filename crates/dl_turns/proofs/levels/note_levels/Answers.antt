@@ -17,7 +17,7 @@ loop-init g c = record {
   noted = noted_none (waiting c.args.core.now.registry) (g.J.Journal.noted c.args.journal.now);
   apps = refl;
   first = refl;
-  same = g.met.D.Post.rest_refl c.args.desk.now;
+  same = g.met.D.WriterControl.rest_refl c.args.desk.now;
 }
 
 pub loop-smaller : goal.loop-smaller
@@ -41,13 +41,13 @@ loop-preserved g c =
           (g.J.Journal.noted c.loop.journal) (g.J.Journal.noted c.note_level.new.journal) so.fewer fewer.0 so.noted (one.noted c.loop-test.true);
       apps = one.apps ∙ so.apps;
       first = one.first ∙ so.first;
-      same = g.met.D.Post.rest_trans c.args.desk.now c.loop.desk c.note_level.new.desk so.same one.rest;
+      same = g.met.D.WriterControl.rest_trans c.args.desk.now c.loop.desk c.note_level.new.desk so.same one.rest;
     }
 
 pub returns-clause-levels : goal.returns-clause-levels
 returns-clause-levels g c = λ folder.
     let none = c.note_level.ensures.none c.loop-test.false in
-    c.loop.invariant.rest folder _ (levels_none _ _ (λ i. side (none.1 i) (g.D.Post.told (none.2 i)) (g.J.Journal.events (none.3 i)) folder) none.0)
+    c.loop.invariant.rest folder _ (levels_none _ _ (λ i. side (none.1 i) (g.D.WriterControl.told (none.2 i)) (g.J.Journal.events (none.3 i)) folder) none.0)
 
 pub returns-clause-settled : goal.returns-clause-settled
 returns-clause-settled g c = (c.note_level.ensures.none c.loop-test.false).0
@@ -75,4 +75,4 @@ pub returns-clause-first : goal.returns-clause-first
 returns-clause-first g c = c.note_level.ensures.first ∙ c.loop.invariant.first
 
 pub returns-clause-rest : goal.returns-clause-rest
-returns-clause-rest g c = g.met.D.Post.rest_trans c.args.desk.now c.loop.desk c.note_level.new.desk c.loop.invariant.same c.note_level.ensures.rest
+returns-clause-rest g c = g.met.D.WriterControl.rest_trans c.args.desk.now c.loop.desk c.note_level.new.desk c.loop.invariant.same c.note_level.ensures.rest

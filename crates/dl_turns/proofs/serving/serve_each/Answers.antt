@@ -19,7 +19,7 @@ loop-taken-init g c = record {
   serving = c.requires.serving;
   spare = omega arith;
   alike = record { number = refl; cutter = refl; served = refl };
-  same = g.met.D.Post.rest_refl c.args.desk.now;
+  same = g.met.D.WriterControl.rest_refl c.args.desk.now;
 }
 
 pub next_request-requires : goal.next_request-requires
@@ -46,9 +46,9 @@ loop-taken-preserved g c =
     let unread = c.next_request.new.cutter.unread in
     let asked = finds.2 ∙ ap (λ (xs : List ℕ). c.next_request.new.cutter.message ∷ requests (unread ++ xs)) (sym same) in
     let left = finds.3 ∙ ap (λ (xs : List ℕ). rest_of message_limit (unread ++ xs)) (sym same) in
-    let old : Side = side c.loop-taken.core (g.D.Post.told c.loop-taken.desk) (g.J.Journal.events c.loop-taken.journal)
+    let old : Side = side c.loop-taken.core (g.D.WriterControl.told c.loop-taken.desk) (g.J.Journal.events c.loop-taken.journal)
     (g.F.Folder.told c.loop-taken.folder) in
-    let next : Side = side c.serve_one.new.core (g.D.Post.told c.serve_one.new.desk) (g.J.Journal.events c.serve_one.new.journal)
+    let next : Side = side c.serve_one.new.core (g.D.WriterControl.told c.serve_one.new.desk) (g.J.Journal.events c.serve_one.new.journal)
     (g.F.Folder.told c.serve_one.new.folder) in
     let one = subst (λ (m : List ℕ). ServesOne c.args.client.now.number m old next) c.message-request.ensures c.in-Ok.ensures.serves in
     record {
@@ -59,7 +59,7 @@ loop-taken-preserved g c =
       serving = c.serve_one.ensures.serving;
       spare = omega (arith, so.spare, c.serve_one.ensures.spare);
       alike = record { number = so.alike.number; cutter = so.alike.cutter; served = so.alike.served };
-      same = g.met.D.Post.rest_trans c.args.desk.now c.loop-taken.desk c.serve_one.new.desk so.same c.serve_one.ensures.rest;
+      same = g.met.D.WriterControl.rest_trans c.args.desk.now c.loop-taken.desk c.serve_one.new.desk so.same c.serve_one.ensures.rest;
     }
 
 pub returns-in-Err-clause-serves : goal.returns-in-Err-clause-serves
@@ -69,13 +69,13 @@ returns-in-Err-clause-serves g c =
     let refused = subst (λ (m : List ℕ). Refuses c.args.client.now.number m c.in-Err.why c.loop-taken.core) c.message-request.ensures c.in-Err.ensures.refused in
     c.loop-taken.invariant.rest (Some c.in-Err.why) _
     (serves_refused c.args.client.now.number (c.loop-taken.client.cutter.now.unread ++ c.loop-taken.rest.now) c.next_request.new.cutter.message _ _ _ _ c.in-Err.why finds.2 refused
-    (λ i. record { core = same.0 i; desk = g.D.Post.told (same.1 i); events = same.2 i; folder = g.F.Folder.told (same.3 i) }))
+    (λ i. record { core = same.0 i; desk = g.D.WriterControl.told (same.1 i); events = same.2 i; folder = g.F.Folder.told (same.3 i) }))
 
 pub returns-in-Err-clause-spare : goal.returns-in-Err-clause-spare
 returns-in-Err-clause-spare g c = omega (arith, c.loop-taken.invariant.spare, c.serve_one.ensures.spare)
 
 pub returns-in-Err-clause-rest : goal.returns-in-Err-clause-rest
-returns-in-Err-clause-rest g c = g.met.D.Post.rest_trans c.args.desk.now c.loop-taken.desk c.serve_one.new.desk c.loop-taken.invariant.same c.serve_one.ensures.rest
+returns-in-Err-clause-rest g c = g.met.D.WriterControl.rest_trans c.args.desk.now c.loop-taken.desk c.serve_one.new.desk c.loop-taken.invariant.same c.serve_one.ensures.rest
 
 pub returns-in-NoMore-clause-serves : goal.returns-in-NoMore-clause-serves
 returns-in-NoMore-clause-serves g c =

@@ -15,14 +15,14 @@ abbrev pub invariant-loop-taken : goal.invariant-loop-taken
 invariant-loop-taken g l = record {
   limit : l.client.cutter.now.limit ≡ message_limit;
   rest : (why : Option Why) (new : Side) → ServesEach l.fn.client.number (requests (l.client.cutter.now.unread ++ l.rest)) (is_bad (l.client.cutter.now.unread ++ l.rest)) why
-      (side l.core (g.D.Post.told l.desk) (g.J.Journal.events l.journal) (g.F.Folder.told l.folder)) new
+      (side l.core (g.D.WriterControl.told l.desk) (g.J.Journal.events l.journal) (g.F.Folder.told l.folder)) new
       → ServesEach l.fn.client.number (requests (l.fn.client.cutter.now.unread ++ l.fn.piece)) (is_bad (l.fn.client.cutter.now.unread ++ l.fn.piece)) why
-      (side l.fn.core (g.D.Post.told l.fn.desk) (g.J.Journal.events l.fn.journal) (g.F.Folder.told l.fn.folder)) new;
+      (side l.fn.core (g.D.WriterControl.told l.fn.desk) (g.J.Journal.events l.fn.journal) (g.F.Folder.told l.fn.folder)) new;
   left : rest_of message_limit (l.fn.client.cutter.now.unread ++ l.fn.piece) ≡ rest_of message_limit (l.client.cutter.now.unread ++ l.rest);
-  serving : IsServing l.fn.client.number l.client.served.now l.core (g.D.Post.told l.desk);
+  serving : IsServing l.fn.client.number l.client.served.now l.core (g.D.WriterControl.told l.desk);
   spare : g.J.Journal.spare l.fn.journal ≤ g.J.Journal.spare l.journal;
   alike : IsSame l.fn.client l.client;
-  same : g.D.Post.same_rest l.fn.desk l.desk;
+  same : g.D.WriterControl.same_rest l.fn.desk l.desk;
 }
 
 -- each turn of the loop takes a request

@@ -16,7 +16,7 @@ prepare-requires-clause-counted g c = counted (client_of c.args.core.now.hub c.a
 pub push_injection-pushed-requires : goal.push_injection-pushed-requires
 push_injection-pushed-requires g c =
     let is_for = c.in_ok-ready.ensures.ready in
-    injection_within c.args.core.now c.in_ok-ready.ready.frame c.in_ok-ready.ready.want (g.D.Post.told c.args.desk.now) is_for.is_ready.want c.requires.serving.desk_so
+    injection_within c.args.core.now c.in_ok-ready.ready.frame c.in_ok-ready.ready.want (g.D.WriterControl.told c.args.desk.now) is_for.is_ready.want c.requires.serving.desk_so
 
 pub request-requires-clause-ready : goal.request-requires-clause-ready
 request-requires-clause-ready g c = subst (λ (k : Core). IsReady k c.in_ok-ready.ready) (sym c.prepare.ensures.core) c.in_ok-ready.ensures.ready.is_ready
@@ -42,9 +42,9 @@ note_levels-requires-clause-desk g c =
     let serves = c.request.ensures.served in
     let pushed = c.push_injection-pushed.ensures in
     let left = left_as c.args.message.now c.in_ok-ready.ready.frame c.args.core.now c.prepare.new.core c.request.new.self.registry serves.answer is_for.of_frame c.prepare.ensures.core serves.registry in
-    desk_posted c.request.new.self.registry c.in_ok-ready.ready.want c.push_injection-pushed.result (g.D.Post.told c.args.desk.now) _ pushed.posts
-    (desk_as (served_now c.args.core.now c.args.message.now serves.answer) c.request.new.self.registry (g.D.Post.told c.args.desk.now) _ left refl
-    (desk_served c.args.core.now c.args.message.now serves.answer (g.D.Post.told c.args.desk.now) c.requires.serving.desk_so))
+    desk_posted c.request.new.self.registry c.in_ok-ready.ready.want c.push_injection-pushed.result (g.D.WriterControl.told c.args.desk.now) _ pushed.posts
+    (desk_as (served_now c.args.core.now c.args.message.now serves.answer) c.request.new.self.registry (g.D.WriterControl.told c.args.desk.now) _ left refl
+    (desk_served c.args.core.now c.args.message.now serves.answer (g.D.WriterControl.told c.args.desk.now) c.requires.serving.desk_so))
 
 pub returns-clause-serves : goal.returns-clause-serves
 returns-clause-serves g c =
@@ -80,7 +80,7 @@ returns-clause-spare g c =
     omega (arith, is_for.reserved serves.answer, c.request.ensures.spare, ap waiting left, c.note_levels.ensures.spare)
 
 pub returns-clause-rest : goal.returns-clause-rest
-returns-clause-rest g c = g.met.D.Post.rest_trans c.args.desk.now c.push_injection-pushed.new.desk c.note_levels.new.desk c.push_injection-pushed.ensures.rest c.note_levels.ensures.rest
+returns-clause-rest g c = g.met.D.WriterControl.rest_trans c.args.desk.now c.push_injection-pushed.new.desk c.note_levels.new.desk c.push_injection-pushed.ensures.rest c.note_levels.ensures.rest
 
 pub returns-in_err-ready-clause-serving : goal.returns-in_err-ready-clause-serving
 returns-in_err-ready-clause-serving g c = serving_as c.args.client c.args.served.now c.args.core.now c.prepare.new.core _ c.prepare.ensures.core c.requires.serving

@@ -10,8 +10,8 @@ pub returns-then-quiet-clause-wound_up : goal.returns-then-quiet-clause-wound_up
 returns-then-quiet-clause-wound_up g c =
     let was = c.loop-turns in
     let now = c.closing_turn.new in
-    let last : Stage = stage (g.L.Link.told was.link) was.own.cutter.now was.core (g.D.Post.told was.desk) (g.J.Journal.events was.journal) (g.F.Folder.told was.folder) in
-    let end : Stage = stage (g.L.Link.told now.link) now.client.cutter.now now.core (g.D.Post.told now.desk) (g.J.Journal.events now.journal) (g.F.Folder.told now.folder) in
+    let last : Stage = stage (g.L.Link.told was.link) was.own.cutter.now was.core (g.D.WriterControl.told was.desk) (g.J.Journal.events was.journal) (g.F.Folder.told was.folder) in
+    let end : Stage = stage (g.L.Link.told now.link) now.client.cutter.now now.core (g.D.WriterControl.told now.desk) (g.J.Journal.events now.journal) (g.F.Folder.told now.folder) in
     let few : was.turns < 1000 = omega (arith, c.loop-turns-test.true) in
     let goes = subst (λ (quiet : Bool). GoesOn c.args.client quiet last end) c.if-quiet.true (subst (λ (n : ℕ). GoesOn n c.in-Ok.quiet last end) was.invariant.number c.in-Ok.ensures.goes) in
     wound_by _ _ _ _ now.client.cutter.now _ _ (search rules) (record {
@@ -22,7 +22,7 @@ returns-then-quiet-clause-wound_up g c =
     })
 
 pub returns-then-quiet-clause-rest : goal.returns-then-quiet-clause-rest
-returns-then-quiet-clause-rest g c = g.met.D.Post.rest_trans c.args.desk.now c.loop-turns.desk c.closing_turn.new.desk c.loop-turns.invariant.same c.closing_turn.ensures.rest
+returns-then-quiet-clause-rest g c = g.met.D.WriterControl.rest_trans c.args.desk.now c.loop-turns.desk c.closing_turn.new.desk c.loop-turns.invariant.same c.closing_turn.ensures.rest
 
 pub loop-turns-preserved : goal.loop-turns-preserved
 loop-turns-preserved g c =
@@ -30,26 +30,26 @@ loop-turns-preserved g c =
     let now = c.closing_turn.new in
     let so = was.invariant in
     let alike = c.closing_turn.ensures.same in
-    let last : Stage = stage (g.L.Link.told was.link) was.own.cutter.now was.core (g.D.Post.told was.desk) (g.J.Journal.events was.journal) (g.F.Folder.told was.folder) in
-    let new : Stage = stage (g.L.Link.told now.link) now.client.cutter.now now.core (g.D.Post.told now.desk) (g.J.Journal.events now.journal) (g.F.Folder.told now.folder) in
+    let last : Stage = stage (g.L.Link.told was.link) was.own.cutter.now was.core (g.D.WriterControl.told was.desk) (g.J.Journal.events was.journal) (g.F.Folder.told was.folder) in
+    let new : Stage = stage (g.L.Link.told now.link) now.client.cutter.now now.core (g.D.WriterControl.told now.desk) (g.J.Journal.events now.journal) (g.F.Folder.told now.folder) in
     let goes = subst (λ (quiet : Bool). GoesOn c.args.client quiet last new) c.if-quiet.false (subst (λ (n : ℕ). GoesOn n c.in-Ok.quiet last new) so.number c.in-Ok.ensures.goes) in
     record {
       turns = one_turn_more c.args.client was.turns _ last new so.turns goes;
       within = omega (arith, c.loop-turns-test.true);
       limit = c.closing_turn.ensures.limit;
-      serving = subst (λ (n : ℕ). IsServing n now.client.served.now now.core (g.D.Post.told now.desk)) so.number c.in-Ok.ensures.serving;
+      serving = subst (λ (n : ℕ). IsServing n now.client.served.now now.core (g.D.WriterControl.told now.desk)) so.number c.in-Ok.ensures.serving;
       spare = omega (arith, so.spare, c.in-Ok.ensures.spare);
       number = alike.number ∙ so.number;
       alike = record { number = alike.number ∙ so.alike.number; cutter = alike.cutter ∙ so.alike.cutter; served = alike.served ∙ so.alike.served };
-      same = g.met.D.Post.rest_trans c.args.desk.now was.desk now.desk so.same c.closing_turn.ensures.rest;
+      same = g.met.D.WriterControl.rest_trans c.args.desk.now was.desk now.desk so.same c.closing_turn.ensures.rest;
     }
 
 pub returns-in-Err-clause-wound_up : goal.returns-in-Err-clause-wound_up
 returns-in-Err-clause-wound_up g c =
     let was = c.loop-turns in
     let now = c.closing_turn.new in
-    let last : Stage = stage (g.L.Link.told was.link) was.own.cutter.now was.core (g.D.Post.told was.desk) (g.J.Journal.events was.journal) (g.F.Folder.told was.folder) in
-    let end : Stage = stage (g.L.Link.told now.link) now.client.cutter.now now.core (g.D.Post.told now.desk) (g.J.Journal.events now.journal) (g.F.Folder.told now.folder) in
+    let last : Stage = stage (g.L.Link.told was.link) was.own.cutter.now was.core (g.D.WriterControl.told was.desk) (g.J.Journal.events was.journal) (g.F.Folder.told was.folder) in
+    let end : Stage = stage (g.L.Link.told now.link) now.client.cutter.now now.core (g.D.WriterControl.told now.desk) (g.J.Journal.events now.journal) (g.F.Folder.told now.folder) in
     let few : was.turns < 1000 = omega (arith, c.loop-turns-test.true) in
     wound_by _ _ _ _ now.client.cutter.now _ _ (search rules) (record {
       count = was.turns;
@@ -61,7 +61,7 @@ returns-in-Err-clause-wound_up g c =
 pub returns-clause-wound_up : goal.returns-clause-wound_up
 returns-clause-wound_up g c =
     let was = c.loop-turns in
-    let last : Stage = stage (g.L.Link.told was.link) was.own.cutter.now was.core (g.D.Post.told was.desk) (g.J.Journal.events was.journal) (g.F.Folder.told was.folder) in
+    let last : Stage = stage (g.L.Link.told was.link) was.own.cutter.now was.core (g.D.WriterControl.told was.desk) (g.J.Journal.events was.journal) (g.F.Folder.told was.folder) in
     let all : was.turns ≡ 1000 = omega (arith, c.loop-turns-test.false, was.invariant.within) in
     wound_by _ _ _ _ was.own.cutter.now _ _ (search rules) (record {
       count = was.turns;

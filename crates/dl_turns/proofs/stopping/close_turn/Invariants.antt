@@ -10,15 +10,15 @@ use Rattle.dl_turns.proofs.stopping.close_turn.Given as goal
 abbrev pub invariant-loop-turns : goal.invariant-loop-turns
 invariant-loop-turns g l = record {
   turns : TurnsOn l.fn.client l.turns
-      (stage (g.L.Link.told l.fn.link) l.fn.cutter l.fn.core (g.D.Post.told l.fn.desk) (g.J.Journal.events l.fn.journal) (g.F.Folder.told l.fn.folder))
-      (stage (g.L.Link.told l.link) l.own.cutter.now l.core (g.D.Post.told l.desk) (g.J.Journal.events l.journal) (g.F.Folder.told l.folder));
+      (stage (g.L.Link.told l.fn.link) l.fn.cutter l.fn.core (g.D.WriterControl.told l.fn.desk) (g.J.Journal.events l.fn.journal) (g.F.Folder.told l.fn.folder))
+      (stage (g.L.Link.told l.link) l.own.cutter.now l.core (g.D.WriterControl.told l.desk) (g.J.Journal.events l.journal) (g.F.Folder.told l.folder));
   within : l.turns ≤ 1000;
   limit : l.own.cutter.now.limit ≡ message_limit;
-  serving : IsServing l.fn.client l.own.served.now l.core (g.D.Post.told l.desk);
+  serving : IsServing l.fn.client l.own.served.now l.core (g.D.WriterControl.told l.desk);
   spare : g.J.Journal.spare l.fn.journal ≤ g.J.Journal.spare l.journal;
   number : l.own.number ≡ l.fn.client;
   alike : IsSame l.initial.own l.own;
-  same : g.D.Post.same_rest l.fn.desk l.desk;
+  same : g.D.WriterControl.same_rest l.fn.desk l.desk;
 }
 
 abbrev pub decreases-loop-turns : goal.decreases-loop-turns

@@ -12,7 +12,7 @@ pub returns-in-Err-clause-turn : goal.returns-in-Err-clause-turn
 returns-in-Err-clause-turn g c =
     let was = c.listen.new in
     let listens = c.in-Err.ensures.listens in
-    let heard : Side = side was.core (g.D.Post.told was.desk) (g.J.Journal.events was.journal) (g.F.Folder.told was.folder) in
+    let heard : Side = side was.core (g.D.WriterControl.told was.desk) (g.J.Journal.events was.journal) (g.F.Folder.told was.folder) in
     turn_by _ _ _ _ was.client.cutter.now _ _ (search rules) (record {
       between = heard;
       listens = listens;

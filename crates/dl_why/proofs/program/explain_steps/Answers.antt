@@ -1,7 +1,7 @@
 use Rattle.std.proofs.Common.{refl}
 use Rattle.std.specs.Prelude.{option_map}
 use Rattle.dl_core.specs.Settings.{setting_of}
-use Rattle.dl_trace.specs.Stands.{HasFiles}
+use Rattle.dl_trace.specs.InFolder.{HasFiles}
 use Rattle.dl_why.specs.Program.{told}
 use Rattle.dl_why.proofs.Ending.{ended, not_begun, not_looked, told_before}
 use Rattle.dl_startup.proofs.Told.{quiet_on}

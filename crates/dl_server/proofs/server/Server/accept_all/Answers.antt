@@ -7,7 +7,7 @@ pub returns-then-client-clause-accepts : goal.returns-then-client-clause-accepts
 returns-then-client-clause-accepts g c = λ folder. (
   record {
     came = c.accept_client-client.result;
-    accepted = seen g.L.Link.told g.J.Journal.events g.J.Journal.may_want folder c.accept_client-client.new.self;
+    accepted = seen g.L.Link.told g.J.Journal.events g.J.Journal.may_run_out folder c.accept_client-client.new.self;
     accepts = c.accept_client-client.ensures.accepts folder;
     entered = c.accept_program-program.result;
     enters = c.accept_program-program.ensures.accepts folder;
@@ -25,7 +25,7 @@ pub returns-else-client-clause-accepts : goal.returns-else-client-clause-accepts
 returns-else-client-clause-accepts g c = λ folder. (
   record {
     came = c.accept_client-client.result;
-    accepted = seen g.L.Link.told g.J.Journal.events g.J.Journal.may_want folder c.accept_client-client.new.self;
+    accepted = seen g.L.Link.told g.J.Journal.events g.J.Journal.may_run_out folder c.accept_client-client.new.self;
     accepts = c.accept_client-client.ensures.accepts folder;
     entered = c.accept_program-program.result;
     enters = c.accept_program-program.ensures.accepts folder;

@@ -20,6 +20,6 @@ returns-clause-accepts g c = λ folder.
     let n = c.accept_connection.new in
     inr (inr (
       c.if-self.false,
-      subst (λ (old : State). AcceptsOne g.L.Link.told c.accept_connection.result (g.N.Net.told c.args.net.now) (g.N.Net.told n.net) old (seen g.L.Link.told g.J.Journal.events g.J.Journal.may_want folder n.self))
+      subst (λ (old : State). AcceptsOne g.L.Link.told c.accept_connection.result (g.N.Net.told c.args.net.now) (g.N.Net.told n.net) old (seen g.L.Link.told g.J.Journal.events g.J.Journal.may_run_out folder n.self))
           (c.if-not-make_room.ensures.makes folder) (c.accept_connection.ensures.accepts folder),
     ))

@@ -1,5 +1,5 @@
 use Rattle.std.proofs.Common.{inl, inr, subst}
-use Rattle.dl_turns.specs.Gone.{TellOver}
+use Rattle.dl_turns.specs.Gone.{TellTheEnd}
 use Rattle.dl_server.specs.Closing.{ClosesClients}
 use Rattle.dl_server.specs.State.{State, seen}
 use Rattle.dl_server.proofs.RoomyServers.{limits_both, roomy_limits, roomy_server}
@@ -15,17 +15,17 @@ pub returns-then-not-make_room-clause-half : goal.returns-then-not-make_room-cla
 returns-then-not-make_room-clause-half g c =
     let folder = g.F.Folder.told c.close_programs.new.folder in
     let wants = c.if-not-make_room.ensures.makes folder in
-    inr (seen g.L.Link.told g.J.Journal.events g.J.Journal.may_want folder c.close_programs.new.self, c.in-Ok.ensures.closed, wants.0, wants.1)
+    inr (seen g.L.Link.told g.J.Journal.events g.J.Journal.may_run_out folder c.close_programs.new.self, c.in-Ok.ensures.closed, wants.0, wants.1)
 
 pub returns-clause-closed : goal.returns-clause-closed
 returns-clause-closed g c =
     let folder = g.F.Folder.told c.close_programs.new.folder in
-    let s = seen g.L.Link.told g.J.Journal.events g.J.Journal.may_want in
+    let s = seen g.L.Link.told g.J.Journal.events g.J.Journal.may_run_out in
     let n = c.close_clients.new in
     record {
       between = s folder c.close_programs.new.self;
       programs = c.in-Ok.ensures.closed;
-      clients = subst (λ (old : State). ClosesClients (TellOver g.L.Link.told) old (s (g.F.Folder.told n.folder) n.self)) (c.if-not-make_room.ensures.makes folder) c.close_clients.ensures.closes;
+      clients = subst (λ (old : State). ClosesClients (TellTheEnd g.L.Link.told) old (s (g.F.Folder.told n.folder) n.self)) (c.if-not-make_room.ensures.makes folder) c.close_clients.ensures.closes;
     }
 
 pub returns-clause-limits : goal.returns-clause-limits

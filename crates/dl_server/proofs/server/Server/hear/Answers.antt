@@ -7,7 +7,7 @@ pub returns-then-asked-clause-hears : goal.returns-then-asked-clause-hears
 returns-then-asked-clause-hears g c = (
   record {
     asked = c.hear_clients-asked.result;
-    served = seen g.L.Link.told g.J.Journal.events g.J.Journal.may_want (g.F.Folder.told c.hear_clients-asked.new.folder) c.hear_clients-asked.new.self;
+    served = seen g.L.Link.told g.J.Journal.events g.J.Journal.may_run_out (g.F.Folder.told c.hear_clients-asked.new.folder) c.hear_clients-asked.new.self;
     clients = c.hear_clients-asked.ensures.hears;
     moment = c.now.result;
     moved = c.hear_programs-heard.result;
@@ -26,7 +26,7 @@ pub returns-else-asked-clause-hears : goal.returns-else-asked-clause-hears
 returns-else-asked-clause-hears g c = (
   record {
     asked = c.hear_clients-asked.result;
-    served = seen g.L.Link.told g.J.Journal.events g.J.Journal.may_want (g.F.Folder.told c.hear_clients-asked.new.folder) c.hear_clients-asked.new.self;
+    served = seen g.L.Link.told g.J.Journal.events g.J.Journal.may_run_out (g.F.Folder.told c.hear_clients-asked.new.folder) c.hear_clients-asked.new.self;
     clients = c.hear_clients-asked.ensures.hears;
     moment = c.now.result;
     moved = c.hear_programs-heard.result;

@@ -21,5 +21,5 @@ pub returns-clause-hears : goal.returns-clause-hears
 returns-clause-hears g c =
     let n = c.serve_clients.new in
     inr (inr (
-    subst (λ (old : State). HearsClients c.serve_clients.result old (seen g.L.Link.told g.J.Journal.events g.J.Journal.may_want (g.F.Folder.told n.folder) n.self))
+    subst (λ (old : State). HearsClients c.serve_clients.result old (seen g.L.Link.told g.J.Journal.events g.J.Journal.may_run_out (g.F.Folder.told n.folder) n.self))
     (c.if-not-make_room.ensures.makes (g.F.Folder.told c.args.folder.now)) c.serve_clients.ensures.hears))

@@ -1,5 +1,5 @@
 use Rattle.std.proofs.Common.{ap, ◌∙◌}
-use Rattle.dl_rounds.specs.Seats.{Seated}
+use Rattle.dl_rounds.specs.ListenerPool.{Seated}
 use Rattle.dl_server.proofs.server.Server.make.Goals as goal
 
 pub returns-in-Ok : goal.returns-in-Ok

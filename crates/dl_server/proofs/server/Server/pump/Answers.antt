@@ -6,10 +6,10 @@ pub returns-clause-pumps : goal.returns-clause-pumps
 returns-clause-pumps g c = (
   record {
     moved = c.pump_clients-sent.result;
-    sent = seen g.L.Link.told g.J.Journal.events g.J.Journal.may_want (g.F.Folder.told c.args.folder.now) c.pump_clients-sent.new.self;
+    sent = seen g.L.Link.told g.J.Journal.events g.J.Journal.may_run_out (g.F.Folder.told c.args.folder.now) c.pump_clients-sent.new.self;
     clients = c.pump_clients-sent.ensures.pumps (g.F.Folder.told c.args.folder.now);
     moment = c.now.result;
-    pumped = seen g.L.Link.told g.J.Journal.events g.J.Journal.may_want (g.F.Folder.told c.pump_programs.new.folder) c.pump_programs.new.self;
+    pumped = seen g.L.Link.told g.J.Journal.events g.J.Journal.may_run_out (g.F.Folder.told c.pump_programs.new.folder) c.pump_programs.new.self;
     programs = c.pump_programs.ensures.pumps;
     parts = c.part_clients.ensures.parts (g.F.Folder.told c.pump_programs.new.folder);
   },

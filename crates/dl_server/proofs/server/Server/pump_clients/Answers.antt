@@ -16,5 +16,5 @@ returns-then-not-make_room-clause-server g c = roomy_server g.L.Link.told _ _ c.
 pub returns-clause-pumps : goal.returns-clause-pumps
 returns-clause-pumps g c = λ folder.
     inr (
-    subst (λ (old : State). PumpsClients c.send_clients.result old (seen g.L.Link.told g.J.Journal.events g.J.Journal.may_want folder c.send_clients.new.self))
+    subst (λ (old : State). PumpsClients c.send_clients.result old (seen g.L.Link.told g.J.Journal.events g.J.Journal.may_run_out folder c.send_clients.new.self))
     (c.if-not-make_room.ensures.makes folder) (c.send_clients.ensures.pumps folder))

@@ -7,7 +7,7 @@ use Rattle.dl_server.proofs.server.Server.round.Goals as goal
 
 pub returns-clause-round : goal.returns-clause-round
 returns-clause-round g c =
-    let s = seen g.L.Link.told g.J.Journal.events g.J.Journal.may_want in
+    let s = seen g.L.Link.told g.J.Journal.events g.J.Journal.may_run_out in
     let was = g.F.Folder.told c.args.folder.now in
     let first = c.accept_all-came.new in
     let second = c.hear-heard.new in

@@ -19,5 +19,5 @@ returns c = λ stream after.
     let context = c.in_ok-turn.ensures (entries stream) after.contexts_are in
     let session = c.in_ok-step.ensures (entries stream) after.totals_are context.0 in
     let applications = c.in_ok-number.ensures stream after.applications_are
-    (flagged stream e c.in_ok-turn.turn c.in_ok-step.step c.is_missing-is_behind_hole.result context.0 session.0 c.is_missing-is_behind_hole.ensures) in
+    (flagged stream e c.in_ok-turn.turn c.in_ok-step.step c.is_missing-is_behind_hole.result context.0 session.0 c.is_missing-is_behind_hole.ensures) session.2 in
     on_ok_weaker c.push_hole.result (logged stream e old new c.in_ok-turn.turn c.in_ok-step.step c.in_ok-number.number after context session applications.0 applications.1 c.in_ok-push_first.ensures c.saturating_add-self.ensures) c.push_hole.ensures

@@ -7,7 +7,7 @@ use Rattle.dl_bytes.specs.Conf.{is_printable}
 use Rattle.dl_bytes.specs.declared.outcome.TraceFile.{TraceFile}
 use Rattle.dl_outside.specs.Folder.{Files, names_with}
 use Rattle.dl_trace.specs.State.{Trace, listed}
-use Rattle.dl_trace.specs.Stands.{HasFiles, IsTraceName}
+use Rattle.dl_trace.specs.InFolder.{HasFiles, IsTraceName}
 use Rattle.dl_trace.specs.Found.{AreFound, Found}
 use Rattle.dl_trace.proofs.Finding.{front_of}
 use Rattle.dl_trace.proofs.Making.{found_named, after_nothing, holds_made}

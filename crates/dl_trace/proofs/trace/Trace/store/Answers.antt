@@ -1,6 +1,6 @@
 use Rattle.std.proofs.Common.{ℕ, List, Err, refl, sym, ap, subst, ◌∙◌, drop}
 use Rattle.dl_trace.specs.State.{Trace}
-use Rattle.dl_trace.specs.Stands.{ChangesTraceFiles}
+use Rattle.dl_trace.specs.InFolder.{ChangesTraceFiles}
 use Rattle.dl_trace.specs.Batch.{parted}
 use Rattle.dl_trace.specs.Storing.{HasCause, StoresOrStops}
 use Rattle.dl_trace.specs.Kept.{IsSound}

@@ -1,6 +1,6 @@
 use Rattle.std.proofs.Common.{◌≡◌, length}
 use Rattle.dl_trace.specs.Batch.{parted}
-use Rattle.dl_trace.specs.Stands.{ChangesTraceFiles}
+use Rattle.dl_trace.specs.InFolder.{ChangesTraceFiles}
 use Rattle.dl_trace.proofs.Looping.{SoFar}
 use Rattle.dl_trace.proofs.trace.Trace.store.Given as goal
 
